@@ -1,0 +1,6 @@
+pub mod Bytes
+pub mod Name
+pub mod Grammar
+pub mod Tree
+pub mod Read
+pub mod Write

@@ -1,0 +1,44 @@
+-- Names and texts: what question 3 asks of one, and how two are compared.
+use Prim.Native.Nat.{ℕ}
+use Prim.Native.String.{String, [] as empty, _∷_ as _then_}
+use Prim.Native.Char.{Char, code}
+use mathlib.Core.Bool.{Bool, true, false, _&&_, _||_, not}
+use mathlib.Core.List.{List, [], _∷_}
+use lib.Dec.{leb, ltb, eqb}
+use lib.ListN.{length}
+
+-- "A name or a text is a 2-byte length and its bytes": here, its bytes
+abbrev pub Name : Type 0
+Name = List ℕ
+
+-- a text of these papers or of the Rust, as bytes
+abbrev pub text : String → Name
+text empty = []
+text (c then s) = code c ∷ text s
+
+-- "each 0x20 to 0x7E"
+unfoldable pub printable : List ℕ → Bool
+printable [] = true
+printable (b ∷ bs) = (leb 0x20 b && leb b 0x7E) && printable bs
+
+-- 3: "is each name or text at most 255 bytes, each 0x20 to 0x7E?"
+unfoldable pub isText : Name → Bool
+isText n = leb (length n) 255 && printable n
+
+unfoldable pub same : Name → Name → Bool
+same [] [] = true
+same [] (y ∷ ys) = false
+same (x ∷ xs) [] = false
+same (x ∷ xs) (y ∷ ys) = eqb x y && same xs ys
+
+-- "ascend strictly in byte order"
+unfoldable pub less : Name → Name → Bool
+less [] [] = false
+less [] (y ∷ ys) = true
+less (x ∷ xs) [] = false
+less (x ∷ xs) (y ∷ ys) = ltb x y || (eqb x y && less xs ys)
+
+-- whether a name is among others
+unfoldable pub among : Name → List Name → Bool
+among n [] = false
+among n (m ∷ ms) = same n m || among n ms

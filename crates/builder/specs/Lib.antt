@@ -1,0 +1,4 @@
+pub mod Names
+pub mod Registry
+pub mod Nodes
+pub mod Build

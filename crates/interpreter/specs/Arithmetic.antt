@@ -1,0 +1,56 @@
+-- interpreter.rs, arithmetic: the exact result over the natural numbers, or the number of the refusal.
+use Prim.Native.Nat.{ℕ, _+_, _-_, _*_, _/_, _%_, _^_}
+use mathlib.Core.Bool.{Bool, _||_, cond}
+use lib.Dec.{ltb, leb, eqb}
+use lib.Bits.{bitAnd, bitOr, bitXor}
+use Rattle.errors.specs.Refusal.{ArithmeticOverflow}
+use Rattle.ir.specs.Ir.{BinaryOp}
+
+pub data Result : Type 0 where
+  value : ℕ → Result
+  fault : ℕ → Result
+
+-- 26: "is each exact result below 2^64?"
+abbrev pub exact : ℕ → Result
+exact n = cond (ltb n (2 ^ 64)) (value n) (fault 26)
+
+-- "Add, multiply and align beyond 64 bits give 26. Below zero, and a zero divisor, give 23."
+unfoldable pub checked-add : ℕ → ℕ → Result
+checked-add a b = exact (a + b)
+
+unfoldable pub checked-sub : ℕ → ℕ → Result
+checked-sub a b = cond (leb b a) (value (a - b)) (fault ArithmeticOverflow)
+
+unfoldable pub checked-mul : ℕ → ℕ → Result
+checked-mul a b = exact (a * b)
+
+unfoldable pub checked-div : ℕ → ℕ → Result
+checked-div a b = cond (eqb b 0) (fault ArithmeticOverflow) (value (a / b))
+
+unfoldable pub checked-mod : ℕ → ℕ → Result
+checked-mod a b = cond (eqb b 0) (fault ArithmeticOverflow) (value (a % b))
+
+-- "Shifts by 128 or more give 23. [..] Left shift is the exact product"
+unfoldable pub checked-left-shift : ℕ → ℕ → Result
+checked-left-shift a b = cond (leb 128 b) (fault ArithmeticOverflow) (exact (a * 2 ^ b))
+
+-- "Right shift by 64 to 127 gives 0."
+unfoldable pub checked-right-shift : ℕ → ℕ → Result
+checked-right-shift a b = cond (leb 128 b) (fault ArithmeticOverflow) (value (a / 2 ^ b))
+
+-- `align_up`
+unfoldable pub align-up : ℕ → ℕ → Result
+align-up v a = cond (leb a 1 || eqb (v % a) 0) (value v) (exact (v + (a - v % a)))
+
+-- "And, or and exclusive or act on the 64 bits."
+unfoldable pub operate : BinaryOp → ℕ → ℕ → Result
+operate BinaryOp.AddChecked a b = checked-add a b
+operate BinaryOp.SubChecked a b = checked-sub a b
+operate BinaryOp.MulChecked a b = checked-mul a b
+operate BinaryOp.DivChecked a b = checked-div a b
+operate BinaryOp.ModChecked a b = checked-mod a b
+operate BinaryOp.BitAnd a b = value (bitAnd a b)
+operate BinaryOp.BitOr a b = value (bitOr a b)
+operate BinaryOp.BitXor a b = value (bitXor a b)
+operate BinaryOp.LeftShift a b = checked-left-shift a b
+operate BinaryOp.RightShift a b = checked-right-shift a b

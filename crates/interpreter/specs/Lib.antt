@@ -1,0 +1,3 @@
+pub mod Arithmetic
+pub mod Eval
+pub mod Validate

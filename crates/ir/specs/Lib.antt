@@ -1,0 +1,2 @@
+pub mod Ir
+pub mod Layout

@@ -1,0 +1,1 @@
+// The definition is in specs/; it has no code.
