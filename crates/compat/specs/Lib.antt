@@ -1,0 +1,3 @@
+pub mod Grown
+pub mod Ways
+pub mod Statement

@@ -1,0 +1,1 @@
+// The statement is in specs/; it has no code.

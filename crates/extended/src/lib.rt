@@ -1,0 +1,1 @@
+// The relations are in specs/; there is no code.

@@ -1,0 +1,1 @@
+// Theorems on the definitions of blocks; it has no code.
