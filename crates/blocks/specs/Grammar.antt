@@ -10,17 +10,17 @@ use Rattle.blocks.specs.declared.Part.the-variants.{Text, Key, Number, F
 abbrev pub within : ℕ → ℕ → ℕ → Bool
 within lo hi k = leb lo k && leb k hi
 
-abbrev type : Part
+abbrev pub type : Part
 type = Block 1 7
 
-abbrev expression : Part
+abbrev pub expression : Part
 expression = Block 64 91
 
-abbrev node : Part
+abbrev pub node : Part
 node = Block 128 144
 
 -- "Types [..] begin with: name; flag 0 and a constant size, or flag 1 for variable; alignment; references."
-abbrev head : List Part
+abbrev pub head : List Part
 head = Key ∷ Size ∷ Number ∷ Block 32 32 ∷ []
 
 -- the kinds lo to hi have these parts
@@ -29,7 +29,7 @@ pub record Row : Type 0 where
   pub hi : ℕ
   pub parts : List Part
 
-abbrev row : ℕ → ℕ → List Part → Row
+abbrev pub row : ℕ → ℕ → List Part → Row
 row lo hi ps = record { lo = lo; hi = hi; parts = ps }
 
 -- The limits are question 4's: "256 types, 512 values, parameters, arguments or case parameters, 64 of anything else
@@ -88,7 +88,7 @@ grammar =
 abbrev pub metadata : List Part
 metadata = Number ∷ OptText ∷ []
 
-abbrev two : List Part
+abbrev pub two : List Part
 two = node ∷ node ∷ []
 
 -- "a table of the seventeen node kinds gives each its parts": row k less 128, the parts behind the metadata, "in ir.rs

@@ -16,25 +16,24 @@ use Rattle.blocks.specs.Tree.{Tree, name, num, block, nil, cons, first, 
 abbrev pub Step : Type 0
 Step = Outcome (Tree × ℕ)
 
+-- The entries of a list before the one that is read, as far as something is asked of them: their names, the last first,
+-- and how many paths these have in all.
+pub data Earlier : Type 0 where
+  any : Earlier
+  ascending : List Name → ℕ → Earlier
+  distinct : List Name → Earlier
+
 -- 6: "are names ascending where asked, and the names of a set's or layout's own types [..] distinct?"
-pub data Order : Type 0 where
-  any ascending distinct : Order
+unfoldable pub inOrder : Earlier → Name → Bool
+inOrder Earlier.any n = true
+inOrder (Earlier.ascending [] p) n = true
+inOrder (Earlier.ascending (m ∷ ms) p) n = less m n
+inOrder (Earlier.distinct ms) n = not (among n ms)
 
--- the entries of a list before the one that is read: what is asked of their names, the names, the last first, and how
--- many paths these have in all
-pub record Earlier : Type 0 where
-  pub order : Order
-  pub names : List Name
-  pub paths : ℕ
-
-abbrev pub fresh : Order → Earlier
-fresh o = record { order = o; names = []; paths = 0 }
-
-unfoldable pub inOrder : Order → List Name → Name → Bool
-inOrder Order.any ms n = true
-inOrder Order.ascending [] n = true
-inOrder Order.ascending (m ∷ ms) n = less m n
-inOrder Order.distinct ms n = not (among n ms)
+abbrev pub pathsBefore : Earlier → ℕ
+pathsBefore Earlier.any = 0
+pathsBefore (Earlier.ascending ms p) = p
+pathsBefore (Earlier.distinct ms) = 0
 
 -- the name of an entry: itself, or its first part
 unfoldable pub nameOf : Tree → Name
@@ -48,8 +47,11 @@ nameOf (cons a b) = nameOf a
 abbrev pub pathsOf : Tree → ℕ
 pathsOf t = cond (eqb (kind t) 37) (number (first (part 1 (body t)))) 0
 
+-- one entry more
 abbrev pub met : Earlier → Tree → Earlier
-met e t = record { order = e .order; names = nameOf t ∷ e .names; paths = e .paths + pathsOf t }
+met Earlier.any t = Earlier.any
+met (Earlier.ascending ms p) t = Earlier.ascending (nameOf t ∷ ms) (p + pathsOf t)
+met (Earlier.distinct ms) t = Earlier.distinct (nameOf t ∷ ms)
 
 -- ---- parts: s the input, start and end the block's, at where the part begins
 
@@ -65,7 +67,7 @@ readText s start end at = do
 unfoldable pub readKey : List ℕ → ℕ → ℕ → Earlier → ℕ → Step
 readKey s start end e at = do
   x ← readText s start end at
-  _ ← ask (inOrder (e .order) (e .names) (nameOf (x .0))) (unread 6 start)
+  _ ← ask (inOrder e (nameOf (x .0))) (unread 6 start)
   done x
 
 -- "a number 8"
@@ -126,10 +128,10 @@ readEntries f e (suc n) at = do
   y ← readEntries f (met e (x .0)) n (x .1)
   done (cons (x .0) (y .0), y .1)
 
-unfoldable pub readList : (Earlier → ℕ → Step) → Order → ℕ → List ℕ → ℕ → ℕ → ℕ → Step
-readList f o limit s start end at = do
+unfoldable pub readList : (Earlier → ℕ → Step) → Earlier → ℕ → List ℕ → ℕ → ℕ → ℕ → Step
+readList f e limit s start end at = do
   n ← readCount limit s start end at
-  x ← readEntries f (fresh o) (number (n .0)) (n .1)
+  x ← readEntries f e (number (n .0)) (n .1)
   done (cons (n .0) (x .0), x .1)
 
 -- "then name and number each"
@@ -152,14 +154,14 @@ readPart rb s e start end Size at = readOptional (readNumber s start end) 0 s st
 readPart rb s e start end OptNumber at = readOptional (readNumber s start end) 1 s start end at
 readPart rb s e start end OptText at = readOptional (readText s start end) 1 s start end at
 readPart rb s e start end Literal at = readLiteral s start end at
-readPart rb s e start end (Block lo hi) at = rb (fresh Order.any) lo hi at end
-readPart rb s e start end (OptBlock lo hi) at = readOptional (λ a. rb (fresh Order.any) lo hi a end) 1 s start end at
-readPart rb s e start end (Blocks lo hi limit) at = readList (λ f a. rb f lo hi a end) Order.any limit s start end at
-readPart rb s e start end (Ascending lo hi limit) at = readList (λ f a. rb f lo hi a end) Order.ascending limit s start end at
-readPart rb s e start end (Distinct lo hi limit) at = readList (λ f a. rb f lo hi a end) Order.distinct limit s start end at
-readPart rb s e start end (Names limit) at = readList (readKey s start end) Order.any limit s start end at
-readPart rb s e start end (Paths limit) at = readList (readKey s start end) Order.ascending (limit - e .paths) s start end at
-readPart rb s e start end (Values limit) at = readList (readValue s start end) Order.ascending limit s start end at
+readPart rb s e start end (Block lo hi) at = rb Earlier.any lo hi at end
+readPart rb s e start end (OptBlock lo hi) at = readOptional (λ a. rb Earlier.any lo hi a end) 1 s start end at
+readPart rb s e start end (Blocks lo hi limit) at = readList (λ f a. rb f lo hi a end) Earlier.any limit s start end at
+readPart rb s e start end (Ascending lo hi limit) at = readList (λ f a. rb f lo hi a end) (Earlier.ascending [] 0) limit s start end at
+readPart rb s e start end (Distinct lo hi limit) at = readList (λ f a. rb f lo hi a end) (Earlier.distinct []) limit s start end at
+readPart rb s e start end (Names limit) at = readList (readKey s start end) Earlier.any limit s start end at
+readPart rb s e start end (Paths limit) at = readList (readKey s start end) (Earlier.ascending [] 0) (limit - pathsBefore e) s start end at
+readPart rb s e start end (Values limit) at = readList (readValue s start end) (Earlier.ascending [] 0) limit s start end at
 
 unfoldable pub readParts : Reader → List ℕ → Earlier → ℕ → ℕ → List Part → ℕ → Step
 readParts rb s e start end [] at = done (nil, at)
@@ -202,7 +204,7 @@ small s = ask (leb (length s) 65536) (unread 1 0)
 -- input."
 unfoldable pub readInput : ℕ → ℕ → List ℕ → Outcome Tree
 readInput room k s = do
-  x ← readBlock room s (fresh Order.any) k k 0 (length s)
+  x ← readBlock room s Earlier.any k k 0 (length s)
   _ ← ask (eqb (x .1) (length s)) (unread 2 0)
   done (x .0)
 

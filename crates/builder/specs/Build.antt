@@ -35,7 +35,7 @@ unfoldable pub has-jagged : Name → List ResolvedField → Bool
 has-jagged n [] = false
 has-jagged n (f ∷ fs) = (same (f .name) n && orElse false (jaggedOf (kindOf (f .field-type)))) || has-jagged n fs
 
-abbrev jagged-before : List ResolvedField → Option Name → Bool
+abbrev pub jagged-before : List ResolvedField → Option Name → Bool
 jagged-before fs none = false
 jagged-before fs (some n) = has-jagged n fs
 
@@ -59,7 +59,7 @@ build-type-ir types t =
       type-name = head t .name;
       alignment = head t .alignment;
       root = root;
-      parameters = filter-jagged-element-parameters t parameters
+      parameters = filter-jagged-element-parameters t parameters;
     }))))
 
 -- `build_type`, from an empty registry

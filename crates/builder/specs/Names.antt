@@ -37,7 +37,7 @@ unfoldable pub canonical-name : Name → Name → Name
 canonical-name owner path = cond (isEmpty path || same path owner) owner (owner ++ (text "." ++ orElse path (strip-owner owner path)))
 
 -- `rsplit_once("::")`: what stands before and behind the last `::`
-abbrev behind : Option Name → Option (Name × Name)
+abbrev pub behind : Option Name → Option (Name × Name)
 behind none = none
 behind (some r) = some ([], r)
 
@@ -46,7 +46,7 @@ rsplit-once [] = none
 rsplit-once (x ∷ xs) = elim (rsplit-once xs) [ none ↦ behind (strip-prefix (text "::") (x ∷ xs)) | some p ↦ some (x ∷ p .0, p .1) ]
 
 -- `alternate_owner_aliases`: what stands behind the last `::` of a path, unless it is empty or the normal path
-abbrev aliasUnless : Name → Option (Name × Name) → List Name
+abbrev pub aliasUnless : Name → Option (Name × Name) → List Name
 aliasUnless normal none = []
 aliasUnless normal (some p) = cond (isEmpty (p .1) || same (p .1) normal) [] (p .1 ∷ [])
 
@@ -54,7 +54,7 @@ unfoldable pub alternate-owner-aliases : Name → Name → List Name
 alternate-owner-aliases path normal = aliasUnless normal (rsplit-once path)
 
 -- `qualify_parent_path`
-abbrev qualified : Name → Option (Name × Name) → Option Name
+abbrev pub qualified : Name → Option (Name × Name) → Option Name
 qualified path none = none
 qualified path (some p) = some (p .0 ++ (text "::" ++ path))
 
@@ -92,7 +92,7 @@ replace-colons (x ∷ []) = x ∷ []
 replace-colons (x ∷ (y ∷ ys)) = cond (eqb x 0x3A && eqb y 0x3A) (0x2E ∷ replace-colons ys) (x ∷ replace-colons (y ∷ ys))
 
 -- `split('.')`
-abbrev onto : ℕ → List Name → List Name
+abbrev pub onto : ℕ → List Name → List Name
 onto x [] = (x ∷ []) ∷ []
 onto x (s ∷ ss) = (x ∷ s) ∷ ss
 

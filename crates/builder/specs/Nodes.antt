@@ -26,14 +26,14 @@ abbrev pub const-or-zero : ℕ → ℕ → IrNode
 const-or-zero v a = cond (eqb v 0) (IrNode.ZeroSize unplaced (aligned a)) (align-node (IrNode.Const unplaced (aligned a) v) a)
 
 -- `const_node`
-abbrev constOf : Size → ℕ → Build IrNode
+abbrev pub constOf : Size → ℕ → Build IrNode
 constOf (Size.Const v) a = give (IrNode.Const unplaced (aligned a) v)
 constOf Size.Variable a = refuse UnsupportedSize
 
 abbrev pub const-node : Head → Build IrNode
 const-node h = constOf (h .size) (h .alignment)
 
--- `combine_checked_add`: left-nested sums; "11 also" where there is nothing to add
+-- `combine_checked_add`: left-nested sums; 11 where there is nothing to add
 unfoldable pub add-all : IrNode → List IrNode → IrNode
 add-all n [] = n
 add-all n (m ∷ ms) = add-all (IrNode.Binary unplaced default-metadata BinaryOp.AddChecked n m) ms
@@ -43,7 +43,7 @@ combine-checked-add [] = refuse MissingDynamicRefs
 combine-checked-add (n ∷ ns) = give (add-all n ns)
 
 -- `build_field_ref_nodes`; the size text is `owner:path`
-abbrev refText : Name → Name → Name
+abbrev pub refText : Name → Name → Name
 refText owner path = owner ++ (text ":" ++ path)
 
 unfoldable pub build-field-ref-nodes : Name → List Name → Build (List IrNode)
@@ -98,7 +98,7 @@ build-expr-ir owner prefix (ExprKind.Unary k x) = refuse UnsupportedExpression
 
 -- `collect_callee_arguments`: an argument for each path of the target's references, under its own canonical name; 17:
 -- "at most 512 arguments in each call"
-abbrev argument : Name → IrArgument
+abbrev pub argument : Name → IrArgument
 argument n = record { at = unplaced; name = n; value = n }
 
 unfoldable pub collect-paths : Name → List Name → List IrArgument → Build (List IrArgument)
@@ -167,17 +167,17 @@ unfoldable mutual
   build-array-kind owner prefix h (ResolvedTypeKind.Array element size jagged) = do
     count ← build-expr-ir owner prefix size
     build-elements (build-array-node-with-prefix owner (extend-element-prefix prefix) element)
-      h owner count (jagged && isVariable (head element .size)) (head element) (kindOf element)
+        h owner count (jagged && isVariable (head element .size)) (head element) (kindOf element)
   build-array-kind owner prefix h (ResolvedTypeKind.SizeDiscriminatedUnion vs) = refuse UnsupportedSize
   build-array-kind owner prefix h (ResolvedTypeKind.TypeRef target) = refuse UnsupportedSize
 
 -- `select_array_owner`: the part behind the last `::` of the type's name (else `array`), then the type's name, then the
 -- first owner
-abbrev fieldKey : Option (Name × Name) → Name
+abbrev pub fieldKey : Option (Name × Name) → Name
 fieldKey none = text "array"
 fieldKey (some p) = p .1
 
-abbrev has : Name → List Owner → Bool
+abbrev pub has : Name → List Owner → Bool
 has n os = isSome (get n os)
 
 unfoldable pub select-array-owner : Head → List Owner → Option Name
@@ -238,11 +238,11 @@ mark-all owner [] r = r
 mark-all owner (p ∷ ps) r = mark-all owner ps (mark-derived owner p r)
 
 -- `enum_tag_parameter`: found, or found under the parent's name, or made
-abbrev lookupQualified : Name → Option Name → Registry → Option Name
+abbrev pub lookupQualified : Name → Option Name → Registry → Option Name
 lookupQualified owner none r = none
 lookupQualified owner (some path) r = lookup-name owner path r
 
-abbrev first-of : {A : Type 0} → Option A → Option A → Option A
+abbrev pub first-of : {A : Type 0} → Option A → Option A → Option A
 first-of none b = b
 first-of (some a) b = some a
 
@@ -253,7 +253,7 @@ unfoldable pub computed-tag : Name → ExprKind → Build Name
 computed-tag owner e = do
   _ ← change (mark-all owner (field-refs e))
   add-synthetic owner (text "__computed_tag")
-    (record { name = owner ++ text ".computed_tag"; description = some (text "Computed enum tag expression"); derived = true })
+      (record { name = owner ++ text ".computed_tag"; description = some (text "Computed enum tag expression"); derived = true })
 
 unfoldable pub enum-tag-parameter : Name → ExprKind → Build Name
 enum-tag-parameter owner (ExprKind.Literal l) = computed-tag owner (ExprKind.Literal l)
@@ -288,7 +288,7 @@ unfoldable pub build-union-node : Head → Fields → Build IrNode
 build-union-node h fs = do
   _ ← extend-with (h .dynamic-params)
   tag ← add-synthetic (h .name) (text "__variant")
-    (record { name = h .name ++ text ".variant"; description = some (text "Active union variant selector"); derived = false })
+      (record { name = h .name ++ text ".variant"; description = some (text "Active union variant selector"); derived = false })
   build-switch h tag (union-alternatives 0 (fields fs))
 
 -- `build_size_discriminated_union_node`: tag and size of a variant are its expected size
@@ -306,11 +306,11 @@ build-size-discriminated-union-node h vs = do
   _ ← extend-with (h .dynamic-params)
   _ ← require (notEmpty vs) UnsupportedSize
   tag ← add-synthetic (h .name) (text "__payload_size")
-    (record {
-      name = h .name ++ text ".payload_size";
-      description = some (text "Runtime payload size (bytes) selecting size-discriminated variant");
-      derived = false
-    })
+      (record {
+        name = h .name ++ text ".payload_size";
+        description = some (text "Runtime payload size (bytes) selecting size-discriminated variant");
+        derived = false;
+      })
   build-switch h tag (sized-alternatives (variants vs))
 
 -- ---- structs
@@ -411,12 +411,12 @@ build-variable types h (ResolvedTypeKind.Array t e j) = build-array-node (Resolv
 build-variable types h (ResolvedTypeKind.SizeDiscriminatedUnion vs) = build-size-discriminated-union-node h vs
 build-variable types h (ResolvedTypeKind.TypeRef target) = build-typeref-node types h target
 
-abbrev sized : List ResolvedType → Size → Head → ResolvedTypeKind → Build IrNode
+abbrev pub sized : List ResolvedType → Size → Head → ResolvedTypeKind → Build IrNode
 sized types (Size.Const v) h k = const-node h
 sized types Size.Variable h k = build-variable types h k
 
 -- `node_from_resolved`: "A type reference as root is a call even if its size is constant"
-abbrev unlessTarget : List ResolvedType → Head → ResolvedTypeKind → Option Name → Build IrNode
+abbrev pub unlessTarget : List ResolvedType → Head → ResolvedTypeKind → Option Name → Build IrNode
 unlessTarget types h k (some target) = build-typeref-node types h target
 unlessTarget types h k none = sized types (h .size) h k
 

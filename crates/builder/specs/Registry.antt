@@ -29,7 +29,6 @@ abbrev pub Build : Type 0 → Type 0
 Build A = Registry → Outcome (A × Registry)
 
 infixl 20 _>>=_
-
 unfoldable pub _>>=_ : {A B : Type 0} → Build A → (A → Build B) → Build B
 _>>=_ m k = λ r. _andThen_ (m r) (λ x. k (x .0) (x .1))
 
@@ -79,14 +78,14 @@ enter e = do
   change (λ r. r ++ (e ∷ []))
 
 -- `ensure`, which is called with no description and `derived` false
-abbrev entryOf : Name → Name → Entry
+abbrev pub entryOf : Name → Name → Entry
 entryOf owner path = record {
   owner = owner;
   keys = normalize-path owner path ∷ alternate-owner-aliases path (normalize-path owner path);
-  parameter = record { name = canonical-name owner path; description = none; derived = false }
+  parameter = record { name = canonical-name owner path; description = none; derived = false };
 }
 
-abbrev unlessFound : Entry → Option IrParameter → Build Unit
+abbrev pub unlessFound : Entry → Option IrParameter → Build Unit
 unlessFound e (some p) = give tt
 unlessFound e none = enter e
 
@@ -109,7 +108,7 @@ extend-with (o ∷ os) = do
   extend-with os
 
 -- `lookup_name`
-abbrev nameOf : Option IrParameter → Option Name
+abbrev pub nameOf : Option IrParameter → Option Name
 nameOf none = none
 nameOf (some p) = some (p .name)
 
@@ -122,7 +121,7 @@ owner-parameters owner [] = []
 owner-parameters owner (e ∷ es) = cond (same owner (e .owner)) (e .parameter ∷ owner-parameters owner es) (owner-parameters owner es)
 
 -- `add_synthetic`, which is called with a name of its own and enters no alias: the name that the key has then
-abbrev namedOr : Entry → Option IrParameter → Build Name
+abbrev pub namedOr : Entry → Option IrParameter → Build Name
 namedOr e (some p) = give (p .name)
 namedOr e none = do
   _ ← enter e
@@ -134,11 +133,11 @@ add-synthetic owner path parameter = do
   namedOr (record { owner = owner; keys = normalize-path owner path ∷ []; parameter = parameter }) p
 
 -- `mark_derived`
-abbrev derivedEntry : Entry → Entry
+abbrev pub derivedEntry : Entry → Entry
 derivedEntry e = record {
   owner = e .owner;
   keys = e .keys;
-  parameter = record { name = e .parameter .name; description = e .parameter .description; derived = true }
+  parameter = record { name = e .parameter .name; description = e .parameter .description; derived = true };
 }
 
 unfoldable pub mark : Name → Name → Registry → Registry

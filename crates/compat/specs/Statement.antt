@@ -1,7 +1,8 @@
 -- The section "Old and new layout": "Demand 3 is one statement, from two sets' bytes to two answers of `validate`."
-use Prim.Native.Nat.{ℕ}
+use Prim.Native.Nat.{ℕ, _<_}
 use mathlib.Core.Path.{_≡_}
 use mathlib.Core.List.{List}
+use lib.ListN.{getD}
 use Rattle.errors.specs.Refusal.{Outcome, done, refused, Refusal, nowhere, InvalidTagValue}
 use Rattle.blocks.specs.Name.{Name}
 use Rattle.blocks.specs.Tree.{Tree}
@@ -9,6 +10,7 @@ use Rattle.blocks.specs.Read.{readSet, readLayout, nameOf}
 use Rattle.ir.specs.Ir.{TypeIr}
 use Rattle.ir.specs.Layout.{layoutOf}
 use Rattle.builder.specs.Build.{build-set}
+use Rattle.interpreter.specs.Eval.{lookup-type}
 use Rattle.interpreter.specs.Validate.{validate}
 use Rattle.compat.specs.Grown.{Extends, TypeOf}
 use Rattle.compat.specs.Ways.{At, AddedCase}
@@ -25,15 +27,18 @@ pub data Agree (old new : List TypeIr) : Outcome ℕ → Outcome ℕ → Type 0 
   -- the old one has no case for a tag, and the new one has an added one
   added : (r : Refusal) (o : Outcome ℕ) → r .number ≡ InvalidTagValue → AddedCase old new r → Agree old new (refused r) o
 
--- "Parameters are compared as blocks 162, byte for byte": an `IrParameter` holds every byte of its block. Types of one name
--- have equal parameters.
+-- "Parameters are compared as blocks 162, byte for byte": an `IrParameter` holds every byte of its block. The types of one
+-- name have equal parameters.
 abbrev pub SameParameters : List TypeIr → List TypeIr → Type 0
-SameParameters old new = (i j : ℕ) (t t′ : TypeIr) → At i t old → At j t′ new → t .type-name ≡ t′ .type-name → t .parameters ≡ t′ .parameters
+SameParameters old new =
+    (n : Name) (i j : ℕ) (t t′ : TypeIr) → lookup-type 0 n old ≡ done (i, t) → lookup-type 0 n new ≡ done (j, t′) → t .parameters ≡ t′ .parameters
 
 -- two sets that build, with what is read of them and of their layouts
 pub record Pair : Type 0 where
   pub oldSet : List ℕ
   pub newSet : List ℕ
+  pub oldBytes : (i : ℕ) → getD oldSet i 0 < 256
+  pub newBytes : (i : ℕ) → getD newSet i 0 < 256
   -- each with any number of working words and any output
   pub oldWords : ℕ
   pub newWords : ℕ
@@ -62,5 +67,5 @@ OldAndNew =
     (b : Tree) → TypeOf b (p .oldTree) →
     (values : List ℕ) (len words : ℕ) →
     Agree (layoutOf (p .oldLayoutTree)) (layoutOf (p .newLayoutTree))
-      (validate words (p .oldLayout) (nameOf b) values len)
-      (validate words (p .newLayout) (nameOf b) values len)
+    (validate words (p .oldLayout) (nameOf b) values len)
+    (validate words (p .newLayout) (nameOf b) values len)

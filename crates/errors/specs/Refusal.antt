@@ -28,7 +28,6 @@ pub data Outcome (A : Type 0) : Type 0 where
 
 -- "The first "no" decides."
 infixl 20 _>>=_
-
 unfoldable pub _>>=_ : {A B : Type 0} → Outcome A → (A → Outcome B) → Outcome B
 _>>=_ (done a) k = k a
 _>>=_ (refused r) k = refused r

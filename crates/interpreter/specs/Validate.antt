@@ -60,7 +60,7 @@ abbrev pub runOf : Tree → Run
 runOf t = record {
   type-name = textIn (part 0 (body t));
   buffer-length = number (part 1 (body t));
-  values = valuesOf (part 2 (body t))
+  values = valuesOf (part 2 (body t));
 }
 
 -- the same for a run

@@ -101,7 +101,7 @@ typeIrOf t = record {
   type-name = text (part 0 (body t));
   alignment = number (part 1 (body t));
   root = nodeOf (part 2 (body t));
-  parameters = listed parameterOf (part 3 (body t))
+  parameters = listed parameterOf (part 3 (body t));
 }
 
 -- "160 layout: count, 161 type trees"

@@ -47,7 +47,7 @@ words = 8192
 abbrev pub output : ℕ
 output = 65536
 
-abbrev lengthIn : Outcome ℕ → ℕ
+abbrev pub lengthIn : Outcome ℕ → ℕ
 lengthIn (done n) = n
 lengthIn (refused r) = 0
 

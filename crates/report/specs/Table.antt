@@ -2,25 +2,20 @@
 use Prim.Native.Nat.{ℕ, _-_, _^_}
 use mathlib.Core.Path.{_≡_, refl}
 use mathlib.Core.List.{List, [], _∷_, _++_}
-use Rattle.errors.specs.Refusal.{Outcome, done, refused, Refusal, _>>=_, ask, atType, enough}
-use Rattle.blocks.specs.Bytes.{bytes}
-use Rattle.blocks.specs.Name.{Name, text, printable, isText, same, less, among}
-use Rattle.blocks.specs.Grammar.{grammar, nodeTable, findRow, partsOf}
-use Rattle.blocks.specs.Tree.{part, entries, view, partOr, partView}
-use Rattle.blocks.specs.Read.{inOrder, nameOf, readText, readKey, readNumber, readFlag, readIf, readOptional, inType, readLiteral, readCount, readEntries, readList, readValue, readPart, readParts, readHeader, readBlock, small, readInput}
-use Rattle.blocks.specs.Write.{write}
-use Rattle.expr.specs.Expr.{literals, formOf as exprForm, makeExpr, exprOf}
-use Rattle.resolved.specs.Resolved.{fields, variants, get, get-type-info}
-use Rattle.resolved.specs.Set.{fieldsIn, variantsIn, formOf as typeForm, makeThing as makeType, thingOf as typeThing, typeOf, typesOf}
+use Rattle.errors.specs.Refusal.{Outcome, done}
+use Rattle.errors.proofs.Compute.{compute as errors}
+use Rattle.blocks.specs.Name.{Name, text}
+use Rattle.blocks.proofs.Compute.{compute as blocks}
+use Rattle.expr.proofs.Compute.{compute as expr}
+use Rattle.resolved.proofs.Compute.{compute as resolved}
 use Rattle.ir.specs.Ir.{IrNode, SwitchCases, DefaultNode, TypeIr, default-metadata}
-use Rattle.ir.specs.Layout.{casesIn, operations, formOf as nodeForm, makeThing as makeNode, thingOf as nodeThing, nodeOf, layoutOf, entriesTree, nodeTree, layoutTree}
-use Rattle.builder.specs.Names.{canonical-name, normalize-path, alternate-owner-aliases, strip-prefix, rsplit-once, join, trim-end, apply-path-prefix, replace-colons, split, before, before-element}
-use Rattle.builder.specs.Registry.{_>>=_ as _andThen_, give, refuse, require, need, reads, change, find, enter, ensure, ensure-all, extend-with, lookup-name, firsts, into-parameters}
-use Rattle.builder.specs.Nodes.{add-all, combine-checked-add, build-path, build-expr-ir, build-element, build-elements, build-array-kind, build-variable-field, build-field, padding, prefix-after, build-fields, build-variable-struct, build-variable, node-from-resolved}
-use Rattle.builder.specs.Build.{is-jagged-element-parameter, filter-jagged-element-parameters, build-type-ir, build-type, build-types, write-layout, build-set}
-use Rattle.interpreter.specs.Arithmetic.{Result, value, fault, align-up, operate, checked-add, checked-sub, checked-mul, checked-left-shift, checked-right-shift}
-use Rattle.interpreter.specs.Eval.{Binding, find as findValue, valueOr, lift, eval-node, collect-arguments, inherited, lookup-type, eval-call, eval-within}
-use Rattle.interpreter.specs.Validate.{validate-type, valuesOf, validate-run}
+use Rattle.ir.proofs.Compute.{compute as ir}
+use Rattle.builder.specs.Names.{canonical-name, normalize-path, alternate-owner-aliases}
+use Rattle.builder.proofs.Compute.{compute as builder}
+use Rattle.interpreter.specs.Arithmetic.{Result, value, fault, align-up, checked-sub, checked-left-shift, checked-right-shift}
+use Rattle.interpreter.specs.Eval.{Binding}
+use Rattle.interpreter.specs.Validate.{validate-type}
+use Rattle.interpreter.proofs.Compute.{compute as interpreter}
 use Rattle.report.specs.Lengths.{digits, fill, line, stopped, next-block, run-length, answer-lines, block-lines, run-lines, set-lines, input-lines, lengths}
 
 pub data Entry : Type 0 where
@@ -39,7 +34,7 @@ twice = record {
   type-name = text "T";
   alignment = 1;
   root = IrNode.Switch 0 default-metadata (text "t") (SwitchCases.case 5 (constant 1) [] (SwitchCases.case 5 (constant 2) [] SwitchCases.noCase)) DefaultNode.noDefault;
-  parameters = []
+  parameters = [];
 } ∷ []
 
 -- ---- M12
@@ -135,5 +130,5 @@ expected =
     []
 
 pub table : answers ≡ expected
-unfolding answers expected _>>=_ ask atType enough bytes printable isText same less among grammar nodeTable findRow partsOf part entries view partOr partView inOrder nameOf readText readKey readNumber readFlag readIf readOptional inType readLiteral readCount readEntries readList readValue readPart readParts readHeader readBlock small readInput write literals exprForm makeExpr exprOf fields variants get get-type-info fieldsIn variantsIn typeForm makeType typeThing typeOf typesOf casesIn operations nodeForm makeNode nodeThing nodeOf layoutOf entriesTree nodeTree layoutTree canonical-name normalize-path alternate-owner-aliases strip-prefix rsplit-once join trim-end apply-path-prefix replace-colons split before before-element _andThen_ give refuse require need reads change find enter ensure ensure-all extend-with lookup-name firsts into-parameters add-all combine-checked-add build-path build-expr-ir build-element build-elements build-array-kind build-variable-field build-field padding prefix-after build-fields build-variable-struct build-variable node-from-resolved is-jagged-element-parameter filter-jagged-element-parameters build-type-ir build-type build-types write-layout build-set align-up operate checked-add checked-sub checked-mul checked-left-shift checked-right-shift findValue valueOr lift eval-node collect-arguments inherited lookup-type eval-call eval-within validate-type valuesOf validate-run digits fill line stopped next-block run-length answer-lines block-lines run-lines set-lines input-lines lengths
+unfolding answers expected errors blocks expr resolved ir builder interpreter digits fill line stopped next-block run-length answer-lines block-lines run-lines set-lines input-lines lengths
 table = refl

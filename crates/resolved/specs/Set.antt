@@ -23,7 +23,7 @@ headOf t = record {
   name = text (part 0 t);
   size = sizeOf (part 1 t);
   alignment = number (part 2 t);
-  dynamic-params = listed ownerOf (part 0 (body (part 3 t)))
+  dynamic-params = listed ownerOf (part 0 (body (part 3 t)));
 }
 
 -- what a block of a type set stands for: a type (1 to 7), a field (33), a variant (34, 35)

@@ -16,7 +16,7 @@ use Rattle.blocks.specs.Bytes.{bytes, le2, le4, le8, bytesAt}
 use Rattle.blocks.specs.Name.{isText}
 use Rattle.blocks.specs.Grammar.{partsOf, within}
 use Rattle.blocks.specs.Tree.{Tree, name, num, block, nil, cons, number}
-use Rattle.blocks.specs.Read.{Step, Order, Earlier, fresh, inOrder, nameOf, met, inType, Reader, readText, readKey, readNumber, readFlag, readIf, readOptional, readLiteral, readCount, readEntries, readList, readValue, readPart, readParts, readHeader, readBlock, readInput}
+use Rattle.blocks.specs.Read.{Step, Earlier, pathsBefore, inOrder, nameOf, met, inType, Reader, readText, readKey, readNumber, readFlag, readIf, readOptional, readLiteral, readCount, readEntries, readList, readValue, readPart, readParts, readHeader, readBlock, readInput}
 use Rattle.blocks.specs.Write.{write, placed}
 use Rattle.roundtrip.specs.Fits.{Limits, Nothing, nothing, Both, both, TextFits, text, KeyFits, NumberFits, held, FlagFits, IfFits, there, absent, OptionalFits, LiteralFits, CountFits, EntriesFits, ListFits, ValueFits, InBlocks, PartFits, PartsFits, Inside, inside, BlockFits}
 use Rattle.roundtrip.proofs.Bytes.{le, le-one, le-two, le-four, le-eight, width, text-length, frame, below, spelt}
@@ -109,7 +109,7 @@ module _ (s : List ℕ) (small : (i : ℕ) → getD s i 0 < 256) (end : ℕ) (fi
   key-got start e at x d =
       let b = bound (readText s start end at) _ _ d in
       let h = text-got start at (b .0) (b .1) in
-      let q = asked (inOrder (e .order) (e .names) (nameOf (b .0 .0))) _ _ _ (b .2) in
+      let q = asked (inOrder e (nameOf (b .0 .0))) _ _ _ (b .2) in
       moved (more h (h .fits, q .0)) (q .1)
 
   number-got : (start at : ℕ) (x : Tree × ℕ) → readNumber s start end at ≡ done x → Got s (NumberFits 8) at end x
@@ -168,11 +168,11 @@ module _ (s : List ℕ) (small : (i : ℕ) → getD s i 0 < 256) (end : ℕ) (fi
       both-got (f e at) (λ x. readEntries f (met e (x .0)) n (x .1)) (hf e at)
       (λ x y g c. entries-got hf n (met e (x .0)) (x .1) y (g .high) c) d
 
-  list-got : {f : Earlier → ℕ → Step} {P : Earlier → Limits} → ((e : Earlier) → Meets (f e) (P e)) → (o : Order) (limit start : ℕ) → Meets (readList f o limit s start end) (ListFits P o limit)
+  list-got : {f : Earlier → ℕ → Step} {P : Earlier → Limits} → ((e : Earlier) → Meets (f e) (P e)) → (o : Earlier) (limit start : ℕ) → Meets (readList f o limit s start end) (ListFits P o limit)
   unfolding readList
   list-got {f} hf o limit start at z e =
-      both-got (readCount limit s start end at) (λ n. readEntries f (fresh o) (number (n .0)) (n .1)) (count-got limit start at)
-      (λ n y h d. entries-got hf (number (n .0)) (fresh o) (n .1) y (h .high) d) e
+      both-got (readCount limit s start end at) (λ n. readEntries f o (number (n .0)) (n .1)) (count-got limit start at)
+      (λ n y h d. entries-got hf (number (n .0)) o (n .1) y (h .high) d) e
 
   value-got : (start : ℕ) (e : Earlier) → Meets (readValue s start end e) (ValueFits e)
   unfolding readValue
@@ -190,14 +190,14 @@ module _ (s : List ℕ) (small : (i : ℕ) → getD s i 0 < 256) (end : ℕ) (fi
     part-got OptNumber e start = optional-got (number-got start) 1 start
     part-got OptText e start = optional-got (text-got start) 1 start
     part-got Literal e start = literal-got start
-    part-got (Block lo hi) e start = m (fresh Order.any) lo hi
-    part-got (OptBlock lo hi) e start = optional-got (m (fresh Order.any) lo hi) 1 start
-    part-got (Blocks lo hi limit) e start = list-got (λ f. m f lo hi) Order.any limit start
-    part-got (Ascending lo hi limit) e start = list-got (λ f. m f lo hi) Order.ascending limit start
-    part-got (Distinct lo hi limit) e start = list-got (λ f. m f lo hi) Order.distinct limit start
-    part-got (Names limit) e start = list-got (key-got start) Order.any limit start
-    part-got (Paths limit) e start = list-got (key-got start) Order.ascending (limit - e .paths) start
-    part-got (Values limit) e start = list-got (value-got start) Order.ascending limit start
+    part-got (Block lo hi) e start = m Earlier.any lo hi
+    part-got (OptBlock lo hi) e start = optional-got (m Earlier.any lo hi) 1 start
+    part-got (Blocks lo hi limit) e start = list-got (λ f. m f lo hi) Earlier.any limit start
+    part-got (Ascending lo hi limit) e start = list-got (λ f. m f lo hi) (Earlier.ascending [] 0) limit start
+    part-got (Distinct lo hi limit) e start = list-got (λ f. m f lo hi) (Earlier.distinct []) limit start
+    part-got (Names limit) e start = list-got (key-got start) Earlier.any limit start
+    part-got (Paths limit) e start = list-got (key-got start) (Earlier.ascending [] 0) (limit - pathsBefore e) start
+    part-got (Values limit) e start = list-got (value-got start) (Earlier.ascending [] 0) limit start
 
     parts-got : (ps : List Part) (e : Earlier) (start at : ℕ) (x : Tree × ℕ) → at ≤ end → readParts rb s e start end ps at ≡ done x → Got s (PartsFits B e ps) at end x
     unfolding readParts PartsFits
@@ -261,10 +261,10 @@ module _ (s : List ℕ) (small : (i : ℕ) → getD s i 0 < 256) where
 
 -- What is accepted is the writing of the tree that is given; that tree is within the limits, and its blocks have their
 -- offsets.
-pub accepted : (room k : ℕ) (s : List ℕ) → ((i : ℕ) → getD s i 0 < 256) → (t : Tree) → readInput room k s ≡ done t → (write t ≡ s) × BlockFits room (fresh Order.any) k k t × (placed 0 t ≡ t)
+pub accepted : (room k : ℕ) (s : List ℕ) → ((i : ℕ) → getD s i 0 < 256) → (t : Tree) → readInput room k s ≡ done t → (write t ≡ s) × BlockFits room Earlier.any k k t × (placed 0 t ≡ t)
 unfolding readInput
 accepted room k s small t e =
-    let b = bound (readBlock room s (fresh Order.any) k k 0 (length s)) _ _ e in
+    let b = bound (readBlock room s Earlier.any k k 0 (length s)) _ _ e in
     let q = asked (eqb (b .0 .1) (length s)) _ _ _ (b .2) in
-    let g = block-got s small room (length s) (omega arith) (fresh Order.any) k k 0 (b .0) (b .1) in
-    ended s (BlockFits room (fresh Order.any) k k) (b .0) t g (eqb-true _ _ (q .0)) (done-one (q .1))
+    let g = block-got s small room (length s) (omega arith) Earlier.any k k 0 (b .0) (b .1) in
+    ended s (BlockFits room Earlier.any k k) (b .0) t g (eqb-true _ _ (q .0)) (done-one (q .1))

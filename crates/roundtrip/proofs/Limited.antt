@@ -9,7 +9,7 @@ use Rattle.blocks.specs.declared.Part.{Part}
 use Rattle.blocks.specs.declared.Part.the-variants.{Text, Key, Number, Flag, Size, OptNumber, OptText, Literal, Block, OptBlock, Blocks, Ascending, Distinct, Names, Paths, Values}
 use Rattle.blocks.specs.Grammar.{partsOf}
 use Rattle.blocks.specs.Tree.{Tree, num, block, cons}
-use Rattle.blocks.specs.Read.{Order, Earlier, fresh, met}
+use Rattle.blocks.specs.Read.{Earlier, pathsBefore, met}
 use Rattle.roundtrip.specs.Fits.{Limits, Nothing, nothing, Both, both, TextFits, text, KeyFits, NumberFits, held, UpTo, IfFits, there, absent, OptionalFits, EntriesFits, ListFits, InBlocks, PartFits, PartsFits, inside, BlockFits}
 use Rattle.roundtrip.specs.Shape.{Form, formOf, formsOf, times, Shaped, BlockShaped, cut}
 
@@ -54,9 +54,9 @@ unfolding EntriesFits times
 entries-has h zero e = none-has
 entries-has h (suc n) e = both-has (h e) (λ a. entries-has h n (met e a))
 
-list-has : {P : Earlier → Limits} {F : Form} → ((e : Earlier) → Has (P e) F) → (o : Order) (limit : ℕ) → Has (ListFits P o limit) (Form.list F)
+list-has : {P : Earlier → Limits} {F : Form} → ((e : Earlier) → Has (P e) F) → (o : Earlier) (limit : ℕ) → Has (ListFits P o limit) (Form.list F)
 unfolding cut
-list-has h o limit t (both {b} (held {v} f, q) p) = let r = entries-has h v (fresh o) b p in (Shaped.list (r .0), ap₂ cons (ap (num 2) (mod-eq-of-lt f)) (r .1))
+list-has h o limit t (both {b} (held {v} f, q) p) = let r = entries-has h v o b p in (Shaped.list (r .0), ap₂ cons (ap (num 2) (mod-eq-of-lt f)) (r .1))
 
 part-has : {B : InBlocks} → ((e : Earlier) (lo hi : ℕ) → Has (B e lo hi) Form.block) → (p : Part) (e : Earlier) → Has (PartFits B e p) (formOf p)
 unfolding PartFits formOf
@@ -68,14 +68,14 @@ part-has m Size e = optional-has (number-has 8) 0
 part-has m OptNumber e = optional-has (number-has 8) 1
 part-has m OptText e = optional-has text-has 1
 part-has m Literal e = both-has (upto-has 1 7) (λ a t p. number-has 8 t (p .0))
-part-has m (Block lo hi) e = m (fresh Order.any) lo hi
-part-has m (OptBlock lo hi) e = optional-has (m (fresh Order.any) lo hi) 1
-part-has m (Blocks lo hi limit) e = list-has (λ f. m f lo hi) Order.any limit
-part-has m (Ascending lo hi limit) e = list-has (λ f. m f lo hi) Order.ascending limit
-part-has m (Distinct lo hi limit) e = list-has (λ f. m f lo hi) Order.distinct limit
-part-has m (Names limit) e = list-has key-has Order.any limit
-part-has m (Paths limit) e = list-has key-has Order.ascending (limit - e .paths)
-part-has m (Values limit) e = list-has (λ f. both-has (key-has f) (λ a. number-has 8)) Order.ascending limit
+part-has m (Block lo hi) e = m Earlier.any lo hi
+part-has m (OptBlock lo hi) e = optional-has (m Earlier.any lo hi) 1
+part-has m (Blocks lo hi limit) e = list-has (λ f. m f lo hi) Earlier.any limit
+part-has m (Ascending lo hi limit) e = list-has (λ f. m f lo hi) (Earlier.ascending [] 0) limit
+part-has m (Distinct lo hi limit) e = list-has (λ f. m f lo hi) (Earlier.distinct []) limit
+part-has m (Names limit) e = list-has key-has Earlier.any limit
+part-has m (Paths limit) e = list-has key-has (Earlier.ascending [] 0) (limit - pathsBefore e)
+part-has m (Values limit) e = list-has (λ f. both-has (key-has f) (λ a. number-has 8)) (Earlier.ascending [] 0) limit
 
 parts-has : {B : InBlocks} → ((e : Earlier) (lo hi : ℕ) → Has (B e lo hi) Form.block) → (ps : List Part) (e : Earlier) → Has (PartsFits B e ps) (formsOf ps)
 unfolding PartsFits formsOf

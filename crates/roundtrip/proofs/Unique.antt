@@ -15,7 +15,7 @@ use Rattle.blocks.specs.Bytes.{bytes, le2, le4, le8, bytesAt}
 use Rattle.blocks.specs.Name.{isText}
 use Rattle.blocks.specs.Grammar.{partsOf}
 use Rattle.blocks.specs.Tree.{Tree, name, num, block, nil, cons, number}
-use Rattle.blocks.specs.Read.{Step, Order, Earlier, fresh, inOrder, nameOf, met, inType, Reader, readText, readKey, readNumber, readFlag, readIf, readOptional, readLiteral, readCount, readEntries, readList, readValue, readPart, readParts, readHeader, readBlock, readInput}
+use Rattle.blocks.specs.Read.{Step, Earlier, pathsBefore, inOrder, nameOf, met, inType, Reader, readText, readKey, readNumber, readFlag, readIf, readOptional, readLiteral, readCount, readEntries, readList, readValue, readPart, readParts, readHeader, readBlock, readInput}
 use Rattle.blocks.specs.Write.{write, placed}
 use Rattle.roundtrip.specs.Shape.{Form, formOf, formsOf, times, Shaped, BlockShaped, cut}
 use Rattle.roundtrip.proofs.Bytes.{le, le-one, le-two, le-eight, width, text-length, frame, after, behind, back, text-back, block-back}
@@ -101,7 +101,7 @@ module _ (s : List ℕ) (end start : ℕ) where
   unfolding readKey
   key-finds e t p at r h l x d =
       let b = bound (readText s start end at) _ _ d in
-      let q = asked (inOrder (e .order) (e .names) (nameOf (b .0 .0))) _ _ _ (b .2) in
+      let q = asked (inOrder e (nameOf (b .0 .0))) _ _ _ (b .2) in
       sym (done-one (q .1)) ∙ text-finds t p at r h l (b .0) (b .1)
 
   number-finds : FindsAll s (readNumber s start end) (Form.number 8)
@@ -161,11 +161,11 @@ module _ (s : List ℕ) (end start : ℕ) where
   entries-finds {f} hf (suc n) e t (Shaped.both {a} {b} p q) at =
       chain s (f e at) (λ x. readEntries f (met e (x .0)) n (x .1)) a b at (hf e a p at) (entries-finds hf n (met e (placed at (cut a))) b q (at + length (write a)))
 
-  list-finds : {f : Earlier → ℕ → Step} {F : Form} → ((t : Tree) → Shaped F t → 2 ≤ length (write t)) → ((e : Earlier) → FindsAll s (f e) F) → (o : Order) (limit : ℕ) → FindsAll s (readList f o limit s start end) (Form.list F)
+  list-finds : {f : Earlier → ℕ → Step} {F : Form} → ((t : Tree) → Shaped F t → 2 ≤ length (write t)) → ((e : Earlier) → FindsAll s (f e) F) → (o : Earlier) (limit : ℕ) → FindsAll s (readList f o limit s start end) (Form.list F)
   unfolding readList write placed cut
   list-finds {f} w hf o limit t (Shaped.list {n} {t = a} p) at =
-      chain s (readCount limit s start end at) (λ k. readEntries f (fresh o) (number (k .0)) (k .1)) (num 2 n) a at (count-finds limit (num 2 n) Shaped.number at)
-      (λ r h l. let e : n % 65536 ≡ n = mod-eq-of-lt (omega (arith, enough w n a p)) in rw e (entries-finds hf n (fresh o) a p (at + length (bytes 2 n)) r h l))
+      chain s (readCount limit s start end at) (λ k. readEntries f o (number (k .0)) (k .1)) (num 2 n) a at (count-finds limit (num 2 n) Shaped.number at)
+      (λ r h l. let e : n % 65536 ≡ n = mod-eq-of-lt (omega (arith, enough w n a p)) in rw e (entries-finds hf n o a p (at + length (bytes 2 n)) r h l))
 
   value-finds : (e : Earlier) → FindsAll s (readValue s start end e) (Form.both Form.text (Form.number 8))
   unfolding readValue
@@ -183,14 +183,14 @@ module _ (s : List ℕ) (end start : ℕ) where
     part-finds OptNumber e = optional-finds number-finds 1
     part-finds OptText e = optional-finds text-finds 1
     part-finds Literal e = literal-finds
-    part-finds (Block lo hi) e = m (fresh Order.any) lo hi
-    part-finds (OptBlock lo hi) e = optional-finds (m (fresh Order.any) lo hi) 1
-    part-finds (Blocks lo hi limit) e = list-finds block-wide (λ f. m f lo hi) Order.any limit
-    part-finds (Ascending lo hi limit) e = list-finds block-wide (λ f. m f lo hi) Order.ascending limit
-    part-finds (Distinct lo hi limit) e = list-finds block-wide (λ f. m f lo hi) Order.distinct limit
-    part-finds (Names limit) e = list-finds text-wide key-finds Order.any limit
-    part-finds (Paths limit) e = list-finds text-wide key-finds Order.ascending (limit - e .paths)
-    part-finds (Values limit) e = list-finds value-wide value-finds Order.ascending limit
+    part-finds (Block lo hi) e = m Earlier.any lo hi
+    part-finds (OptBlock lo hi) e = optional-finds (m Earlier.any lo hi) 1
+    part-finds (Blocks lo hi limit) e = list-finds block-wide (λ f. m f lo hi) Earlier.any limit
+    part-finds (Ascending lo hi limit) e = list-finds block-wide (λ f. m f lo hi) (Earlier.ascending [] 0) limit
+    part-finds (Distinct lo hi limit) e = list-finds block-wide (λ f. m f lo hi) (Earlier.distinct []) limit
+    part-finds (Names limit) e = list-finds text-wide key-finds Earlier.any limit
+    part-finds (Paths limit) e = list-finds text-wide key-finds (Earlier.ascending [] 0) (limit - pathsBefore e)
+    part-finds (Values limit) e = list-finds value-wide value-finds (Earlier.ascending [] 0) limit
 
     parts-finds : (ps : List Part) (e : Earlier) → FindsAll s (readParts rb s e start end ps) (formsOf ps)
     unfolding readParts formsOf
@@ -222,7 +222,7 @@ module _ (s : List ℕ) where
 pub unique : (room k : ℕ) (t u : Tree) → BlockShaped t → length (write t) ≤ 65536 → readInput room k (write t) ≡ done u → u ≡ placed 0 (cut t)
 unfolding readInput
 unique room k t u p l e =
-    let b = bound (readBlock room (write t) (fresh Order.any) k k 0 (length (write t))) _ _ e in
+    let b = bound (readBlock room (write t) Earlier.any k k 0 (length (write t))) _ _ e in
     let q = asked (eqb (b .0 .1) (length (write t))) _ _ _ (b .2) in
-    let g = block-finds (write t) room (length (write t)) (fresh Order.any) k k t p 0 [] (sym (append-nil (write t))) l (b .0) (b .1) in
+    let g = block-finds (write t) room (length (write t)) Earlier.any k k t p 0 [] (sym (append-nil (write t))) l (b .0) (b .1) in
     sym (done-one (q .1)) ∙ ap (λ (z : Tree × ℕ). z .0) g

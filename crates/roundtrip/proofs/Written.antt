@@ -16,7 +16,7 @@ use Rattle.blocks.specs.Bytes.{bytes, le2, le4}
 use Rattle.blocks.specs.Name.{isText, printable}
 use Rattle.blocks.specs.Grammar.{partsOf, within}
 use Rattle.blocks.specs.Tree.{Tree, name, num, block, nil, cons, number, first, part}
-use Rattle.blocks.specs.Read.{Step, Order, Earlier, fresh, inOrder, nameOf, pathsOf, met, inType, Reader, readText, readKey, readNumber, readFlag, readIf, readOptional, readLiteral, readCount, readEntries, readList, readValue, readPart, readParts, readHeader, readBlock, readInput}
+use Rattle.blocks.specs.Read.{Step, Earlier, pathsBefore, inOrder, nameOf, pathsOf, met, inType, Reader, readText, readKey, readNumber, readFlag, readIf, readOptional, readLiteral, readCount, readEntries, readList, readValue, readPart, readParts, readHeader, readBlock, readInput}
 use Rattle.blocks.specs.Write.{write, placed}
 use Rattle.roundtrip.specs.Fits.{Limits, Nothing, nothing, Both, both, TextFits, text, KeyFits, NumberFits, held, FlagFits, IfFits, there, absent, OptionalFits, LiteralFits, CountFits, EntriesFits, ListFits, ValueFits, InBlocks, PartFits, PartsFits, inside, BlockFits}
 use Rattle.roundtrip.proofs.Bytes.{le-one, le-two, le-eight, width, text-length, frame, after, behind, back-below, text-back, block-back}
@@ -69,7 +69,9 @@ paths-placed at nil = refl
 paths-placed at (cons a b) = refl
 
 pub met-placed : (e : Earlier) (at : ℕ) (t : Tree) → met e (placed at t) ≡ met e t
-met-placed e at t = rw (name-placed at t, paths-placed at t)
+met-placed Earlier.any at t = refl
+met-placed (Earlier.ascending ms p) at t = rw (name-placed at t, paths-placed at t)
+met-placed (Earlier.distinct ms) at t = rw (name-placed at t)
 
 -- ---- reading
 
@@ -110,7 +112,7 @@ module _ (s : List ℕ) (end : ℕ) where
 
   key-read : (start : ℕ) (e : Earlier) → Reads s end (readKey s start end e) (KeyFits e)
   unfolding readKey
-  key-read start e t p at r h l = bound-done _ (text-read start t (p .0) at r h l) ∙ asked-yes _ _ (ap (inOrder (e .order) (e .names)) (name-placed at t) ∙ p .1)
+  key-read start e t p at r h l = bound-done _ (text-read start t (p .0) at r h l) ∙ asked-yes _ _ (ap (inOrder e) (name-placed at t) ∙ p .1)
 
   number-read : (start : ℕ) → Reads s end (readNumber s start end) (NumberFits 8)
   unfolding readNumber write placed
@@ -158,11 +160,11 @@ module _ (s : List ℕ) (end : ℕ) where
       both-read (f e) (λ x. readEntries f (met e (x .0)) n (x .1)) (hf e)
       (λ a at. rw (met-placed e at a) (entries-read hf n (met e a)))
 
-  list-read : {f : Earlier → ℕ → Step} {P : Earlier → Limits} → ((e : Earlier) → Reads s end (f e) (P e)) → (o : Order) (limit start : ℕ) → Reads s end (readList f o limit s start end) (ListFits P o limit)
+  list-read : {f : Earlier → ℕ → Step} {P : Earlier → Limits} → ((e : Earlier) → Reads s end (f e) (P e)) → (o : Earlier) (limit start : ℕ) → Reads s end (readList f o limit s start end) (ListFits P o limit)
   unfolding readList
   list-read {f} hf o limit start =
-      both-read (readCount limit s start end) (λ n. readEntries f (fresh o) (number (n .0)) (n .1)) (count-read limit start)
-      (λ n at. rw (number-placed at n) (entries-read hf (number n) (fresh o)))
+      both-read (readCount limit s start end) (λ n. readEntries f o (number (n .0)) (n .1)) (count-read limit start)
+      (λ n at. rw (number-placed at n) (entries-read hf (number n) o))
 
   value-read : (start : ℕ) (e : Earlier) → Reads s end (readValue s start end e) (ValueFits e)
   unfolding readValue
@@ -180,14 +182,14 @@ module _ (s : List ℕ) (end : ℕ) where
     part-read OptNumber e start = optional-read (number-read start) 1 start
     part-read OptText e start = optional-read (text-read start) 1 start
     part-read Literal e start = literal-read start
-    part-read (Block lo hi) e start = m (fresh Order.any) lo hi
-    part-read (OptBlock lo hi) e start = optional-read (m (fresh Order.any) lo hi) 1 start
-    part-read (Blocks lo hi limit) e start = list-read (λ f. m f lo hi) Order.any limit start
-    part-read (Ascending lo hi limit) e start = list-read (λ f. m f lo hi) Order.ascending limit start
-    part-read (Distinct lo hi limit) e start = list-read (λ f. m f lo hi) Order.distinct limit start
-    part-read (Names limit) e start = list-read (key-read start) Order.any limit start
-    part-read (Paths limit) e start = list-read (key-read start) Order.ascending (limit - e .paths) start
-    part-read (Values limit) e start = list-read (value-read start) Order.ascending limit start
+    part-read (Block lo hi) e start = m Earlier.any lo hi
+    part-read (OptBlock lo hi) e start = optional-read (m Earlier.any lo hi) 1 start
+    part-read (Blocks lo hi limit) e start = list-read (λ f. m f lo hi) Earlier.any limit start
+    part-read (Ascending lo hi limit) e start = list-read (λ f. m f lo hi) (Earlier.ascending [] 0) limit start
+    part-read (Distinct lo hi limit) e start = list-read (λ f. m f lo hi) (Earlier.distinct []) limit start
+    part-read (Names limit) e start = list-read (key-read start) Earlier.any limit start
+    part-read (Paths limit) e start = list-read (key-read start) (Earlier.ascending [] 0) (limit - pathsBefore e) start
+    part-read (Values limit) e start = list-read (value-read start) (Earlier.ascending [] 0) limit start
 
     parts-read : (ps : List Part) (e : Earlier) (start : ℕ) → Reads s end (readParts rb s e start end ps) (PartsFits B e ps)
     unfolding readParts PartsFits
@@ -218,12 +220,12 @@ module _ (s : List ℕ) where
 
 -- What is within the limits is read back from its writing, its blocks with the offsets that they have there. With
 -- `accepted`: the accepted inputs are the writings of the trees within the limits.
-pub written : (room k : ℕ) (t : Tree) → BlockFits room (fresh Order.any) k k t → readInput room k (write t) ≡ done (placed 0 t)
+pub written : (room k : ℕ) (t : Tree) → BlockFits room Earlier.any k k t → readInput room k (write t) ≡ done (placed 0 t)
 unfolding readInput
 written room k t p =
     let l : 0 + length (write t) ≡ length (write t) = omega arith in
-    bound-done _ (block-read (write t) room (length (write t)) (fresh Order.any) k k t p 0 [] (sym (append-nil (write t))) (omega arith)) ∙ asked-yes _ _ (eq-eqb _ _ l)
+    bound-done _ (block-read (write t) room (length (write t)) Earlier.any k k t p 0 [] (sym (append-nil (write t))) (omega arith)) ∙ asked-yes _ _ (eq-eqb _ _ l)
 
 -- Reading gives a tree exactly where the input is its writing, it is within the limits, and its blocks have their offsets.
-pub exactly : (room k : ℕ) (s : List ℕ) → ((i : ℕ) → getD s i 0 < 256) → (t : Tree) → (readInput room k s ≡ done t) ↔ ((write t ≡ s) × BlockFits room (fresh Order.any) k k t × (placed 0 t ≡ t))
+pub exactly : (room k : ℕ) (s : List ℕ) → ((i : ℕ) → getD s i 0 < 256) → (t : Tree) → (readInput room k s ≡ done t) ↔ ((write t ≡ s) × BlockFits room Earlier.any k k t × (placed 0 t ≡ t))
 exactly room k s small t = (accepted room k s small t, λ h. ap (readInput room k) (sym (h .0)) ∙ written room k t (h .1) ∙ ap done (h .2))

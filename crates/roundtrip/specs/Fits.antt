@@ -11,7 +11,7 @@ use Rattle.blocks.specs.declared.Part.the-variants.{Text, Key, Number, Flag, Si
 use Rattle.blocks.specs.Name.{Name, isText}
 use Rattle.blocks.specs.Grammar.{partsOf, within}
 use Rattle.blocks.specs.Tree.{Tree, name, num, block, nil, cons, number}
-use Rattle.blocks.specs.Read.{Order, Earlier, fresh, inOrder, nameOf, met, inType}
+use Rattle.blocks.specs.Read.{Earlier, pathsBefore, inOrder, nameOf, met, inType}
 use Rattle.blocks.specs.Write.{write}
 
 -- what is asked of a tree
@@ -32,7 +32,7 @@ pub data TextFits : Tree → Type 0 where
 
 -- 6: "are names ascending where asked, and the names of a set's or layout's own types [..] distinct?"
 abbrev pub KeyFits : Earlier → Limits
-KeyFits e t = TextFits t × (inOrder (e .order) (e .names) (nameOf t) ≡ true)
+KeyFits e t = TextFits t × (inOrder e (nameOf t) ≡ true)
 
 -- a number of w bytes
 pub data NumberFits (w : ℕ) : Tree → Type 0 where
@@ -69,8 +69,8 @@ EntriesFits P e zero = Nothing
 EntriesFits P e (suc n) = Both (P e) (λ x. EntriesFits P (met e x) n)
 
 -- a count, and as many entries
-abbrev pub ListFits : (Earlier → Limits) → Order → ℕ → Limits
-ListFits P o limit = Both (CountFits limit) (λ n. EntriesFits P (fresh o) (number n))
+abbrev pub ListFits : (Earlier → Limits) → Earlier → ℕ → Limits
+ListFits P o limit = Both (CountFits limit) (λ n. EntriesFits P o (number n))
 
 -- "then name and number each"
 abbrev pub ValueFits : Earlier → Limits
@@ -90,14 +90,14 @@ PartFits B e Size = OptionalFits (NumberFits 8) 0
 PartFits B e OptNumber = OptionalFits (NumberFits 8) 1
 PartFits B e OptText = OptionalFits TextFits 1
 PartFits B e Literal = LiteralFits
-PartFits B e (Block lo hi) = B (fresh Order.any) lo hi
-PartFits B e (OptBlock lo hi) = OptionalFits (B (fresh Order.any) lo hi) 1
-PartFits B e (Blocks lo hi limit) = ListFits (λ f. B f lo hi) Order.any limit
-PartFits B e (Ascending lo hi limit) = ListFits (λ f. B f lo hi) Order.ascending limit
-PartFits B e (Distinct lo hi limit) = ListFits (λ f. B f lo hi) Order.distinct limit
-PartFits B e (Names limit) = ListFits KeyFits Order.any limit
-PartFits B e (Paths limit) = ListFits KeyFits Order.ascending (limit - e .paths)
-PartFits B e (Values limit) = ListFits ValueFits Order.ascending limit
+PartFits B e (Block lo hi) = B Earlier.any lo hi
+PartFits B e (OptBlock lo hi) = OptionalFits (B Earlier.any lo hi) 1
+PartFits B e (Blocks lo hi limit) = ListFits (λ f. B f lo hi) Earlier.any limit
+PartFits B e (Ascending lo hi limit) = ListFits (λ f. B f lo hi) (Earlier.ascending [] 0) limit
+PartFits B e (Distinct lo hi limit) = ListFits (λ f. B f lo hi) (Earlier.distinct []) limit
+PartFits B e (Names limit) = ListFits KeyFits Earlier.any limit
+PartFits B e (Paths limit) = ListFits KeyFits (Earlier.ascending [] 0) (limit - pathsBefore e)
+PartFits B e (Values limit) = ListFits ValueFits (Earlier.ascending [] 0) limit
 
 -- all parts, and nothing behind them; 2: "is its body used up exactly?"
 unfoldable pub PartsFits : InBlocks → Earlier → List Part → Limits

@@ -1,0 +1,4 @@
+pub mod Keeps
+pub mod Nodes
+pub mod Types
+pub mod Built

@@ -1,0 +1,1 @@
+// Theorems on the definitions of builder and extended; it has no code.

@@ -1,0 +1,1 @@
+// Theorems on the definitions of ir and extended; it has no code.

@@ -1,0 +1,6 @@
+-- What a proof by computation opens: `unfolding compute` unfolds every definition of this crate.
+use Rattle.expr.specs.Expr.{literals, formOf, makeExpr, exprOf}
+
+unfoldable pub compute : Unit {0}
+unfolding literals formOf makeExpr exprOf
+compute = tt
