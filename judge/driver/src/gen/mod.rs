@@ -1,0 +1,9 @@
+//! Cases, each made from a seed and an index alone.
+
+pub mod damage;
+pub mod layouts;
+pub mod limits;
+pub mod names;
+pub mod pairs;
+pub mod runs;
+pub mod sets;

@@ -1,0 +1,117 @@
+//! The judge: document 01 as a program, the unchanged Rust, and random cases
+//! on which the two are held together.
+
+mod against;
+mod call;
+mod cases;
+mod compare;
+mod data;
+mod findings;
+mod gen;
+mod prng;
+mod rules;
+mod rust;
+mod text;
+mod trip;
+mod vectors;
+mod write;
+
+use std::process::ExitCode;
+
+const USAGE: &str = "usage: judge/run COMMAND
+  compare [--cases N] [--seed S]   hold the rules and the Rust together
+  case --seed S --index I          make one case again
+  answer SET                       the layout (hex) or the refusal
+  answer LAYOUT RUN                the count or the refusal
+  lengths < INPUT                  the program `lengths`, by the rules
+  vectors FOLDER                   write the stored list
+  check FOLDER                     read the stored list and answer it again
+  findings                         the inputs behind docs/DIFFERENCES.md
+  stream [--cases N] [--seed S]    records of the list's form, to standard output
+  against PROGRAM [--cases N] [--seed S]
+                                   hold a program `lengths` against the rules
+  trip                             M13: bytes and lines of the worked example
+  antt [--cases N] [--seed S]      small cases as lines of text";
+
+fn main() -> ExitCode {
+    // A layout holds up to 256 blocks open and 16 calls.
+    let work = std::thread::Builder::new().stack_size(256 << 20);
+    let worker = work.spawn(run).expect("a thread could not be started");
+    match worker.join() {
+        Ok(Ok(())) => ExitCode::SUCCESS,
+        Ok(Err(message)) => {
+            eprintln!("judge: {message}");
+            ExitCode::FAILURE
+        }
+        Err(_) => ExitCode::FAILURE,
+    }
+}
+
+/// `--name value` among the arguments, else the default.
+fn option(args: &[String], name: &str, default: u64) -> Result<u64, String> {
+    let Some(at) = args.iter().position(|a| a == name) else {
+        return Ok(default);
+    };
+    let text = args.get(at + 1).ok_or(format!("{name} needs a number"))?;
+    text.parse()
+        .map_err(|_| format!("{name}: {text} is no number"))
+}
+
+fn run() -> Result<(), String> {
+    let args: Vec<String> = std::env::args().skip(1).collect();
+    let Some((command, rest)) = args.split_first() else {
+        return Err(USAGE.to_string());
+    };
+    known_options(rest)?;
+    let seed = option(rest, "--seed", 1)?;
+    match command.as_str() {
+        "compare" => compare_command(option(rest, "--cases", 100_000)?, seed),
+        "case" => text::case(seed, option(rest, "--index", 0)?),
+        "answer" => text::answer(rest),
+        "lengths" => text::lengths(),
+        "vectors" => vectors::write_list(folder(rest)?),
+        "check" => vectors::check_list(folder(rest)?),
+        "stream" => vectors::stream(option(rest, "--cases", 1000)?, seed),
+        "against" => against::against(program(rest)?, option(rest, "--cases", 1000)?, seed),
+        "trip" => trip::trip(),
+        "findings" => findings::show_all(),
+        "antt" => text::antt(option(rest, "--cases", 1000)?, seed),
+        _ => Err(format!("unknown command {command}\n{USAGE}")),
+    }
+}
+
+fn program(args: &[String]) -> Result<&str, String> {
+    args.first()
+        .map(String::as_str)
+        .ok_or("a program is needed".to_string())
+}
+
+/// A misspelt option must not fall back to its default unseen.
+fn known_options(args: &[String]) -> Result<(), String> {
+    let known = ["--cases", "--seed", "--index"];
+    let unknown = |a: &&String| a.starts_with("--") && !known.contains(&a.as_str());
+    match args.iter().find(unknown) {
+        Some(a) => Err(format!("unknown option {a}\n{USAGE}")),
+        None => Ok(()),
+    }
+}
+
+fn folder(args: &[String]) -> Result<&str, String> {
+    args.first()
+        .map(String::as_str)
+        .ok_or("a folder is needed".to_string())
+}
+
+fn compare_command(cases: u64, seed: u64) -> Result<(), String> {
+    println!("seed {seed}, indexes 0 to {}", cases.saturating_sub(1));
+    trip::trip()?;
+    let mut tally = compare::Tally::default();
+    for index in 0..cases {
+        tally.case(seed, index);
+    }
+    tally.print();
+    match tally.failed(cases) {
+        true => Err("the rules and the Rust differ, or a number did not occur".to_string()),
+        false => Ok(()),
+    }
+}
