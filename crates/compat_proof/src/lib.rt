@@ -1,0 +1,1 @@
+// The theorem is in proofs/; it has no code.

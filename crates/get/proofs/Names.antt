@@ -1,0 +1,102 @@
+-- Texts and names, a byte at a time: what stands from a place on decides what is still open. Assumes nothing.
+use mathlib.Core.Path.{_≡_, refl, ap}
+use mathlib.Core.Bool.{Bool, true, false, _&&_, _||_}
+use mathlib.Core.List.{List, []}
+use Prim.Native.Nat.{ℕ, _+_, _<_, _≤_}
+use native.Mathlib.Numerals.{add-one}
+use native.Mathlib.Nat.{le-antisymm, le-of-lt}
+use native.Mathlib.Omega.{arith}
+use lib.Dec.{leb, ltb, eqb}
+use lib.ListN.{length, drop, getD, drop-of-length-le}
+use lib.Seq.{drop-cons}
+use borrow.Author.Tests.{le-leb, lt-leb, lt-ltb, le-ltb, eq-eqb, ne-eqb, ltb-true, ltb-false}
+use Rattle.blocks.specs.Name.{printable, isText, same, less}
+use Rattle.blocks.proofs.Name.{same-eq}
+
+-- ---- is_text
+
+pub text-long : (s : List ℕ) → 255 < length s → false ≡ isText s
+unfolding isText
+text-long s h = rw (lt-leb _ _ h)
+
+module _ (s : List ℕ) (i : ℕ) (e : printable s ≡ printable (drop i s)) where
+  module _ (h : i < length s) where
+    print-step : printable s ≡ ((leb 0x20 (getD s i 0) && leb (getD s i 0) 0x7E) && printable (drop (i + 1) s))
+    unfolding printable
+    print-step = rw (e, add-one, drop-cons s i 0 h)
+
+    pub text-low : length s ≤ 255 → getD s i 0 < 0x20 → false ≡ isText s
+    unfolding isText
+    text-low k l = rw (le-leb _ _ k, print-step, lt-leb _ _ l)
+
+    pub text-high : length s ≤ 255 → 0x20 ≤ getD s i 0 → 0x7E < getD s i 0 → false ≡ isText s
+    unfolding isText
+    text-high k l m = rw (le-leb _ _ k, print-step, le-leb _ _ l, lt-leb _ _ m)
+
+    pub text-more : 0x20 ≤ getD s i 0 → getD s i 0 ≤ 0x7E → printable s ≡ printable (drop (i + 1) s)
+    text-more l m = rw (print-step, le-leb _ _ l, le-leb _ _ m)
+
+  pub text-end : length s ≤ 255 → length s ≤ i → true ≡ isText s
+  unfolding isText printable
+  text-end k h = rw (le-leb _ _ k, e, drop-of-length-le s h)
+
+pub ruleset texts = (text-long, text-low, text-high, text-more, text-end)
+
+-- ---- same_name
+
+pub same-long : (a b : List ℕ) → (length a ≡ length b → ⊥) → false ≡ same a b
+same-long a b h = go (same a b) refl
+  where
+    go : (t : Bool) → same a b ≡ t → false ≡ t
+    go true e = absurd (h (ap length (same-eq a b e)))
+    go false e = refl
+
+module _ (a b : List ℕ) (i : ℕ) (e : same a b ≡ same (drop i a) (drop i b)) (l : length a ≡ length b) where
+  module _ (h : i < length a) where
+    same-step : same a b ≡ (eqb (getD a i 0) (getD b i 0) && same (drop (i + 1) a) (drop (i + 1) b))
+    unfolding same
+    same-step = rw (e, add-one, drop-cons a i 0 h, drop-cons b i 0 (omega arith))
+
+    pub same-not : (getD a i 0 ≡ getD b i 0 → ⊥) → false ≡ same a b
+    same-not k = rw (same-step, ne-eqb _ _ k)
+
+    pub same-more : getD a i 0 ≡ getD b i 0 → same a b ≡ same (drop (i + 1) a) (drop (i + 1) b)
+    same-more k = rw (same-step, eq-eqb _ _ k)
+
+  pub same-end : length a ≤ i → true ≡ same a b
+  unfolding same
+  same-end h = rw (e, drop-of-length-le a h, drop-of-length-le b (rw l at h))
+
+pub ruleset sames = (same-long, same-not, same-more, same-end)
+
+-- ---- less_name
+
+module _ (a b : List ℕ) (i : ℕ) (e : less a b ≡ less (drop i a) (drop i b)) where
+  pub less-short : i < length a → length b ≤ i → false ≡ less a b
+  unfolding less
+  less-short h k = rw (e, drop-cons a i 0 h, drop-of-length-le b k)
+
+  module _ (h : i < length a) (k : i < length b) where
+    less-step : less a b ≡ (ltb (getD a i 0) (getD b i 0) || (eqb (getD a i 0) (getD b i 0) && less (drop (i + 1) a) (drop (i + 1) b)))
+    unfolding less
+    less-step = rw (e, add-one, drop-cons a i 0 h, drop-cons b i 0 k)
+
+    pub less-yes : getD a i 0 < getD b i 0 → true ≡ less a b
+    less-yes l = rw (less-step, lt-ltb _ _ l)
+
+    pub less-no : getD b i 0 < getD a i 0 → false ≡ less a b
+    less-no l = rw (less-step, le-ltb _ _ (le-of-lt l), ne-eqb (getD a i 0) (getD b i 0) (λ q. omega arith))
+
+    pub less-more : getD b i 0 ≤ getD a i 0 → getD a i 0 ≤ getD b i 0 → less a b ≡ less (drop (i + 1) a) (drop (i + 1) b)
+    less-more l m = rw (less-step, le-ltb _ _ l, eq-eqb _ _ (le-antisymm m l))
+
+  -- a has ended
+  pub less-end : i ≤ length a → length a ≤ i → ltb (length a) (length b) ≡ less a b
+  unfolding less
+  less-end l h = rw (e, drop-of-length-le a h) (go (ltb (length a) (length b)) refl)
+    where
+      go : (t : Bool) → ltb (length a) (length b) ≡ t → t ≡ less [] (drop i b)
+      go true q = let k : i < length b = omega (arith, ltb-true (length a) (length b) q) in rw (drop-cons b i 0 k)
+      go false q = let k : length b ≤ i = omega (arith, ltb-false (length a) (length b) q) in rw (drop-of-length-le b k)
+
+pub ruleset lesses = (less-short, less-yes, less-no, less-more, less-end)
