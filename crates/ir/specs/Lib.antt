@@ -1,2 +1,3 @@
 pub mod Ir
 pub mod Layout
+pub mod Codes
