@@ -1,0 +1,91 @@
+-- The first value of a name in an accepted block of values.
+use mathlib.Core.Path.{_≡_, refl, sym, _∙_, ap, subst}
+use mathlib.Core.Bool.{Bool, true, false}
+use mathlib.Core.List.{List}
+use mathlib.Core.Option.{some}
+use Prim.Native.Nat.{ℕ, _+_, _-_, _≤_, _<_}
+use native.Mathlib.Omega.{arith}
+use lib.ListN.{length}
+use Rattle.errors.specs.Refusal.{done}
+use Rattle.blocks.specs.Bytes.{le2, le8}
+use Rattle.blocks.specs.Name.{Name, same}
+use Rattle.blocks.specs.Grammar.{partsOf, findRow, grammar, nodeTable}
+use Rattle.blocks.specs.Tree.{Tree, name, num, cons, entries}
+use Rattle.blocks.specs.Read.{readValues}
+use Rattle.walk.specs.Accepted.{Accepted, tree, Item, nameAt, Counted}
+use Rattle.walk.proofs.Laws.{Sole, sole, value-entry, input}
+use Rattle.walk.proofs.Lists.{Left, starts, steps, ended}
+use Rattle.interpreter.specs.Eval.{find}
+use Rattle.interpreter.specs.Validate.{bindingOf, valuesOf}
+use Rattle.lookup.specs.declared.Value.{Value}
+use Rattle.lookup.specs.declared.Value.the-variants.{At, Missing}
+use Rattle.lookup.specs.Found.{ValueFound}
+
+-- the first of a name is the first of it among those that are left
+pub record Unmet (n : Name) (w u : Tree) : Type 0 where
+  pub is : find n (entries bindingOf w) ≡ find n (entries bindingOf u)
+
+-- the entry at an offset
+abbrev entryAt : List ℕ → ℕ → Tree
+entryAt s at = cons (name (nameAt s at)) (num 8 (le8 s (at + 2 + le2 s at)))
+
+-- the test of its name decides
+tested : (n : Name) (s : List ℕ) (at : ℕ) (u : Tree) {t : Bool} → same n (nameAt s at) ≡ t →
+    find n (entries bindingOf (cons (entryAt s at) u)) ≡ elim t [ true ↦ some (le8 s (at + 2 + le2 s at)) | false ↦ find n (entries bindingOf u) ]
+unfolding find entries
+tested n s at u h = ap (λ (t : Bool). elim t [ true ↦ some (le8 s (at + 2 + le2 s at)) | false ↦ find n (entries bindingOf u) ]) h
+
+-- the block at b is a list of values
+listed : {s : List ℕ} {b : ℕ} (a : Accepted s 192 192 b) → Sole a Item.values 512
+unfolding partsOf findRow grammar nodeTable
+listed a = sole a refl Counted.values
+
+values-are : {s : List ℕ} {b : ℕ} (a : Accepted s 192 192 b) → valuesOf (tree a) ≡ entries bindingOf (listed a .list .got .0)
+unfolding valuesOf
+values-are a = ap (entries bindingOf) (listed a .tree)
+
+pub inside : {s : List ℕ} {b : ℕ} → Accepted s 192 192 b → b + 6 + 2 ≤ length s
+inside a = listed a .inside
+
+-- Of the values of the block at b, `left` are left, from `at` on.
+abbrev pub Search : List ℕ → ℕ → Name → ℕ → ℕ → Type 0
+Search s b n left at = Left (Unmet n) s Item.values (le2 s (b + 6)) (b + 6 + 2) left at
+
+pub begin : {s : List ℕ} {b left : ℕ} {n : Name} → Accepted s 192 192 b → left ≡ le2 s (b + 6) → Search s b n left (b + 6 + 2)
+begin {s} {b} {n} a e = subst (λ (k : ℕ). Search s b n k (b + 6 + 2)) (sym e) (starts (λ t. record { is = refl }) (listed a .list))
+
+module _ {s : List ℕ} (b : ℕ) {left at : ℕ} {n : Name} (h : 0 < left) where
+  -- the next value
+  pub next-one : Search s b n left at → at + 2 + le2 s at + 8 ≤ length s
+  next-one c = let a = value-entry (c .here) h .2 in omega (arith, a .inside, c .here .fits)
+
+  module _ {r : Bool} {u : ℕ} (e : r ≡ same n (nameAt s at)) (g : u ≡ le2 s at) where
+    -- it has another name
+    pub go-on : r ≡ false → Search s b n left at → Search s b n (left - 1) (at + 2 + u + 8)
+    go-on f c =
+        subst (λ (k : ℕ). Search s b n (left - 1) (at + 2 + k + 8)) (sym g)
+        (steps (λ l. entryAt s at) (λ l. value-entry l h .2) (λ l w t q. record { is = q .is ∙ tested n s at t (sym e ∙ f) }) c)
+
+    -- it has the name
+    pub hit : r ≡ true → Search s b n left at → (a : Accepted s 192 192 b) → ValueFound s n (valuesOf (tree a)) (At (at + 2 + u))
+    hit f c a =
+        let w = c .whole (listed a .list) in
+        let k = value-entry (w .0) h .2 in
+        let i : find n (valuesOf (tree a)) ≡ some (le8 s (at + 2 + le2 s at)) =
+        ap (find n) (values-are a) ∙ w .1 .is ∙ ap (λ (z : Tree). find n (entries bindingOf z)) (k .tree) ∙ tested n s at (k .rest .got .0) (sym e ∙ f) in
+        subst (λ (j : ℕ). ValueFound s n (valuesOf (tree a)) (At (at + 2 + j))) (sym g) (ValueFound.at (omega (arith, k .inside, w .0 .fits)) i)
+
+-- none is left
+pub no-more : {s : List ℕ} (b : ℕ) {left at : ℕ} {n : Name} → left ≤ 0 → Search s b n left at → (a : Accepted s 192 192 b) → ValueFound s n (valuesOf (tree a)) Missing
+unfolding find entries
+no-more b {n} h c a = ValueFound.missing (ap (find n) (values-are a) ∙ ended h c (listed a .list) .0 .is)
+
+-- ---- an input
+
+pub values-input : {s : List ℕ} {t : Tree} → readValues s ≡ done t → Accepted s 192 192 0
+values-input {s} e = input 2 192 s e .0
+
+pub value-found : {s : List ℕ} {n : Name} {r : Value} → ((a : Accepted s 192 192 0) → ValueFound s n (valuesOf (tree a)) r) → (t : Tree) → readValues s ≡ done t → ValueFound s n (valuesOf t) r
+value-found {s} {n} {r} f t e =
+    let a = input 2 192 s e in
+    subst (λ (z : Tree × ℕ). ValueFound s n (valuesOf (z .0)) r) (a .1) (f (a .0))

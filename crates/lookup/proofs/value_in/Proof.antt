@@ -1,0 +1,79 @@
+-- `value_in` meets its contract. The invariant: none of the values that were passed has the name. The measure is the values
+-- that are left.
+use native.Mathlib.Omega.{arith}
+use Rattle.lookup.proofs.Values.{Search, inside, begin, next-one, go-on, hit, no-more}
+use Rattle.lookup.proofs.value_in.Statement.{statement}
+use Rattle.lookup.proofs.value_in.Tie as tie
+
+abbrev Inv-loop : tie.InvT-loop
+Inv-loop s block name left₀ at₀ left at = Search s block name left at
+
+abbrev μ-loop : tie.MeasureT-loop
+μ-loop s block name left₀ at₀ left at = left
+
+add-read2 : tie.Need-add-read2 Inv-loop μ-loop
+add-read2 c = omega (arith, inside (c .before .before .pre))
+
+read2-requires : tie.Need-read2-requires Inv-loop μ-loop
+read2-requires c κs = inside (c .before .before .pre)
+
+add-at : tie.Need-add-at Inv-loop μ-loop
+add-at c = omega (arith, inside (c .before .before .before .pre))
+
+add-at-2 : tie.Need-add-at-2 Inv-loop μ-loop
+add-at-2 c = omega (arith, inside (c .before .before .before .pre))
+
+loop-holds : tie.Need-loop-holds Inv-loop μ-loop
+loop-holds c = begin (c .before .before .before .pre) (c .read2 .ensures .0)
+
+add-next : tie.Need-add-next Inv-loop μ-loop
+add-next c = omega (arith, next-one _ (c .loop-test .taken) (c .before .loop .inv))
+
+read2-requires-2 : tie.Need-read2-requires-2 Inv-loop μ-loop
+read2-requires-2 c κs = omega (arith, next-one _ (c .loop-test .taken) (c .before .loop .inv))
+
+add-next-2 : tie.Need-add-next-2 Inv-loop μ-loop
+add-next-2 c = omega (arith, next-one _ (c .before .loop-test .taken) (c .before .before .loop .inv))
+
+is-named-requires : tie.Need-is-named-requires Inv-loop μ-loop
+is-named-requires c κs = omega (arith, next-one _ (c .before .loop-test .taken) (c .before .before .loop .inv))
+
+returns : tie.Need-returns Inv-loop μ-loop
+returns c = hit _ (c .before .before .before .loop-test .taken) (c .before .is-named .ensures) (c .before .before .read22 .ensures .0) (c .if1 .taken) (c .before .before .before .before .loop .inv)
+
+add-at-3 : tie.Need-add-at-3 Inv-loop μ-loop
+add-at-3 c = omega (arith, c .before .before .read22 .ensures .0, next-one _ (c .before .before .before .loop-test .taken) (c .before .before .before .before .loop .inv))
+
+sub-left : tie.Need-sub-left Inv-loop μ-loop
+sub-left c = omega arith
+
+loop-less : tie.Need-loop-less Inv-loop μ-loop
+loop-less c = omega arith
+
+loop-again : tie.Need-loop-again Inv-loop μ-loop
+loop-again c = go-on _ (c .before .before .before .loop-test .taken) (c .before .is-named .ensures) (c .before .before .read22 .ensures .0) (c .if1 .left) (c .before .before .before .before .loop .inv)
+
+returns-2 : tie.Need-returns-2 Inv-loop μ-loop
+returns-2 c = no-more _ (c .loop-test .left) (c .before .loop .inv)
+
+pub value-in-spec : {M : Type 1} → statement M
+value-in-spec =
+    tie.close
+    (tie.spec
+    Inv-loop
+    μ-loop
+    add-read2
+    read2-requires
+    add-at
+    add-at-2
+    loop-holds
+    add-next
+    read2-requires-2
+    add-next-2
+    is-named-requires
+    returns
+    add-at-3
+    sub-left
+    loop-less
+    loop-again
+    returns-2)

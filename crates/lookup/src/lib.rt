@@ -1,0 +1,108 @@
+// Lookups by name in accepted bytes.
+ghost use mathlib.Core.Path.{_≡_};
+ghost use Prim.Native.Nat.{_+_, _≤_};
+ghost use lib.ListN.{length};
+ghost use Rattle.errors.specs.Refusal.{done};
+ghost use Rattle.blocks.specs.Bytes.{le2};
+ghost use Rattle.blocks.specs.Name.{same};
+ghost use Rattle.blocks.specs.Tree.{Tree};
+ghost use Rattle.blocks.specs.Read.{readSet, readLayout, readValues};
+ghost use Rattle.resolved.specs.Set.{typesOf};
+ghost use Rattle.ir.specs.Layout.{layoutOf};
+ghost use Rattle.interpreter.specs.Validate.{valuesOf};
+ghost use Rattle.walk.specs.Accepted.{Accepted, tree, nameAt};
+ghost use Rattle.lookup.specs.Named.{Keyed, Entry};
+ghost use Rattle.lookup.specs.Found.{TypeFound, TreeFound, ValueFound};
+
+// The offset of a type's block.
+pub enum Found {
+    At(usize),
+    Missing,
+}
+
+// A type's place in the layout, and the offset of its block.
+pub enum Place {
+    At(usize, usize),
+    Missing,
+}
+
+// The offset of a value's number.
+pub enum Value {
+    At(usize),
+    Missing,
+}
+
+// Whether this name stands at an offset.
+pub fn is_named(s: &[u8], at: usize, name: &[u8]) -> bool
+    requires { ⌜ at + 2 + le2 (now s) at ≤ length (now s) ⌝ }
+    ensures { λ r. ⌜ r ≡ same (now (name .entry)) (nameAt (now (s .entry)) at) ⌝ }
+{
+    let n = get::read2(s, at);
+    let from = at + 2;
+    let to = from + n;
+    get::same_name(name, &s[from..to])
+}
+
+// The first block of a name in the list with which an outermost block begins.
+fn entry(s: &[u8], name: &[u8]) -> Place
+    requires { ⌜ Keyed (now s) (le2 (now s) 6) 8 ⌝ }
+    ensures { λ r. ⌜ ((l : Keyed (now (s .entry)) (le2 (now (s .entry)) 6) 8) → Entry (now (name .entry)) l r) ⌝ }
+{
+    let mut left = get::read2(s, 6);
+    let mut at = 8;
+    let mut i = 0;
+    while 0 < left {
+        if is_named(s, at + 6, name) {
+            return Place::At(i, at);
+        }
+        at = at + 4 + get::read4(s, at);
+        i += 1;
+        left -= 1;
+    }
+    Place::Missing
+}
+
+// The type of a name in an accepted set.
+pub fn get_type_info(set: &[u8], name: &[u8]) -> Found
+    requires { ⌜ ((t : Tree) × (readSet (now set) ≡ done t)) ⌝ }
+    ensures { λ r. ⌜ ((t : Tree) → readSet (now (set .entry)) ≡ done t → TypeFound (now (set .entry)) (now (name .entry)) (typesOf t) r) ⌝ }
+{
+    match entry(set, name) {
+        Place::At(_, at) => Found::At(at),
+        Place::Missing => Found::Missing,
+    }
+}
+
+// The type tree of a name in an accepted layout.
+pub fn lookup_type(layout: &[u8], name: &[u8]) -> Place
+    requires { ⌜ ((t : Tree) × (readLayout (now layout) ≡ done t)) ⌝ }
+    ensures { λ r. ⌜ ((t : Tree) → readLayout (now (layout .entry)) ≡ done t → TreeFound (now (layout .entry)) (now (name .entry)) (layoutOf t) r) ⌝ }
+{
+    entry(layout, name)
+}
+
+// The value of a name in an accepted block of values at an offset, as in a run.
+pub fn value_in(s: &[u8], block: usize, name: &[u8]) -> Value
+    requires { ⌜ Accepted (now s) 192 192 block ⌝ }
+    ensures { λ r. ⌜ ((a : Accepted (now (s .entry)) 192 192 block) → ValueFound (now (s .entry)) (now (name .entry)) (valuesOf (tree a)) r) ⌝ }
+{
+    let mut left = get::read2(s, block + 6);
+    let mut at = block + 6 + 2;
+    while 0 < left {
+        let next = at + 2 + get::read2(s, at);
+        if is_named(s, at, name) {
+            return Value::At(next);
+        }
+        at = next + 8;
+        left -= 1;
+    }
+    Value::Missing
+}
+
+// The value of a name in accepted values.
+pub fn find_value(values: &[u8], name: &[u8]) -> Value
+    requires { ⌜ ((t : Tree) × (readValues (now values) ≡ done t)) ⌝ }
+    ensures { λ r. ⌜ ((t : Tree) → readValues (now (values .entry)) ≡ done t → ValueFound (now (values .entry)) (now (name .entry)) (valuesOf t) r) ⌝ }
+{
+    value_in(values, 0, name)
+}

@@ -1,0 +1,1 @@
+// What a walk over accepted bytes relies on; it has no code.
