@@ -17,6 +17,10 @@ le8 s at = le4 s at + 4294967296 * le4 s (at + 4)
 abbrev pub bytesAt : List ℕ → ℕ → ℕ → List ℕ
 bytesAt s at n = take n (drop at s)
 
+-- the name or text at an offset: "a 2-byte length and its bytes"
+abbrev pub nameAt : List ℕ → ℕ → List ℕ
+nameAt s at = bytesAt s (at + 2) (le2 s at)
+
 -- a number in w bytes
 unfoldable pub bytes : ℕ → ℕ → List ℕ
 bytes zero v = []

@@ -7,7 +7,7 @@ use lib.ListN.{length, getD}
 use Rattle.errors.specs.Refusal.{Outcome, done, refused, _>>=_, ask, unread}
 use Rattle.blocks.specs.declared.Part.{Part}
 use Rattle.blocks.specs.declared.Part.the-variants.{Text, Key, Number, Flag, Size, OptNumber, OptText, Literal, Block, OptBlock, Blocks, Ascending, Distinct, Names, Paths, Values}
-use Rattle.blocks.specs.Bytes.{le2, le4, le8, bytesAt}
+use Rattle.blocks.specs.Bytes.{le2, le4, le8, nameAt}
 use Rattle.blocks.specs.Name.{Name, isText, less, among}
 use Rattle.blocks.specs.Grammar.{partsOf, within}
 use Rattle.blocks.specs.Tree.{Tree, name, num, block, nil, cons, first, body, number, part, kind}
@@ -60,8 +60,8 @@ unfoldable pub readText : List ℕ → ℕ → ℕ → ℕ → Step
 readText s start end at = do
   _ ← ask (leb (at + 2) end) (unread 2 start)
   _ ← ask (leb (at + 2 + le2 s at) end) (unread 2 start)
-  _ ← ask (isText (bytesAt s (at + 2) (le2 s at))) (unread 3 start)
-  done (name (bytesAt s (at + 2) (le2 s at)), at + 2 + le2 s at)
+  _ ← ask (isText (nameAt s at)) (unread 3 start)
+  done (name (nameAt s at), at + 2 + le2 s at)
 
 -- a name, then question 6
 unfoldable pub readKey : List ℕ → ℕ → ℕ → Earlier → ℕ → Step

@@ -57,6 +57,8 @@ pub record Pair : Type 0 where
   pub oldLayoutRead : readLayout oldLayout ≡ done oldLayoutTree
   pub newLayoutRead : readLayout newLayout ≡ done newLayoutTree
 
+-- It speaks of `validate` as defined: a validator that sums constants and ignores values would meet this statement too, and
+-- is shut out by that definition.
 -- For every type of the old set, all values ("Refused values count too"), every buffer length and any number of working
 -- words, the same for both.
 abbrev pub OldAndNew : Type 0

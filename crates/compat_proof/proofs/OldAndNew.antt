@@ -29,7 +29,7 @@ use Rattle.compat_build.proofs.Built.{built, known}
 use Rattle.compat_layout.proofs.Reread.{layout-read}
 use Rattle.compat_layout.proofs.Extends.{reread, found-read}
 use Rattle.compat_eval.proofs.Evaluated.{evaluated}
-use Rattle.compat_proof.proofs.Reading.{Unplaced, input-at}
+use Rattle.blocks.proofs.Refusals.{Unread, input-unread}
 
 -- what a built set says: the type trees that were written
 pub record Built (tree : Tree) (layout : List ℕ) : Type 0 where
@@ -60,11 +60,11 @@ built-set words out set layout tree read e =
     }
 
 -- the same answer of reading on both sides
-same-values : (old new : List TypeIr) (f g : Tree → Outcome ℕ) (o : Outcome Tree) → Unplaced o
+same-values : (old new : List TypeIr) (f g : Tree → Outcome ℕ) {o : Outcome Tree} → Unread o
     → ((t : Tree) → Agree old new (f t) (g t)) → Agree old new (o >>= f) (o >>= g)
 unfolding _>>=_
-same-values old new f g (done t) u h = h t
-same-values old new f g (refused r) (Unplaced.nowhere _ e) h = Agree.refusal r r refl refl (rw e SamePlace.none)
+same-values old new f g (Unread.given t) h = h t
+same-values old new f g (Unread.at-offset q o) h = Agree.refusal _ _ refl refl SamePlace.none
 
 same-asked : (old new : List TypeIr) (f g : Unit → Outcome ℕ) (b : Bool) (r : Refusal) → r .place ≡ nowhere
     → Agree old new (f tt) (g tt) → Agree old new (ask b r >>= f) (ask b r >>= g)
@@ -83,7 +83,7 @@ validated old new l l′ s s′ e e′ n values len words h =
     (rw (asked-yes _ _ (le-leb (length old) 65536 s), asked-yes _ _ (le-leb (length new) 65536 s′))
     (same-asked _ _ _ _ (leb (length values) 65536) _ refl
     (rw (bound-done _ e, bound-done _ e′)
-    (same-values _ _ _ _ (readValues values) (input-at values 2 192) (λ v. h (valuesOf v))))))
+    (same-values _ _ _ _ (input-unread 2 192 values) (λ v. h (valuesOf v))))))
 
 -- ---- the parts put together
 

@@ -1,2 +1,3 @@
 pub mod Arithmetic
 pub mod Compute
+pub mod Lookup

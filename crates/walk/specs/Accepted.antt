@@ -7,8 +7,7 @@ use lib.ListN.{length}
 use Rattle.errors.specs.Refusal.{done}
 use Rattle.blocks.specs.declared.Part.{Part}
 use Rattle.blocks.specs.declared.Part.the-variants.{Text, Number, Block, Size, OptNumber, OptText, OptBlock, Blocks, Ascending, Distinct, Names, Paths, Values}
-use Rattle.blocks.specs.Bytes.{le2, bytesAt}
-use Rattle.blocks.specs.Name.{Name}
+pub use Rattle.blocks.specs.Bytes.{nameAt}
 use Rattle.blocks.specs.Tree.{Tree}
 use Rattle.blocks.specs.Read.{Step, Earlier, readKey, readValue, readEntries, readParts, readBlock}
 
@@ -57,10 +56,6 @@ pub record Entries (s : List ℕ) (i : Item) (n at : ℕ) : Type 0 where
 
 abbrev pub Listed : List ℕ → ℕ → ℕ → ℕ → ℕ → Type 0
 Listed s lo hi n at = Entries s (Item.blocks lo hi) n at
-
--- the name at an offset: "a 2-byte length and its bytes"
-abbrev pub nameAt : List ℕ → ℕ → Name
-nameAt s at = bytesAt s (at + 2) (le2 s at)
 
 -- an optional part, the flag that says that it is there, and the part that then stands behind the flag
 pub data Optional : Part → ℕ → Part → Type 0 where

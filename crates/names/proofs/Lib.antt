@@ -1,0 +1,5 @@
+pub mod Strip
+pub mod Canonical
+pub mod Colons
+pub mod Qualified
+pub mod Vectors

@@ -1,0 +1,107 @@
+-- The parts of a block, and a block, one step at a time, as the code sees them.
+use mathlib.Core.Path.{_≡_, refl, _∙_, ap₂}
+use mathlib.Core.List.{List, [], _∷_}
+use Prim.Native.Nat.{ℕ, zero, suc, _+_, _-_, _<_}
+use lib.ListN.{drop}
+use native.Mathlib.Omega.{arith}
+use native.Mathlib.Numerals.{sub-one}
+use lib.Dec.{eqb}
+use borrow.Author.Tests.{eq-eqb, ne-eqb}
+use Rattle.errors.specs.Refusal.{Outcome, done, refused, _>>=_, ask, unread}
+use Rattle.blocks.specs.declared.Part.{Part}
+use Rattle.blocks.specs.Grammar.{partsOf}
+use Rattle.blocks.specs.Tree.{Tree, block}
+use Rattle.blocks.specs.Read.{Step, Earlier, Reader, readPart, readParts, readHeader, readBlock}
+use Rattle.leaf.specs.declared.Read.the-variants.{Ok, Refused}
+use Rattle.leaf.specs.declared.Head.the-variants.{Found, No}
+use Rattle.leaf.specs.Answer.{forget, headOf}
+use Rattle.leaf.proofs.Laws.{stopped, goes}
+use Rattle.ir.specs.Codes.{codeOf, codeAt}
+use Rattle.grammar.specs.Parts.{Coded, Keyed}
+use Rattle.grammar.proofs.Laws.{column}
+
+module _ (rb : Reader) (s : List ℕ) (e : Earlier) (start end : ℕ) where
+  pub parts-none : {ps : List Part} (at : ℕ) → ps ≡ [] → forget (readParts rb s e start end ps at) ≡ Ok at
+  unfolding readParts forget
+  parts-none at h = rw h
+
+  module _ {ps qs : List Part} {p : Part} (h : ps ≡ p ∷ qs) (at : ℕ) where
+    pub parts-stop : {q o : ℕ} → forget (readPart rb s e start end p at) ≡ Refused q o → forget (readParts rb s e start end ps at) ≡ Refused q o
+    unfolding readParts
+    parts-stop d = rw h (stopped (readPart rb s e start end p at) _ d)
+
+    pub parts-go : {m : ℕ} → forget (readPart rb s e start end p at) ≡ Ok m → forget (readParts rb s e start end ps at) ≡ forget (readParts rb s e start end qs m)
+    unfolding readParts
+    parts-go d = rw h (goes (readPart rb s e start end p at) (readParts rb s e start end qs) d)
+
+-- behind a header
+found : (o : Outcome (ℕ × ℕ)) (k : (ℕ × ℕ) → Step) {a b : ℕ} → headOf o ≡ Found a b → forget (o >>= k) ≡ forget (k (a, b))
+unfolding headOf _>>=_
+found (done h) k {a} {b} e =
+    let e0 : h .0 ≡ a = cc in
+    let e1 : h .1 ≡ b = cc in
+    ap₂ (λ (x y : ℕ). forget (k (x, y))) e0 e1
+found (refused r) k e = let z : _≡_ {A = ℕ} 0 1 = cc in absurd (omega arith)
+
+none : (o : Outcome (ℕ × ℕ)) (k : (ℕ × ℕ) → Step) {q x : ℕ} → headOf o ≡ No q x → forget (o >>= k) ≡ Refused q x
+unfolding headOf _>>=_ forget
+none (done h) k e = let z : _≡_ {A = ℕ} 0 1 = cc in absurd (omega arith)
+none (refused r) k e = cc
+
+-- the end of a block, behind its parts
+last : ℕ → ℕ → ℕ → (Tree × ℕ) → Step
+last at kind stop x = ask (eqb (x .1) stop) (unread 2 at) >>= (λ u. done (block at kind (x .0), stop))
+
+module _ (at kind stop : ℕ) {n : ℕ} where
+  last-ok : (x : Step) → forget x ≡ Ok n → n ≡ stop → forget (x >>= last at kind stop) ≡ Ok stop
+  unfolding last forget _>>=_ ask
+  last-ok (done p) e h = let e1 : p .1 ≡ stop = cc in rw (eq-eqb (p .1) stop e1)
+  last-ok (refused r) e h = let z : _≡_ {A = ℕ} 0 1 = cc in absurd (omega arith)
+
+  last-rest : (x : Step) → forget x ≡ Ok n → (n ≡ stop → ⊥) → forget (x >>= last at kind stop) ≡ Refused 2 at
+  unfolding last forget _>>=_ ask
+  last-rest (done p) e h = let e1 : n ≡ p .1 = cc in rw (ne-eqb (p .1) stop (λ g. h (e1 ∙ g)))
+  last-rest (refused r) e h = let z : _≡_ {A = ℕ} 0 1 = cc in absurd (omega arith)
+
+module _ (s : List ℕ) (e : Earlier) (lo hi at end : ℕ) where
+  pub block-no : (room : ℕ) {q o : ℕ} → headOf (readHeader s lo hi at end) ≡ No q o → forget (readBlock room s e lo hi at end) ≡ Refused q o
+  unfolding readBlock
+  block-no zero d = none (readHeader s lo hi at end) _ d
+  block-no (suc room) d = none (readHeader s lo hi at end) _ d
+
+  module _ {k stop : ℕ} (d : headOf (readHeader s lo hi at end) ≡ Found k stop) where
+    pub block-full : (room : ℕ) → room ≡ 0 → forget (readBlock room s e lo hi at end) ≡ Refused 4 at
+    unfolding readBlock forget
+    block-full room h = rw h (found (readHeader s lo hi at end) _ d)
+
+    abbrev inner : ℕ → Step
+    inner room = readParts (readBlock room s) s e at stop (partsOf k) (at + 6)
+
+    opened : (room : ℕ) → (room ≡ 0 → ⊥) → forget (readBlock room s e lo hi at end) ≡ forget (inner (room - 1) >>= last at k stop)
+    unfolding readBlock last
+    opened zero h = absurd (h refl)
+    opened (suc room) h = rw sub-one (found (readHeader s lo hi at end) _ d)
+
+    module _ (room : ℕ) (h : room ≡ 0 → ⊥) where
+      pub block-stop : {q o : ℕ} → forget (inner (room - 1)) ≡ Refused q o → forget (readBlock room s e lo hi at end) ≡ Refused q o
+      block-stop g = opened room h ∙ stopped (inner (room - 1)) (last at k stop) g
+
+      pub block-ok : {n : ℕ} → forget (inner (room - 1)) ≡ Ok n → n ≡ stop → forget (readBlock room s e lo hi at end) ≡ Ok stop
+      block-ok g x = opened room h ∙ last-ok at k stop (inner (room - 1)) g x
+
+      pub block-rest : {n : ℕ} → forget (inner (room - 1)) ≡ Ok n → (n ≡ stop → ⊥) → forget (readBlock room s e lo hi at end) ≡ Refused 2 at
+      block-rest g x = opened room h ∙ last-rest at k stop (inner (room - 1)) g x
+
+-- ---- the parts of a kind, from its table
+
+-- the part in a column of the table
+pub record Told (kind i : ℕ) (p : Part) : Type 0 where
+  pub keyed : Keyed p
+  pub rest : drop i (partsOf kind) ≡ p ∷ drop (i + 1) (partsOf kind)
+  pub below : i < 7
+
+pub told : (kind i code : ℕ) (r : Part) → code ≡ codeAt kind i → (code ≡ 0 → ⊥) → ((p : Part) → Coded p → code ≡ codeOf p → r ≡ p) → Told kind i r
+told kind i code r e h g =
+    let c = column kind i (λ z. h (e ∙ z)) in
+    let f : r ≡ c .part = g (c .part) (c .coded) (e ∙ c .code) in
+    rw f (record { keyed = c .keyed; rest = c .rest; below = c .below })

@@ -1,0 +1,161 @@
+// Blocks: the reader of a whole input. It goes into blocks by recursion, and along lists and parts by loops.
+use blocks::Part;
+use leaf::Count;
+use leaf::Head;
+use leaf::Read;
+use leaf::Seen;
+ghost use mathlib.Core.Path.{_≡_};
+ghost use Prim.Native.Nat.{_+_, _≤_};
+ghost use lib.ListN.{length};
+ghost use Rattle.blocks.specs.Grammar.{partsOf};
+ghost use Rattle.blocks.specs.Read.{readList, readPart, readParts, readBlock, readInput};
+ghost use Rattle.grammar.specs.Parts.{Keyed};
+ghost use Rattle.leaf.specs.Answer.{forget, Inside};
+ghost use Rattle.leaf.specs.Seen.{Valid, earlierOf};
+ghost use Rattle.reader.specs.Before.{Before};
+ghost use Rattle.reader.specs.Input.{inputOf};
+
+// A count and blocks of a kind from lo to hi.
+fn list(
+    s: &[u8],
+    room: usize,
+    seen: Seen,
+    lo: u64,
+    hi: u64,
+    limit: u64,
+    start: usize,
+    at: usize,
+    end: usize,
+) -> Read
+    requires { ⌜ (at ≤ end) × (end ≤ length (now s)) × (Before (now s) seen lo hi (at + 2)) ⌝ }
+    ensures { λ r. ⌜ (r ≡ forget (readList (λ f a. readBlock room (now (s .entry)) f lo hi a end) (earlierOf (now (s .entry)) seen) limit (now (s .entry)) start end at)) × (Inside r end) ⌝ }
+{
+    match leaf::counted(s, limit as usize, start, at, end) {
+        Count::Bad(q, o) => Read::Refused(q, o),
+        Count::Of(n) => {
+            let mut i = at + 2;
+            let mut before = seen;
+            let mut left = n;
+            while 0 < left {
+                match block(s, room, before, lo, hi, i, end) {
+                    Read::Ok(next) => {
+                        before = leaf::grown(s, before, i);
+                        i = next;
+                    }
+                    Read::Refused(q, o) => {
+                        return Read::Refused(q, o);
+                    }
+                }
+                left -= 1;
+            }
+            Read::Ok(i)
+        }
+    }
+}
+
+// One part of a block.
+fn piece(s: &[u8], room: usize, seen: Seen, p: Part, start: usize, at: usize, end: usize) -> Read
+    requires { ⌜ (at ≤ end) × (end ≤ length (now s)) × (Valid (now s) seen) × (Keyed p) ⌝ }
+    ensures { λ r. ⌜ (r ≡ forget (readPart (readBlock room (now (s .entry))) (now (s .entry)) (earlierOf (now (s .entry)) seen) start end p at)) × (Inside r end) ⌝ }
+{
+    match p {
+        Part::Block(lo, hi) => block(s, room, Seen::Nothing, lo, hi, at, end),
+        Part::OptBlock(lo, hi) => match leaf::flag(s, start, at, end) {
+            Read::Refused(q, o) => Read::Refused(q, o),
+            Read::Ok(next) => {
+                if s[at] == 1 {
+                    block(s, room, Seen::Nothing, lo, hi, next, end)
+                } else {
+                    Read::Ok(next)
+                }
+            }
+        },
+        Part::Blocks(lo, hi, limit) => list(s, room, Seen::Nothing, lo, hi, limit, start, at, end),
+        Part::Ascending(lo, hi, limit) => {
+            let first = at + 2;
+            let none = Seen::Owners(first, 0, 0, 0);
+            list(s, room, none, lo, hi, limit, start, at, end)
+        }
+        Part::Distinct(lo, hi, limit) => {
+            let first = at + 2;
+            let none = Seen::Types(first, 0);
+            list(s, room, none, lo, hi, limit, start, at, end)
+        }
+        // the others hold no block
+        _ => leaf::plain(s, seen, p, start, at, end),
+    }
+}
+
+// All parts of a block of this kind.
+fn parts(
+    s: &[u8],
+    room: usize,
+    seen: Seen,
+    kind: usize,
+    start: usize,
+    at: usize,
+    end: usize,
+) -> Read
+    requires { ⌜ (at ≤ end) × (end ≤ length (now s)) × (Valid (now s) seen) ⌝ }
+    ensures { λ r. ⌜ (r ≡ forget (readParts (readBlock room (now (s .entry))) (now (s .entry)) (earlierOf (now (s .entry)) seen) start end (partsOf kind) at)) × (Inside r end) ⌝ }
+{
+    let mut i = 0;
+    let mut here = at;
+    loop {
+        let code = grammar::code_at(kind, i);
+        if code == 0 {
+            return Read::Ok(here);
+        }
+        match piece(s, room, seen, grammar::part_of(code), start, here, end) {
+            Read::Ok(next) => {
+                here = next;
+            }
+            Read::Refused(q, o) => {
+                return Read::Refused(q, o);
+            }
+        }
+        i += 1;
+    }
+}
+
+// A block of a kind from lo to hi, with room for so many open blocks.
+fn block(s: &[u8], room: usize, seen: Seen, lo: u64, hi: u64, at: usize, end: usize) -> Read
+    requires { ⌜ (at ≤ end) × (end ≤ length (now s)) × (Valid (now s) seen) ⌝ }
+    ensures { λ r. ⌜ (r ≡ forget (readBlock room (now (s .entry)) (earlierOf (now (s .entry)) seen) lo hi at end)) × (Inside r end) ⌝ }
+{
+    match leaf::heading(s, lo as usize, hi as usize, at, end) {
+        Head::No(q, o) => Read::Refused(q, o),
+        Head::Found(k, stop) => {
+            if room == 0 {
+                return Read::Refused(4, at);
+            }
+            match parts(s, room - 1, seen, k, at, at + 6, stop) {
+                Read::Refused(q, o) => Read::Refused(q, o),
+                Read::Ok(next) => {
+                    if next == stop {
+                        Read::Ok(stop)
+                    } else {
+                        Read::Refused(2, at)
+                    }
+                }
+            }
+        }
+    }
+}
+
+// An input: an outermost block of one kind, and nothing behind it.
+pub fn read_input(s: &[u8], room: usize, kind: usize) -> Read
+    ensures { λ r. ⌜ r ≡ inputOf (length (now (s .entry))) (readInput room kind (now (s .entry))) ⌝ }
+{
+    let n = s.len();
+    match block(s, room, Seen::Nothing, kind as u64, kind as u64, 0, n) {
+        Read::Refused(q, o) => Read::Refused(q, o),
+        Read::Ok(next) => {
+            if next == n {
+                Read::Ok(n)
+            } else {
+                Read::Refused(2, 0)
+            }
+        }
+    }
+}
