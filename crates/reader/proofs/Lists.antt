@@ -272,14 +272,6 @@ module _ (s : List ℕ) (lo hi at : ℕ) where
       begins k a c (inl e) = (drop 1 (partsOf k), type-begins k (omega arith) (omega arith))
       begins k a c (inr e) = let z : k ≡ 161 = omega arith in rw z (drop 1 (partsOf 161), tree-begins)
 
-  pub owners-none : earlierOf s (Owners at 0 0 0) ≡ Earlier.ascending [] 0
-  unfolding earlierOf namesBefore
-  owners-none = refl
-
-  pub types-none : earlierOf s (Types at 0) ≡ Earlier.distinct []
-  unfolding earlierOf namesBefore
-  types-none = refl
-
 -- ---- the parts that hold no block, as places in `Part`
 
 abbrev pub others : List ℕ

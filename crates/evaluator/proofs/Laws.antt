@@ -1,0 +1,348 @@
+-- What the code returns for each kind of node is what the node evaluates to; premises as the code's places have them.
+use mathlib.Core.Path.{_≡_, refl, sym, _∙_, ap, subst, fun-ext}
+use mathlib.Core.Bool.{Bool, true, false, cond}
+use mathlib.Core.List.{List, [], _∷_, _++_}
+use mathlib.Core.Option.{Option, some, none}
+use Prim.Native.Nat.{ℕ, zero, suc, _+_, _-_, _*_, _/_, _%_, _≤_, _<_}
+use native.Mathlib.Numerals.{add-one, sub-one}
+use native.Mathlib.Omega.{arith}
+use lib.Dec.{eqb}
+use lib.ListN.{length, getD, set, drop, length-set}
+use lib.Seq.{getD-set-same, getD-set-other}
+use borrow.Author.Tests.{eq-eqb, ne-eqb, le-leb}
+use Rattle.errors.specs.Refusal.{Outcome, done, refused, _>>=_, Refusal, plain, UnknownType, MissingIrParameter, InvalidTagValue}
+use Rattle.blocks.specs.Bytes.{le2, le4, le8}
+use Rattle.blocks.specs.Name.{Name}
+use Rattle.blocks.specs.Grammar.{partsOf, nodeTable}
+use Rattle.blocks.specs.Tree.{Tree, text, number, body, part, rest, first, view, partView, listed}
+use Rattle.blocks.specs.Read.{readLayout}
+use Rattle.blocks.specs.declared.Part.{Part}
+use Rattle.blocks.specs.declared.Part.the-variants.{Text, Number, Block, Blocks}
+use Rattle.ir.specs.Ir.{BinaryOp, IrNode, IrArgument, SwitchCases, DefaultNode, TypeIr}
+use Rattle.ir.specs.Layout.{Form, formOf, makeThing, thingOf, nodeIn, defaultIn, nodeOf, layoutOf, typeIrOf, operations, argumentOf}
+use Rattle.walk.specs.Accepted.{Accepted, tree, nameAt}
+use Rattle.walk.proofs.Laws.{opened, each}
+use Rattle.interpreter.specs.Arithmetic.{Result, operate, align-up}
+use Rattle.interpreter.specs.Eval.{Calls, ParamMap, find, at, valueOr, lift, eval-node, eval-cases, eval-default, collect-arguments, inherited, lookup-type, eval-call, eval-within}
+use Rattle.nodes.proofs.Laws.{Standing, kinds}
+use Rattle.nodes.proofs.Shape.{bodyOf, number-at, child-at, node-is, node-in, cases-in, default-in, located}
+use Rattle.arithmetic.specs.declared.Num.{Num}
+use Rattle.arithmetic.specs.Num.{numOf}
+use Rattle.lookup.specs.declared.Place.{Place}
+use Rattle.lookup.specs.declared.Place.the-variants.{At as PlaceAt, Missing as PlaceNone}
+use Rattle.lookup.specs.Found.{TreeFound}
+use Rattle.context.specs.declared.Held.{Held}
+use Rattle.context.specs.declared.Held.the-variants.{Value, Absent}
+use Rattle.context.specs.Names.{heldOf}
+use Rattle.context.specs.Context.{Context, Pair, Open, callAt, treeAt, argumentsOf, parametersOf, Same}
+use Rattle.context.proofs.Calls.{context-same}
+use Rattle.leaves.specs.declared.Answer.{Answer}
+use Rattle.leaves.specs.declared.Answer.the-variants.{Count, Refused}
+use Rattle.leaves.specs.declared.Choice.{Choice}
+use Rattle.leaves.specs.declared.Choice.the-variants.{Node, Nothing}
+use Rattle.leaves.specs.declared.Arguments.{Arguments}
+use Rattle.leaves.specs.declared.Arguments.the-variants.{All, Lacking}
+use Rattle.leaves.specs.Outcome.{outcomeOf}
+use Rattle.leaves.specs.Steps.{Rooted, pick, casesOf, defaultOf, Picked, Bound}
+use Rattle.leaves.proofs.Nodes.{held-is, absent-is}
+use Rattle.evaluator.specs.Evaluates.{Ready, Evaluates}
+
+-- ---- the allowance of open calls
+
+abbrev entering : ℕ → List TypeIr → ℕ → ParamMap → ℕ → ℕ → ParamMap → IrNode → Outcome ℕ
+entering zero types p γ a i δ root = refused (at p a 27 0)
+entering (suc left) types p γ a i δ root = eval-within left types i δ root
+
+-- what a call does with so many calls left
+abbrev pub callsAt : ℕ → List TypeIr → Calls
+callsAt left types = eval-call (entering left types) types
+
+pub within-is : (left : ℕ) (types : List TypeIr) (p : ℕ) (γ : ParamMap) (n : IrNode) → eval-within left types p γ n ≡ eval-node (callsAt left types) p γ n
+unfolding eval-within
+within-is zero types p γ n = refl
+within-is (suc left) types p γ n = refl
+
+opens : (left : ℕ) → (left ≡ 0 → ⊥) → (types : List TypeIr) (p : ℕ) (γ : ParamMap) (a i : ℕ) (δ : ParamMap) (n : IrNode) → entering left types p γ a i δ n ≡ eval-within (left - 1) types i δ n
+opens zero h types p γ a i δ n = absurd (h refl)
+opens (suc left) h types p γ a i δ n = ap (λ (l : ℕ). eval-within l types i δ n) (sym (sub-one (suc left)))
+
+-- ---- AlignUp
+
+pub align-number : {s : List ℕ} {at p : ℕ} → Standing s at 2 p → (a : Accepted s 128 144 at) → le2 s (at + 4) ≡ 131 → (p + 8 ≤ length s) × (number (part 2 (bodyOf a)) ≡ le8 s p)
+unfolding partsOf nodeTable
+align-number st a k = number-at (located 2 st a k refl)
+
+pub align-child : {s : List ℕ} {at q : ℕ} → Standing s at 3 q → (a : Accepted s 128 144 at) → le2 s (at + 4) ≡ 131 → (c : Accepted s 128 144 q) × (nodeOf (part 3 (bodyOf a)) ≡ nodeOf (tree c)) × (le4 s q < le4 s at) × (q + 4 + le4 s q ≤ length s)
+unfolding partsOf nodeTable
+align-child st a k = child-at (located 3 st a k refl)
+
+module _ {s : List ℕ} {at p q : ℕ} (st : Standing s at 2 p) (su : Standing s at 3 q) (k : le2 s (at + 4) ≡ 131) (left : ℕ) (types : List TypeIr) (pl : ℕ) (γ : ParamMap) (a : Accepted s 128 144 at) where
+  align-is : eval-within left types pl γ (nodeOf (tree a)) ≡ (eval-within left types pl γ (nodeOf (tree (align-child su a k .0))) >>= (λ v. lift pl at (align-up v (le8 s p))))
+  unfolding formOf makeThing eval-node
+  align-is =
+      let call = callsAt left types in
+      within-is left types pl γ (nodeOf (tree a)) ∙ ap (eval-node call pl γ) (node-is a k refl)
+      ∙ ap (λ (n : IrNode). eval-node call pl γ n >>= (λ v. lift pl at (align-up v (number (part 2 (bodyOf a)))))) (node-in 3 (bodyOf a) ∙ align-child su a k .1)
+      ∙ ap (λ (m : ℕ). eval-node call pl γ (nodeOf (tree (align-child su a k .0))) >>= (λ v. lift pl at (align-up v m))) (align-number st a k .1)
+      ∙ ap (λ (o : Outcome ℕ). o >>= (λ v. lift pl at (align-up v (le8 s p)))) (sym (within-is left types pl γ (nodeOf (tree (align-child su a k .0)))))
+
+  module _ (o : Answer) (e : (c : Accepted s 128 144 q) → outcomeOf o ≡ eval-within left types pl γ (nodeOf (tree c))) where
+    then-align : (z : Outcome ℕ) → outcomeOf o ≡ z → eval-within left types pl γ (nodeOf (tree a)) ≡ (z >>= (λ v. lift pl at (align-up v (le8 s p))))
+    then-align z f = align-is ∙ ap (λ (o : Outcome ℕ). o >>= (λ v. lift pl at (align-up v (le8 s p)))) (sym (e (align-child su a k .0)) ∙ f)
+
+    pub align-stops : {n x y z : ℕ} → o ≡ Refused n x y z → outcomeOf (Refused n x y z) ≡ eval-within left types pl γ (nodeOf (tree a))
+    unfolding _>>=_
+    align-stops {n} {x} {y} {z} f = sym (then-align (outcomeOf (Refused n x y z)) (ap outcomeOf f))
+
+    pub align-goes : {v m : ℕ} {z : Num} (r : Answer) → o ≡ Count v → m ≡ le8 s p → z ≡ numOf (align-up v m) → ((x : Result) → z ≡ numOf x → outcomeOf r ≡ lift pl at x) → outcomeOf r ≡ eval-within left types pl γ (nodeOf (tree a))
+    unfolding _>>=_
+    align-goes {v} {m} r f em ez er = er (align-up v m) ez ∙ ap (λ (m : ℕ). lift pl at (align-up v m)) em ∙ sym (then-align (done v) (ap outcomeOf f))
+
+-- ---- two operands
+
+abbrev opOf : ℕ → BinaryOp
+opOf k = getD operations (k - 134) BinaryOp.AddChecked
+
+binary-form : (k : ℕ) → 134 ≤ k → k ≤ 143 → formOf k ≡ Form.binary (opOf k)
+unfolding formOf
+binary-form k lo hi =
+    rw (ne-eqb k 128 (λ e. absurd (omega arith)), ne-eqb k 129 (λ e. absurd (omega arith)), ne-eqb k 130 (λ e. absurd (omega arith)), ne-eqb k 131 (λ e. absurd (omega arith)), ne-eqb k 132 (λ e. absurd (omega arith)), ne-eqb k 133 (λ e. absurd (omega arith)), le-leb 134 k lo, le-leb k 143 hi)
+
+two-nodes : ℕ → Type 0
+two-nodes k = (drop 2 (partsOf k) ≡ Block 128 144 ∷ Block 128 144 ∷ []) × (drop 3 (partsOf k) ≡ Block 128 144 ∷ [])
+
+binary-parts : (k : ℕ) → 134 ≤ k → k ≤ 143 → two-nodes k
+unfolding partsOf nodeTable two-nodes
+binary-parts k lo hi =
+    each two-nodes 10 134 ((refl, refl), ((refl, refl), ((refl, refl), ((refl, refl), ((refl, refl), ((refl, refl), ((refl, refl), ((refl, refl), ((refl, refl), ((refl, refl), tt)))))))))) k lo (omega arith)
+
+abbrev pub Child : {s : List ℕ} {at : ℕ} → Accepted s 128 144 at → ℕ → ℕ → Type 0
+Child {s} {at} a i q = (c : Accepted s 128 144 q) × (nodeOf (part i (bodyOf a)) ≡ nodeOf (tree c)) × (le4 s q < le4 s at) × (q + 4 + le4 s q ≤ length s)
+
+module _ {s : List ℕ} {at : ℕ} (a : Accepted s 128 144 at) (lo : 134 ≤ le2 s (at + 4)) (hi : le2 s (at + 4) ≤ 143) where
+  pub left-child : {q : ℕ} → Standing s at 2 q → Child a 2 q
+  unfolding two-nodes
+  left-child st = child-at (located 2 st a refl (binary-parts (le2 s (at + 4)) lo hi .0))
+
+  pub right-child : {q : ℕ} → Standing s at 3 q → Child a 3 q
+  unfolding two-nodes
+  right-child st = child-at (located 3 st a refl (binary-parts (le2 s (at + 4)) lo hi .1))
+
+  module _ {p q : ℕ} (st : Standing s at 2 p) (su : Standing s at 3 q) (left : ℕ) (types : List TypeIr) (pl : ℕ) (γ : ParamMap) where
+    abbrev run : {q : ℕ} → Accepted s 128 144 q → Outcome ℕ
+    run c = eval-within left types pl γ (nodeOf (tree c))
+
+    binary-is : run a ≡ (run (left-child st .0) >>= (λ x. run (right-child su .0) >>= (λ y. lift pl at (operate (opOf (le2 s (at + 4))) x y))))
+    unfolding makeThing eval-node
+    binary-is =
+        let call = callsAt left types in
+        let op = opOf (le2 s (at + 4)) in
+        within-is left types pl γ (nodeOf (tree a)) ∙ ap (eval-node call pl γ) (node-is a refl (binary-form (le2 s (at + 4)) lo hi))
+        ∙ ap (λ (n : IrNode). eval-node call pl γ n >>= (λ x. eval-node call pl γ (nodeIn 3 (view thingOf (bodyOf a))) >>= (λ y. lift pl at (operate op x y)))) (node-in 2 (bodyOf a) ∙ left-child st .1)
+        ∙ ap (λ (n : IrNode). eval-node call pl γ (nodeOf (tree (left-child st .0))) >>= (λ x. eval-node call pl γ n >>= (λ y. lift pl at (operate op x y)))) (node-in 3 (bodyOf a) ∙ right-child su .1)
+        ∙ ap (λ (o : Outcome ℕ). o >>= (λ x. eval-node call pl γ (nodeOf (tree (right-child su .0))) >>= (λ y. lift pl at (operate op x y)))) (sym (within-is left types pl γ (nodeOf (tree (left-child st .0)))))
+        ∙ ap (λ (o : Outcome ℕ). run (left-child st .0) >>= (λ x. o >>= (λ y. lift pl at (operate op x y)))) (sym (within-is left types pl γ (nodeOf (tree (right-child su .0)))))
+
+    module _ (o : Answer) (e : (c : Accepted s 128 144 p) → outcomeOf o ≡ run c) where
+      pub left-stops : {n x y z : ℕ} → o ≡ Refused n x y z → outcomeOf (Refused n x y z) ≡ run a
+      unfolding _>>=_
+      left-stops {n} {x} {y} {z} f = sym (binary-is ∙ ap (λ (o : Outcome ℕ). o >>= (λ x. run (right-child su .0) >>= (λ y. lift pl at (operate (opOf (le2 s (at + 4))) x y)))) (sym (e (left-child st .0)) ∙ ap outcomeOf f))
+
+      module _ (o₂ : Answer) (e₂ : (c : Accepted s 128 144 q) → outcomeOf o₂ ≡ run c) {v : ℕ} (f : o ≡ Count v) where
+        both-are : run a ≡ (outcomeOf o₂ >>= (λ y. lift pl at (operate (opOf (le2 s (at + 4))) v y)))
+        unfolding _>>=_
+        both-are = binary-is ∙ ap (λ (o : Outcome ℕ). o >>= (λ x. run (right-child su .0) >>= (λ y. lift pl at (operate (opOf (le2 s (at + 4))) x y)))) (sym (e (left-child st .0)) ∙ ap outcomeOf f) ∙ ap (λ (o : Outcome ℕ). o >>= (λ y. lift pl at (operate (opOf (le2 s (at + 4))) v y))) (sym (e₂ (right-child su .0)))
+
+        pub right-stops : {n x y z : ℕ} → o₂ ≡ Refused n x y z → outcomeOf (Refused n x y z) ≡ run a
+        unfolding _>>=_
+        right-stops g = sym (both-are ∙ ap (λ (o : Answer). outcomeOf o >>= (λ y. lift pl at (operate (opOf (le2 s (at + 4))) v y))) g)
+
+        pub both-go : {w k : ℕ} {z : Num} (r : Answer) → o₂ ≡ Count w → k ≡ le2 s (at + 4) → z ≡ numOf (operate (opOf k) v w) → ((x : Result) → z ≡ numOf x → outcomeOf r ≡ lift pl at x) → outcomeOf r ≡ run a
+        unfolding _>>=_
+        both-go {w} {k} r g ek ez er = er (operate (opOf k) v w) ez ∙ ap (λ (k : ℕ). lift pl at (operate (opOf k) v w)) ek ∙ sym (both-are ∙ ap (λ (o : Answer). outcomeOf o >>= (λ y. lift pl at (operate (opOf (le2 s (at + 4))) v y))) g)
+
+-- ---- Switch
+
+picking : Calls → ℕ → ParamMap → ℕ → ℕ → Option IrNode → Outcome ℕ
+picking call p γ a v none = refused (at p a InvalidTagValue v)
+picking call p γ a v (some n) = eval-node call p γ n
+
+pick-is : (call : Calls) (p : ℕ) (γ : ParamMap) (a v : ℕ) (cs : SwitchCases) (d : DefaultNode) → eval-cases call p γ v cs (eval-default call p γ a v d) ≡ picking call p γ a v (pick v cs d)
+unfolding eval-node eval-cases eval-default pick picking
+pick-is call p γ a v SwitchCases.noCase DefaultNode.noDefault = refl
+pick-is call p γ a v SwitchCases.noCase (DefaultNode.orElse n) = refl
+pick-is call p γ a v (SwitchCases.case t n ps cs) d = go (eqb t v) (pick-is call p γ a v cs d)
+  where
+    go : (b : Bool) → eval-cases call p γ v cs (eval-default call p γ a v d) ≡ picking call p γ a v (pick v cs d) → elim b [ true ↦ eval-node call p γ n | false ↦ eval-cases call p γ v cs (eval-default call p γ a v d) ] ≡ picking call p γ a v (cond b (some n) (pick v cs d))
+    go true h = refl
+    go false h = h
+
+pub picked-node : {s : List ℕ} {at v q : ℕ} {a : Accepted s 128 144 at} {c : Choice} → c ≡ Node q → Picked a v c → (x : Accepted s 128 144 q) × (le4 s q < le4 s at) × (pick v (casesOf (bodyOf a)) (defaultOf (bodyOf a)) ≡ some (nodeOf (tree x)))
+picked-node {s} {at} {v} {q} {a} e (Picked.node {q = r} x h g) = let f : r ≡ q = cc in subst (λ (q : ℕ). (x : Accepted s 128 144 q) × (le4 s q < le4 s at) × (pick v (casesOf (bodyOf a)) (defaultOf (bodyOf a)) ≡ some (nodeOf (tree x)))) f (x, h, g)
+picked-node e (Picked.nothing g) = let z : _≡_ {A = ℕ} 0 1 = cc in absurd (omega arith)
+
+picked-none : {s : List ℕ} {at v : ℕ} {a : Accepted s 128 144 at} {c : Choice} → c ≡ Nothing → Picked a v c → pick v (casesOf (bodyOf a)) (defaultOf (bodyOf a)) ≡ none
+picked-none e (Picked.node x h g) = let z : _≡_ {A = ℕ} 0 1 = cc in absurd (omega arith)
+picked-none e (Picked.nothing g) = g
+
+module _ {s : List ℕ} {at : ℕ} (k : le2 s (at + 4) ≡ 132) (left : ℕ) (types : List TypeIr) (pl : ℕ) (γ : ParamMap) (a : Accepted s 128 144 at) where
+  missed : Refusal
+  missed = record { number = MissingIrParameter; place = pl; offset = at; value = 0 }
+
+  switch-is : eval-within left types pl γ (nodeOf (tree a)) ≡ (valueOr missed (find (text (part 2 (bodyOf a))) γ) >>= (λ v. picking (callsAt left types) pl γ at v (pick v (casesOf (bodyOf a)) (defaultOf (bodyOf a)))))
+  unfolding formOf makeThing eval-node missed
+  switch-is =
+      let call = callsAt left types in
+      let o = valueOr missed (find (text (part 2 (bodyOf a))) γ) in
+      within-is left types pl γ (nodeOf (tree a)) ∙ ap (eval-node call pl γ) (node-is a k refl)
+      ∙ ap (λ (cs : SwitchCases). o >>= (λ v. eval-cases call pl γ v cs (eval-default call pl γ at v (defaultIn (part 4 (bodyOf a)) (partView 4 (view thingOf (bodyOf a))))))) (cases-in 3 (bodyOf a))
+      ∙ ap (λ (d : DefaultNode). o >>= (λ v. eval-cases call pl γ v (casesOf (bodyOf a)) (eval-default call pl γ at v d))) (default-in 4 (bodyOf a))
+      ∙ ap (λ (f : ℕ → Outcome ℕ). o >>= f) (fun-ext (λ v. pick-is call pl γ at v (casesOf (bodyOf a)) (defaultOf (bodyOf a))))
+
+  module _ {r : Held} (er : r ≡ heldOf (find (text (part 2 (bodyOf a))) γ)) where
+    pub switch-misses : r ≡ Absent → outcomeOf (Refused 21 pl at 0) ≡ eval-within left types pl γ (nodeOf (tree a))
+    unfolding valueOr _>>=_ missed
+    switch-misses f = sym (switch-is ∙ ap (λ (o : Option ℕ). valueOr missed o >>= (λ v. picking (callsAt left types) pl γ at v (pick v (casesOf (bodyOf a)) (defaultOf (bodyOf a))))) (absent-is {o = find (text (part 2 (bodyOf a))) γ} er f))
+
+    module _ {v : ℕ} (f : r ≡ Value v) where
+      switch-picks : eval-within left types pl γ (nodeOf (tree a)) ≡ picking (callsAt left types) pl γ at v (pick v (casesOf (bodyOf a)) (defaultOf (bodyOf a)))
+      unfolding valueOr _>>=_
+      switch-picks = switch-is ∙ ap (λ (o : Option ℕ). valueOr missed o >>= (λ v. picking (callsAt left types) pl γ at v (pick v (casesOf (bodyOf a)) (defaultOf (bodyOf a))))) (held-is {o = find (text (part 2 (bodyOf a))) γ} er f)
+
+      pub switch-ends : {c : Choice} → c ≡ Nothing → Picked a v c → outcomeOf (Refused 22 pl at v) ≡ eval-within left types pl γ (nodeOf (tree a))
+      unfolding picking
+      switch-ends g p = sym (switch-picks ∙ ap (picking (callsAt left types) pl γ at v) (picked-none g p))
+
+      pub switch-goes : {c : Choice} {q : ℕ} (o : Answer) → c ≡ Node q → Picked a v c → ((x : Accepted s 128 144 q) → outcomeOf o ≡ eval-within left types pl γ (nodeOf (tree x))) → outcomeOf o ≡ eval-within left types pl γ (nodeOf (tree a))
+      unfolding picking
+      switch-goes o g p e = let x = picked-node g p in e (x .0) ∙ within-is left types pl γ (nodeOf (tree (x .0))) ∙ sym (switch-picks ∙ ap (picking (callsAt left types) pl γ at v) (x .2))
+
+-- ---- CallNested
+
+-- a type that was found, or not
+pub found-at : {s : List ℕ} {n : Name} {ts : List TypeIr} {r : Place} {i o : ℕ} → r ≡ PlaceAt i o → TreeFound s n ts r → (c : Accepted s 161 161 o) × (lookup-type 0 n ts ≡ done (i, typeIrOf (tree c)))
+found-at {s} {n} {ts} {i} {o} e (TreeFound.at {i = j} {o = q} a h) =
+    let ej : j ≡ i = cc in
+    let eq : q ≡ o = cc in
+    move eq (a, h ∙ ap (λ (j : ℕ). done (j, typeIrOf (tree a))) ej)
+  where
+    move : {q : ℕ} → q ≡ o → ((c : Accepted s 161 161 q) × (lookup-type 0 n ts ≡ done (i, typeIrOf (tree c)))) → (c : Accepted s 161 161 o) × (lookup-type 0 n ts ≡ done (i, typeIrOf (tree c)))
+    move e x = subst (λ (q : ℕ). (c : Accepted s 161 161 q) × (lookup-type 0 n ts ≡ done (i, typeIrOf (tree c)))) e x
+found-at e (TreeFound.missing h) = let z : _≡_ {A = ℕ} 0 1 = cc in absurd (omega arith)
+
+found-none : {s : List ℕ} {n : Name} {ts : List TypeIr} {r : Place} → r ≡ PlaceNone → TreeFound s n ts r → lookup-type 0 n ts ≡ refused (plain UnknownType)
+found-none e (TreeFound.at a h) = let z : _≡_ {A = ℕ} 0 1 = cc in absurd (omega arith)
+found-none e (TreeFound.missing h) = h
+
+bound-lacks : {p : ℕ} {γ : ParamMap} {xs : List IrArgument} {r : Arguments} {q : ℕ} → r ≡ Lacking q → Bound p γ xs r → collect-arguments p γ xs [] ≡ refused (at p q MissingIrParameter 0)
+bound-lacks e (Bound.all δ h) = let z : _≡_ {A = ℕ} 0 1 = cc in absurd (omega arith)
+bound-lacks {p} {q} e (Bound.lacking {q = r} h) = let f : r ≡ q = cc in h ∙ ap (λ (q : ℕ). refused (at p q MissingIrParameter 0)) f
+
+pub bound-all : {p : ℕ} {γ : ParamMap} {xs : List IrArgument} {r : Arguments} → r ≡ All → Bound p γ xs r → (δ : ParamMap) × (collect-arguments p γ xs [] ≡ done δ)
+bound-all e (Bound.all δ h) = (δ, h)
+bound-all e (Bound.lacking h) = let z : _≡_ {A = ℕ} 0 1 = cc in absurd (omega arith)
+
+module _ {s : List ℕ} {at : ℕ} (k : le2 s (at + 4) ≡ 133) (left : ℕ) (types : List TypeIr) (pl : ℕ) (γ : ParamMap) (a : Accepted s 128 144 at) where
+  call-is : eval-within left types pl γ (nodeOf (tree a)) ≡ eval-call (entering left types) types pl γ at (text (part 2 (bodyOf a))) (argumentsOf (tree a))
+  unfolding formOf makeThing eval-node
+  call-is = within-is left types pl γ (nodeOf (tree a)) ∙ ap (eval-node (callsAt left types) pl γ) (node-is a k refl)
+
+  pub call-lacks : {r : Arguments} {q : ℕ} → r ≡ Lacking q → Bound pl γ (argumentsOf (tree a)) r → outcomeOf (Refused 21 pl q 0) ≡ eval-within left types pl γ (nodeOf (tree a))
+  unfolding eval-call _>>=_
+  call-lacks e b = sym (call-is ∙ ap (λ (o : Outcome ParamMap). o >>= (λ δ. lookup-type 0 (text (part 2 (bodyOf a))) types >>= (λ t. entering left types pl γ at (t .0) (δ ++ inherited γ (t .1 .parameters)) (t .1 .root)))) (bound-lacks e b))
+
+  module _ {δ : ParamMap} (b : collect-arguments pl γ (argumentsOf (tree a)) [] ≡ done δ) where
+    looked-up : eval-within left types pl γ (nodeOf (tree a)) ≡ (lookup-type 0 (text (part 2 (bodyOf a))) types >>= (λ t. entering left types pl γ at (t .0) (δ ++ inherited γ (t .1 .parameters)) (t .1 .root)))
+    unfolding eval-call _>>=_
+    looked-up = call-is ∙ ap (λ (o : Outcome ParamMap). o >>= (λ δ. lookup-type 0 (text (part 2 (bodyOf a))) types >>= (λ t. entering left types pl γ at (t .0) (δ ++ inherited γ (t .1 .parameters)) (t .1 .root)))) b
+
+    pub call-unknown : {r : Place} → r ≡ PlaceNone → TreeFound s (text (part 2 (bodyOf a))) types r → outcomeOf (Refused 20 65535 0 0) ≡ eval-within left types pl γ (nodeOf (tree a))
+    unfolding _>>=_
+    call-unknown e f = sym (looked-up ∙ ap (λ (o : Outcome (ℕ × TypeIr)). o >>= (λ t. entering left types pl γ at (t .0) (δ ++ inherited γ (t .1 .parameters)) (t .1 .root))) (found-none e f))
+
+    module _ {i : ℕ} {t : TypeIr} (f : lookup-type 0 (text (part 2 (bodyOf a))) types ≡ done (i, t)) where
+      call-enters : eval-within left types pl γ (nodeOf (tree a)) ≡ entering left types pl γ at i (δ ++ inherited γ (t .parameters)) (t .root)
+      unfolding _>>=_
+      call-enters = looked-up ∙ ap (λ (o : Outcome (ℕ × TypeIr)). o >>= (λ t. entering left types pl γ at (t .0) (δ ++ inherited γ (t .1 .parameters)) (t .1 .root))) f
+
+      pub call-stops : left ≡ 0 → outcomeOf (Refused 27 pl at 0) ≡ eval-within left types pl γ (nodeOf (tree a))
+      call-stops z = sym (call-enters ∙ ap (λ (l : ℕ). entering l types pl γ at i (δ ++ inherited γ (t .parameters)) (t .root)) z)
+
+      pub call-goes : (o : Answer) → (left ≡ 0 → ⊥) → outcomeOf o ≡ eval-within (left - 1) types i (δ ++ inherited γ (t .parameters)) (t .root) → outcomeOf o ≡ eval-within left types pl γ (nodeOf (tree a))
+      call-goes o n e = e ∙ sym (call-enters ∙ opens left n types pl γ at i (δ ++ inherited γ (t .parameters)) (t .root))
+
+-- ---- words
+
+-- what is ready stays ready where the words of the open calls are kept
+pub still-ready : {s values : List ℕ} {block len : ℕ} {ws us : List ℕ} {left depth at q : ℕ} → Ready s values block len ws left depth at → Accepted s 128 144 q → length us ≡ length ws → Same depth ws us → Ready s values block len us left depth q
+still-ready {depth} r c l e = record {
+  node = c;
+  layout = r .layout;
+  context = (r .context .0, context-same depth (omega arith) l e (r .context .1));
+  room = omega (arith, r .room);
+  small = r .small;
+}
+
+pub child-ready : {s values : List ℕ} {block len : ℕ} {ws : List ℕ} {left depth at q : ℕ} → Ready s values block len ws left depth at → Accepted s 128 144 q → Ready s values block len ws left depth q
+child-ready r c = record { node = c; layout = r .layout; context = r .context; room = r .room; small = r .small }
+
+-- the word of a call
+pub packed : (call callee : ℕ) → call < 4294967296 → (callAt (call + callee * 4294967296) ≡ call) × (treeAt (call + callee * 4294967296) ≡ callee)
+packed call callee h = (omega arith, omega arith)
+
+-- the word of a call that opens
+open-word : {s : List ℕ} {at callee : ℕ} {γ δ : ParamMap} (p w : ℕ) → callAt w ≡ at → treeAt w ≡ callee → (a : Accepted s 128 144 at) → le2 s (at + 4) ≡ 133 → (t : Accepted s 161 161 callee) → collect-arguments p γ (argumentsOf (tree a)) [] ≡ done δ → Open s w γ (δ ++ inherited γ (parametersOf (tree t)))
+open-word {s} {at} {callee} {γ} {δ} p w f g a k t e = record { pair = z .0; place = p; arguments = δ; collected = z .1; is = z .2 }
+  where
+    ε : ParamMap
+    ε = δ ++ inherited γ (parametersOf (tree t))
+
+    Held-by : ℕ → ℕ → Type 0
+    Held-by x y = (pr : Pair s x y) × (collect-arguments p γ (argumentsOf (tree (pr .call))) [] ≡ done δ) × (ε ≡ δ ++ inherited γ (parametersOf (tree (pr .type))))
+
+    z : Held-by (callAt w) (treeAt w)
+    z = subst (λ (x : ℕ). Held-by x (treeAt w)) (sym f) (subst (λ (y : ℕ). Held-by at y) (sym g) (record { call = a; kind = k; type = t }, e, refl))
+
+-- the context of a call that opens
+pub opened-call : {s values : List ℕ} {block len : ℕ} {ws : List ℕ} {depth at callee w : ℕ} {γ δ : ParamMap} (p : ℕ) → depth < length ws → at < 4294967296 → w ≡ at + callee * 4294967296 → Context s values block len ws depth γ →
+    (a : Accepted s 128 144 at) → le2 s (at + 4) ≡ 133 → (t : Accepted s 161 161 callee) → collect-arguments p γ (argumentsOf (tree a)) [] ≡ done δ → Context s values block len (set ws depth w) (depth + 1) (δ ++ inherited γ (parametersOf (tree t)))
+opened-call {s} {values} {block} {len} {ws} {depth} {at} {callee} {w} {γ} {δ} p h l ew c a k t e =
+    let x = packed at callee l in
+    let ε : ParamMap = δ ++ inherited γ (parametersOf (tree t)) in
+    let o : Open s w γ ε = open-word p w (ap callAt ew ∙ x .0) (ap treeAt ew ∙ x .1) a k t e in
+    let u : Open s (getD (set ws depth w) depth 0) γ ε = subst (λ (v : ℕ). Open s v γ ε) (sym (getD-set-same ws depth w 0 h)) o in
+    let m : Context s values block len (set ws depth w) depth γ = context-same depth (omega arith) (length-set ws depth w) (λ i g. getD-set-other ws depth i w 0 (λ e. absurd (omega arith))) c in
+    let n : depth < length (set ws depth w) = subst (λ (z : ℕ). depth < z) (sym (length-set ws depth w)) h in
+    subst (λ (z : ℕ). Context s values block len (set ws depth w) z ε) (sym (add-one depth)) (Context.call m n u)
+
+module _ {s values : List ℕ} {block len : ℕ} {ws : List ℕ} {left depth at callee w q : ℕ} (h : depth < length ws) (l : at < 4294967296) (ew : w ≡ at + callee * 4294967296) (k : le2 s (at + 4) ≡ 133) {r : Arguments} {f : Place} {i : ℕ} (er : r ≡ All) (ef : f ≡ PlaceAt i callee)
+    (b : (p : ℕ) (γ : ParamMap) → Context s values block len ws depth γ → (a : Accepted s 128 144 at) → Bound p γ (argumentsOf (tree a)) r)
+    (d : (t : Tree) → readLayout s ≡ done t → (a : Accepted s 128 144 at) → TreeFound s (text (part 2 (body (tree a)))) (layoutOf t) f)
+    (e : (t : Accepted s 161 161 callee) → Rooted t q) (n : left ≡ 0 → ⊥) where
+  pub call-ready : Ready s values block len ws left depth at → Ready s values block len (set ws depth w) (left - 1) (depth + 1) q
+  call-ready x =
+      let t = found-at ef (d (x .layout .0) (x .layout .1) (x .node)) in
+      let y = bound-all er (b 0 (x .context .0) (x .context .1) (x .node)) in
+      record {
+        node = e (t .0) .root;
+        layout = x .layout;
+        context = (_, opened-call 0 h l ew (x .context .1) (x .node) k (t .0) (y .1));
+        room = subst (λ (z : ℕ). depth + 1 + (left - 1) ≤ z) (sym (length-set ws depth w)) (room x);
+        small = x .small;
+      }
+    where
+      room : Ready s values block len ws left depth at → depth + 1 + (left - 1) ≤ length ws
+      room x = omega (arith, x .room)
+
+  pub call-answers : (pl : ℕ) (o : Answer) → Evaluates s values block len (set ws depth w) (left - 1) (depth + 1) i q o → Evaluates s values block len ws left depth pl at o
+  call-answers pl o ev γ x t rd a =
+      let c = found-at ef (d t rd a) in
+      let y = bound-all er (b pl γ x a) in
+      let z = e (c .0) in
+      call-goes k left (layoutOf t) pl γ a (y .1) (c .1) o n
+      (ev (y .0 ++ inherited γ (parametersOf (tree (c .0)))) (opened-call pl h l ew x a k (c .0) (y .1)) t rd (z .root)
+      ∙ ap (eval-within (left - 1) (layoutOf t) i (y .0 ++ inherited γ (parametersOf (tree (c .0))))) (sym (z .is)))
+
+-- a leaf
+pub leaf-answers : {s values : List ℕ} {block len : ℕ} {ws : List ℕ} {depth at : ℕ} (left pl : ℕ) (o : Answer) → ((call : Calls) (γ : ParamMap) → Context s values block len ws depth γ → (a : Accepted s 128 144 at) → outcomeOf o ≡ eval-node call pl γ (nodeOf (tree a))) → Evaluates s values block len ws left depth pl at o
+leaf-answers left pl o e γ x t rd a = e (callsAt left (layoutOf t)) γ x a ∙ sym (within-is left (layoutOf t) pl γ (nodeOf (tree a)))

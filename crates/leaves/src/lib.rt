@@ -1,0 +1,227 @@
+// What evaluating asks of a node before it evaluates another: the answer of a node that has none inside, a switch's tag and
+// the node that it selects, a call's arguments and the tree of its type.
+use arithmetic::Num;
+use context::Held;
+use lookup::Place;
+ghost use mathlib.Core.Path.{_≡_};
+ghost use mathlib.Core.List.{List};
+ghost use mathlib.Core.Option.{Option};
+ghost use Prim.Native.Nat.{ℕ, _+_, _≤_};
+ghost use lib.ListN.{length};
+ghost use Rattle.errors.specs.Refusal.{done};
+ghost use Rattle.blocks.specs.Bytes.{le2};
+ghost use Rattle.blocks.specs.Tree.{Tree, text, body, part};
+ghost use Rattle.blocks.specs.Read.{readLayout};
+ghost use Rattle.ir.specs.Layout.{nodeOf, layoutOf};
+ghost use Rattle.walk.specs.Accepted.{Accepted, tree};
+ghost use Rattle.interpreter.specs.Arithmetic.{Result};
+ghost use Rattle.interpreter.specs.Eval.{Calls, ParamMap, find, lift, eval-node};
+ghost use Rattle.arithmetic.specs.Num.{numOf};
+ghost use Rattle.lookup.specs.Found.{TreeFound};
+ghost use Rattle.context.specs.Names.{heldOf};
+ghost use Rattle.context.specs.Context.{Context, argumentsOf};
+ghost use Rattle.leaves.specs.Outcome.{outcomeOf};
+ghost use Rattle.leaves.specs.Steps.{Rooted, Picked, Bound, FieldName};
+
+// A count, or a refusal.
+pub enum Answer {
+    Count(u64),
+    Refused {
+        number: u64,
+        place: usize,
+        offset: usize,
+        value: u64,
+    },
+}
+
+// The node that a switch selects.
+pub enum Choice {
+    Node(usize),
+    Nothing,
+}
+
+// Whether every argument was found, or the offset of the first that was not.
+pub enum Arguments {
+    All,
+    Lacking(usize),
+}
+
+// A result of arithmetic, at a node.
+pub fn lifted(place: usize, at: usize, n: Num) -> Answer
+    ensures { λ r. ⌜ ((x : Result) → n ≡ numOf x → outcomeOf r ≡ lift place at x) ⌝ }
+{
+    match n {
+        Num::Value(v) => Answer::Count(v),
+        Num::Fault(q) => Answer::Refused {
+            number: q,
+            place,
+            offset: at,
+            value: 0,
+        },
+    }
+}
+
+// A Const node.
+pub fn constant(s: &[u8], at: usize) -> Answer
+    requires { ⌜ Accepted (now s) 128 144 at × (le2 (now s) (at + 4) ≡ 129) ⌝ }
+    ensures { λ r. ⌜ ((call : Calls) (p : ℕ) (γ : ParamMap) (a : Accepted (now (s .entry)) 128 144 at) → outcomeOf r ≡ eval-node call p γ (nodeOf (tree a))) ⌝ }
+{
+    let p = nodes::part_at(s, at, 2);
+    Answer::Count(get::read8(s, p) as u64)
+}
+
+// The offset of the name that a FieldRef node looks for.
+fn field_name(s: &[u8], at: usize) -> usize
+    requires { ⌜ Accepted (now s) 128 144 at × (le2 (now s) (at + 4) ≡ 130) ⌝ }
+    ensures { λ r. ⌜ FieldName (now (s .entry)) at r ⌝ }
+{
+    let p = nodes::part_at(s, at, 2);
+    let q = nodes::part_at(s, at, 3);
+    let b = s[q];
+    if b == 1 {
+        return q + 1;
+    }
+    p
+}
+
+// A FieldRef node.
+pub fn field(
+    s: &[u8],
+    values: &[u8],
+    block: usize,
+    len: u64,
+    words: &[u64],
+    depth: usize,
+    place: usize,
+    at: usize,
+) -> Answer
+    requires { ⌜ Accepted (now s) 128 144 at × (le2 (now s) (at + 4) ≡ 130) × ((γ : ParamMap) × Context (now s) (now values) block len (now words) depth γ) ⌝ }
+    ensures { λ r. ⌜ ((call : Calls) (γ : ParamMap) → Context (now (s .entry)) (now (values .entry)) block len (now (words .entry)) depth γ → (a : Accepted (now (s .entry)) 128 144 at) → outcomeOf r ≡ eval-node call place γ (nodeOf (tree a))) ⌝ }
+{
+    match context::find(s, field_name(s, at), values, block, len, words, depth) {
+        Held::Value(v) => Answer::Count(v),
+        Held::Absent => Answer::Refused {
+            number: 21,
+            place,
+            offset: at,
+            value: 0,
+        },
+    }
+}
+
+// A node of a kind that holds no node to evaluate.
+pub fn leaf(
+    s: &[u8],
+    values: &[u8],
+    block: usize,
+    len: u64,
+    words: &[u64],
+    depth: usize,
+    place: usize,
+    at: usize,
+    kind: usize,
+) -> Answer
+    requires { ⌜ Accepted (now s) 128 144 at × (kind ≡ le2 (now s) (at + 4)) × (131 ≤ kind → 144 ≤ kind) × ((γ : ParamMap) × Context (now s) (now values) block len (now words) depth γ) ⌝ }
+    ensures { λ r. ⌜ ((call : Calls) (γ : ParamMap) → Context (now (s .entry)) (now (values .entry)) block len (now (words .entry)) depth γ → (a : Accepted (now (s .entry)) 128 144 at) → outcomeOf r ≡ eval-node call place γ (nodeOf (tree a))) ⌝ }
+{
+    match kind {
+        128 => Answer::Count(0),
+        129 => constant(s, at),
+        130 => field(s, values, block, len, words, depth, place, at),
+        _ => Answer::Refused {
+            number: 24,
+            place,
+            offset: at,
+            value: 0,
+        },
+    }
+}
+
+// The tag of a Switch node.
+pub fn tag(
+    s: &[u8],
+    values: &[u8],
+    block: usize,
+    len: u64,
+    words: &[u64],
+    depth: usize,
+    at: usize,
+) -> Held
+    requires { ⌜ Accepted (now s) 128 144 at × (le2 (now s) (at + 4) ≡ 132) × ((γ : ParamMap) × Context (now s) (now values) block len (now words) depth γ) ⌝ }
+    ensures { λ r. ⌜ ((γ : ParamMap) → Context (now (s .entry)) (now (values .entry)) block len (now (words .entry)) depth γ → (a : Accepted (now (s .entry)) 128 144 at) → r ≡ heldOf (find (text (part 2 (body (tree a)))) γ)) ⌝ }
+{
+    let p = nodes::part_at(s, at, 2);
+    context::find(s, p, values, block, len, words, depth)
+}
+
+// The node of the first case of the tag's value, or else the default node.
+pub fn selected(s: &[u8], at: usize, tag: u64) -> Choice
+    requires { ⌜ Accepted (now s) 128 144 at × (le2 (now s) (at + 4) ≡ 132) ⌝ }
+    ensures { λ r. ⌜ ((a : Accepted (now (s .entry)) 128 144 at) → Picked a tag r) ⌝ }
+{
+    let list = nodes::part_at(s, at, 3);
+    let mut left = get::read2(s, list);
+    let mut p = list + 2;
+    while 0 < left {
+        if get::read8(s, p + 6) as u64 == tag {
+            return Choice::Node(p + 14);
+        }
+        p = p + 4 + get::read4(s, p);
+        left -= 1;
+    }
+    let b = s[p];
+    if b == 1 {
+        return Choice::Node(p + 1);
+    }
+    Choice::Nothing
+}
+
+// Whether each argument's value is in the caller's context.
+pub fn collect_arguments(
+    s: &[u8],
+    values: &[u8],
+    block: usize,
+    len: u64,
+    words: &[u64],
+    depth: usize,
+    at: usize,
+) -> Arguments
+    requires { ⌜ Accepted (now s) 128 144 at × (le2 (now s) (at + 4) ≡ 133) × ((γ : ParamMap) × Context (now s) (now values) block len (now words) depth γ) ⌝ }
+    ensures { λ r. ⌜ ((p : ℕ) (γ : ParamMap) → Context (now (s .entry)) (now (values .entry)) block len (now (words .entry)) depth γ → (a : Accepted (now (s .entry)) 128 144 at) → Bound p γ (argumentsOf (tree a)) r) ⌝ }
+{
+    let list = nodes::part_at(s, at, 3);
+    let mut left = get::read2(s, list);
+    let mut p = list + 2;
+    while 0 < left {
+        let value = p + 8 + get::read2(s, p + 6);
+        match context::find(s, value, values, block, len, words, depth) {
+            Held::Value(v) => {
+                p = p + 4 + get::read4(s, p);
+                left -= 1;
+            }
+            Held::Absent => {
+                return Arguments::Lacking(p);
+            }
+        }
+    }
+    Arguments::All
+}
+
+// The tree of the type that a CallNested node calls.
+pub fn called(s: &[u8], at: usize) -> Place
+    requires { ⌜ Accepted (now s) 128 144 at × (le2 (now s) (at + 4) ≡ 133) × ((t : Tree) × (readLayout (now s) ≡ done t)) ⌝ }
+    ensures { λ r. ⌜ ((t : Tree) → readLayout (now (s .entry)) ≡ done t → (a : Accepted (now (s .entry)) 128 144 at) → TreeFound (now (s .entry)) (text (part 2 (body (tree a)))) (layoutOf t) r) ⌝ }
+{
+    let p = nodes::part_at(s, at, 2);
+    let from = p + 2;
+    let to = from + get::read2(s, p);
+    lookup::lookup_type(s, &s[from..to])
+}
+
+// The root of a type tree.
+pub fn root(s: &[u8], callee: usize) -> usize
+    requires { ⌜ Accepted (now s) 161 161 callee ⌝ }
+    ensures { λ r. ⌜ ((t : Accepted (now (s .entry)) 161 161 callee) → Rooted t r) ⌝ }
+{
+    callee + 16 + get::read2(s, callee + 6)
+}
