@@ -1,5 +1,7 @@
-// Reads a list of stored calls with their answers from standard input and holds the proved reader against those that reading decides.
-use inputs::Answer;
+// Reads a list of stored calls with their answers from standard input and holds the proved readers against those that reading
+// decides, the proved `validate` and `validate_run` against all of theirs.
+use inputs::Answer as Reading;
+use leaves::Answer;
 use libc::STDIN_FILENO;
 use libc::STDOUT_FILENO;
 ghost use Prim.Native.Nat.{_≤_};
@@ -21,19 +23,29 @@ enum Turn {
     Bad,
 }
 
-// The tally has the refusals of each number at 1 to 19, and behind them what else is counted.
-const SETS: usize = 20;
+// The tally has the refusals of reading and the answers of validations, each at its number from a place on, and behind them
+// what else is counted.
+const READINGS: usize = 0;
 
-const LAYOUTS: usize = 21;
+const ANSWERS: usize = 28;
 
-const LENGTHS: usize = 22;
+const SETS: usize = 56;
 
-const DIFFER: usize = 23;
+const VALIDATIONS: usize = 57;
 
-const RECORDS: usize = 24;
+const RUNS: usize = 58;
 
-fn bump(tally: &mut [u64; 25], i: usize) {
-    if i < 25 {
+const LENGTHS: usize = 59;
+
+const DIFFER: usize = 60;
+
+const RECORDS: usize = 61;
+
+// No type's place.
+const NOWHERE: u64 = 65535;
+
+fn bump(tally: &mut [u64; 62], i: usize) {
+    if i < 62 {
         let n = tally[i];
         if n < u64::MAX {
             tally[i] = n + 1;
@@ -101,45 +113,89 @@ fn of_reading(number: usize) -> bool {
     }
 }
 
-// The answer of reading against the stored one, which stands at `at`.
-fn hold(got: Answer, s: &[u8], at: usize) -> Held {
+// Whether the answer that stands at `at` has these parts.
+fn is_stored(s: &[u8], at: usize, number: u64, place: u64, offset: usize, value: u64) -> bool {
     if s.len() < 15 {
-        return Held::Cut;
+        return false;
     }
     if s.len() - 15 < at {
-        return Held::Cut;
+        return false;
     }
-    let number = get::read2(s, at) % 256;
-    let reading = of_reading(number);
+    let n = get::read2(s, at) % 256;
+    let p = get::read2(s, at + 1);
+    let o = get::read4(s, at + 3);
+    let v = get::read8(s, at + 7);
+    n as u64 == number && p as u64 == place && o == offset && v as u64 == value
+}
+
+// The number of the answer that stands at `at`.
+fn stored_number(s: &[u8], at: usize) -> usize {
+    if s.len() < 2 {
+        return 0;
+    }
+    if s.len() - 2 < at {
+        return 0;
+    }
+    get::read2(s, at) % 256
+}
+
+// Whether the answer of reading is the stored one, which stands at `at`.
+fn is_read(got: Reading, s: &[u8], at: usize) -> bool {
     match got {
-        Answer::Accepted => if reading { Held::Differs } else { Held::Same },
-        Answer::Refused(q, p, o, v) => {
-            let place = get::read2(s, at + 1);
-            let offset = get::read4(s, at + 3);
-            let value = get::read8(s, at + 7);
-            let same = q == number as u64 && p == place as u64 && o == offset && v == value as u64;
-            if reading && same {
-                Held::Same
-            } else {
-                Held::Differs
+        Reading::Accepted => !of_reading(stored_number(s, at)),
+        Reading::Refused(q, p, o, v) => is_stored(s, at, q, p, o, v),
+    }
+}
+
+// Whether the count or the refusal is the stored answer.
+fn is_answer(got: Answer, s: &[u8], at: usize) -> bool {
+    match got {
+        Answer::Count(n) => is_stored(s, at, 0, NOWHERE, 0, n),
+        Answer::Refused {
+            number,
+            place,
+            offset,
+            value,
+        } => is_stored(s, at, number, place as u64, offset, value),
+    }
+}
+
+fn count_refused(tally: &mut [u64; 62], got: Reading) {
+    match got {
+        Reading::Accepted => {}
+        Reading::Refused(q, _, _, _) => {
+            if q < 28 {
+                bump(tally, READINGS + q as usize);
             }
         }
     }
 }
 
-fn count_refused(tally: &mut [u64; 25], got: Answer) {
+fn count_answer(tally: &mut [u64; 62], got: Answer) {
     match got {
-        Answer::Accepted => {}
-        Answer::Refused(q, _, _, _) => {
-            if q < 20 {
-                bump(tally, q as usize);
+        Answer::Count(_) => bump(tally, ANSWERS),
+        Answer::Refused {
+            number,
+            place: _,
+            offset: _,
+            value: _,
+        } => {
+            if number < 28 {
+                bump(tally, ANSWERS + number as usize);
             }
         }
     }
+}
+
+fn verdict(same: bool) -> Held {
+    if same {
+        return Held::Same;
+    }
+    Held::Differs
 }
 
 // A build: working words, output length, set, answer, layout.
-fn hold_set(words: &mut [u64], tally: &mut [u64; 25], s: &[u8]) -> Held {
+fn hold_set(words: &mut [u64], tally: &mut [u64; 62], s: &[u8]) -> Held {
     let end = part_end(s, 8);
     if end < 12 {
         return Held::Cut;
@@ -149,37 +205,91 @@ fn hold_set(words: &mut [u64], tally: &mut [u64; 25], s: &[u8]) -> Held {
     }
     soil(words);
     let got = inputs::read_set(words, &s[12..end]);
-    if !is_clean(words) {
-        return Held::Differs;
-    }
     count_refused(tally, got);
-    hold(got, s, end)
+    verdict(is_clean(words) && is_read(got, s, end))
 }
 
-// Of a layout and values: 19 comes first, then 1 for the layout, 1 for the values, then the rest in this order.
-fn first(a: Answer, b: Answer) -> Answer {
+// Of a layout and values or a run: 19 comes first, then 1 for the layout, 1 for the other, then the rest in this order.
+fn first(a: Reading, b: Reading) -> Reading {
     match a {
-        Answer::Accepted => b,
-        Answer::Refused(q, _, _, _) => {
+        Reading::Accepted => b,
+        Reading::Refused(q, _, _, _) => {
             if q == 19 || q == 1 {
                 return a;
             }
             match b {
-                Answer::Accepted => a,
-                Answer::Refused(r, _, _, _) => if r == 1 { b } else { a },
+                Reading::Accepted => a,
+                Reading::Refused(r, _, _, _) => if r == 1 { b } else { a },
             }
         }
     }
 }
 
+// Values or a run, by the kind of the record.
+fn read_input(words: &mut [u64], input: &[u8], kind: u8) -> Reading {
+    if kind == 2 {
+        return inputs::read_values(words, input);
+    }
+    inputs::read_run(words, input)
+}
+
+// Whether the readers give the answer at `at`, if it is one of reading, and leave the words clean.
+fn same_reading(
+    words: &mut [u64],
+    tally: &mut [u64; 62],
+    layout: &[u8],
+    input: &[u8],
+    kind: u8,
+    s: &[u8],
+    at: usize,
+) -> bool {
+    soil(words);
+    let a = inputs::read_layout(words, layout);
+    if !is_clean(words) {
+        return false;
+    }
+    soil(words);
+    let b = read_input(words, input, kind);
+    let got = first(a, b);
+    count_refused(tally, got);
+    is_clean(words) && is_read(got, s, at)
+}
+
+// Whether a validation gave the answer at `at` and left the words clean.
+fn same_answer(words: &[u64], tally: &mut [u64; 62], got: Answer, s: &[u8], at: usize) -> bool {
+    count_answer(tally, got);
+    is_clean(words) && is_answer(got, s, at)
+}
+
+// The readers and `validate` against the answer at `at`.
+fn validated(
+    words: &mut [u64],
+    tally: &mut [u64; 62],
+    layout: &[u8],
+    name: &[u8],
+    values: &[u8],
+    s: &[u8],
+    at: usize,
+) -> Held {
+    if s.len() < 12 {
+        return Held::Cut;
+    }
+    let len = get::read8(s, 4) as u64;
+    let read = same_reading(words, tally, layout, values, 2, s, at);
+    soil(words);
+    let got = validator::validate(words, layout, name, values, len);
+    verdict(same_answer(words, tally, got, s, at) && read)
+}
+
 // A validation: working words, buffer length, layout, asked name, values, answer.
-fn hold_layout(words: &mut [u64], tally: &mut [u64; 25], s: &[u8]) -> Held {
+fn hold_validation(words: &mut [u64], tally: &mut [u64; 62], s: &[u8]) -> Held {
     let layout = part_end(s, 12);
     if layout < 16 {
         return Held::Cut;
     }
     let name = part_end(s, layout);
-    if name < 4 {
+    let name_start = layout + 4;
+    if name < name_start {
         return Held::Cut;
     }
     let values = part_end(s, name);
@@ -190,19 +300,35 @@ fn hold_layout(words: &mut [u64], tally: &mut [u64; 25], s: &[u8]) -> Held {
     if values + 15 != s.len() {
         return Held::Cut;
     }
-    soil(words);
-    let a = inputs::read_layout(words, &s[16..layout]);
-    if !is_clean(words) {
-        return Held::Differs;
+    validated(
+        words,
+        tally,
+        &s[16..layout],
+        &s[name_start..name],
+        &s[start..values],
+        s,
+        values,
+    )
+}
+
+// A run: working words, layout, run, answer.
+fn hold_run(words: &mut [u64], tally: &mut [u64; 62], s: &[u8]) -> Held {
+    let layout = part_end(s, 4);
+    if layout < 8 {
+        return Held::Cut;
     }
-    soil(words);
-    let b = inputs::read_values(words, &s[start..values]);
-    if !is_clean(words) {
-        return Held::Differs;
+    let run = part_end(s, layout);
+    let start = layout + 4;
+    if run < start {
+        return Held::Cut;
     }
-    let got = first(a, b);
-    count_refused(tally, got);
-    hold(got, s, values)
+    if run + 15 != s.len() {
+        return Held::Cut;
+    }
+    let read = same_reading(words, tally, &s[8..layout], &s[start..run], 4, s, run);
+    soil(words);
+    let got = validator::validate_run(words, &s[8..layout], &s[start..run]);
+    verdict(same_answer(words, tally, got, s, run) && read)
 }
 
 // Lengths: standard input, standard output. Nothing of it is read.
@@ -218,7 +344,7 @@ fn hold_lengths(s: &[u8]) -> Held {
 }
 
 // One record of the kind, counted.
-fn hold_record(words: &mut [u64], tally: &mut [u64; 25], kind: u8, s: &[u8]) -> Held {
+fn hold_record(words: &mut [u64], tally: &mut [u64; 62], kind: u8, s: &[u8]) -> Held {
     match kind {
         1 => {
             bump(tally, SETS);
@@ -226,20 +352,25 @@ fn hold_record(words: &mut [u64], tally: &mut [u64; 25], kind: u8, s: &[u8]) -> 
             hold_set(&mut words[..n], tally, s)
         }
         2 => {
-            bump(tally, LAYOUTS);
+            bump(tally, VALIDATIONS);
             let n = lent(s, words);
-            hold_layout(&mut words[..n], tally, s)
+            hold_validation(&mut words[..n], tally, s)
         }
         3 => {
             bump(tally, LENGTHS);
             hold_lengths(s)
+        }
+        4 => {
+            bump(tally, RUNS);
+            let n = lent(s, words);
+            hold_run(&mut words[..n], tally, s)
         }
         _ => Held::Cut,
     }
 }
 
 // Reads the body of a record of the kind, as long as s, and holds the record.
-fn hold_body(s: &mut [u8], words: &mut [u64], tally: &mut [u64; 25], kind: u8) -> Turn {
+fn hold_body(s: &mut [u8], words: &mut [u64], tally: &mut [u64; 62], kind: u8) -> Turn {
     if io::read_full(STDIN_FILENO, s) < s.len() {
         return Turn::Bad;
     }
@@ -253,7 +384,7 @@ fn hold_body(s: &mut [u8], words: &mut [u64], tally: &mut [u64; 25], kind: u8) -
 }
 
 // Reads the header of a record: kind, mark and length. Then the body, if it has room.
-fn hold_next(body: &mut [u8], words: &mut [u64], tally: &mut [u64; 25]) -> Turn {
+fn hold_next(body: &mut [u8], words: &mut [u64], tally: &mut [u64; 62]) -> Turn {
     let mut header = [0u8; 6];
     let got = io::read_full(STDIN_FILENO, &mut header);
     if got == 0 {
@@ -271,7 +402,7 @@ fn hold_next(body: &mut [u8], words: &mut [u64], tally: &mut [u64; 25]) -> Turn 
 }
 
 // Whether the list was whole. Nothing says that the input ends, so the loop counts its turns down.
-fn hold_all(tally: &mut [u64; 25]) -> bool {
+fn hold_all(tally: &mut [u64; 62]) -> bool {
     let mut body = [0u8; 262144];
     let mut words = [0u64; 8192];
     let mut turns: u64 = 4000000000;
@@ -291,23 +422,44 @@ fn say(number: u64, text: &[u8]) {
     io::write_all(STDOUT_FILENO, text);
 }
 
-fn report(tally: &[u64; 25]) {
+// How often a number was met, if it was.
+fn say_number(number: u64, count: u64) {
+    if count != 0 {
+        io::write_all(STDOUT_FILENO, b" ");
+        say(number, b":");
+        io::print_decimal(STDOUT_FILENO, count);
+    }
+}
+
+// The counts of the numbers 0 to 27, which stand from a place of the tally on.
+fn say_numbers(tally: &[u64; 62], from: usize) {
+    let mut i = from;
+    let mut number: u64 = 0;
+    while number < 28 {
+        if 61 < i {
+            return;
+        }
+        say_number(number, tally[i]);
+        i += 1;
+        number += 1;
+    }
+}
+
+fn report(tally: &[u64; 62]) {
     say(tally[RECORDS], b" records: ");
     say(tally[SETS], b" sets, ");
-    say(tally[LAYOUTS], b" layouts with values, ");
-    say(tally[LENGTHS], b" of lengths; refused by reading: 1:");
-    say(tally[1], b" 2:");
-    say(tally[2], b" 3:");
-    say(tally[3], b" 4:");
-    say(tally[4], b" 5:");
-    say(tally[5], b" 6:");
-    say(tally[6], b" 19:");
-    say(tally[19], b"; ");
+    say(tally[VALIDATIONS], b" validations, ");
+    say(tally[RUNS], b" runs, ");
+    say(tally[LENGTHS], b" of lengths\nrefused by reading:");
+    say_numbers(tally, READINGS);
+    io::write_all(STDOUT_FILENO, b"\nvalidated (0: accepted):");
+    say_numbers(tally, ANSWERS);
+    io::write_all(STDOUT_FILENO, b"\n");
     say(tally[DIFFER], b" differ\n");
 }
 
 fn main() {
-    let mut tally = [0u64; 25];
+    let mut tally = [0u64; 62];
     if hold_all(&mut tally) {
         report(&tally);
     } else {

@@ -208,8 +208,8 @@ module _ {s : List ℕ} {name : Name} {r : Place} (f : (t : Tree) → readLayout
     type-tree g = found-at e (f (g .layout .0) (g .layout .1)) .0
 
     module _ {q : ℕ} (rooted : (c : Accepted s 161 161 o) → Rooted c q) where
-      pub root-ready : {v ws : List ℕ} {block : ℕ} (len : ℕ) → Given s v block ws → Ready s v block len ws 16 0 q
-      root-ready len g = record { node = rooted (type-tree g) .root; layout = g .layout; context = (_, Context.root (g .values-read)); room = omega (arith, g .room); small = g .small }
+      pub root-ready : {v ws : List ℕ} {block left : ℕ} (len : ℕ) → Given s v block ws → left ≤ 16 → Ready s v block len ws left 0 q
+      root-ready len g few = record { node = rooted (type-tree g) .root; layout = g .layout; context = (_, Context.root (g .values-read)); room = omega (arith, g .room, few); small = g .small }
 
       pub type-goes : {v ws : List ℕ} {block len : ℕ} (w z : Answer) → Evaluates s v block len ws 16 0 i q w → outcomeOf z ≡ fitted i len (outcomeOf w) →
           (t : Tree) → readLayout s ≡ done t → (a : Accepted v 192 192 block) → outcomeOf z ≡ validate-type (layoutOf t) name len (valuesOf (tree a))

@@ -19,6 +19,12 @@ pub enum Call {
         name: Vec<u8>,
         values: Vec<u8>,
     },
+    /// The same with name, length and values in one block 193.
+    Run {
+        words: u64,
+        layout: Vec<u8>,
+        run: Vec<u8>,
+    },
     Lengths(Vec<u8>),
 }
 
@@ -87,6 +93,7 @@ pub fn judge(call: &Call) -> Verdict {
             length: *length,
             values,
         }),
+        Call::Run { words, layout, run } => judge_run(*words, layout, run),
         Call::Lengths(input) => judge_lengths(input),
     }
 }
@@ -169,16 +176,44 @@ fn judge_unfit(answer: Answer, set: &[u8]) -> Verdict {
 
 fn judge_validate(ask: &Ask) -> Verdict {
     let ours = eval::validate(ask);
-    let answer = match ours {
+    if rules_alone(&ours) {
+        return Verdict::rules_only(answer_of(ours));
+    }
+    let values = read::values(ask.values).unwrap();
+    judge_count(ours, ask.layout, ask.name, ask.length, &values)
+}
+
+fn judge_run(words: u64, layout: &[u8], run: &[u8]) -> Verdict {
+    let ours = eval::validate_run(words, layout, run);
+    if rules_alone(&ours) {
+        return Verdict::rules_only(answer_of(ours));
+    }
+    let run = read::run(run).unwrap();
+    judge_count(ours, layout, run.name.as_bytes(), run.length, &run.values)
+}
+
+fn rules_alone(ours: &Result<u64, No>) -> bool {
+    ours.is_err_and(|no| no.added() || no.number == STOPPED)
+}
+
+fn answer_of(ours: Result<u64, No>) -> Answer {
+    match ours {
         Ok(count) => Answer::Count(count),
         Err(no) => Answer::No(no),
-    };
-    if ours.is_err_and(|no| no.added() || no.number == STOPPED) {
-        return Verdict::rules_only(answer);
     }
-    let layout = read::layout(ask.layout).unwrap();
-    let values = read::values(ask.values).unwrap();
-    let Some(theirs) = rust::Judge::new(&layout).validate(ask.name, ask.length, &values) else {
+}
+
+/// The rules' answer on inputs that are read, beside the Rust's.
+fn judge_count(
+    ours: Result<u64, No>,
+    layout: &[u8],
+    name: &[u8],
+    length: u64,
+    values: &Values,
+) -> Verdict {
+    let answer = answer_of(ours);
+    let layout = read::layout(layout).unwrap();
+    let Some(theirs) = rust::Judge::new(&layout).validate(name, length, values) else {
         // 20 for the asked name is added; the Rust is handed a type.
         let mut v = Verdict::rules_only(answer);
         v.differs = (v.answer.number() != 20).then(|| "the asked type is not there".to_string());

@@ -40,12 +40,44 @@ impl Case {
 
 pub fn make(seed: u64, index: u64) -> Case {
     let r = &mut Rng::new(seed, index);
-    match index % 10 {
+    let case = match index % 10 {
         0..=3 => set_case(r),
         4..=5 => layout_case(r),
         6..=8 => damaged_case(r),
         _ => pair_case(r),
+    };
+    with_runs(r, case)
+}
+
+/// Half of the validations as run blocks too, some of them damaged. Drawn
+/// last, so that the other calls of a case do not depend on it.
+fn with_runs(r: &mut Rng, mut case: Case) -> Case {
+    let mut runs = Vec::new();
+    for call in &case.calls {
+        let Call::Validate {
+            words,
+            length,
+            layout,
+            name,
+            values,
+        } = call
+        else {
+            continue;
+        };
+        if r.chance(50) {
+            let run = write::run_around(name, *length, values);
+            runs.push(Call::Run {
+                words: *words,
+                layout: layout.clone(),
+                run: match r.chance(10) {
+                    true => damage::damage(r, &run),
+                    false => run,
+                },
+            });
+        }
     }
+    case.calls.extend(runs);
+    case
 }
 
 fn words(r: &mut Rng) -> u64 {
@@ -64,11 +96,12 @@ fn set_case(r: &mut Rng) -> Case {
 /// The same with a small set.
 pub fn small_case(seed: u64, index: u64) -> Case {
     let r = &mut Rng::new(seed, index);
-    match index % 8 {
+    let case = match index % 8 {
         0..=4 => set_case_of(r, sets::small),
         5 => layout_case(r),
         _ => damaged_of(r, sets::small),
-    }
+    };
+    with_runs(r, case)
 }
 
 fn set_case_of(r: &mut Rng, set: fn(&mut Rng) -> Set) -> Case {

@@ -24,6 +24,7 @@ pub fn call_name(call: &Call) -> &'static str {
     match call {
         Call::Build { .. } => "build",
         Call::Validate { .. } => "validate",
+        Call::Run { .. } => "run",
         Call::Lengths(_) => "lengths",
     }
 }
@@ -140,7 +141,7 @@ pub fn kinds_met(call: &Call, answer: &Answer) -> Vec<u16> {
     if let Answer::Layout(bytes) = answer {
         layout_kinds(bytes, &mut out);
     }
-    if let Call::Validate { layout, .. } = call {
+    if let Call::Validate { layout, .. } | Call::Run { layout, .. } = call {
         layout_kinds(layout, &mut out);
     }
     out.sort();

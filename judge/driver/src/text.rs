@@ -3,7 +3,6 @@
 use crate::call::{judge, Answer, Call, Verdict};
 use crate::cases::{make, small_case};
 use crate::data::*;
-use crate::rules::eval::Ask;
 use crate::rules::{self, read};
 use std::collections::BTreeMap;
 use std::io::Read;
@@ -63,6 +62,11 @@ fn show_call(call: &Call) {
             println!("layout {}\n{:#?}", hex(layout), read::layout(layout));
             println!("values {}\n{:?}", hex(values), read::values(values));
         }
+        Call::Run { words, layout, run } => {
+            println!("run, words {words}");
+            println!("layout {}\n{:#?}", hex(layout), read::layout(layout));
+            println!("run {}\n{:?}", hex(run), read::run(run));
+        }
         Call::Lengths(input) => println!("lengths\ninput {}", hex(input)),
     }
 }
@@ -112,7 +116,11 @@ pub fn answer(args: &[String]) -> Result<(), String> {
             let (layout, run) = (file(one)?, file(two)?);
             expect_kind(&layout, one, 160, "a layout")?;
             expect_kind(&run, two, 193, "a run")?;
-            answer_run(layout, &run)
+            print_answer(&Call::Run {
+                words: WORDS,
+                layout,
+                run,
+            })
         }
         _ => Err("answer needs a set file, or a layout file and a run file".to_string()),
     }
@@ -134,30 +142,6 @@ fn expect_kind(bytes: &[u8], path: &str, kind: u16, what: &str) -> Result<(), St
         )),
         false => Ok(()),
     }
-}
-
-fn answer_run(layout: Vec<u8>, bytes: &[u8]) -> Result<(), String> {
-    // A layout is read before a run.
-    let ask = Ask {
-        words: WORDS,
-        layout: &layout,
-        name: b"",
-        length: 0,
-        values: bytes,
-    };
-    let first = read::sizes(&[ask.layout, ask.values]).and(read::layout(&layout).map(|_| ()));
-    let run = first.and(read::run(bytes));
-    match run {
-        Err(no) => println!("{}", no_text(&no)),
-        Ok(run) => print_answer(&Call::Validate {
-            words: WORDS,
-            length: run.length,
-            layout,
-            name: run.name.into_bytes(),
-            values: crate::write::values(&run.values),
-        })?,
-    }
-    Ok(())
 }
 
 fn print_answer(call: &Call) -> Result<(), String> {
@@ -241,7 +225,7 @@ fn small_line(call: &Call, answer: &Answer) -> Option<String> {
                 answer_text(answer)
             ))
         }
-        Call::Lengths(_) => None,
+        Call::Run { .. } | Call::Lengths(_) => None,
     }
 }
 

@@ -4,6 +4,7 @@ use crate::call::{judge, Answer, Call};
 use crate::cases::{make, small_case};
 use crate::compare::{call_name, kinds_met};
 use crate::data::*;
+use crate::rules::build;
 use crate::{findings, trip, write};
 use std::collections::BTreeMap;
 use std::io::Write;
@@ -12,9 +13,12 @@ use std::path::Path;
 pub const SEED: u64 = 2026;
 const FILE: &str = "answers.bin";
 const COUNTS: &str = "counts.txt";
-/// Room for the whole list, and for one record that is not hand-picked.
-const MOST_BYTES: usize = 2_800_000;
-const SMALL: usize = 900;
+/// Room for the whole list, and for one record that is not hand-picked: small
+/// ones first, then larger ones of what is still wanted.
+const MOST_BYTES: usize = 2_100_000;
+const SMALL: usize = 400;
+const LARGER: usize = 900;
+const ALWAYS: usize = usize::MAX;
 /// How many records each answer and each kind should have at least.
 const PER_NUMBER: u64 = 110;
 const PER_KIND: u64 = 50;
@@ -56,8 +60,9 @@ fn features(call: &Call, answer: &Answer, confirmed: bool) -> Vec<(String, u64)>
 }
 
 impl List {
-    /// Takes the call if something in it is still wanted.
-    fn offer(&mut self, call: &Call, always: bool) -> Result<(), String> {
+    /// Takes the call if something in it is still wanted and the record has
+    /// room in `most` bytes.
+    fn offer(&mut self, call: &Call, most: usize) -> Result<(), String> {
         let v = judge(call);
         if let Some(text) = &v.differs {
             return Err(format!("the rules and the Rust differ: {text}"));
@@ -68,11 +73,11 @@ impl List {
         let record = record(call, &v.answer, v.confirmed);
         let features = features(call, &v.answer, v.confirmed);
         let count = |f: &String| self.met.get(f).copied().unwrap_or(0);
-        let wanted = features.iter().any(|(f, most)| count(f) < *most);
-        // A large record only while there are few of its answer.
-        let small = record.len() <= SMALL || (count(&features[0].0) < 4 && record.len() < 140_000);
+        let wanted = features.iter().any(|(f, many)| count(f) < *many);
+        // A large record only while there is none of its answer.
+        let small = record.len() <= most || (count(&features[0].0) == 0 && record.len() < 140_000);
         let room = self.bytes.len() + record.len() <= MOST_BYTES;
-        if !always && !(wanted && small && room) {
+        if most != ALWAYS && !(wanted && small && room) {
             return Ok(());
         }
         for (f, _) in features {
@@ -138,6 +143,13 @@ fn record(call: &Call, answer: &Answer, confirmed: bool) -> Vec<u8> {
             answer_part(&mut body, answer);
             2
         }
+        Call::Run { words, layout, run } => {
+            body.extend((*words as u32).to_le_bytes());
+            part(&mut body, layout);
+            part(&mut body, run);
+            answer_part(&mut body, answer);
+            4
+        }
         Call::Lengths(input) => {
             part(&mut body, input);
             part(&mut body, lines_of(answer).as_bytes());
@@ -163,14 +175,15 @@ pub fn write_list(folder: &str) -> Result<(), String> {
         met: BTreeMap::new(),
     };
     for call in picked() {
-        list.offer(&call, true)?;
+        list.offer(&call, ALWAYS)?;
     }
-    for index in 0..CASES {
+    for index in 0..2 * CASES {
+        let most = if index < CASES { SMALL } else { LARGER };
         for call in &small_case(SEED, index).calls {
-            list.offer(call, false)?;
+            list.offer(call, most)?;
         }
         for call in &make(SEED, index).calls {
-            list.offer(call, false)?;
+            list.offer(call, most)?;
         }
     }
     let folder = Path::new(folder);
@@ -201,6 +214,7 @@ fn picked() -> Vec<Call> {
     let set = write::set(&trip::set());
     let mut out = vec![build_call(WORDS, LIMIT as u64, &set)];
     out.push(Call::Lengths(trip::input()));
+    out.extend(trip_runs(&set));
     for f in findings::all() {
         out.extend(f.calls());
     }
@@ -223,6 +237,19 @@ fn picked() -> Vec<Call> {
     out.push(Call::Lengths(vec![0xFD, 0xFF, 0, 0]));
     out.push(Call::Lengths(vec![0xFC, 0xFF, 0, 0]));
     out
+}
+
+/// The runs of the worked example, with enough words and with one less.
+fn trip_runs(set: &[u8]) -> Vec<Call> {
+    let layout = build::build(set, WORDS, LIMIT as u64).unwrap_or_default();
+    let call = |words, run| Call::Run {
+        words,
+        layout: layout.clone(),
+        run: write::run(run),
+    };
+    let runs = trip::runs();
+    let short = runs.iter().map(|r| call(WORDS - 1, r));
+    runs.iter().map(|r| call(WORDS, r)).chain(short).collect()
 }
 
 fn build_call(words: u64, room: u64, set: &[u8]) -> Call {
@@ -316,6 +343,11 @@ fn parse(bytes: &[u8], at: usize) -> Option<Call> {
             values: c.part()?,
         }),
         3 => Some(Call::Lengths(c.part()?)),
+        4 => Some(Call::Run {
+            words: c.small()?,
+            layout: c.part()?,
+            run: c.part()?,
+        }),
         _ => None,
     }
 }

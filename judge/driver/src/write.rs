@@ -66,10 +66,16 @@ pub fn values(list: &[(String, u64)]) -> Vec<u8> {
 }
 
 pub fn run(run: &Run) -> Vec<u8> {
+    run_around(run.name.as_bytes(), run.length, &values(&run.values))
+}
+
+/// A run block around any bytes that stand for the name and the values.
+pub fn run_around(name: &[u8], length: u64, values: &[u8]) -> Vec<u8> {
     finish(193, |o| {
-        o.name(&run.name);
-        o.number(run.length);
-        o.block(192, |o| values_body(o, &run.values));
+        o.count(name.len());
+        o.0.extend(name);
+        o.number(length);
+        o.0.extend(values);
     })
 }
 

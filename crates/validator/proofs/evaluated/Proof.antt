@@ -18,7 +18,7 @@ root-requires : tie.Need-root-requires
 root-requires c κs = type-tree (c .before .before .before .lookup-type .ensures) (c .before .i .given .1) (c .before .before .before .before .before .before .before .before .pre)
 
 eval-node-requires : tie.Need-eval-node-requires
-eval-node-requires c κs = root-ready (c .before .before .before .before .before .lookup-type .ensures) (c .before .before .before .i .given .1) (c .before .root .ensures) _ (c .before .before .before .before .before .before .before .before .before .before .pre)
+eval-node-requires c κs = root-ready (c .before .before .before .before .before .lookup-type .ensures) (c .before .before .before .i .given .1) (c .before .root .ensures) _ (c .before .before .before .before .before .before .before .before .before .before .pre) (omega arith)
 
 fitting-requires : tie.Need-fitting-requires
 fitting-requires c κs = search needs

@@ -28,6 +28,17 @@ pub fn validate(ask: &Ask) -> Result<u64, No> {
     required(&layout, ask.name, ask.length, &values)
 }
 
+/// The same with a run block.
+pub fn validate_run(words: u64, layout: &[u8], run: &[u8]) -> Result<u64, No> {
+    if words < WORDS {
+        return Err(No::plain(19));
+    }
+    read::sizes(&[layout, run])?;
+    let layout = read::layout(layout)?;
+    let run = read::run(run)?;
+    required(&layout, run.name.as_bytes(), run.length, &run.values)
+}
+
 /// After reading: 20 for the asked name, the evaluation, 25.
 pub fn required(layout: &Layout, name: &[u8], length: u64, values: &Values) -> Result<u64, No> {
     let asked = |t: &Tree| t.name.as_bytes() == name;
