@@ -1,4 +1,4 @@
--- Texts and names, a byte at a time: what stands from a place on decides what is still open. Assumes nothing.
+-- Names, a byte at a time: what stands from a place on decides what is still open. Assumes nothing.
 use mathlib.Core.Path.{_≡_, refl, ap}
 use mathlib.Core.Bool.{Bool, true, false, _&&_, _||_}
 use mathlib.Core.List.{List, []}
@@ -10,37 +10,8 @@ use lib.Dec.{leb, ltb, eqb}
 use lib.ListN.{length, drop, getD, drop-of-length-le}
 use lib.Seq.{drop-cons}
 use borrow.Author.Tests.{le-leb, lt-leb, lt-ltb, le-ltb, eq-eqb, ne-eqb, ltb-true, ltb-false}
-use Rattle.blocks.specs.Name.{printable, isText, same, less}
+use Rattle.blocks.specs.Name.{same, less}
 use Rattle.blocks.proofs.Name.{same-eq}
-
--- ---- is_text
-
-pub text-long : (s : List ℕ) → 255 < length s → false ≡ isText s
-unfolding isText
-text-long s h = rw (lt-leb _ _ h)
-
-module _ (s : List ℕ) (i : ℕ) (e : printable s ≡ printable (drop i s)) where
-  module _ (h : i < length s) where
-    print-step : printable s ≡ ((leb 0x20 (getD s i 0) && leb (getD s i 0) 0x7E) && printable (drop (i + 1) s))
-    unfolding printable
-    print-step = rw (e, add-one, drop-cons s i 0 h)
-
-    pub text-low : length s ≤ 255 → getD s i 0 < 0x20 → false ≡ isText s
-    unfolding isText
-    text-low k l = rw (le-leb _ _ k, print-step, lt-leb _ _ l)
-
-    pub text-high : length s ≤ 255 → 0x20 ≤ getD s i 0 → 0x7E < getD s i 0 → false ≡ isText s
-    unfolding isText
-    text-high k l m = rw (le-leb _ _ k, print-step, le-leb _ _ l, lt-leb _ _ m)
-
-    pub text-more : 0x20 ≤ getD s i 0 → getD s i 0 ≤ 0x7E → printable s ≡ printable (drop (i + 1) s)
-    text-more l m = rw (print-step, le-leb _ _ l, le-leb _ _ m)
-
-  pub text-end : length s ≤ 255 → length s ≤ i → true ≡ isText s
-  unfolding isText printable
-  text-end k h = rw (le-leb _ _ k, e, drop-of-length-le s h)
-
-pub ruleset texts = (text-long, text-low, text-high, text-more, text-end)
 
 -- ---- same_name
 

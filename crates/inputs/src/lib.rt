@@ -24,7 +24,7 @@ fn judged(n: usize, s: &[u8], room: usize, kind: usize) -> Answer
     if 65536 < s.len() {
         return Answer::Refused(1, NOWHERE, 0, 0);
     }
-    match reader::read_input(s, room, kind) {
+    match quick::read_input(s, room, kind) {
         Read::Refused(q, o) => Answer::Refused(q, NOWHERE, o, 0),
         Read::Ok(_) => Answer::Accepted,
     }

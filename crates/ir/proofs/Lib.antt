@@ -1,2 +1,3 @@
 pub mod Table
 pub mod Compute
+pub mod Rows

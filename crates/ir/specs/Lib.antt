@@ -1,3 +1,4 @@
 pub mod Ir
 pub mod Layout
 pub mod Codes
+pub mod Rows

@@ -1,8 +1,12 @@
 // ir.rs: the metadata of a node, and the parts of the seventeen node kinds.
 ghost use mathlib.Core.Path.{_≡_};
+ghost use mathlib.Core.List.{List, _++_};
 ghost use Prim.Native.Nat.{_≤_, _<_};
+ghost use Rattle.blocks.specs.declared.Part.{Part};
+ghost use Rattle.blocks.specs.Grammar.{partsOf, metadata};
 ghost use Rattle.ir.specs.Ir.{default-alignment};
 ghost use Rattle.ir.specs.Codes.{codeAt};
+ghost use Rattle.ir.specs.Rows.{Row, digitCode};
 
 // What a node begins with. The size text is no field: where a node has one, it is written from its parts, straight into
 // the output.
@@ -41,48 +45,102 @@ const CASES: u32 = 11 + 32 * 163 + 8192 * 163 + 2097152 * 64;
 
 const ARGUMENTS: u32 = 11 + 32 * 164 + 8192 * 164 + 2097152 * 512;
 
-// The parts of the node of kind 128 plus the row, front to back, the metadata's two first; 0 behind the last.
-const NODE_TABLE: [[u32; 5]; 17] = [
+// The parts behind the metadata, as digits.
+const VALUE: u16 = 1;
+
+const NAME: u16 = 2;
+
+const OPT_NAME: u16 = 3;
+
+const CHILD: u16 = 4;
+
+const SWITCHED: u16 = 5;
+
+const PASSED: u16 = 6;
+
+const OPT_CHILD: u16 = 7;
+
+// The parts of the node of kind 128 plus the place, behind the metadata, front to back: a digit of base 8 each, the first
+// lowest. The entries are small because the compiled code makes the whole table anew wherever it is indexed.
+const NODE_TABLE: [u16; 17] = [
     // ZeroSize
-    [NUMBER, OPT_TEXT, 0, 0, 0],
+    0,
     // Const: value
-    [NUMBER, OPT_TEXT, NUMBER, 0, 0],
+    VALUE,
     // FieldRef: path, parameter
-    [NUMBER, OPT_TEXT, TEXT, OPT_TEXT, 0],
+    NAME + 8 * OPT_NAME,
     // AlignUp: alignment, node
-    [NUMBER, OPT_TEXT, NUMBER, NODE, 0],
+    VALUE + 8 * CHILD,
     // Switch: tag, cases, default
-    [NUMBER, OPT_TEXT, TEXT, CASES, DEFAULT],
+    NAME + 8 * SWITCHED + 64 * OPT_CHILD,
     // CallNested: type_name, arguments
-    [NUMBER, OPT_TEXT, TEXT, ARGUMENTS, 0],
+    NAME + 8 * PASSED,
     // AddChecked: left, right
-    [NUMBER, OPT_TEXT, NODE, NODE, 0],
+    CHILD + 8 * CHILD,
     // SubChecked
-    [NUMBER, OPT_TEXT, NODE, NODE, 0],
+    CHILD + 8 * CHILD,
     // MulChecked
-    [NUMBER, OPT_TEXT, NODE, NODE, 0],
+    CHILD + 8 * CHILD,
     // DivChecked
-    [NUMBER, OPT_TEXT, NODE, NODE, 0],
+    CHILD + 8 * CHILD,
     // ModChecked
-    [NUMBER, OPT_TEXT, NODE, NODE, 0],
+    CHILD + 8 * CHILD,
     // BitAnd
-    [NUMBER, OPT_TEXT, NODE, NODE, 0],
+    CHILD + 8 * CHILD,
     // BitOr
-    [NUMBER, OPT_TEXT, NODE, NODE, 0],
+    CHILD + 8 * CHILD,
     // BitXor
-    [NUMBER, OPT_TEXT, NODE, NODE, 0],
+    CHILD + 8 * CHILD,
     // LeftShift
-    [NUMBER, OPT_TEXT, NODE, NODE, 0],
+    CHILD + 8 * CHILD,
     // RightShift
-    [NUMBER, OPT_TEXT, NODE, NODE, 0],
+    CHILD + 8 * CHILD,
     // SumOverArray: count, element_type_name, field_name
-    [NUMBER, OPT_TEXT, NODE, TEXT, TEXT],
+    CHILD + 8 * NAME + 64 * NAME,
 ];
+
+// The parts of a node kind behind its metadata, as digits.
+pub fn node_row(kind: usize) -> u16
+    requires { ⌜ (128 ≤ kind) × (kind ≤ 144) ⌝ }
+    ensures { λ r. ⌜ ((ps : List Part) × (partsOf kind ≡ metadata ++ ps) × Row r ps) ⌝ }
+{
+    NODE_TABLE[kind - 128]
+}
+
+// The code of the part that a digit stands for; 0 for 0.
+fn digit_code(digit: u16) -> u32
+    requires { ⌜ digit < 8 ⌝ }
+    ensures { λ r. ⌜ r ≡ digitCode digit ⌝ }
+{
+    match digit {
+        0 => 0,
+        1 => NUMBER,
+        2 => TEXT,
+        3 => OPT_TEXT,
+        4 => NODE,
+        5 => CASES,
+        6 => ARGUMENTS,
+        _ => DEFAULT,
+    }
+}
 
 // The code of part i of a node kind, counted from 0; 0 behind the last.
 pub fn node_part(kind: usize, i: usize) -> u32
     requires { ⌜ (128 ≤ kind) × (kind ≤ 144) × (i < 5) ⌝ }
     ensures { λ r. ⌜ r ≡ codeAt kind i ⌝ }
 {
-    NODE_TABLE[kind - 128][i]
+    if i == 0 {
+        return NUMBER;
+    }
+    if i == 1 {
+        return OPT_TEXT;
+    }
+    let row = node_row(kind);
+    if i == 2 {
+        return digit_code(row % 8);
+    }
+    if i == 3 {
+        return digit_code(row / 8 % 8);
+    }
+    digit_code(row / 8 / 8 % 8)
 }

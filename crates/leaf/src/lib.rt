@@ -221,7 +221,7 @@ fn ascends(s: &[u8], last: usize, at: usize) -> bool
 }
 
 // Whether the name at `at` is not among those with which these blocks begin.
-fn differs(s: &[u8], first: usize, count: usize, at: usize) -> bool
+pub fn differs(s: &[u8], first: usize, count: usize, at: usize) -> bool
     requires { ⌜ (Stand (now s) first count) × (NameIn (now s) at) ⌝ }
     ensures { λ r. ⌜ r ≡ not (among (nameAt (now (s .entry)) at) (namesBefore (now (s .entry)) first count)) ⌝ }
 {

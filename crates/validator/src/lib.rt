@@ -33,7 +33,7 @@ fn judged(n: usize, layout: &[u8], values: &[u8], kind: usize) -> Judgement
     if 65536 < values.len() {
         return Judgement::Unread(1, 0);
     }
-    match reader::read_input(layout, 256, 160) {
+    match quick::read_input(layout, 256, 160) {
         Read::Refused(q, o) => Judgement::Unread(q, o),
         Read::Ok(_) => match reader::read_input(values, 2, kind) {
             Read::Refused(q, o) => Judgement::Unread(q, o),

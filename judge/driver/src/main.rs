@@ -2,6 +2,8 @@
 //! on which the two are held together.
 
 mod against;
+#[cfg(feature = "bench")]
+mod bench;
 mod call;
 mod cases;
 mod compare;
@@ -30,6 +32,7 @@ const USAGE: &str = "usage: judge/run COMMAND
   stream [--cases N] [--seed S]    records of the list's form, to standard output
   against PROGRAM [--cases N] [--seed S]
                                    hold a program `lengths` against the rules
+  bench                            time and speed, ours beside the Rust
   trip                             M13: bytes and lines of the worked example
   antt [--cases N] [--seed S]      small cases as lines of text";
 
@@ -75,6 +78,8 @@ fn run() -> Result<(), String> {
         "against" => against::against(program(rest)?, option(rest, "--cases", 1000)?, seed),
         "trip" => trip::trip(),
         "findings" => findings::show_all(),
+        #[cfg(feature = "bench")]
+        "bench" => bench::bench(),
         "antt" => text::antt(option(rest, "--cases", 1000)?, seed),
         _ => Err(format!("unknown command {command}\n{USAGE}")),
     }

@@ -1,58 +1,59 @@
--- `get::is_text` meets its contract. The loop's invariant: the bytes from `i` on decide. Assumes nothing.
-use Prim.Native.Nat.{_≤_, _-_}
-use mathlib.Core.Path.{_≡_, refl}
+-- `get::is_text` meets its contract, length by length. Assumes nothing.
 use native.Mathlib.Omega.{arith}
-use lib.ListN.{length, drop}
-use Rattle.blocks.specs.Name.{printable}
-use Rattle.get.proofs.Names.{texts}
+use Rattle.get.proofs.Texts.{text-long, text-all, text-four, text-two, text-one, text-none}
+use borrow.Author.Needs.{needs}
 use Rattle.get.proofs.is_text.Statement.{statement}
 use Rattle.get.proofs.is_text.Tie as tie
 
-abbrev Inv-loop : tie.InvT-loop
-Inv-loop s i₀ i = (i ≤ length s) × (printable s ≡ printable (drop i s))
+returns : tie.Need-returns
+returns c = text-long _ (c .if1 .taken)
 
-abbrev μ-loop : tie.MeasureT-loop
-μ-loop s i₀ i = length s - i
+clear-all-requires : tie.Need-clear-all-requires
+clear-all-requires c κs = search needs
 
-returns : tie.Need-returns Inv-loop μ-loop
-returns c = search texts
+returns-2 : tie.Need-returns-2
+returns-2 c = text-all _ (c .before .before .if1 .left) (c .clear-all .ensures)
 
-loop-holds : tie.Need-loop-holds Inv-loop μ-loop
-loop-holds c = (omega arith, refl)
+clear-4-requires : tie.Need-clear-4-requires
+clear-4-requires c κs = search needs
 
-shared-slice-read-b : tie.Need-shared-slice-read-b Inv-loop μ-loop
-shared-slice-read-b c = omega arith
+clear-4-requires-2 : tie.Need-clear-4-requires-2
+clear-4-requires-2 c κs = search needs
 
-returns-2 : tie.Need-returns-2 Inv-loop μ-loop
-returns-2 c = search texts
+returns-3 : tie.Need-returns-3
+returns-3 c = text-four (c .before .before .before .before .before .before .args .s .now) (c .before .before .before .before .if1 .left) (c .before .before .if3 .taken) (c .before .before .before .if2 .left) (c .before .clear-4 .ensures) (c .clear-42 .ensures)
 
-returns-3 : tie.Need-returns-3 Inv-loop μ-loop
-returns-3 c = search texts
+clear-2-requires : tie.Need-clear-2-requires
+clear-2-requires c κs = search needs
 
-add-i : tie.Need-add-i Inv-loop μ-loop
-add-i c = omega arith
+clear-2-requires-2 : tie.Need-clear-2-requires-2
+clear-2-requires-2 c κs = search needs
 
-loop-less : tie.Need-loop-less Inv-loop μ-loop
-loop-less c = omega arith
+returns-4 : tie.Need-returns-4
+returns-4 c = text-two (c .before .before .before .before .before .before .before .args .s .now) (c .before .before .before .before .before .if1 .left) (c .before .before .if4 .taken) (c .before .before .before .if3 .left) (c .before .clear-2 .ensures) (c .clear-22 .ensures)
 
-loop-again : tie.Need-loop-again Inv-loop μ-loop
-loop-again c = (omega arith, search texts)
+clear-requires : tie.Need-clear-requires
+clear-requires c κs = search needs
 
-returns-4 : tie.Need-returns-4 Inv-loop μ-loop
-returns-4 c = search texts
+returns-5 : tie.Need-returns-5
+returns-5 c = text-one (c .before .before .before .before .before .before .before .args .s .now) (c .before .before .before .before .before .if1 .left) (c .before .if5 .taken) (c .clear .ensures)
+
+returns-6 : tie.Need-returns-6
+returns-6 c = text-none _ (c .before .before .before .before .if1 .left) (c .before .if4 .left) (c .if5 .left)
 
 pub is-text-spec : {M : Type 1} → statement M
 is-text-spec =
     tie.close
     (tie.spec
-    Inv-loop
-    μ-loop
     returns
-    loop-holds
-    shared-slice-read-b
+    clear-all-requires
     returns-2
+    clear-4-requires
+    clear-4-requires-2
     returns-3
-    add-i
-    loop-less
-    loop-again
-    returns-4)
+    clear-2-requires
+    clear-2-requires-2
+    returns-4
+    clear-requires
+    returns-5
+    returns-6)

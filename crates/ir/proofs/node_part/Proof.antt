@@ -1,41 +1,46 @@
--- `ir::node_part` meets its contract: the table is the grid of the codes that the grammar gives.
-use mathlib.Core.Path.{_≡_, _∙_, ap}
-use Prim.Native.Nat.{ℕ, _+_, _-_, _≤_, _<_}
-use native.Mathlib.Omega.{arith}
-use lib.ListN.{getD}
-use mathlib.Core.List.{[]}
-use Rattle.blocks.specs.Grammar.{partsOf, nodeTable}
-use Rattle.ir.specs.Codes.{codeAt}
-use Rattle.ir.proofs.Table.{grid, cell}
+-- `ir::node_part` meets its contract: the metadata, then the digits of the row. Assumes nothing.
+use Rattle.ir.proofs.Rows.{part-0, part-1, part-2, part-3, part-4}
+use borrow.Author.Needs.{needs}
 use Rattle.ir.proofs.node_part.Statement.{statement}
 use Rattle.ir.proofs.node_part.Tie as tie
 
-abbrev code : ℕ → ℕ → ℕ
-code row i = codeAt (128 + row) i
-
-code-right : (k i : ℕ) → 128 ≤ k → k ≤ 144 → i < 5 → getD (getD (grid 17 5 code) (k - 128) []) i 0 ≡ codeAt k i
-code-right k i lo hi h =
-    let row : 128 + (k - 128) ≡ k = omega arith in
-    cell 17 5 code (k - 128) i (omega arith) h ∙ ap (λ (j : ℕ). codeAt j i) row
-
-sub-result : tie.Need-sub-result
-sub-result c = omega arith
-
-mul-result : tie.Need-mul-result
-mul-result c = omega arith
-
-mul-result-2 : tie.Need-mul-result-2
-mul-result-2 c = omega arith
-
-index-1-result : tie.Need-index-1-result
-index-1-result c = omega arith
-
-index-2-result : tie.Need-index-2-result
-index-2-result c = omega arith
-
 returns : tie.Need-returns
-unfolding codeAt partsOf nodeTable
-returns c = code-right _ _ (c .before .pre .0) (c .before .pre .1) (c .before .pre .2)
+returns c = part-0 _ _ (c .before .pre .0) (c .before .pre .1) (c .if1 .taken)
+
+returns-2 : tie.Need-returns-2
+returns-2 c = part-1 _ _ (c .before .before .pre .0) (c .before .before .pre .1) (c .if2 .taken)
+
+node-row-requires : tie.Need-node-row-requires
+node-row-requires c κs = search needs
+
+digit-code-requires : tie.Need-digit-code-requires
+digit-code-requires c κs = search needs
+
+returns-3 : tie.Need-returns-3
+returns-3 c = part-2 _ _ _ (c .before .before .node-row .ensures) (c .before .if3 .taken) (c .digit-code .ensures)
+
+digit-code-requires-2 : tie.Need-digit-code-requires-2
+digit-code-requires-2 c κs = search needs
+
+returns-4 : tie.Need-returns-4
+returns-4 c = part-3 _ _ _ (c .before .before .before .node-row .ensures) (c .before .if4 .taken) (c .digit-code2 .ensures)
+
+digit-code-requires-3 : tie.Need-digit-code-requires-3
+digit-code-requires-3 c κs = search needs
+
+returns-5 : tie.Need-returns-5
+returns-5 c = part-4 _ _ _ (c .before .before .before .node-row .ensures) (c .before .before .before .before .before .before .pre .2) (c .before .before .before .before .before .if1 .left) (c .before .before .before .before .if2 .left) (c .before .before .if3 .left) (c .before .if4 .left) (c .digit-code3 .ensures)
 
 pub node-part-spec : {M : Type 1} → statement M
-node-part-spec = tie.close (tie.spec sub-result mul-result mul-result-2 index-1-result index-2-result returns)
+node-part-spec =
+    tie.close
+    (tie.spec
+    returns
+    returns-2
+    node-row-requires
+    digit-code-requires
+    returns-3
+    digit-code-requires-2
+    returns-4
+    digit-code-requires-3
+    returns-5)

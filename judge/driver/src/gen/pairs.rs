@@ -16,7 +16,7 @@ pub fn newer(r: &mut Rng, old: &Set) -> Set {
         let name = format!("New{i}");
         let other = match r.chance(50) {
             true => plain(r, &name),
-            false => sets::another(r, old, &name),
+            false => sets::another(r, old, &name, false),
         };
         new.push(other);
     }

@@ -52,11 +52,10 @@ pub fn small(r: &mut Rng) -> Set {
 }
 
 /// One more type beside those of a set, which it may refer to.
-pub fn another(r: &mut Rng, set: &Set, name: &str) -> Type {
+pub fn another(r: &mut Rng, set: &Set, name: &str, long: bool) -> Type {
     let mut names: Vec<String> = set.iter().map(|t| t.name.clone()).collect();
     names.push(name.to_string());
     let at = names.len() - 1;
-    let long = false;
     Gen { r, names, long }.top(at)
 }
 

@@ -1,0 +1,31 @@
+-- The four words of each answer. Assumes nothing.
+use Prim.Native.Nat.{ℕ}
+use mathlib.Core.Path.{_≡_, refl}
+use mathlib.Core.List.{[], _∷_}
+use native.Mathlib.Omega.{arith}
+use Rattle.errors.specs.Refusal.{Outcome, done, refused}
+use Rattle.blocks.specs.Tree.{Tree}
+use Rattle.inputs.specs.declared.Answer.{Answer}
+use Rattle.inputs.specs.declared.Answer.the-variants.{Accepted, Refused}
+use Rattle.inputs.specs.Inputs.{answerOf}
+use Rattle.leaves.specs.declared.Answer.the-variants as evaluated
+use Rattle.leaves.specs.Outcome.{outcomeOf}
+use Rattle.clib.specs.Told.{told, read}
+
+pub read-yes : (o : Outcome Tree) → Accepted ≡ answerOf o → (0 ∷ 65535 ∷ 0 ∷ 0 ∷ []) ≡ told (read o)
+unfolding answerOf told read
+read-yes (done t) e = refl
+read-yes (refused r) e = let z : _≡_ {A = ℕ} 0 1 = cc in absurd (omega arith)
+
+pub read-no : (o : Outcome Tree) {q p i v : ℕ} → Refused q p i v ≡ answerOf o → (q ∷ p ∷ i ∷ v ∷ []) ≡ told (read o)
+unfolding answerOf told read
+read-no (done t) e = let z : _≡_ {A = ℕ} 0 1 = cc in absurd (omega arith)
+read-no (refused r) e = cc
+
+pub count-yes : (o : Outcome ℕ) {n : ℕ} → outcomeOf (evaluated.Count n) ≡ o → (0 ∷ 65535 ∷ 0 ∷ n ∷ []) ≡ told o
+unfolding told
+count-yes o e = rw (← e)
+
+pub count-no : (o : Outcome ℕ) {q p i v : ℕ} → outcomeOf (evaluated.Refused q p i v) ≡ o → (q ∷ p ∷ i ∷ v ∷ []) ≡ told o
+unfolding told
+count-no o e = rw (← e)

@@ -1,0 +1,220 @@
+-- What the quick reader finds, as the definition reads it. Assumes nothing.
+use mathlib.Core.Path.{_≡_, refl, sym, _∙_, ap}
+use mathlib.Core.Bool.{Bool, true, false}
+use mathlib.Core.List.{List, [], _∷_, _++_}
+use Prim.Native.Nat.{ℕ, zero, suc, _+_, _-_, _/_, _%_, _<_, _≤_}
+use native.Mathlib.Omega.{arith}
+use lib.ListN.{length, getD, take, drop}
+use borrow.Author.Tests.{le-leb}
+use Rattle.errors.specs.Refusal.{done, _>>=_, ask}
+use Rattle.blocks.specs.declared.Part.{Part}
+use Rattle.blocks.specs.declared.Part.the-variants.{Text, Key, Number, Flag, OptText, Blocks}
+use Rattle.blocks.specs.Bytes.{le2, le4}
+use Rattle.blocks.specs.Name.{isText}
+use Rattle.blocks.specs.Grammar.{partsOf, within, findRow, grammar, node, metadata}
+use Rattle.blocks.specs.Read.{Step, Earlier, Reader, readText, readNumber, readFlag, readOptional, readCount, readEntries, readList, readPart, readParts, readHeader, readBlock}
+use Rattle.leaf.specs.declared.Read.the-variants.{Ok}
+use Rattle.leaf.specs.declared.Head.the-variants.{Found}
+use Rattle.leaf.specs.declared.Count.the-variants.{Of}
+use Rattle.leaf.specs.Answer.{forget, headOf, countOf}
+use Rattle.leaf.proofs.Laws.{text-is, optional-on, optional-off, flag-done}
+use Rattle.leaf.proofs.Lists.{list-of, any-go}
+use Rattle.reader.proofs.Blocks.{parts-none, parts-go, block-ok}
+use Rattle.ir.specs.Rows.{partOf, Row}
+use Rattle.quick.specs.Quick.{Reads, Sized}
+
+-- ---- parts
+
+module _ (s : List ℕ) (end at : ℕ) where
+  pub text-yes : (n : ℕ) → n ≡ le2 s at → at + 2 ≤ end → at + 2 + n ≤ end → (b : Bool) → b ≡ isText (take (at + 2 + n - (at + 2)) (drop (at + 2) s)) → b ≡ true
+      → (start : ℕ) → Reads (at + 2 + n) (readText s start end at)
+  unfolding forget _>>=_ ask
+  text-yes n l h g b e t start z = text-is s start end at n l h g b e ∙ rw t
+
+  pub flag-yes : at + 1 ≤ end → getD s at 0 ≤ 1 → (start : ℕ) → Reads (at + 1) (readFlag s start end at)
+  unfolding readFlag forget _>>=_ ask
+  flag-yes h g start z = rw (le-leb _ _ h, le-leb _ _ g)
+
+  pub number-yes : at + 8 ≤ end → (start : ℕ) → Reads (at + 8) (readNumber s start end at)
+  unfolding readNumber forget _>>=_ ask
+  number-yes h start z = rw (le-leb _ _ h)
+
+  -- a flag, and what it announces
+  module _ (f : ℕ → ℕ → Step) (h : at + 1 ≤ end) where
+    pub off-yes : getD s at 0 ≡ 0 → (start : ℕ) → Reads (at + 1) (readOptional (f start) 1 s start end at)
+    off-yes g start z = optional-off s start end at (f start) 1 (flag-yes h (omega arith) start z) (λ o. omega arith)
+
+    pub on-yes : (getD s at 0 ≡ 0 → ⊥) → getD s at 0 ≤ 1 → (r : ℕ) → ((start : ℕ) → Reads r (f start (at + 1))) → (start : ℕ) → Reads r (readOptional (f start) 1 s start end at)
+    on-yes g k r d start z = optional-on s start end at (f start) 1 (flag-yes h k start (omega arith)) (omega arith) ∙ d start z
+
+module _ (rb : Reader) (s : List ℕ) (e : Earlier) (start end : ℕ) where
+  pub part-then : (p : Part) (ps : List Part) (at : ℕ) {m n : ℕ} → forget (readPart rb s e start end p at) ≡ Ok m → forget (readParts rb s e start end ps m) ≡ Ok n → forget (readParts rb s e start end (p ∷ ps) at) ≡ Ok n
+  part-then p ps at d h = parts-go rb s e start end refl at d ∙ h
+
+  pub part-last : (p : Part) (at : ℕ) {n : ℕ} → forget (readPart rb s e start end p at) ≡ Ok n → forget (readParts rb s e start end (p ∷ []) at) ≡ Ok n
+  part-last p at d = part-then p [] at d (parts-none rb s e start end _ refl)
+
+-- ---- blocks
+
+module _ (s : List ℕ) (at end stop : ℕ) (z : 0 < stop) (g : Sized s at end stop) where
+  header-yes : (lo hi k : ℕ) → k ≡ le2 s (at + 4) → lo ≤ k → k ≤ hi → headOf (readHeader s lo hi at end) ≡ Found k stop
+  unfolding readHeader headOf _>>=_ ask
+  header-yes lo hi k q l h =
+      let w = g z in
+      let u : at + 4 + le4 s at ≤ end = omega (arith, w .2, w .3) in
+      rw (le-leb _ _ (w .0), le-leb _ _ (w .1), le-leb _ _ u, ← q, le-leb _ _ l, le-leb _ _ h, w .2)
+
+  pub block-yes : (room : ℕ) (e : Earlier) (lo hi k : ℕ) → k ≡ le2 s (at + 4) → lo ≤ k → k ≤ hi → 0 < room
+      → {n : ℕ} → forget (readParts (readBlock (room - 1) s) s e at stop (partsOf k) (at + 6)) ≡ Ok n → n ≡ stop → forget (readBlock room s e lo hi at end) ≡ Ok stop
+  block-yes room e lo hi k q l h r d x = block-ok s e lo hi at end (header-yes lo hi k q l h) room (λ o. omega arith) d x
+
+-- where such a block ends
+pub ends : (s : List ℕ) (at end stop : ℕ) → Sized s at end stop → (stop ≡ 0 → ⊥) → (at + 6 ≤ stop) × (stop ≤ end)
+ends s at end stop g h = let w = g (omega arith) in (omega (arith, w .1, w .2), w .3)
+
+-- ---- lists
+
+module _ (s : List ℕ) (limit at end : ℕ) where
+  count-yes : (start n : ℕ) → at + 2 ≤ end → n ≡ le2 s at → n ≤ limit → countOf (readCount limit s start end at) ≡ Of n
+  unfolding readCount countOf _>>=_ ask
+  count-yes start n h q l = rw (← q, le-leb _ _ h, le-leb _ _ l)
+
+  pub list-yes : (F : Earlier → ℕ → Step) (e : Earlier) (start n : ℕ) → at + 2 ≤ end → n ≡ le2 s at → n ≤ limit → forget (readList F e limit s start end at) ≡ forget (readEntries F e n (at + 2))
+  list-yes F e start n h q l = list-of limit s start end at F e (count-yes start n h q l)
+
+-- ---- parameters and arguments
+
+parameter-parts : partsOf 162 ≡ Text ∷ OptText ∷ Flag ∷ []
+unfolding partsOf findRow grammar
+parameter-parts = refl
+
+argument-parts : partsOf 164 ≡ Text ∷ Text ∷ []
+unfolding partsOf findRow grammar
+argument-parts = refl
+
+module _ (s : List ℕ) (at end : ℕ) where
+  pub described-yes : {i r : ℕ} → 0 < i → ((start : ℕ) → Reads i (readOptional (readText s start end) 1 s start end at)) → ((start : ℕ) → Reads r (readFlag s start end i))
+      → (rb : Reader) (e : Earlier) (start : ℕ) → Reads r (readParts rb s e start end (OptText ∷ Flag ∷ []) at)
+  unfolding readPart
+  described-yes {i} z d h rb e start y = part-then rb s e start end OptText (Flag ∷ []) at (d start z) (part-last rb s e start end Flag i (h start y))
+
+module _ (s : List ℕ) (kind at end stop i : ℕ) (y : 0 < stop) (g : Sized s at end stop) (w : le2 s (at + 4) ≡ kind) (x : 0 < i) (d : (start : ℕ) → Reads i (readText s start stop (at + 6))) where
+  begun : (room : ℕ) (e : Earlier) (ps : List Part) → partsOf kind ≡ Text ∷ ps → 0 < room
+      → {n : ℕ} → forget (readParts (readBlock (room - 1) s) s e at stop ps i) ≡ Ok n → n ≡ stop → forget (readBlock room s e kind kind at end) ≡ Ok stop
+  unfolding readPart
+  begun room e ps h l f q = block-yes s at end stop y g room e kind kind kind (sym w) (omega arith) (omega arith) l (rw h (part-then _ s e at stop Text ps (at + 6) (d at x) f)) q
+
+  pub parameter-yes : kind ≡ 162 → {j r : ℕ} → ((rb : Reader) (e : Earlier) (start : ℕ) → Reads j (readParts rb s e start stop (OptText ∷ Flag ∷ []) i)) → (0 < r → (r ≡ stop) × (j ≡ stop))
+      → (room : ℕ) (e : Earlier) → 0 < room → Reads r (readBlock room s e kind kind at end)
+  parameter-yes k f c room e l z = let q = c z in rw (q .0) (begun room e (OptText ∷ Flag ∷ []) (rw k parameter-parts) l (f _ e at (omega arith)) (q .1))
+
+  pub argument-yes : kind ≡ 164 → {j r : ℕ} → ((start : ℕ) → Reads j (readText s start stop i)) → (0 < r → (r ≡ stop) × (j ≡ stop))
+      → (room : ℕ) (e : Earlier) → 0 < room → Reads r (readBlock room s e kind kind at end)
+  unfolding readPart
+  argument-yes k f c room e l z = let q = c z in rw (q .0) (begun room e (Text ∷ []) (rw k argument-parts) l (part-last _ s e at stop Text i (f at (omega arith))) (q .1))
+
+-- ---- cases
+
+case-parts : partsOf 163 ≡ Number ∷ node ∷ Blocks 162 162 512 ∷ []
+unfolding partsOf findRow grammar
+case-parts = refl
+
+-- a number at the start of a block's parts
+number-first : (s : List ℕ) (at stop start : ℕ) → at + 14 ≤ stop → forget (readNumber s start stop (at + 6)) ≡ Ok (at + 14)
+number-first s at stop start h = let e : at + 6 + 8 ≡ at + 14 = omega arith in rw e at (number-yes s stop (at + 6) (omega arith) start (omega arith))
+
+module _ (room : ℕ) (s : List ℕ) (at end stop : ℕ) (g : Sized s at end stop) (h : at + 14 ≤ stop) where
+  pub case-yes : {k i j r : ℕ} → k ≡ le2 s (at + 4) → k ≡ 163 → 2 ≤ room → 0 < i → ((e : Earlier) → Reads i (readBlock (room - 1) s e 128 144 (at + 14) stop))
+      → ((most start : ℕ) → 0 < most → Reads j (readList (λ f a. readBlock most s f 162 162 a stop) Earlier.any 512 s start stop i)) → (0 < r → (r ≡ stop) × (j ≡ stop))
+      → (e : Earlier) → Reads r (readBlock room s e 163 163 at end)
+  unfolding readPart
+  case-yes {k} {i} w x l y n p c e z =
+      let q = c z in
+      let rb = readBlock (room - 1) s in
+      let behind = part-then rb s e at stop node (Blocks 162 162 512 ∷ []) (at + 14) (n Earlier.any y) (part-last rb s e at stop (Blocks 162 162 512) i (p (room - 1) at (omega arith) (omega arith))) in
+      let all = part-then rb s e at stop Number (node ∷ Blocks 162 162 512 ∷ []) (at + 6) (number-first s at stop at h) behind in
+      rw (q .0) (block-yes s at end stop (omega arith) g room e 163 163 k w (omega arith) (omega arith) (omega arith) (rw (x, case-parts) all) (q .1))
+
+-- ---- nodes
+
+-- what is left of a node's parts
+pub record Left (room : ℕ) (s : List ℕ) (at stop k row i : ℕ) : Type 0 where
+  pub parts : List Part
+  pub digits : Row row parts
+  pub same : (e : Earlier) → 0 < i → forget (readParts (readBlock room s) s e at stop (partsOf k) (at + 6)) ≡ forget (readParts (readBlock room s) s e at stop parts i)
+
+step : (row : ℕ) (qs : List Part) → Row row qs → (row ≡ 0 → ⊥) → (ps : List Part) × (qs ≡ partOf (row % 8) ∷ ps) × Row (row / 8) ps
+step row qs Row.none h = absurd (h refl)
+step row qs (Row.more c ps l r) h = (ps, refl, r)
+
+last : (row : ℕ) (qs : List Part) → Row row qs → row ≡ 0 → qs ≡ []
+last row qs Row.none h = refl
+last row qs (Row.more c ps l r) h = let z : row % 8 ≡ 0 = rw h in absurd (omega (arith, l, z))
+
+module _ (room : ℕ) (s : List ℕ) (at stop k : ℕ) where
+  pub node-first : {row i : ℕ} → at + 14 ≤ stop → ((ps : List Part) × (partsOf k ≡ metadata ++ ps) × Row row ps) → ((start : ℕ) → Reads i (readOptional (readText s start stop) 1 s start stop (at + 14))) → Left room s at stop k row i
+  unfolding readPart
+  node-first h w d = record {
+    parts = w .0;
+    digits = w .2;
+    same = λ e z. rw (w .1) (parts-go (readBlock room s) s e at stop refl (at + 6) (number-first s at stop at h) ∙ parts-go (readBlock room s) s e at stop refl (at + 14) (d at z));
+  }
+
+  module _ {row i : ℕ} (l : Left room s at stop k row i) where
+    pub node-next : {j : ℕ} → (row ≡ 0 → ⊥) → 0 < i → ((e : Earlier) (start : ℕ) → Reads j (readPart (readBlock room s) s e start stop (partOf (row % 8)) i)) → Left room s at stop k (row / 8) j
+    node-next h z d =
+        let w = step row (l .parts) (l .digits) h in
+        record {
+          parts = w .0;
+          digits = w .2;
+          same = λ e y. l .same e z ∙ parts-go (readBlock room s) s e at stop (w .1) i (d e at y);
+        }
+
+    pub node-last : row ≡ 0 → (e : Earlier) → 0 < i → forget (readParts (readBlock room s) s e at stop (partsOf k) (at + 6)) ≡ Ok i
+    node-last h e z = l .same e z ∙ parts-none (readBlock room s) s e at stop i (last row (l .parts) (l .digits) h)
+
+module _ (room : ℕ) (s : List ℕ) (at end stop : ℕ) (g : Sized s at end stop) where
+  pub node-yes : {k row i r : ℕ} → at + 14 ≤ stop → k ≡ le2 s (at + 4) → 128 ≤ k → k ≤ 144 → 0 < room → Left (room - 1) s at stop k row i → row ≡ 0 → (0 < r → (r ≡ stop) × (i ≡ stop))
+      → (e : Earlier) → Reads r (readBlock room s e 128 144 at end)
+  node-yes {k} h w x y u l v c e z =
+      let q = c z in
+      rw (q .0) (block-yes s at end stop (omega arith) g room e 128 144 k w x y u (node-last (room - 1) s at stop k l v e (omega arith)) (q .1))
+
+-- ---- the part of a digit
+
+module _ (room : ℕ) (s : List ℕ) (digit at end : ℕ) where
+  abbrev Piece : ℕ → Type 0
+  Piece r = (e : Earlier) (start : ℕ) → Reads r (readPart (readBlock room s) s e start end (partOf digit) at)
+
+  pub number-part : digit ≡ 1 → at + 8 ≤ end → Piece (at + 8)
+  unfolding readPart
+  number-part k h e start z = rw k (number-yes s end at h start z)
+
+  pub text-part : digit ≡ 2 → {r : ℕ} → ((start : ℕ) → Reads r (readText s start end at)) → Piece r
+  unfolding readPart
+  text-part k d e start z = rw k (d start z)
+
+  pub optional-part : digit ≡ 3 → {r : ℕ} → ((start : ℕ) → Reads r (readOptional (readText s start end) 1 s start end at)) → Piece r
+  unfolding readPart
+  optional-part k d e start z = rw k (d start z)
+
+  pub node-part : digit ≡ 4 → {r : ℕ} → ((e : Earlier) → Reads r (readBlock room s e 128 144 at end)) → Piece r
+  unfolding readPart
+  node-part k d e start z = rw k (d Earlier.any z)
+
+  pub cases-part : digit ≡ 5 → {r : ℕ} → ((start : ℕ) → Reads r (readList (λ f a. readBlock room s f 163 163 a end) Earlier.any 64 s start end at)) → Piece r
+  unfolding readPart
+  cases-part k d e start z = rw k (d start z)
+
+  pub arguments-part : digit ≡ 6 → 0 < room → {r : ℕ} → ((most start : ℕ) → 0 < most → Reads r (readList (λ f a. readBlock most s f 164 164 a end) Earlier.any 512 s start end at)) → Piece r
+  unfolding readPart
+  arguments-part k h d e start z = rw k (d room start h z)
+
+  module _ (k : digit ≡ 7) {i : ℕ} (q : (i ≡ at + 1) × (getD s at 0 ≤ 1)) (h : i ≤ end) where
+    pub default-off : getD s at 0 ≡ 0 → Piece i
+    unfolding readPart
+    default-off g e start z = rw (k, q .0) (off-yes s end at (λ t a. readBlock room s Earlier.any 128 144 a end) (omega arith) g start (omega arith))
+
+    pub default-on : (getD s at 0 ≡ 0 → ⊥) → {r : ℕ} → ((e : Earlier) → Reads r (readBlock room s e 128 144 i end)) → Piece r
+    unfolding readPart
+    default-on g {r} d e start z = rw k (on-yes s end at (λ t a. readBlock room s Earlier.any 128 144 a end) (omega arith) g (q .1) r (λ t y. rw (q .0) at (d Earlier.any y)) start z)

@@ -1,0 +1,34 @@
+-- The answers of the quick reader, and the marks by which it sees that a name is new.
+use Prim.Native.Nat.{ℕ, _+_, _-_, _*_, _%_, _≤_, _<_}
+use mathlib.Core.Path.{_≡_}
+use mathlib.Core.Bool.{Bool, cond}
+use mathlib.Core.List.{List, [], _∷_}
+use lib.Dec.{ltb}
+use lib.ListN.{length, getD}
+use Rattle.blocks.specs.Bytes.{le4, le8, nameAt}
+use Rattle.blocks.specs.Name.{Name}
+use Rattle.blocks.specs.Read.{Step}
+use Rattle.leaf.specs.declared.Read.the-variants.{Ok}
+use Rattle.leaf.specs.Answer.{forget}
+use Rattle.leaf.specs.Seen.{behind}
+
+-- the offset behind what was read; 0 says nothing
+abbrev pub Reads : ℕ → Step → Type 0
+Reads r x = 0 < r → forget x ≡ Ok r
+
+-- the offset behind the block at `at`, by its length; 0 says nothing
+abbrev pub Sized : List ℕ → ℕ → ℕ → ℕ → Type 0
+Sized s at end r = 0 < r → (at + 6 ≤ end) × (2 ≤ le4 s at) × (r ≡ at + 4 + le4 s at) × (r ≤ end)
+
+-- the place of a short name among the marks, from its last byte to its first
+unfoldable pub folded : Name → ℕ
+folded [] = 0
+folded (b ∷ bs) = folded bs % 1024 * 31 + b
+
+-- the place of a name among the marks; of a longer one the first and the last eight bytes count
+unfoldable pub placeOf : Name → ℕ
+placeOf n = cond (ltb (length n) 8) (folded n % 4096) ((le8 n 0 % 4093 + le8 n (length n - 8) % 4093 * 31) % 4096)
+
+-- the names with which n blocks begin have their marks
+abbrev pub Marked : List ℕ → List ℕ → ℕ → ℕ → Type 0
+Marked marks s first n = (k : ℕ) → k < n → getD marks (placeOf (nameAt s (behind s first k + 6))) 0 ≡ 1

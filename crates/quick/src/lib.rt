@@ -1,0 +1,400 @@
+// A quick reader of layouts. It answers with one number and says only yes; where it does not, the reader puts the questions
+// again, one by one.
+use leaf::Read;
+ghost use mathlib.Core.Path.{_≡_};
+ghost use mathlib.Core.Bool.{true, false};
+ghost use mathlib.Core.List.{[], _∷_};
+ghost use Prim.Native.Nat.{ℕ, _+_, _≤_, _<_};
+ghost use lib.ListN.{length, getD, set};
+ghost use Rattle.blocks.specs.declared.Part.the-variants.{OptText, Flag};
+ghost use Rattle.blocks.specs.Name.{among};
+ghost use Rattle.blocks.specs.Read.{Earlier, Reader, inOrder, readText, readFlag, readOptional, readList, readPart, readParts, readBlock, readInput};
+ghost use Rattle.leaf.specs.declared.Read.the-variants.{Ok};
+ghost use Rattle.leaf.specs.Answer.{forget};
+ghost use Rattle.leaf.specs.Seen.{nameAt, NameIn, namesBefore, Stand};
+ghost use Rattle.ir.specs.Rows.{partOf};
+ghost use Rattle.reader.specs.Input.{inputOf};
+ghost use Rattle.quick.specs.Quick.{Reads, Sized, placeOf, Marked};
+
+// A name or a text.
+fn text(s: &[u8], at: usize, end: usize) -> usize
+    requires { ⌜ (at ≤ end) × (end ≤ length (now s)) ⌝ }
+    ensures { λ r. ⌜ ((start : ℕ) → Reads r (readText (now (s .entry)) start end at)) × (r ≤ end) ⌝ }
+{
+    if end < at + 2 {
+        return 0;
+    }
+    let n = get::read2(s, at);
+    if end < at + 2 + n {
+        return 0;
+    }
+    let from = at + 2;
+    let to = at + 2 + n;
+    if get::is_text(&s[from..to]) {
+        return to;
+    }
+    0
+}
+
+fn flag(s: &[u8], at: usize, end: usize) -> usize
+    requires { ⌜ (at ≤ end) × (end ≤ length (now s)) ⌝ }
+    ensures { λ r. ⌜ ((start : ℕ) → Reads r (readFlag (now (s .entry)) start end at)) × (r ≤ end) × (0 < r → (r ≡ at + 1) × (getD (now (s .entry)) at 0 ≤ 1)) ⌝ }
+{
+    if end < at + 1 {
+        return 0;
+    }
+    let b = s[at];
+    if 1 < b {
+        return 0;
+    }
+    at + 1
+}
+
+// A flag, and behind it a text if the flag is 1.
+fn optional(s: &[u8], at: usize, end: usize) -> usize
+    requires { ⌜ (at ≤ end) × (end ≤ length (now s)) ⌝ }
+    ensures { λ r. ⌜ ((start : ℕ) → Reads r (readOptional (readText (now (s .entry)) start end) 1 (now (s .entry)) start end at)) × (r ≤ end) ⌝ }
+{
+    if end < at + 1 {
+        return 0;
+    }
+    let b = s[at];
+    if b == 0 {
+        return at + 1;
+    }
+    if 1 < b {
+        return 0;
+    }
+    text(s, at + 1, end)
+}
+
+// Where the block at `at` ends, by its length.
+fn sized(s: &[u8], at: usize, end: usize) -> usize
+    requires { ⌜ (at ≤ end) × (end ≤ length (now s)) ⌝ }
+    ensures { λ r. ⌜ Sized (now (s .entry)) at end r ⌝ }
+{
+    if end < at + 6 {
+        return 0;
+    }
+    let n = get::read4(s, at);
+    if n < 2 {
+        return 0;
+    }
+    if end < at + 4 + n {
+        return 0;
+    }
+    at + 4 + n
+}
+
+// The end of a block whose parts end at i.
+fn closed(i: usize, stop: usize) -> usize
+    ensures { λ r. ⌜ (0 < r → (r ≡ stop) × (i ≡ stop)) × (r ≤ stop) ⌝ }
+{
+    if i == stop {
+        return stop;
+    }
+    0
+}
+
+// What a parameter has behind its name: a description behind a flag, and a flag.
+fn described(s: &[u8], at: usize, end: usize) -> usize
+    requires { ⌜ (at ≤ end) × (end ≤ length (now s)) ⌝ }
+    ensures { λ r. ⌜ ((rb : Reader) (e : Earlier) (start : ℕ) → Reads r (readParts rb (now (s .entry)) e start end (OptText ∷ Flag ∷ []) at)) × (r ≤ end) ⌝ }
+{
+    let i = optional(s, at, end);
+    if i == 0 {
+        return 0;
+    }
+    flag(s, i, end)
+}
+
+// A parameter (162) or an argument (164).
+fn entry(s: &[u8], kind: usize, at: usize, end: usize) -> usize
+    requires { ⌜ (at ≤ end) × (end ≤ length (now s)) ⌝ }
+    ensures { λ r. ⌜ ((room : ℕ) (e : Earlier) → 0 < room → Reads r (readBlock room (now (s .entry)) e kind kind at end)) × (r ≤ end) ⌝ }
+{
+    let stop = sized(s, at, end);
+    if stop == 0 {
+        return 0;
+    }
+    if get::read2(s, at + 4) != kind {
+        return 0;
+    }
+    let i = text(s, at + 6, stop);
+    if i == 0 {
+        return 0;
+    }
+    if kind == 162 {
+        return closed(described(s, i, stop), stop);
+    }
+    if kind == 164 {
+        return closed(text(s, i, stop), stop);
+    }
+    0
+}
+
+// A count and parameters or arguments.
+fn entries(s: &[u8], kind: usize, at: usize, end: usize) -> usize
+    requires { ⌜ (at ≤ end) × (end ≤ length (now s)) ⌝ }
+    ensures { λ r. ⌜ ((room start : ℕ) → 0 < room → Reads r (readList (λ f a. readBlock room (now (s .entry)) f kind kind a end) Earlier.any 512 (now (s .entry)) start end at)) × (r ≤ end) ⌝ }
+{
+    if end < at + 2 {
+        return 0;
+    }
+    let n = get::read2(s, at);
+    if 512 < n {
+        return 0;
+    }
+    let mut i = at + 2;
+    let mut left = n;
+    while 0 < left {
+        i = entry(s, kind, i, end);
+        if i == 0 {
+            return 0;
+        }
+        left -= 1;
+    }
+    i
+}
+
+// A case of a switch: its number, its node and its parameters.
+fn case(s: &[u8], room: usize, at: usize, end: usize) -> usize
+    requires { ⌜ (at ≤ end) × (end ≤ length (now s)) ⌝ }
+    ensures { λ r. ⌜ ((e : Earlier) → Reads r (readBlock room (now (s .entry)) e 163 163 at end)) × (r ≤ end) ⌝ }
+{
+    let stop = sized(s, at, end);
+    if stop < at + 14 {
+        return 0;
+    }
+    if get::read2(s, at + 4) != 163 {
+        return 0;
+    }
+    if room < 2 {
+        return 0;
+    }
+    let i = node(s, room - 1, at + 14, stop);
+    if i == 0 {
+        return 0;
+    }
+    closed(entries(s, 162, i, stop), stop)
+}
+
+// A count and cases.
+fn cases(s: &[u8], room: usize, at: usize, end: usize) -> usize
+    requires { ⌜ (at ≤ end) × (end ≤ length (now s)) ⌝ }
+    ensures { λ r. ⌜ ((start : ℕ) → Reads r (readList (λ f a. readBlock room (now (s .entry)) f 163 163 a end) Earlier.any 64 (now (s .entry)) start end at)) × (r ≤ end) ⌝ }
+{
+    if end < at + 2 {
+        return 0;
+    }
+    let n = get::read2(s, at);
+    if 64 < n {
+        return 0;
+    }
+    let mut i = at + 2;
+    let mut left = n;
+    while 0 < left {
+        i = case(s, room, i, end);
+        if i == 0 {
+            return 0;
+        }
+        left -= 1;
+    }
+    i
+}
+
+// The part of a node that a digit of its row stands for.
+fn piece(s: &[u8], room: usize, digit: u16, at: usize, end: usize) -> usize
+    requires { ⌜ (at ≤ end) × (end ≤ length (now s)) ⌝ }
+    ensures { λ r. ⌜ ((e : Earlier) (start : ℕ) → Reads r (readPart (readBlock room (now (s .entry))) (now (s .entry)) e start end (partOf digit) at)) × (r ≤ end) ⌝ }
+{
+    match digit {
+        1 => {
+            if end < at + 8 {
+                return 0;
+            }
+            at + 8
+        }
+        2 => text(s, at, end),
+        3 => optional(s, at, end),
+        4 => node(s, room, at, end),
+        5 => cases(s, room, at, end),
+        6 => {
+            if room == 0 {
+                return 0;
+            }
+            entries(s, 164, at, end)
+        }
+        7 => {
+            let i = flag(s, at, end);
+            if i == 0 {
+                return 0;
+            }
+            if s[at] == 0 {
+                return i;
+            }
+            node(s, room, i, end)
+        }
+        _ => 0,
+    }
+}
+
+// A node: its metadata, and the parts of its row.
+fn node(s: &[u8], room: usize, at: usize, end: usize) -> usize
+    requires { ⌜ (at ≤ end) × (end ≤ length (now s)) ⌝ }
+    ensures { λ r. ⌜ ((e : Earlier) → Reads r (readBlock room (now (s .entry)) e 128 144 at end)) × (r ≤ end) ⌝ }
+{
+    let stop = sized(s, at, end);
+    if stop < at + 14 {
+        return 0;
+    }
+    let k = get::read2(s, at + 4);
+    if k < 128 {
+        return 0;
+    }
+    if 144 < k {
+        return 0;
+    }
+    if room == 0 {
+        return 0;
+    }
+    let mut i = optional(s, at + 14, stop);
+    let mut row = ir::node_row(k);
+    while row != 0 {
+        if i == 0 {
+            return 0;
+        }
+        i = piece(s, room - 1, row % 8, i, stop);
+        row = row / 8;
+    }
+    closed(i, stop)
+}
+
+// The place of a name among the marks.
+fn place(name: &[u8]) -> usize
+    ensures { λ r. ⌜ (r ≡ placeOf (now (name .entry))) × (r < 4096) ⌝ }
+{
+    let n = name.len();
+    if 8 <= n {
+        let head = get::read8(name, 0) % 4093;
+        let tail = get::read8(name, n - 8) % 4093;
+        return (head + tail * 31) % 4096;
+    }
+    let mut i = n;
+    let mut h = 0;
+    while 0 < i {
+        i -= 1;
+        h = h % 1024 * 31 + get::wide(name[i]);
+    }
+    h % 4096
+}
+
+// Whether the name at `at` is not among those with which these blocks begin, each of which has its mark. It gets its own.
+fn fresh(s: &[u8], marks: &mut [u8; 4096], first: usize, count: usize, at: usize) -> bool
+    requires { ⌜ (Stand (now s) first count) × (NameIn (now s) at) × (Marked (now marks) (now s) first count) ⌝ }
+    ensures { λ r. ⌜ (r ≡ true → among (nameAt (now (s .entry)) at) (namesBefore (now (s .entry)) first count) ≡ false) ⌝ }
+    ensures { λ _. ⌜ now (marks .exit) ≡ set (now (marks .entry)) (placeOf (nameAt (now (s .entry)) at)) 1 ⌝ }
+{
+    let n = get::read2(s, at);
+    let from = at + 2;
+    let to = at + 2 + n;
+    let p = place(&s[from..to]);
+    let old = marks[p];
+    marks[p] = 1;
+    if old == 0 {
+        return true;
+    }
+    leaf::differs(s, first, count, at)
+}
+
+// A type tree: its name, its alignment, its node and its parameters. Of the names before nothing is asked.
+fn tree(s: &[u8], room: usize, at: usize, end: usize) -> usize
+    requires { ⌜ (at ≤ end) × (end ≤ length (now s)) ⌝ }
+    ensures { λ r. ⌜ ((e : Earlier) → inOrder e (nameAt (now (s .entry)) (at + 6)) ≡ true → Reads r (readBlock room (now (s .entry)) e 161 161 at end)) × (r ≤ end) × (0 < r → NameIn (now (s .entry)) (at + 6)) ⌝ }
+{
+    let stop = sized(s, at, end);
+    if stop == 0 {
+        return 0;
+    }
+    if get::read2(s, at + 4) != 161 {
+        return 0;
+    }
+    if room < 2 {
+        return 0;
+    }
+    let i = text(s, at + 6, stop);
+    if i == 0 {
+        return 0;
+    }
+    if stop < i + 8 {
+        return 0;
+    }
+    let j = node(s, room - 1, i + 8, stop);
+    if j == 0 {
+        return 0;
+    }
+    closed(entries(s, 162, j, stop), stop)
+}
+
+// A count and type trees, their names distinct.
+fn trees(s: &[u8], room: usize, at: usize, end: usize) -> usize
+    requires { ⌜ (at ≤ end) × (end ≤ length (now s)) ⌝ }
+    ensures { λ r. ⌜ ((start : ℕ) → Reads r (readList (λ f a. readBlock room (now (s .entry)) f 161 161 a end) (Earlier.distinct []) 256 (now (s .entry)) start end at)) × (r ≤ end) ⌝ }
+{
+    if end < at + 2 {
+        return 0;
+    }
+    let n = get::read2(s, at);
+    if 256 < n {
+        return 0;
+    }
+    let first = at + 2;
+    let mut marks = [0u8; 4096];
+    let mut i = first;
+    let mut count = 0;
+    while count < n {
+        let next = tree(s, room, i, end);
+        if next == 0 {
+            return 0;
+        }
+        if !fresh(s, &mut marks, first, count, i + 6) {
+            return 0;
+        }
+        i = next;
+        count += 1;
+    }
+    i
+}
+
+// Whether the input is a layout. If not, nothing is said.
+fn layout(s: &[u8], room: usize) -> bool
+    ensures { λ r. ⌜ (r ≡ true → forget (readBlock room (now (s .entry)) Earlier.any 160 160 0 (length (now (s .entry)))) ≡ Ok (length (now (s .entry)))) ⌝ }
+{
+    let n = s.len();
+    let stop = sized(s, 0, n);
+    if stop == 0 {
+        return false;
+    }
+    if stop != n {
+        return false;
+    }
+    if get::read2(s, 4) != 160 {
+        return false;
+    }
+    if room == 0 {
+        return false;
+    }
+    trees(s, room - 1, 6, n) == n
+}
+
+// An input: an outermost block of one kind, and nothing behind it. A layout is first tried quickly.
+pub fn read_input(s: &[u8], room: usize, kind: usize) -> Read
+    ensures { λ r. ⌜ r ≡ inputOf (length (now (s .entry))) (readInput room kind (now (s .entry))) ⌝ }
+{
+    if kind == 160 {
+        if layout(s, room) {
+            return Read::Ok(s.len());
+        }
+    }
+    reader::read_input(s, room, kind)
+}

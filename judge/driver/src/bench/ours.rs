@@ -1,0 +1,62 @@
+//! The calls of crates/clib, from the archive that `rt staticlib clib` writes.
+//! There a slice is an address and a length, the answer four words: number
+//! (0 if accepted), place, offset, and value or count.
+
+pub type Answer = [u64; 4];
+
+extern "C" {
+    fn ciztarmo_read_layout(
+        words: *mut u64,
+        words_len: usize,
+        layout: *const u8,
+        layout_len: usize,
+        answer: *mut Answer,
+    );
+    fn ciztarmo_validate(
+        words: *mut u64,
+        words_len: usize,
+        layout: *const u8,
+        layout_len: usize,
+        name: *const u8,
+        name_len: usize,
+        values: *const u8,
+        values_len: usize,
+        len: u64,
+        answer: *mut Answer,
+    );
+}
+
+pub fn read_layout(words: &mut [u64], layout: &[u8]) -> Answer {
+    let mut answer = [0; 4];
+    // SAFETY: each address and length is a slice's, and none overlaps another.
+    unsafe {
+        ciztarmo_read_layout(
+            words.as_mut_ptr(),
+            words.len(),
+            layout.as_ptr(),
+            layout.len(),
+            &mut answer,
+        );
+    }
+    answer
+}
+
+pub fn validate(words: &mut [u64], layout: &[u8], name: &[u8], values: &[u8], len: u64) -> Answer {
+    let mut answer = [0; 4];
+    // SAFETY: as above.
+    unsafe {
+        ciztarmo_validate(
+            words.as_mut_ptr(),
+            words.len(),
+            layout.as_ptr(),
+            layout.len(),
+            name.as_ptr(),
+            name.len(),
+            values.as_ptr(),
+            values.len(),
+            len,
+            &mut answer,
+        );
+    }
+    answer
+}
