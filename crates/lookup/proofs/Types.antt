@@ -51,12 +51,12 @@ abbrev keyed : {s : List ℕ} (lo hi : ℕ) → 8 ≤ length s → Listed s lo h
 keyed lo hi h l k = record { lo = lo; hi = hi; inside = h; list = l; keyed = k }
 
 -- the types of a set, and the type trees of a layout
-set-list : {s : List ℕ} {t : Tree} → readSet s ≡ done t → (8 ≤ length s) × (l : Listed s 1 7 (le2 s 6) 8) × (typesOf t ≡ entries typeOf (l .got .0))
+pub set-list : {s : List ℕ} {t : Tree} → readSet s ≡ done t → (8 ≤ length s) × (l : Listed s 1 7 (le2 s 6) 8) × (typesOf t ≡ entries typeOf (l .got .0)) × (le2 s 6 ≤ 256)
 unfolding typesOf partsOf findRow grammar nodeTable
 set-list {s} e =
     let a = input 32 36 s e in
     let o = sole (a .0) refl Counted.distinct in
-    (o .inside, o .list, ap (λ (z : Tree × ℕ). entries typeOf (rest (part 0 (body (z .0))))) (sym (a .1)) ∙ ap (entries typeOf) (o .tree))
+    (o .inside, o .list, ap (λ (z : Tree × ℕ). entries typeOf (rest (part 0 (body (z .0))))) (sym (a .1)) ∙ ap (entries typeOf) (o .tree), o .few)
 
 layout-list : {s : List ℕ} {t : Tree} → readLayout s ≡ done t → (8 ≤ length s) × (l : Listed s 161 161 (le2 s 6) 8) × (layoutOf t ≡ entries typeIrOf (l .got .0))
 unfolding layoutOf partsOf findRow grammar nodeTable

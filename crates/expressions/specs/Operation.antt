@@ -1,0 +1,17 @@
+-- The expression kinds that become nodes of two operands.
+use Prim.Native.Nat.{ℕ, _≤_}
+use mathlib.Core.Path.{_≡_}
+use mathlib.Core.Option.{some}
+use Rattle.ir.specs.Ir.{BinaryOp}
+use Rattle.ir.specs.Layout.{opKind}
+use Rattle.builder.specs.Nodes.{operationOf}
+
+-- an expression kind, and the node kind of its operation
+pub record Operation (k kind : ℕ) : Type 0 where
+  pub low : 68 ≤ k
+  pub high : k ≤ 78
+  pub op : BinaryOp
+  pub is : operationOf k ≡ some op
+  pub node : opKind op ≡ kind
+  pub least : 128 ≤ kind
+  pub most : kind ≤ 144

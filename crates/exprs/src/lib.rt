@@ -1,0 +1,1 @@
+// Laws only: what an accepted expression holds, by its kind.

@@ -1,0 +1,3 @@
+pub mod Match
+pub mod Segments
+pub mod Paths

@@ -1,0 +1,4 @@
+pub mod Tests
+pub mod Segments
+pub mod Fields
+pub mod Listed

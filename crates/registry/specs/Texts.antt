@@ -1,0 +1,19 @@
+-- The texts of made parameters: what their names end with, and their descriptions.
+use Prim.Native.Nat.{ℕ}
+use mathlib.Core.Bool.{cond}
+use mathlib.Core.Option.{Option, some, none}
+use lib.Dec.{eqb}
+use Rattle.blocks.specs.Name.{Name, text}
+
+unfoldable pub madeEnd : ℕ → Name
+madeEnd made = cond (eqb made 1) (text ".computed_tag") (cond (eqb made 2) (text ".variant") (text ".payload_size"))
+
+unfoldable pub madeText : ℕ → Name
+madeText made =
+    cond (eqb made 1) (text "Computed enum tag expression")
+    (cond (eqb made 2) (text "Active union variant selector")
+    (text "Runtime payload size (bytes) selecting size-discriminated variant"))
+
+-- the description of an entry: that of its made parameter, or none
+unfoldable pub describing : ℕ → Option Name
+describing made = cond (eqb made 0) none (some (madeText made))

@@ -1,0 +1,5 @@
+pub mod Laws
+pub mod Head
+pub mod Each
+pub mod Fields
+pub mod Owners
