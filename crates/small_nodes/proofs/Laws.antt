@@ -34,3 +34,7 @@ unfolding nodeTree write nodeStart
 align-closed {xs} {ys} {ys′} {at} {p} {u} a n w v c =
     closed 0 131 (cons (num 8 a) (cons (cons (num 1 0) nil) (cons (num 8 a) (cons (nodeTree n) nil))))
     (subst (λ (bs : List ℕ). Wrote xs at bs ys u) (start-align a (write (nodeTree n))) (both w v)) c
+
+-- the same of another alignment that is the same
+pub start-at : {xs ys : List ℕ} {at p : ℕ} (k : ℕ) {a b : ℕ} → a ≡ b → Wrote xs at (nodeStart k a) ys p → Wrote xs at (nodeStart k b) ys p
+start-at {xs} {ys} {at} {p} k e w = subst (λ (z : ℕ). Wrote xs at (nodeStart k z) ys p) e w

@@ -98,6 +98,15 @@ pub fn open_align(out: &mut [u8], at: usize, alignment: u64) -> usize
     put_number_part(out, p, 131, 2, alignment)
 }
 
+// An AddChecked node of the default alignment, as far as what it adds.
+pub fn open_add(out: &mut [u8], at: usize) -> usize
+    requires { ⌜ at < 2 ^ 60 ⌝ }
+    ensures { λ r. ⌜ Wrote (now (out .entry)) at (nodeStart 134 default-alignment) (now (out .exit)) r ⌝ }
+    ensures { λ r. ⌜ r ≡ at + 15 ⌝ }
+{
+    open_node(out, at, 134, NodeMetadata::default_alignment())
+}
+
 // A Const node, also where it stands in an AlignUp node.
 fn const_node(out: &mut [u8], at: usize, value: u64, alignment: u64) -> usize
     requires { ⌜ at < 2 ^ 60 + 64 ⌝ }

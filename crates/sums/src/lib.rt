@@ -113,7 +113,7 @@ fn put_sum(s: &[u8], words: &[u64], n: usize, owner: &[u8], only: bool, paths: u
     if k == 1 {
         return put_ref(s, words, n, owner, only, paths, 0, out, at);
     }
-    let p = small_nodes::open_node(out, at, 134, 1);
+    let p = small_nodes::open_add(out, at);
     let l = put_sum(s, words, n, owner, only, paths, k - 1, out, p);
     if l.no != 0 {
         return Built {

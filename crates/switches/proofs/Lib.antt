@@ -1,0 +1,4 @@
+pub mod Marks
+pub mod Tags
+pub mod Cases
+pub mod Switch
