@@ -48,11 +48,13 @@ paths-more o p ps before g = go (leb (length (canonical-name o p)) 255) (ensure 
   where
     next : List IrArgument
     next = before ++ (argument (canonical-name o p) ∷ [])
+
     then : (y : Outcome (Unit {0} × Registry)) (b : Bool) → _andThen_ y (λ x. (require b 17 >>= (λ _. collect-paths o ps next)) (x .1)) ≡
         _andThen_ (_andThen_ y (λ x. (require b 17 >>= (λ _. give next)) (x .1))) (λ x. collect-paths o ps (x .0) (x .1))
     then (done y) true = refl
     then (done y) false = refl
     then (refused q) b = refl
+
     go : (a : Bool) (e : Build Unit) (b : Bool) → (require a 17 >>= (λ _. e >>= (λ _. require b 17 >>= (λ _. collect-paths o ps next)))) g ≡
         _andThen_ ((require a 17 >>= (λ _. e >>= (λ _. require b 17 >>= (λ _. give next)))) g) (λ x. collect-paths o ps (x .0) (x .1))
     go true e b = then (e g) b
@@ -130,5 +132,5 @@ module _ {s xs vs zs : List ℕ} {at : ℕ} {before : List IrArgument} {a : Coll
       go : (as′ : List IrArgument) {y : Outcome (List IrArgument × Registry)} → Wrote xs at (write (entriesTree argumentTree as′)) zs (a .at) → Collects s zs (a .at) (before ++ as′) us ys r y → Collects s xs at before us ys r y
       go as′ w (Collects.made bs g e m h v) =
           collected (as′ ++ bs) g (ap (λ (l : List IrArgument). done (l, g)) (append-assoc before as′ bs)) e (omega (arith, m, length-append before as′, length-append as′ bs)) h
-              (subst (λ (l : List ℕ). Wrote xs at l ys (r .at)) (sym (entries-append as′ bs)) (both w v))
+          (subst (λ (l : List ℕ). Wrote xs at l ys (r .at)) (sym (entries-append as′ bs)) (both w v))
       go as′ w (Collects.not k e l) = Collects.not k e l

@@ -62,8 +62,8 @@ argument-puts : {xs x₁ x₂ x₃ ys : List ℕ} {at b u v q : ℕ} (n : Name) 
 unfolding entriesTree
 argument-puts {ys} {v} n w₁ w₂ w₃ w₄ =
     parts (argumentTree (argument n)) nil
-        (closed 0 164 (cons (name n) (cons (name n) nil)) (both w₁ (parts (name n) (cons (name n) nil) w₂ (parts (name n) nil w₃ (no-parts _ _)))) w₄)
-        (no-parts ys v)
+    (closed 0 164 (cons (name n) (cons (name n) nil)) (both w₁ (parts (name n) (cons (name n) nil) w₂ (parts (name n) nil w₃ (no-parts _ _)))) w₄)
+    (no-parts ys v)
 
 module _ (s xs : List ℕ) (at owner path made : ℕ) (o p : List ℕ) (g₀ : Registry) (eo : o ≡ nameAt s owner) (ep : p ≡ nameAt s path) where
   -- the same of the names' offsets
@@ -142,7 +142,7 @@ pub paths-none : {s xs ws : List ℕ} {at n left path made : ℕ} (o : Name) →
 unfolding entries collect-paths give
 paths-none {s} {xs} {ws} {at} {n} {made} o z l before e =
     subst (λ (t : Tree). Collects s xs at before ws xs (record { at = at; count = n; made = made; no = 0 }) (collect-paths o (textsOf t) before (entriesOf s ws n)))
-        (sym (ap (λ (y : Tree × ℕ). y .0) (none-left l (omega arith)))) (collects-none e)
+    (sym (ap (λ (y : Tree × ℕ). y .0) (none-left l (omega arith)))) (collects-none e)
 
 module _ {s xs vs zs : List ℕ} {at left path made : ℕ} {a : Collected} (o : Name) (g : Registry) (z : left ≡ 0 → ⊥)
     (f : (before : List IrArgument) → length before ≡ made → Collects s xs at before vs zs a (collect-paths o (nameAt s path ∷ []) before g)) where
@@ -154,7 +154,7 @@ module _ {s xs vs zs : List ℕ} {at left path made : ℕ} {a : Collected} (o : 
       (l : Entries s Item.names left path) (before : List IrArgument) → length before ≡ made → Collects s xs at before us ys r (collect-paths o (textsOf (l .got .0)) before g)
   paths-go {us} {ys} {u} {r} y eu h l before e =
       let k : (l : Entries s Item.names (left - 1) (path + 2 + le2 s path)) (before : List IrArgument) → length before ≡ a .made → Collects s zs (a .at) before us ys r (collect-paths o (textsOf (l .got .0)) before (entriesOf s vs (a .count))) =
-          subst (λ (j : ℕ). (l : Entries s Item.names (left - 1) (path + 2 + j)) (before : List IrArgument) → length before ≡ a .made → Collects s zs (a .at) before us ys r (collect-paths o (textsOf (l .got .0)) before (entriesOf s vs (a .count)))) eu h in
+      subst (λ (j : ℕ). (l : Entries s Item.names (left - 1) (path + 2 + j)) (before : List IrArgument) → length before ≡ a .made → Collects s zs (a .at) before us ys r (collect-paths o (textsOf (l .got .0)) before (entriesOf s vs (a .count)))) eu h in
       subst (Collects s xs at before us ys r) (sym (first-path z l o before g)) (joined _ (f before e) y (λ b i. k (next-path z l .rest) b i))
 
 -- ---- owners
@@ -186,7 +186,7 @@ pub owners-none : {s xs ws : List ℕ} {at n left owner made : ℕ} → left ≡
 unfolding entries collect-callee-arguments give
 owners-none {s} {xs} {ws} {at} {n} {made} z l before e =
     subst (λ (t : Tree). Collects s xs at before ws xs (record { at = at; count = n; made = made; no = 0 }) (collect-callee-arguments (entries ownerOf t) before (entriesOf s ws n)))
-        (sym (ap (λ (y : Tree × ℕ). y .0) (none-left l (omega arith)))) (collects-none e)
+    (sym (ap (λ (y : Tree × ℕ). y .0) (none-left l (omega arith)))) (collects-none e)
 
 module _ {s xs vs zs : List ℕ} {at left owner q few made : ℕ} {a : Collected} (g : Registry) (z : left ≡ 0 → ⊥) (w : (b : Accepted s 37 37 owner) → OwnerAt b q) (ef : few ≡ le2 s q)
     (f : (l : Entries s Item.names few (q + 2)) (before : List IrArgument) → length before ≡ made → Collects s xs at before vs zs a (collect-paths (nameAt s (owner + 6)) (textsOf (l .got .0)) before g)) where
@@ -195,7 +195,7 @@ module _ {s xs vs zs : List ℕ} {at left owner q few made : ℕ} {a : Collected
       Collects s xs at before vs zs a (collect-paths (nameAt s (owner + 6)) (textsOf (w (owner-here z l) .paths .list .got .0)) before g)
   of-owner l =
       let k : (l : Entries s Item.names (le2 s q) (q + 2)) (before : List IrArgument) → length before ≡ made → Collects s xs at before vs zs a (collect-paths (nameAt s (owner + 6)) (textsOf (l .got .0)) before g) =
-          subst (λ (j : ℕ). (l : Entries s Item.names j (q + 2)) (before : List IrArgument) → length before ≡ made → Collects s xs at before vs zs a (collect-paths (nameAt s (owner + 6)) (textsOf (l .got .0)) before g)) ef f in
+      subst (λ (j : ℕ). (l : Entries s Item.names j (q + 2)) (before : List IrArgument) → length before ≡ made → Collects s xs at before vs zs a (collect-paths (nameAt s (owner + 6)) (textsOf (l .got .0)) before g)) ef f in
       k (w (owner-here z l) .paths .list)
 
   pub owners-stop : (a .no ≡ 0 → ⊥) → (l : Listed s 37 37 left owner) (before : List IrArgument) → length before ≡ made → Collects s xs at before vs zs a (collect-callee-arguments (entries ownerOf (l .got .0)) before g)
@@ -206,7 +206,7 @@ module _ {s xs vs zs : List ℕ} {at left owner q few made : ℕ} {a : Collected
       (l : Listed s 37 37 left owner) (before : List IrArgument) → length before ≡ made → Collects s xs at before us ys r (collect-callee-arguments (entries ownerOf (l .got .0)) before g)
   owners-go {us} {ys} {u} {r} y eu h l before e =
       let k : (l : Listed s 37 37 (left - 1) (owner + 4 + le4 s owner)) (before : List IrArgument) → length before ≡ a .made → Collects s zs (a .at) before us ys r (collect-callee-arguments (entries ownerOf (l .got .0)) before (entriesOf s vs (a .count))) =
-          subst (λ (j : ℕ). (l : Listed s 37 37 (left - 1) (owner + 4 + j)) (before : List IrArgument) → length before ≡ a .made → Collects s zs (a .at) before us ys r (collect-callee-arguments (entries ownerOf (l .got .0)) before (entriesOf s vs (a .count)))) eu h in
+      subst (λ (j : ℕ). (l : Listed s 37 37 (left - 1) (owner + 4 + j)) (before : List IrArgument) → length before ≡ a .made → Collects s zs (a .at) before us ys r (collect-callee-arguments (entries ownerOf (l .got .0)) before (entriesOf s vs (a .count)))) eu h in
       subst (Collects s xs at before us ys r) (sym (first-owner z l (w (owner-here z l)) before g)) (joined _ (of-owner l before e) y (λ b i. k (owner-next z l .rest) b i))
 
 -- ---- counting
@@ -287,7 +287,7 @@ module _ {s x₃ x₄ us : List ℕ} {v callee left : ℕ} {h : TypeHead} {r : C
   call-arguments : (a : Accepted s 1 7 callee) → Collects s x₃ v [] us x₄ r (collect-callee-arguments (head (typeOf (tree a)) .dynamic-params) [] g)
   call-arguments a =
       let k : (l : Listed s 37 37 (le2 s (h .references + 6)) (h .references + 6 + 2)) (before : List IrArgument) → length before ≡ 0 → Collects s x₃ v before us x₄ r (collect-callee-arguments (entries ownerOf (l .got .0)) before g) =
-          subst (λ (j : ℕ). (l : Listed s 37 37 j (h .references + 6 + 2)) (before : List IrArgument) → length before ≡ 0 → Collects s x₃ v before us x₄ r (collect-callee-arguments (entries ownerOf (l .got .0)) before g)) el f in
+      subst (λ (j : ℕ). (l : Listed s 37 37 j (h .references + 6 + 2)) (before : List IrArgument) → length before ≡ 0 → Collects s x₃ v before us x₄ r (collect-callee-arguments (entries ownerOf (l .got .0)) before g)) el f in
       subst (λ (os : List Owner). Collects s x₃ v [] us x₄ r (collect-callee-arguments os [] g)) (sym (hd a .owners ∙ owners-are (hd a .references))) (k (owners-list (hd a .references)) [] refl)
 
   module _ {xs ys : List ℕ} {at : ℕ} (nm : List ℕ) (alignment : ℕ) where
@@ -304,7 +304,7 @@ module _ {s x₃ x₄ us : List ℕ} {v callee left : ℕ} {h : TypeHead} {r : C
     call-puts {x₂} {u} few as′ e w₁ w₂ w₃ w₄ w₅ =
         let w : Wrote x₂ u (bytes 2 (length as′)) x₃ v = subst (λ (k : ℕ). Wrote x₂ u (bytes 2 k) x₃ v) e w₃ in
         node-closed 133 alignment (cons (name nm) (cons (listTree argumentTree as′) nil)) w₁
-            (parts (name nm) (cons (listTree argumentTree as′) nil) w₂ (parts (listTree argumentTree as′) nil (parts (num 2 (length as′)) (entriesTree argumentTree as′) w w₄) (no-parts x₄ (r .at)))) w₅
+        (parts (name nm) (cons (listTree argumentTree as′) nil) w₂ (parts (listTree argumentTree as′) nil (parts (num 2 (length as′)) (entriesTree argumentTree as′) w w₄) (no-parts x₄ (r .at)))) w₅
 
     pub call-done : {x₁ x₂ : List ℕ} {p u q : ℕ} (few : ℕ) → ((a : Accepted s 32 32 (h .references)) → few ≡ pathsIn (ownersOf (tree a))) → Wrote xs at (nodeStart 133 alignment) x₁ p → Wrote x₁ p (write (name nm)) x₂ u → Wrote x₂ u (bytes 2 few) x₃ v →
         r .no ≡ 0 → Wrote x₄ at (bytes 4 (r .at - at - 4)) ys q → (a : Accepted s 1 7 callee) → Builds s xs at us ys (record { at = r .at; count = r .count; no = 0 }) (callOf (typeOf (tree a)) nm alignment g)
@@ -314,7 +314,7 @@ module _ {s x₃ x₄ us : List ℕ} {v callee left : ℕ} {h : TypeHead} {r : C
         let m = owners-count (head (typeOf (tree a)) .dynamic-params) [] g _ (d .1) in
         let e : few ≡ length (d .0) = omega (arith, m, ef (hd a .references), ap pathsIn (hd a .owners)) in
         subst (Builds s xs at us ys (record { at = r .at; count = r .count; no = 0 })) (sym (step-done _ _ g (d .1)))
-            (Builds.made (IrNode.CallNested unplaced (aligned alignment) nm (d .0), entriesOf s us (r .count)) refl refl (call-puts few (d .0) e w₁ w₂ w₃ (d .3) w₅))
+        (Builds.made (IrNode.CallNested unplaced (aligned alignment) nm (d .0), entriesOf s us (r .count)) refl refl (call-puts few (d .0) e w₁ w₂ w₃ (d .3) w₅))
 
 -- ---- a type reference
 

@@ -47,7 +47,16 @@ fn count_paths(s: &[u8], references: usize) -> usize
 }
 
 // The argument of a path of an owner, whose names stand at these offsets.
-fn put_argument(s: &[u8], words: &mut [u64], n: usize, owner: usize, path: usize, made: usize, out: &mut [u8], at: usize) -> Collected
+fn put_argument(
+    s: &[u8],
+    words: &mut [u64],
+    n: usize,
+    owner: usize,
+    path: usize,
+    made: usize,
+    out: &mut [u8],
+    at: usize,
+) -> Collected
     requires { ⌜ ReadyPath (now s) (now words) n owner path made at ⌝ }
     ensures { λ r. ⌜ Fills at made r ⌝ }
     ensures { λ r. ⌜ ((before : List IrArgument) → length before ≡ made → Collects (now (s .entry)) (now (out .entry)) at before (now (words .exit)) (now (out .exit)) r (collect-paths (nameAt (now (s .entry)) owner) (nameAt (now (s .entry)) path ∷ []) before (entriesOf (now (s .entry)) (now (words .entry)) n))) ⌝ }
@@ -92,7 +101,17 @@ fn put_argument(s: &[u8], words: &mut [u64], n: usize, owner: usize, path: usize
 }
 
 // The arguments of the paths of an owner: `left` of them are left, from `path` on.
-fn put_arguments(s: &[u8], words: &mut [u64], n: usize, owner: usize, left: usize, path: usize, made: usize, out: &mut [u8], at: usize) -> Collected
+fn put_arguments(
+    s: &[u8],
+    words: &mut [u64],
+    n: usize,
+    owner: usize,
+    left: usize,
+    path: usize,
+    made: usize,
+    out: &mut [u8],
+    at: usize,
+) -> Collected
     requires { ⌜ ReadyPaths (now s) (now words) n owner left path made at ⌝ }
     ensures { λ r. ⌜ Fills at made r ⌝ }
     ensures { λ r. ⌜ ((l : Entries (now (s .entry)) Item.names left path) (before : List IrArgument) → length before ≡ made → Collects (now (s .entry)) (now (out .entry)) at before (now (words .exit)) (now (out .exit)) r (collect-paths (nameAt (now (s .entry)) owner) (textsOf (l .got .0)) before (entriesOf (now (s .entry)) (now (words .entry)) n))) ⌝ }
@@ -117,7 +136,16 @@ fn put_arguments(s: &[u8], words: &mut [u64], n: usize, owner: usize, left: usiz
 }
 
 // The arguments of owners: `left` of them are left, from `owner` on.
-fn put_owners(s: &[u8], words: &mut [u64], n: usize, left: usize, owner: usize, made: usize, out: &mut [u8], at: usize) -> Collected
+fn put_owners(
+    s: &[u8],
+    words: &mut [u64],
+    n: usize,
+    left: usize,
+    owner: usize,
+    made: usize,
+    out: &mut [u8],
+    at: usize,
+) -> Collected
     requires { ⌜ ReadyOwners (now s) (now words) n left owner made at ⌝ }
     ensures { λ r. ⌜ Fills at made r ⌝ }
     ensures { λ r. ⌜ ((l : Listed (now (s .entry)) 37 37 left owner) (before : List IrArgument) → length before ≡ made → Collects (now (s .entry)) (now (out .entry)) at before (now (words .exit)) (now (out .exit)) r (collect-callee-arguments (entries ownerOf (l .got .0)) before (entriesOf (now (s .entry)) (now (words .entry)) n))) ⌝ }
@@ -144,7 +172,16 @@ fn put_owners(s: &[u8], words: &mut [u64], n: usize, left: usize, owner: usize, 
 }
 
 // A call of the type at `callee`, which has this name.
-fn put_call(s: &[u8], words: &mut [u64], n: usize, callee: usize, name: &[u8], alignment: u64, out: &mut [u8], at: usize) -> Built
+fn put_call(
+    s: &[u8],
+    words: &mut [u64],
+    n: usize,
+    callee: usize,
+    name: &[u8],
+    alignment: u64,
+    out: &mut [u8],
+    at: usize,
+) -> Built
     requires { ⌜ ReadyCall (now s) (now words) n callee (now name) at ⌝ }
     ensures { λ r. ⌜ Within at (2 ^ 19) r ⌝ }
     ensures { λ r. ⌜ ((a : Accepted (now (s .entry)) 1 7 callee) → Builds (now (s .entry)) (now (out .entry)) at (now (words .exit)) (now (out .exit)) r (callOf (typeOf (tree a)) (now (name .entry)) alignment (entriesOf (now (s .entry)) (now (words .entry)) n))) ⌝ }
@@ -173,7 +210,14 @@ fn put_call(s: &[u8], words: &mut [u64], n: usize, callee: usize, name: &[u8], a
 }
 
 // A call of the target, with an argument for each path of its references.
-pub fn build_typeref_node(s: &[u8], words: &mut [u64], n: usize, kind: usize, out: &mut [u8], at: usize) -> Built
+pub fn build_typeref_node(
+    s: &[u8],
+    words: &mut [u64],
+    n: usize,
+    kind: usize,
+    out: &mut [u8],
+    at: usize,
+) -> Built
     requires { ⌜ Ready (now s) (now words) n 7 kind at ⌝ }
     ensures { λ r. ⌜ Within at (2 ^ 19) r ⌝ }
     ensures { λ r. ⌜ ((t : Tree) (a : Accepted (now (s .entry)) 1 7 kind) (target : Name) → readSet (now (s .entry)) ≡ done t → kindOf (typeOf (tree a)) ≡ ResolvedTypeKind.TypeRef target → Builds (now (s .entry)) (now (out .entry)) at (now (words .exit)) (now (out .exit)) r (build-typeref-node (typesOf t) (head (typeOf (tree a))) target (entriesOf (now (s .entry)) (now (words .entry)) n))) ⌝ }

@@ -30,7 +30,16 @@ fn is_negative(s: &[u8], expr: usize) -> bool
 }
 
 // A literal: a Const node, unless it is negative.
-fn build_literal(s: &[u8], words: &[u64], n: usize, owner: &[u8], depth: usize, expr: usize, out: &mut [u8], at: usize) -> Built
+fn build_literal(
+    s: &[u8],
+    words: &[u64],
+    n: usize,
+    owner: &[u8],
+    depth: usize,
+    expr: usize,
+    out: &mut [u8],
+    at: usize,
+) -> Built
     requires { ⌜ Ready (now s) (now words) n (now owner) depth expr at × (le2 (now s) (expr + 4) ≡ 64) ⌝ }
     ensures { λ r. ⌜ Within at 1000 r ⌝ }
     ensures { λ r. ⌜ ((a : Accepted (now (s .entry)) 64 91 expr) → Builds (now (s .entry)) (now (out .entry)) at (now (words .entry)) (now (out .exit)) r (build-expr-ir (now (owner .entry)) (prefixOf depth) (exprOf (tree a)) (entriesOf (now (s .entry)) (now (words .entry)) n))) ⌝ }
@@ -52,7 +61,15 @@ fn build_literal(s: &[u8], words: &[u64], n: usize, owner: &[u8], depth: usize, 
 }
 
 // A FieldRef node of a path that the registry knows. A path is measured once it is found.
-fn build_path(s: &[u8], words: &[u64], n: usize, owner: &[u8], path: &[u8], out: &mut [u8], at: usize) -> Built
+fn build_path(
+    s: &[u8],
+    words: &[u64],
+    n: usize,
+    owner: &[u8],
+    path: &[u8],
+    out: &mut [u8],
+    at: usize,
+) -> Built
     requires { ⌜ Standing (now s) (now words) n × (at < 2 ^ 58) ⌝ }
     ensures { λ r. ⌜ Within at 1000 r ⌝ }
     ensures { λ r. ⌜ Builds (now (s .entry)) (now (out .entry)) at (now (words .entry)) (now (out .exit)) r (build-path (now (owner .entry)) (now (path .entry)) (entriesOf (now (s .entry)) (now (words .entry)) n)) ⌝ }

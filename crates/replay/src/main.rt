@@ -1,10 +1,13 @@
 // Reads a list of stored calls with their answers from standard input and holds the proved readers against those that reading
-// decides, the proved `validate` and `validate_run` against all of theirs.
+// decides, the proved `validate` and `validate_run` against all of theirs, and what `lengths` prints against its stored lines.
 use inputs::Answer as Reading;
 use leaves::Answer;
 use libc::STDIN_FILENO;
 use libc::STDOUT_FILENO;
-ghost use Prim.Native.Nat.{_≤_};
+use lines::Header;
+use sets::Answer as Built;
+ghost use mathlib.Core.Path.{_≡_};
+ghost use Prim.Native.Nat.{_^_, _≤_, _<_};
 ghost use lib.ListN.{length};
 ghost use Rattle.io.specs.Counts.{Counts};
 
@@ -331,7 +334,25 @@ fn hold_run(words: &mut [u64], tally: &mut [u64; 62], s: &[u8]) -> Held {
     verdict(same_answer(words, tally, got, s, run) && read)
 }
 
-// Lengths: standard input, standard output. Nothing of it is read.
+// What `lengths` prints for this input: its length in out.
+fn lines_of(input: &[u8], layout: &mut [u8], words: &mut [u64], out: &mut [u8]) -> usize
+    requires { ⌜ (length (now words) ≡ 8192) × (length (now input) < 2 ^ 48) ⌝ }
+{
+    match lines::whole_block(input) {
+        Header::Refused(q) => lines::put_stopped(out, 0, q),
+        Header::Fits(n) => match sets::build_set(&input[..n], layout, words) {
+            Built::Refused(q, _, _, _) => lines::put_stopped(out, 0, q),
+            Built::Length(m) => {
+                if layout.len() < m {
+                    return 0;
+                }
+                lines::run_lines(&layout[..m], &input[n..], words, out)
+            }
+        },
+    }
+}
+
+// Lengths: standard input, standard output.
 fn hold_lengths(s: &[u8]) -> Held {
     let end = part_end(s, 0);
     if end < 4 {
@@ -340,7 +361,21 @@ fn hold_lengths(s: &[u8]) -> Held {
     if part_end(s, end) != s.len() {
         return Held::Cut;
     }
-    Held::Same
+    let start = end + 4;
+    if s.len() < start {
+        return Held::Cut;
+    }
+    if 262144 < s.len() {
+        return Held::Cut;
+    }
+    let mut layout = [0u8; 65536];
+    let mut words = [0u64; 8192];
+    let mut out = [0u8; 65536];
+    let n = lines_of(&s[4..end], &mut layout, &mut words, &mut out);
+    if 65536 < n {
+        return Held::Differs;
+    }
+    verdict(get::same_name(&out[..n], &s[start..]))
 }
 
 // One record of the kind, counted.

@@ -73,7 +73,17 @@ pub fn has_payload(s: &[u8], paths: usize) -> bool
 }
 
 // The reference of the chosen path with this number.
-fn put_ref(s: &[u8], words: &[u64], n: usize, owner: &[u8], only: bool, paths: usize, i: usize, out: &mut [u8], at: usize) -> Built
+fn put_ref(
+    s: &[u8],
+    words: &[u64],
+    n: usize,
+    owner: &[u8],
+    only: bool,
+    paths: usize,
+    i: usize,
+    out: &mut [u8],
+    at: usize,
+) -> Built
     requires { ⌜ Summing (now s) (now words) n (now owner) paths × (i < length (picks (now s) only paths)) × (at < 2 ^ 59) ⌝ }
     ensures { λ r. ⌜ Within at 1100 r ⌝ }
     ensures { λ r. ⌜ Builds (now (s .entry)) (now (out .entry)) at (now (words .entry)) (now (out .exit)) r (build-ref (now (owner .entry)) (getD (picks (now (s .entry)) only paths) i []) (entriesOf (now (s .entry)) (now (words .entry)) n)) ⌝ }
@@ -105,7 +115,17 @@ fn put_ref(s: &[u8], words: &[u64], n: usize, owner: &[u8], only: bool, paths: u
 }
 
 // The sum of the first k chosen paths, left-nested: the sum of one less stands in front of the last.
-fn put_sum(s: &[u8], words: &[u64], n: usize, owner: &[u8], only: bool, paths: usize, k: usize, out: &mut [u8], at: usize) -> Built
+fn put_sum(
+    s: &[u8],
+    words: &[u64],
+    n: usize,
+    owner: &[u8],
+    only: bool,
+    paths: usize,
+    k: usize,
+    out: &mut [u8],
+    at: usize,
+) -> Built
     requires { ⌜ Summing (now s) (now words) n (now owner) paths × (k ≤ length (picks (now s) only paths)) × (0 < k) × (at + 1115 * k < 2 ^ 58) ⌝ }
     ensures { λ r. ⌜ Within at (1115 * k) r ⌝ }
     ensures { λ r. ⌜ Builds (now (s .entry)) (now (out .entry)) at (now (words .entry)) (now (out .exit)) r (sum-refs (now (owner .entry)) (take k (picks (now (s .entry)) only paths)) (entriesOf (now (s .entry)) (now (words .entry)) n)) ⌝ }
@@ -139,7 +159,16 @@ fn put_sum(s: &[u8], words: &[u64], n: usize, owner: &[u8], only: bool, paths: u
 }
 
 // The sum of the references of an owner; `only`: of those that end in `.payload_size`.
-pub fn sum_refs(s: &[u8], words: &[u64], n: usize, owner: &[u8], only: bool, paths: usize, out: &mut [u8], at: usize) -> Built
+pub fn sum_refs(
+    s: &[u8],
+    words: &[u64],
+    n: usize,
+    owner: &[u8],
+    only: bool,
+    paths: usize,
+    out: &mut [u8],
+    at: usize,
+) -> Built
     requires { ⌜ Ready (now s) (now words) n (now owner) paths at ⌝ }
     ensures { λ r. ⌜ Within at (2 ^ 17) r ⌝ }
     ensures { λ r. ⌜ ((p : PathsAt (now (s .entry)) paths) → Builds (now (s .entry)) (now (out .entry)) at (now (words .entry)) (now (out .exit)) r (sum-refs (now (owner .entry)) (chosen only (textsOf (p .list .got .0))) (entriesOf (now (s .entry)) (now (words .entry)) n))) ⌝ }

@@ -1,0 +1,4 @@
+pub mod Ready
+pub mod Begun
+pub mod Shapes
+pub mod Owner
