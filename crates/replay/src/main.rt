@@ -1,5 +1,6 @@
 // Reads a list of stored calls with their answers from standard input and holds the proved readers against those that reading
-// decides, the proved `validate` and `validate_run` against all of theirs, and what `lengths` prints against its stored lines.
+// decides, `build_set`, `validate` and `validate_run` against all of theirs, layouts byte for byte, and what `lengths` prints
+// against its stored lines.
 use inputs::Answer as Reading;
 use leaves::Answer;
 use libc::STDIN_FILENO;
@@ -197,6 +198,83 @@ fn verdict(same: bool) -> Held {
     Held::Differs
 }
 
+// Puts something into every byte.
+fn soil_bytes(out: &mut [u8]) {
+    let mut i = 0;
+    while i < out.len() {
+        out[i] = 0xA5;
+        i += 1;
+    }
+}
+
+// Whether every byte is this one.
+fn is_all(out: &[u8], b: u8) -> bool {
+    let mut i = 0;
+    while i < out.len() {
+        if out[i] != b {
+            return false;
+        }
+        i += 1;
+    }
+    true
+}
+
+// How much of the output a record's call is lent: as many bytes as it says, or all.
+fn lent_output(s: &[u8], out: &[u8]) -> usize
+    ensures { λ r. ⌜ Counts r (now (out .entry)) ⌝ }
+{
+    if s.len() < 8 {
+        return 0;
+    }
+    let n = get::read4(s, 4);
+    if n < out.len() {
+        return n;
+    }
+    out.len()
+}
+
+// What a build left against the stored answer, which stands at `at`, and the stored layout: its bytes and those behind it, or
+// zeros.
+fn is_built(got: Built, out: &[u8], s: &[u8], at: usize, layout: &[u8]) -> bool {
+    match got {
+        Built::Length(n) => {
+            if out.len() < n {
+                return false;
+            }
+            is_stored(s, at, 0, NOWHERE, 0, 0)
+                && get::same_name(&out[..n], layout)
+                && is_all(&out[n..], 0xA5)
+        }
+        Built::Refused(number, place, offset, value) => is_stored(
+            s,
+            at,
+            number,
+            place,
+            offset,
+            value,
+        )
+            && is_all(out, 0),
+    }
+}
+
+// The set of a build, built into this output.
+fn same_build(words: &mut [u64], out: &mut [u8], s: &[u8], end: usize) -> bool {
+    if end < 12 {
+        return false;
+    }
+    if s.len() < end {
+        return false;
+    }
+    if s.len() - end < 19 {
+        return false;
+    }
+    let start = end + 19;
+    soil(words);
+    soil_bytes(out);
+    let got = sets::build_set(&s[12..end], out, words);
+    is_clean(words) && is_built(got, out, s, end, &s[start..])
+}
+
 // A build: working words, output length, set, answer, layout.
 fn hold_set(words: &mut [u64], tally: &mut [u64; 62], s: &[u8]) -> Held {
     let end = part_end(s, 8);
@@ -209,7 +287,12 @@ fn hold_set(words: &mut [u64], tally: &mut [u64; 62], s: &[u8]) -> Held {
     soil(words);
     let got = inputs::read_set(words, &s[12..end]);
     count_refused(tally, got);
-    verdict(is_clean(words) && is_read(got, s, end))
+    if !(is_clean(words) && is_read(got, s, end)) {
+        return Held::Differs;
+    }
+    let mut out = [0u8; 131072];
+    let n = lent_output(s, &out);
+    verdict(same_build(words, &mut out[..n], s, end))
 }
 
 // Of a layout and values or a run: 19 comes first, then 1 for the layout, 1 for the other, then the rest in this order.
