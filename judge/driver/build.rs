@@ -1,4 +1,4 @@
-//! Links the archive of crates/clib for the feature `bench`, from the folder
+//! Links the archive of crates/ciztarmo for the feature `bench`, from the folder
 //! that CIZTARMO_LIB names.
 
 fn main() {
@@ -8,7 +8,7 @@ fn main() {
     }
     println!("cargo:rerun-if-env-changed=CIZTARMO_LIB");
     let folder = std::env::var("CIZTARMO_LIB").expect("CIZTARMO_LIB names the archive's folder");
-    println!("cargo:rerun-if-changed={folder}/libclib.a");
+    println!("cargo:rerun-if-changed={folder}/libciztarmo.a");
     println!("cargo:rustc-link-search=native={folder}");
-    println!("cargo:rustc-link-lib=static=clib");
+    println!("cargo:rustc-link-lib=static=ciztarmo");
 }

@@ -1,7 +1,7 @@
 -- The four words of each answer. Assumes nothing.
 use Prim.Native.Nat.{ℕ}
 use mathlib.Core.Path.{_≡_, refl}
-use mathlib.Core.List.{[], _∷_}
+use mathlib.Core.List.{List, [], _∷_}
 use native.Mathlib.Omega.{arith}
 use Rattle.errors.specs.Refusal.{Outcome, done, refused}
 use Rattle.blocks.specs.Tree.{Tree}
@@ -10,7 +10,10 @@ use Rattle.inputs.specs.declared.Answer.the-variants.{Accepted, Refused}
 use Rattle.inputs.specs.Inputs.{answerOf}
 use Rattle.leaves.specs.declared.Answer.the-variants as evaluated
 use Rattle.leaves.specs.Outcome.{outcomeOf}
-use Rattle.clib.specs.Told.{told, read}
+use lib.ListN.{length}
+use Rattle.sets.specs.declared.Answer.the-variants as made
+use Rattle.sets.specs.Sets.{answerOf as setAnswer}
+use Rattle.ciztarmo.specs.Told.{told, read, built}
 
 pub read-yes : (o : Outcome Tree) → Accepted ≡ answerOf o → (0 ∷ 65535 ∷ 0 ∷ 0 ∷ []) ≡ told (read o)
 unfolding answerOf told read
@@ -29,3 +32,13 @@ count-yes o e = rw (← e)
 pub count-no : (o : Outcome ℕ) {q p i v : ℕ} → outcomeOf (evaluated.Refused q p i v) ≡ o → (q ∷ p ∷ i ∷ v ∷ []) ≡ told o
 unfolding told
 count-no o e = rw (← e)
+
+pub built-yes : (o : Outcome (List ℕ)) {n : ℕ} → made.Length n ≡ setAnswer o → (0 ∷ 65535 ∷ 0 ∷ n ∷ []) ≡ told (built o)
+unfolding setAnswer told built
+built-yes (done bs) e = cc
+built-yes (refused r) e = let z : _≡_ {A = ℕ} 0 1 = cc in absurd (omega arith)
+
+pub built-no : (o : Outcome (List ℕ)) {q p i v : ℕ} → made.Refused q p i v ≡ setAnswer o → (q ∷ p ∷ i ∷ v ∷ []) ≡ told (built o)
+unfolding setAnswer told built
+built-no (done bs) e = let z : _≡_ {A = ℕ} 0 1 = cc in absurd (omega arith)
+built-no (refused r) e = cc

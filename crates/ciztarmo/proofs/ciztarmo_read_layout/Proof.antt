@@ -1,0 +1,20 @@
+-- `ciztarmo::ciztarmo_read_layout` meets its contract. Assumes nothing.
+use borrow.Author.Needs.{needs}
+use Rattle.ciztarmo.proofs.ciztarmo_read_layout.Statement.{statement}
+use Rattle.ciztarmo.proofs.ciztarmo_read_layout.Tie as tie
+
+read-layout-requires : tie.Need-read-layout-requires
+read-layout-requires c κs = search needs
+
+tell-reading-requires : tie.Need-tell-reading-requires
+tell-reading-requires c κs = search needs
+
+same-length : tie.Need-same-length
+same-length c = search needs
+
+returns : tie.Need-returns
+returns c = let call = c .before .before .before .before .read-layout in (c .tell-reading .ensures _ (call .ensures .0), call .ensures .1)
+
+pub ciztarmo-read-layout-spec : {M : Type 1} → statement M
+ciztarmo-read-layout-spec =
+    tie.close (tie.spec read-layout-requires tell-reading-requires same-length returns)

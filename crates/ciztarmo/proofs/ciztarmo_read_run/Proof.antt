@@ -1,0 +1,20 @@
+-- `ciztarmo::ciztarmo_read_run` meets its contract. Assumes nothing.
+use borrow.Author.Needs.{needs}
+use Rattle.ciztarmo.proofs.ciztarmo_read_run.Statement.{statement}
+use Rattle.ciztarmo.proofs.ciztarmo_read_run.Tie as tie
+
+read-run-requires : tie.Need-read-run-requires
+read-run-requires c κs = search needs
+
+tell-reading-requires : tie.Need-tell-reading-requires
+tell-reading-requires c κs = search needs
+
+same-length : tie.Need-same-length
+same-length c = search needs
+
+returns : tie.Need-returns
+returns c = let call = c .before .before .before .before .read-run in (c .tell-reading .ensures _ (call .ensures .0), call .ensures .1)
+
+pub ciztarmo-read-run-spec : {M : Type 1} → statement M
+ciztarmo-read-run-spec =
+    tie.close (tie.spec read-run-requires tell-reading-requires same-length returns)

@@ -1,0 +1,20 @@
+-- `ciztarmo::ciztarmo_read_set` meets its contract. Assumes nothing.
+use borrow.Author.Needs.{needs}
+use Rattle.ciztarmo.proofs.ciztarmo_read_set.Statement.{statement}
+use Rattle.ciztarmo.proofs.ciztarmo_read_set.Tie as tie
+
+read-set-requires : tie.Need-read-set-requires
+read-set-requires c κs = search needs
+
+tell-reading-requires : tie.Need-tell-reading-requires
+tell-reading-requires c κs = search needs
+
+same-length : tie.Need-same-length
+same-length c = search needs
+
+returns : tie.Need-returns
+returns c = let call = c .before .before .before .before .read-set in (c .tell-reading .ensures _ (call .ensures .0), call .ensures .1)
+
+pub ciztarmo-read-set-spec : {M : Type 1} → statement M
+ciztarmo-read-set-spec =
+    tie.close (tie.spec read-set-requires tell-reading-requires same-length returns)

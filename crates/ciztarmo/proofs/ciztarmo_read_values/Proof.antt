@@ -1,0 +1,20 @@
+-- `ciztarmo::ciztarmo_read_values` meets its contract. Assumes nothing.
+use borrow.Author.Needs.{needs}
+use Rattle.ciztarmo.proofs.ciztarmo_read_values.Statement.{statement}
+use Rattle.ciztarmo.proofs.ciztarmo_read_values.Tie as tie
+
+read-values-requires : tie.Need-read-values-requires
+read-values-requires c κs = search needs
+
+tell-reading-requires : tie.Need-tell-reading-requires
+tell-reading-requires c κs = search needs
+
+same-length : tie.Need-same-length
+same-length c = search needs
+
+returns : tie.Need-returns
+returns c = let call = c .before .before .before .before .read-values in (c .tell-reading .ensures _ (call .ensures .0), call .ensures .1)
+
+pub ciztarmo-read-values-spec : {M : Type 1} → statement M
+ciztarmo-read-values-spec =
+    tie.close (tie.spec read-values-requires tell-reading-requires same-length returns)

@@ -1,0 +1,139 @@
+// The calls for C and Rust programs. A slice is passed as its first element's address and its length, an array by its address.
+// The answer goes into the caller's four words: number (0 if accepted), place, offset, and value or count.
+ghost use mathlib.Core.Path.{_≡_};
+ghost use lib.ListN.{length, replicate};
+ghost use Rattle.errors.specs.Refusal.{Outcome};
+ghost use Rattle.blocks.specs.Tree.{Tree};
+ghost use Rattle.blocks.specs.Read.{readSet, readLayout, readValues, readRun};
+ghost use Rattle.inputs.specs.Inputs.{readCall, answerOf};
+ghost use Rattle.leaves.specs.Outcome.{outcomeOf};
+ghost use Rattle.interpreter.specs.Validate.{validate, validate-run};
+ghost use Rattle.builder.specs.Build.{build-set, output-after, words-after};
+ghost use Rattle.ciztarmo.specs.Told.{told, read, built};
+
+// What a reading answered, as four words.
+fn tell_reading(a: inputs::Answer, answer: &mut [u64; 4])
+    ensures { λ _. ⌜ ((o : Outcome Tree) → a ≡ answerOf o → now (answer .exit) ≡ told (read o)) ⌝ }
+{
+    match a {
+        inputs::Answer::Accepted => {
+            *answer = [0, 65535, 0, 0];
+        }
+        inputs::Answer::Refused(number, place, offset, value) => {
+            *answer = [number, place, offset as u64, value];
+        }
+    }
+}
+
+// What a validation answered, as four words.
+fn tell_count(a: leaves::Answer, answer: &mut [u64; 4])
+    ensures { λ _. ⌜ now (answer .exit) ≡ told (outcomeOf a) ⌝ }
+{
+    match a {
+        leaves::Answer::Count(n) => {
+            *answer = [0, 65535, 0, n];
+        }
+        leaves::Answer::Refused {
+            number,
+            place,
+            offset,
+            value,
+        } => {
+            *answer = [number, place as u64, offset as u64, value];
+        }
+    }
+}
+
+// Whether a type set is read.
+#[no_mangle]
+pub extern "C" fn ciztarmo_read_set(words: &mut [u64], set: &[u8], answer: &mut [u64; 4])
+    ensures { λ _. ⌜ now (answer .exit) ≡ told (read (readCall readSet (length (now (words .entry))) (now (set .entry)))) ⌝ }
+    ensures { λ _. ⌜ now (words .exit) ≡ replicate (length (now (words .entry))) 0 ⌝ }
+{
+    let a = inputs::read_set(words, set);
+    tell_reading(a, answer);
+}
+
+// Whether a layout is read.
+#[no_mangle]
+pub extern "C" fn ciztarmo_read_layout(words: &mut [u64], layout: &[u8], answer: &mut [u64; 4])
+    ensures { λ _. ⌜ now (answer .exit) ≡ told (read (readCall readLayout (length (now (words .entry))) (now (layout .entry)))) ⌝ }
+    ensures { λ _. ⌜ now (words .exit) ≡ replicate (length (now (words .entry))) 0 ⌝ }
+{
+    let a = inputs::read_layout(words, layout);
+    tell_reading(a, answer);
+}
+
+// Whether values are read.
+#[no_mangle]
+pub extern "C" fn ciztarmo_read_values(words: &mut [u64], values: &[u8], answer: &mut [u64; 4])
+    ensures { λ _. ⌜ now (answer .exit) ≡ told (read (readCall readValues (length (now (words .entry))) (now (values .entry)))) ⌝ }
+    ensures { λ _. ⌜ now (words .exit) ≡ replicate (length (now (words .entry))) 0 ⌝ }
+{
+    let a = inputs::read_values(words, values);
+    tell_reading(a, answer);
+}
+
+// Whether a run is read.
+#[no_mangle]
+pub extern "C" fn ciztarmo_read_run(words: &mut [u64], run: &[u8], answer: &mut [u64; 4])
+    ensures { λ _. ⌜ now (answer .exit) ≡ told (read (readCall readRun (length (now (words .entry))) (now (run .entry)))) ⌝ }
+    ensures { λ _. ⌜ now (words .exit) ≡ replicate (length (now (words .entry))) 0 ⌝ }
+{
+    let a = inputs::read_run(words, run);
+    tell_reading(a, answer);
+}
+
+// The layout of a set's types, in set order, and its length.
+#[no_mangle]
+pub extern "C" fn ciztarmo_build_set(
+    words: &mut [u64],
+    set: &[u8],
+    out: &mut [u8],
+    answer: &mut [u64; 4],
+)
+    ensures { λ _. ⌜ now (answer .exit) ≡ told (built (build-set (length (now (words .entry))) (length (now (out .entry))) (now (set .entry)))) ⌝ }
+    ensures { λ _. ⌜ now (out .exit) ≡ output-after (now (out .entry)) (build-set (length (now (words .entry))) (length (now (out .entry))) (now (set .entry))) ⌝ }
+    ensures { λ _. ⌜ now (words .exit) ≡ words-after (now (words .entry)) ⌝ }
+{
+    match sets::build_set(set, out, words) {
+        sets::Answer::Length(n) => {
+            *answer = [0, 65535, 0, n as u64];
+        }
+        sets::Answer::Refused(number, place, offset, value) => {
+            *answer = [number, place, offset as u64, value];
+        }
+    }
+}
+
+// The count of a type's bytes.
+#[no_mangle]
+pub extern "C" fn ciztarmo_validate(
+    words: &mut [u64],
+    layout: &[u8],
+    name: &[u8],
+    values: &[u8],
+    len: u64,
+    answer: &mut [u64; 4],
+)
+    ensures { λ _. ⌜ now (answer .exit) ≡ told (validate (length (now (words .entry))) (now (layout .entry)) (now (name .entry)) (now (values .entry)) len) ⌝ }
+    ensures { λ _. ⌜ now (words .exit) ≡ replicate (length (now (words .entry))) 0 ⌝ }
+{
+    let a = validator::validate(words, layout, name, values, len);
+    tell_count(a, answer);
+}
+
+// The count of the bytes that a run asks for.
+#[no_mangle]
+pub extern "C" fn ciztarmo_validate_run(
+    words: &mut [u64],
+    layout: &[u8],
+    run: &[u8],
+    answer: &mut [u64; 4],
+)
+    ensures { λ _. ⌜ now (answer .exit) ≡ told (validate-run (length (now (words .entry))) (now (layout .entry)) (now (run .entry))) ⌝ }
+    ensures { λ _. ⌜ now (words .exit) ≡ replicate (length (now (words .entry))) 0 ⌝ }
+{
+    let a = validator::validate_run(words, layout, run);
+    tell_count(a, answer);
+}
