@@ -1,73 +1,71 @@
--- The grammar's rows as the two tables hold them: the row of each kind, and the codes of each row's parts.
-use mathlib.Core.Path.{_≡_, refl, ap, _∙_}
-use mathlib.Core.Bool.{Bool, true, false, _&&_, cond}
-use mathlib.Core.List.{List, [], _∷_, map}
-use Prim.Native.Nat.{ℕ, suc, _+_, _*_, _/_, _%_, _≤_, _<_, zero-le, suc-le-suc}
+-- The grammar's rows as the code finds them: by a kind that it names, by a range of kinds, and none for the other kinds.
+use mathlib.Core.Path.{_≡_, refl, sym, ap, _∙_}
+use mathlib.Core.Bool.{Bool, true, false, _&&_, _||_, cond}
+use mathlib.Core.List.{List, [], _∷_, _++_, map}
+use Prim.Native.Nat.{ℕ, zero, suc, _+_, _-_, _≤_, _<_}
 use native.Mathlib.Omega.{arith}
-use lib.Dec.{leb, ltb}
-use lib.ListN.{length, getD}
-use borrow.Author.Tests.{lt-leb, ltb-true}
+use lib.Dec.{eqb, leb, ltb}
+use lib.ListN.{length, getD, replicate, getD-replicate, List·getD-eq-default}
+use borrow.Author.Tests.{lt-leb, leb-true, leb-false, ltb-true, ne-eqb}
 use Rattle.blocks.specs.declared.Part.{Part}
-use Rattle.blocks.specs.Grammar.{within, Row, grammar, findRow}
+use Rattle.blocks.specs.Grammar.{Row, grammar, findRow}
 use Rattle.blocks.proofs.Name.{and-left, and-right}
 use Rattle.ir.specs.Codes.{codeOf}
-use Rattle.ir.proofs.Table.{grid, cell}
+use Rattle.ir.proofs.Table.{tabulate, entry}
 
--- the number of the first row of a kind, counted from 0; behind the last where there is none
-unfoldable pub place : ℕ → List Row → ℕ
-place k [] = 0
-place k (r ∷ rs) = cond (within (r .lo) (r .hi) k) 0 (suc (place k rs))
+-- ---- a row
 
--- the parts of each row, and no parts behind the last
-unfoldable pub rowParts : List Row → List (List Part)
-rowParts [] = [] ∷ []
-rowParts (r ∷ rs) = r .parts ∷ rowParts rs
+pub behind : (xs : List ℕ) (i : ℕ) → length xs ≤ i → 0 ≡ getD xs i 0
+behind xs i h = sym (List·getD-eq-default xs 0 h)
 
-place-le : (k : ℕ) (rs : List Row) → place k rs ≤ length rs
-unfolding place
-place-le k [] = zero-le
-place-le k (r ∷ rs) = go (within (r .lo) (r .hi) k) (place-le k rs)
-  where
-    go : (b : Bool) → place k rs ≤ length rs → cond b 0 (suc (place k rs)) ≤ suc (length rs)
-    go true h = zero-le
-    go false h = suc-le-suc h
+-- zeros behind the last code change nothing
+padded : (xs : List ℕ) (n i : ℕ) → getD (xs ++ replicate n 0) i 0 ≡ getD xs i 0
+padded [] zero i = refl
+padded [] (suc n) zero = refl
+padded [] (suc n) (suc i) = padded [] n i
+padded (x ∷ xs) n zero = refl
+padded (x ∷ xs) n (suc i) = padded xs n i
 
-place-parts : (k : ℕ) (rs : List Row) → getD (rowParts rs) (place k rs) [] ≡ findRow k rs
-unfolding place rowParts findRow
-place-parts k [] = refl
-place-parts k (r ∷ rs) = go (within (r .lo) (r .hi) k) (place-parts k rs)
-  where
-    go : (b : Bool) → getD (rowParts rs) (place k rs) [] ≡ findRow k rs → getD (r .parts ∷ rowParts rs) (cond b 0 (suc (place k rs))) [] ≡ cond b (r .parts) (findRow k rs)
-    go true h = refl
-    go false h = h
+same-row : (k n kind i : ℕ) {r : ℕ} → findRow kind grammar ≡ findRow k grammar → r ≡ getD (map codeOf (findRow k grammar) ++ replicate n 0) i 0 → r ≡ getD (map codeOf (findRow kind grammar)) i 0
+same-row k n kind i e h = rw e (h ∙ padded (map codeOf (findRow k grammar)) n i)
 
--- the row of each kind below 208, eight kinds to a line
-unfoldable pub places : List (List ℕ)
-places = grid 26 8 (λ a b. place (a * 8 + b) grammar)
+-- n zeros stand behind the codes of kind k
+pub named : (k n i : ℕ) {kind r : ℕ} → kind ≡ k → r ≡ getD (map codeOf (findRow k grammar) ++ replicate n 0) i 0 → r ≡ getD (map codeOf (findRow kind grammar)) i 0
+named k n i {kind} e h = same-row k n kind i (ap (λ (j : ℕ). findRow j grammar) e) h
 
--- the codes of each row's parts
-unfoldable pub codes : List (List ℕ)
-codes = grid 25 8 (λ n i. getD (map codeOf (getD (rowParts grammar) n [])) i 0)
+-- ---- what is computed at each of n numbers from lo on
 
-place-small : (k : ℕ) → place k grammar < 25
-unfolding grammar
-place-small k = suc-le-suc (place-le k grammar)
+steady : {A : Type 0} (f : ℕ → A) (a : A) (lo n k : ℕ) → tabulate n (λ j. f (lo + j)) ≡ replicate n a → lo ≤ k → k < lo + n → f k ≡ a
+steady {A = A} f a lo n k e l h =
+    let q : lo + (k - lo) ≡ k = omega arith in
+    let g : k - lo < n = omega arith in
+    rw q at (sym (entry n (λ j. f (lo + j)) (k - lo) a g) ∙ ap (λ (xs : List A). getD xs (k - lo) a) e ∙ getD-replicate n (k - lo) a a g)
 
-place-right : (k : ℕ) → k < 208 → getD (getD places (k / 8) []) (k % 8) 0 ≡ place k grammar
-unfolding places
-place-right k h =
-    let e : k / 8 * 8 + k % 8 ≡ k = omega arith in
-    cell 26 8 (λ a b. place (a * 8 + b) grammar) (k / 8) (k % 8) (omega arith) (omega arith) ∙ ap (λ (n : ℕ). place n grammar) e
+-- the m kinds from k on have one row
+pub ranged : (k n m i : ℕ) {kind r : ℕ} → tabulate m (λ j. findRow (k + j) grammar) ≡ replicate m (findRow k grammar) → k ≤ kind → kind < k + m → r ≡ getD (map codeOf (findRow k grammar) ++ replicate n 0) i 0 → r ≡ getD (map codeOf (findRow kind grammar)) i 0
+ranged k n m i {kind} e l h = same-row k n kind i (steady (λ j. findRow j grammar) (findRow k grammar) k m kind e l h)
 
-pub row-small : (k : ℕ) → k < 208 → getD (getD places (k / 8) []) (k % 8) 0 < 25
-row-small k h = rw (place-right k h) (place-small k)
+-- ---- no row
 
-pub row-right : (k i : ℕ) → k < 208 → i < 8 → getD (getD codes (getD (getD places (k / 8) []) (k % 8) 0) []) i 0 ≡ getD (map codeOf (findRow k grammar)) i 0
-unfolding codes
-row-right k i h g =
-    rw (place-right k h)
-    (cell 25 8 (λ n i. getD (map codeOf (getD (rowParts grammar) n [])) i 0) (place k grammar) i (place-small k) g
-    ∙ ap (λ (ps : List Part). getD (map codeOf ps) i 0) (place-parts k grammar))
+-- none of these numbers, the last first, as a match says it
+abbrev pub NoneOf : List ℕ → ℕ → Type 0
+NoneOf [] k = Unit
+NoneOf (j ∷ js) k = NoneOf js k × (k ≡ j → ⊥)
+
+abbrev member : ℕ → List ℕ → Bool
+member k [] = false
+member k (j ∷ js) = eqb k j || member k js
+
+apart : (js : List ℕ) (k : ℕ) → NoneOf js k → member k js ≡ false
+apart [] k h = refl
+apart (j ∷ js) k h = rw (ne-eqb k j (h .1)) (apart js k (h .0))
+
+-- of the n kinds from lo on only these have a row
+pub missing : (js : List ℕ) (lo n i : ℕ) {kind : ℕ} → tabulate n (λ j. cond (member (lo + j) js) [] (findRow (lo + j) grammar)) ≡ replicate n [] → NoneOf js kind → lo ≤ kind → kind < lo + n → 0 ≡ getD (map codeOf (findRow kind grammar)) i 0
+missing js lo n i {kind} e h l g =
+    let z : cond (member kind js) [] (findRow kind grammar) ≡ [] = steady (λ j. cond (member j js) [] (findRow j grammar)) [] lo n kind e l g in
+    let y : findRow kind grammar ≡ [] = rw (apart js kind h) at z in
+    rw y
 
 -- the test passes at each row
 abbrev eachRow : (Row → Bool) → List Row → Bool
@@ -85,7 +83,15 @@ beyond k n (r ∷ rs) h e =
     go true h = h
     go false h = h
 
--- a kind above the table has no parts
-pub none : (k : ℕ) → 208 ≤ k → findRow k grammar ≡ []
+-- 193 is the last kind
+none : (k : ℕ) → 194 ≤ k → findRow k grammar ≡ []
 unfolding grammar
-none k h = beyond k 208 grammar h refl
+none k h = beyond k 194 grammar h refl
+
+-- of all kinds above 144 only these have a row
+pub missing-above : (js : List ℕ) (i : ℕ) {kind : ℕ} → tabulate 49 (λ j. cond (member (145 + j) js) [] (findRow (145 + j) grammar)) ≡ replicate 49 [] → NoneOf js kind → 144 < kind → 0 ≡ getD (map codeOf (findRow kind grammar)) i 0
+missing-above js i {kind} e h l = go (leb 194 kind) refl
+  where
+    go : (b : Bool) → leb 194 kind ≡ b → 0 ≡ getD (map codeOf (findRow kind grammar)) i 0
+    go true t = let g : 194 ≤ kind = leb-true 194 kind t in rw (none kind g)
+    go false t = let g : kind < 194 = leb-false 194 kind t in missing js 145 49 i e h (omega arith) (omega arith)

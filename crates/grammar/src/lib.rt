@@ -1,14 +1,14 @@
-// The parts of every kind of block, as codes in constant tables, and back from a code to the part.
+// The parts of every kind of block, as codes, and back from a code to the part.
 use blocks::Part;
 use ir::NODE;
 use ir::NUMBER;
 use ir::OPT_TEXT;
 use ir::TEXT;
 ghost use mathlib.Core.Path.{_≡_};
-ghost use mathlib.Core.List.{map};
-ghost use Prim.Native.Nat.{_<_};
+ghost use mathlib.Core.List.{[], _∷_, _++_, map};
+ghost use Prim.Native.Nat.{_≤_, _<_};
 ghost use lib.ListN.{getD};
-ghost use Rattle.blocks.specs.Grammar.{grammar, findRow};
+ghost use Rattle.blocks.specs.Grammar.{head, grammar, findRow};
 ghost use Rattle.ir.specs.Codes.{codeOf, codeAt};
 ghost use Rattle.grammar.specs.Parts.{Coded, made};
 
@@ -51,111 +51,116 @@ const PATHS: u32 = 15 + 2097152 * 64;
 
 const VALUES: u32 = 16 + 2097152 * 512;
 
-// The parts of the kinds that are no node's, front to back; 0 behind the last. A row has one column more than any kind has
-// parts, so each ends with a 0.
-const ROWS: [[u32; 8]; 25] = [
-    // 1 primitive
-    [KEY, SIZE, NUMBER, REFERENCES, 0, 0, 0, 0],
-    // 2 struct, 3 union
-    [KEY, SIZE, NUMBER, REFERENCES, FIELDS, 0, 0, 0],
-    // 4 enum
-    [KEY, SIZE, NUMBER, REFERENCES, EXPRESSION, VARIANTS, 0, 0],
-    // 5 array
-    [KEY, SIZE, NUMBER, REFERENCES, FLAG, TYPE, EXPRESSION, 0],
-    // 6 size-discriminated union
-    [KEY, SIZE, NUMBER, REFERENCES, SIZED_VARIANTS, 0, 0, 0],
-    // 7 type reference
-    [KEY, SIZE, NUMBER, REFERENCES, TEXT, 0, 0, 0],
-    // 32 references
-    [OWNERS, 0, 0, 0, 0, 0, 0, 0],
-    // 33 field
-    [TEXT, OPT_NUMBER, TYPE, 0, 0, 0, 0, 0],
-    // 34 enum variant, 35 sized variant
-    [TEXT, NUMBER, TYPE, 0, 0, 0, 0, 0],
-    // 36 type set
-    [TYPES, 0, 0, 0, 0, 0, 0, 0],
-    // 37 owner
-    [KEY, PATHS, 0, 0, 0, 0, 0, 0],
-    // 64 literal
-    [LITERAL, 0, 0, 0, 0, 0, 0, 0],
-    // 65 field reference
-    [SEGMENTS, 0, 0, 0, 0, 0, 0, 0],
-    // 66 and 67: a name
-    [TEXT, 0, 0, 0, 0, 0, 0, 0],
-    // 68 to 78: two expressions
-    [EXPRESSION, EXPRESSION, 0, 0, 0, 0, 0, 0],
-    // 79 to 82: one
-    [EXPRESSION, 0, 0, 0, 0, 0, 0, 0],
-    // 83 to 91: two
-    [EXPRESSION, EXPRESSION, 0, 0, 0, 0, 0, 0],
-    // 160 layout
-    [TREES, 0, 0, 0, 0, 0, 0, 0],
-    // 161 type tree
-    [KEY, NUMBER, NODE, PARAMETERS, 0, 0, 0, 0],
-    // 162 parameter
-    [TEXT, OPT_TEXT, FLAG, 0, 0, 0, 0, 0],
-    // 163 case
-    [NUMBER, NODE, PARAMETERS, 0, 0, 0, 0, 0],
-    // 164 argument
-    [TEXT, TEXT, 0, 0, 0, 0, 0, 0],
-    // 192 values
-    [VALUES, 0, 0, 0, 0, 0, 0, 0],
-    // 193 run
-    [TEXT, NUMBER, RUN_VALUES, 0, 0, 0, 0, 0],
-    // no such kind
-    [0, 0, 0, 0, 0, 0, 0, 0],
-];
+// The code with number i of these, counted from 0; 0 behind the last.
+fn few(i: usize, a: u32, b: u32, c: u32, d: u32) -> u32
+    ensures { λ r. ⌜ r ≡ getD (a ∷ b ∷ c ∷ d ∷ []) i 0 ⌝ }
+{
+    match i {
+        0 => a,
+        1 => b,
+        2 => c,
+        3 => d,
+        _ => 0,
+    }
+}
 
-// No such kind: the last row.
-const NO: u8 = 24;
+// The code with number i of a type's: behind what every type begins with stand these.
+fn typed(i: usize, a: u32, b: u32, c: u32) -> u32
+    ensures { λ r. ⌜ r ≡ getD (map codeOf head ++ (a ∷ b ∷ c ∷ [])) i 0 ⌝ }
+{
+    match i {
+        0 => KEY,
+        1 => SIZE,
+        2 => NUMBER,
+        3 => REFERENCES,
+        4 => a,
+        5 => b,
+        6 => c,
+        _ => 0,
+    }
+}
 
-// The row of each kind below 208, eight kinds to a line.
-const ROW_OF: [[u8; 8]; 26] = [
-    // 0 to 31
-    [NO, 0, 1, 1, 2, 3, 4, 5],
-    [NO, NO, NO, NO, NO, NO, NO, NO],
-    [NO, NO, NO, NO, NO, NO, NO, NO],
-    [NO, NO, NO, NO, NO, NO, NO, NO],
-    // 32 to 63
-    [6, 7, 8, 8, 9, 10, NO, NO],
-    [NO, NO, NO, NO, NO, NO, NO, NO],
-    [NO, NO, NO, NO, NO, NO, NO, NO],
-    [NO, NO, NO, NO, NO, NO, NO, NO],
-    // 64 to 95
-    [11, 12, 13, 13, 14, 14, 14, 14],
-    [14, 14, 14, 14, 14, 14, 14, 15],
-    [15, 15, 15, 16, 16, 16, 16, 16],
-    [16, 16, 16, 16, NO, NO, NO, NO],
-    // 96 to 127
-    [NO, NO, NO, NO, NO, NO, NO, NO],
-    [NO, NO, NO, NO, NO, NO, NO, NO],
-    [NO, NO, NO, NO, NO, NO, NO, NO],
-    [NO, NO, NO, NO, NO, NO, NO, NO],
-    // 128 to 159
-    [NO, NO, NO, NO, NO, NO, NO, NO],
-    [NO, NO, NO, NO, NO, NO, NO, NO],
-    [NO, NO, NO, NO, NO, NO, NO, NO],
-    [NO, NO, NO, NO, NO, NO, NO, NO],
-    // 160 to 191
-    [17, 18, 19, 20, 21, NO, NO, NO],
-    [NO, NO, NO, NO, NO, NO, NO, NO],
-    [NO, NO, NO, NO, NO, NO, NO, NO],
-    [NO, NO, NO, NO, NO, NO, NO, NO],
-    // 192 to 207
-    [22, 23, NO, NO, NO, NO, NO, NO],
-    [NO, NO, NO, NO, NO, NO, NO, NO],
-];
+// The tables are matches, not arrays: the compiled code makes an array anew wherever it is indexed.
 
-// The code of part i of a kind that is no node's.
-fn row_code(kind: usize, i: usize) -> u32
-    requires { ⌜ i < 8 ⌝ }
+// Types, and what they hold.
+fn type_code(kind: usize, i: usize) -> u32
+    requires { ⌜ kind < 64 ⌝ }
     ensures { λ r. ⌜ r ≡ getD (map codeOf (findRow kind grammar)) i 0 ⌝ }
 {
-    if kind < 208 {
-        let row = ROW_OF[kind / 8][kind % 8];
-        return ROWS[row as usize][i];
+    match kind {
+        // primitive
+        1 => typed(i, 0, 0, 0),
+        // struct
+        2 => typed(i, FIELDS, 0, 0),
+        // union
+        3 => typed(i, FIELDS, 0, 0),
+        // enum
+        4 => typed(i, EXPRESSION, VARIANTS, 0),
+        // array
+        5 => typed(i, FLAG, TYPE, EXPRESSION),
+        // size-discriminated union
+        6 => typed(i, SIZED_VARIANTS, 0, 0),
+        // type reference
+        7 => typed(i, TEXT, 0, 0),
+        // references
+        32 => few(i, OWNERS, 0, 0, 0),
+        // field
+        33 => few(i, TEXT, OPT_NUMBER, TYPE, 0),
+        // enum variant
+        34 => few(i, TEXT, NUMBER, TYPE, 0),
+        // sized variant
+        35 => few(i, TEXT, NUMBER, TYPE, 0),
+        // type set
+        36 => few(i, TYPES, 0, 0, 0),
+        // owner
+        37 => few(i, KEY, PATHS, 0, 0),
+        _ => 0,
     }
-    0
+}
+
+// Expressions.
+fn expression_code(kind: usize, i: usize) -> u32
+    requires { ⌜ (64 ≤ kind) × (kind < 128) ⌝ }
+    ensures { λ r. ⌜ r ≡ getD (map codeOf (findRow kind grammar)) i 0 ⌝ }
+{
+    match kind {
+        // literal
+        64 => few(i, LITERAL, 0, 0, 0),
+        // field reference
+        65 => few(i, SEGMENTS, 0, 0, 0),
+        // a name
+        66 => few(i, TEXT, 0, 0, 0),
+        67 => few(i, TEXT, 0, 0, 0),
+        // two expressions, or one
+        68..=78 => few(i, EXPRESSION, EXPRESSION, 0, 0),
+        79..=82 => few(i, EXPRESSION, 0, 0, 0),
+        83..=91 => few(i, EXPRESSION, EXPRESSION, 0, 0),
+        _ => 0,
+    }
+}
+
+// Layouts without their nodes, values and runs.
+fn layout_code(kind: usize, i: usize) -> u32
+    requires { ⌜ 144 < kind ⌝ }
+    ensures { λ r. ⌜ r ≡ getD (map codeOf (findRow kind grammar)) i 0 ⌝ }
+{
+    match kind {
+        // layout
+        160 => few(i, TREES, 0, 0, 0),
+        // type tree
+        161 => few(i, KEY, NUMBER, NODE, PARAMETERS),
+        // parameter
+        162 => few(i, TEXT, OPT_TEXT, FLAG, 0),
+        // case
+        163 => few(i, NUMBER, NODE, PARAMETERS, 0),
+        // argument
+        164 => few(i, TEXT, TEXT, 0, 0),
+        // values
+        192 => few(i, VALUES, 0, 0, 0),
+        // run
+        193 => few(i, TEXT, NUMBER, RUN_VALUES, 0),
+        _ => 0,
+    }
 }
 
 // The code of part i of a kind, counted from 0; 0 behind the last, and where there is no such kind.
@@ -163,11 +168,14 @@ pub fn code_at(kind: usize, i: usize) -> u32
     requires { ⌜ i < 8 ⌝ }
     ensures { λ r. ⌜ r ≡ codeAt kind i ⌝ }
 {
+    if kind < 64 {
+        return type_code(kind, i);
+    }
     if kind < 128 {
-        return row_code(kind, i);
+        return expression_code(kind, i);
     }
     if 144 < kind {
-        return row_code(kind, i);
+        return layout_code(kind, i);
     }
     if i < 5 {
         return ir::node_part(kind, i);

@@ -1,5 +1,5 @@
 -- The laws of writing. Assumes nothing.
-use mathlib.Core.Path.{_≡_, refl, sym, ap, _∙_}
+use mathlib.Core.Path.{_≡_, refl, sym, ap, subst, _∙_}
 use mathlib.Core.Bool.{Bool, true, false, cond}
 use mathlib.Core.List.{List, [], _∷_, _++_, append-assoc, append-nil}
 use Prim.Native.Nat.{ℕ, zero, suc, _+_, _-_, _%_, _/_, _<_, _≤_}
@@ -7,8 +7,9 @@ use native.Mathlib.Numerals.{add-one, sub-one}
 use native.Mathlib.Nat.{add-zero, zero-add, not-suc-le-zero}
 use native.Mathlib.Omega.{arith}
 use borrow.Author.Fill.{fill-none, fill-more}
-use lib.ListN.{length, set, drop, getD, replicate, length-set, length-append, drop-of-length-le}
-use lib.Seq.{sets-eq, length-sets, set-comm, set-set, set-out, drop-cons}
+use lib.ListN.{length, set, drop, getD, replicate, take, length-set, length-append, length-replicate, drop-of-length-le}
+use lib.Bits.{bitAnd, bitOr, or-add-and, and-le-l, and-le-r}
+use lib.Seq.{sets-eq, length-sets, set-comm, set-set, set-out, set-getD, drop-cons, length-take-le}
 use Rattle.blocks.specs.Bytes.{bytes}
 use Rattle.blocks.specs.Tree.{Tree, name, num, block, nil, cons}
 use Rattle.blocks.specs.Write.{write}
@@ -157,3 +158,45 @@ clear-end ws us i h c =
     c .holds ∙ rw (drop-of-length-le ws {i = i} (omega arith), append-nil {A = ℕ} (replicate i 0), z)
 
 pub ruleset clears = (clear-none, clear-more, clear-end)
+
+-- the bits of the first i entries together: where they are 0, so are the entries
+pub record Bits (ws : List ℕ) (bits i : ℕ) : Type 0 where
+  pub within : i ≤ length ws
+  pub zeros : bits ≡ 0 → Cleared ws ws i
+
+or-none : (a b : ℕ) → bitOr a b ≡ 0 → (a ≡ 0) × (b ≡ 0)
+or-none a b h =
+    let e : bitOr a b + bitAnd a b ≡ a + b = or-add-and a b in
+    let l : bitAnd a b ≤ a = and-le-l a b in
+    let r : bitAnd a b ≤ b = and-le-r a b in
+    (omega arith, omega arith)
+
+pub bits-none : (ws : List ℕ) → Bits ws 0 0
+bits-none ws = record { within = omega arith; zeros = λ _. clear-none ws }
+
+pub bits-more : (ws : List ℕ) (bits i : ℕ) → i < length ws → Bits ws bits i → Bits ws (bitOr bits (getD ws i 0)) (i + 1)
+bits-more ws bits i h b =
+    record {
+      within = omega arith;
+      zeros = λ e. let o = or-none bits (getD ws i 0) e in
+          let same : set ws i 0 ≡ ws = rw (← o .1) (set-getD ws i 0) in
+          subst (λ (us : List ℕ). Cleared ws us (i + 1)) same (clear-more ws ws i h (b .zeros (o .0)));
+    }
+
+pub bits-end : (ws : List ℕ) (bits i : ℕ) → length ws ≤ i → Bits ws bits i → bits ≡ 0 → ws ≡ replicate (length ws) 0
+bits-end ws bits i h b e = clear-end ws ws i h (b .zeros e)
+
+pub ruleset gathers = (bits-none, bits-more, bits-end)
+
+-- ---- a part that is cleared in zeros
+
+zeros-part : (k n : ℕ) → k ≤ n → _++_ {A = ℕ} (replicate k 0) (drop k (replicate n 0)) ≡ replicate n 0
+zeros-part zero n h = refl
+zeros-part (suc k) zero h = absurd (not-suc-le-zero h)
+zeros-part (suc k) (suc n) h = ap (λ (l : List ℕ). 0 ∷ l) (zeros-part k n (omega arith))
+
+-- us is all zeros; what stood in its first k places was cleared
+pub part-cleared : (n k : ℕ) (us zs : List ℕ) → us ≡ replicate n 0 → k ≤ length us → zs ≡ replicate (length (take k us)) 0 → zs ++ drop k us ≡ replicate n 0
+part-cleared n k us zs e h c =
+    let m : length us ≡ n = ap length e ∙ length-replicate n 0 in
+    rw (c, length-take-le k us h, e) (zeros-part k n (omega arith))

@@ -3,7 +3,7 @@ use mathlib.Core.Path.{_≡_, refl, sym, _∙_, ap}
 use mathlib.Core.Bool.{Bool, true, false, not, cond, _||_}
 use mathlib.Core.List.{List, [], _∷_}
 use mathlib.Core.Logic.{inr}
-use Prim.Native.Nat.{ℕ, zero, suc, _+_, _-_, _*_, _%_, _<_, _≤_}
+use Prim.Native.Nat.{ℕ, zero, suc, _+_, _-_, _*_, _/_, _%_, _<_, _≤_}
 use native.Mathlib.Omega.{arith}
 use native.Mathlib.Numerals.{add-one}
 use lib.Dec.{leb, eqb, ltb}
@@ -32,11 +32,11 @@ use Rattle.quick.proofs.Laws.{number-yes, part-then, part-last, block-y
 
 -- ---- the place of a name
 
-pub place-long : (n : Name) (a b : ℕ) → 8 ≤ length n → a ≡ le8 n 0 → b ≡ le8 n (length n - 8) → (a % 4093 + b % 4093 * 31) % 4096 ≡ placeOf n
+pub place-long : (n : Name) (a b c : ℕ) → 8 ≤ length n → a ≡ le8 n 0 → b ≡ le8 n ((length n - 8) / 2) → c ≡ le8 n (length n - 8) → (a % 4073 + b % 4073 * 30 + c % 4073 * 900) % 4073 ≡ placeOf n
 unfolding placeOf
-place-long n a b h e f = rw (le-ltb (length n) 8 h, e, f)
+place-long n a b c h e f g = rw (le-ltb (length n) 8 h, e, f, g)
 
-pub place-short : (n : Name) (h : ℕ) → length n < 8 → h ≡ folded n → h % 4096 ≡ placeOf n
+pub place-short : (n : Name) (h : ℕ) → length n < 8 → h ≡ folded n → h % 4073 ≡ placeOf n
 unfolding placeOf
 place-short n h l e = rw (lt-ltb (length n) 8 l, e)
 
@@ -44,11 +44,11 @@ pub fold-first : (n : Name) → 0 ≡ folded (drop (length n) n)
 unfolding folded
 fold-first n = let h : length n ≤ length n = omega arith in rw (drop-of-length-le n h)
 
-fold-at : (n : Name) (i h : ℕ) → i < length n → h ≡ folded (drop (i + 1) n) → h % 1024 * 31 + getD n i 0 ≡ folded (drop i n)
+fold-at : (n : Name) (i h : ℕ) → i < length n → h ≡ folded (drop (i + 1) n) → h % 72057594037927936 * 256 + getD n i 0 ≡ folded (drop i n)
 unfolding folded
 fold-at n i h l e = rw (drop-cons n i 0 l, e, add-one i)
 
-pub fold-more : (n : Name) (i h b : ℕ) → 0 < i → i ≤ length n → h ≡ folded (drop i n) → b ≡ getD n (i - 1) 0 → h % 1024 * 31 + b ≡ folded (drop (i - 1) n)
+pub fold-more : (n : Name) (i h b : ℕ) → 0 < i → i ≤ length n → h ≡ folded (drop i n) → b ≡ getD n (i - 1) 0 → h % 72057594037927936 * 256 + b ≡ folded (drop (i - 1) n)
 fold-more n i h b z l e f = let q : i - 1 + 1 ≡ i = omega arith in rw f (fold-at n (i - 1) h (omega arith) (rw q e))
 
 -- ---- marks
@@ -103,7 +103,7 @@ place-below : (n : Name) → placeOf n < 4096
 unfolding placeOf
 place-below n = go (ltb (length n) 8)
   where
-    go : (b : Bool) → cond b (folded n % 4096) ((le8 n 0 % 4093 + le8 n (length n - 8) % 4093 * 31) % 4096) < 4096
+    go : (b : Bool) → cond b (folded n % 4073) ((le8 n 0 % 4073 + le8 n ((length n - 8) / 2) % 4073 * 30 + le8 n (length n - 8) % 4073 * 900) % 4073) < 4096
     go true = omega arith
     go false = omega arith
 

@@ -1,5 +1,5 @@
 -- The answers of the quick reader, and the marks by which it sees that a name is new.
-use Prim.Native.Nat.{ℕ, _+_, _-_, _*_, _%_, _≤_, _<_}
+use Prim.Native.Nat.{ℕ, _+_, _-_, _*_, _/_, _%_, _≤_, _<_}
 use mathlib.Core.Path.{_≡_}
 use mathlib.Core.Bool.{Bool, cond}
 use mathlib.Core.List.{List, [], _∷_}
@@ -20,14 +20,17 @@ Reads r x = 0 < r → forget x ≡ Ok r
 abbrev pub Sized : List ℕ → ℕ → ℕ → ℕ → Type 0
 Sized s at end r = 0 < r → (at + 6 ≤ end) × (2 ≤ le4 s at) × (r ≡ at + 4 + le4 s at) × (r ≤ end)
 
--- the place of a short name among the marks, from its last byte to its first
+-- a short name as a number, its first byte lowest; the remainder, by 2 ^ 56, takes nothing away from it
 unfoldable pub folded : Name → ℕ
 folded [] = 0
-folded (b ∷ bs) = folded bs % 1024 * 31 + b
+folded (b ∷ bs) = folded bs % 72057594037927936 * 256 + b
 
--- the place of a name among the marks; of a longer one the first and the last eight bytes count
+-- the place of a name among the marks; of a longer one the first, the middle and the last eight bytes count
 unfoldable pub placeOf : Name → ℕ
-placeOf n = cond (ltb (length n) 8) (folded n % 4096) ((le8 n 0 % 4093 + le8 n (length n - 8) % 4093 * 31) % 4096)
+placeOf n =
+    cond (ltb (length n) 8)
+    (folded n % 4073)
+    ((le8 n 0 % 4073 + le8 n ((length n - 8) / 2) % 4073 * 30 + le8 n (length n - 8) % 4073 * 900) % 4073)
 
 -- the names with which n blocks begin have their marks
 abbrev pub Marked : List ℕ → List ℕ → ℕ → ℕ → Type 0

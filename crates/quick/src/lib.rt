@@ -270,23 +270,24 @@ fn node(s: &[u8], room: usize, at: usize, end: usize) -> usize
     closed(i, stop)
 }
 
-// The place of a name among the marks.
+// The place of a name among the marks. Names that differ in a few digits seldom share one.
 fn place(name: &[u8]) -> usize
     ensures { λ r. ⌜ (r ≡ placeOf (now (name .entry))) × (r < 4096) ⌝ }
 {
     let n = name.len();
     if 8 <= n {
-        let head = get::read8(name, 0) % 4093;
-        let tail = get::read8(name, n - 8) % 4093;
-        return (head + tail * 31) % 4096;
+        let head = get::read8(name, 0) % 4073;
+        let middle = get::read8(name, (n - 8) / 2) % 4073;
+        let tail = get::read8(name, n - 8) % 4073;
+        return (head + middle * 30 + tail * 900) % 4073;
     }
     let mut i = n;
     let mut h = 0;
     while 0 < i {
         i -= 1;
-        h = h % 1024 * 31 + get::wide(name[i]);
+        h = h % 72057594037927936 * 256 + get::wide(name[i]);
     }
-    h % 4096
+    h % 4073
 }
 
 // Whether the name at `at` is not among those with which these blocks begin, each of which has its mark. It gets its own.

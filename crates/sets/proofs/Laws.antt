@@ -343,8 +343,8 @@ module _ (n : ℕ) (set xs : List ℕ) where
         set-read {ys} {a} f g = let (t, d) = read-tree (length set) (readSet set) (sym e ∙ f) in subst (Leaves xs ys a) (sym (asked ∙ bound-done (layoutOf (length xs)) d)) (g t d)
 
 -- building stands on a set that was read, and on the words
-pub set-ready : {set ws : List ℕ} {r : Read} {i : ℕ} → 8192 ≤ length ws → length set ≤ 65536 → r ≡ inputOf (length set) (readSet set) → r ≡ Ok i → Ready set ws
-set-ready {set} h k e f = record { standing = record { size = k; words = omega arith; count = omega arith }; set = read-tree (length set) (readSet set) (sym e ∙ f) }
+pub set-ready : {set ws : List ℕ} {r : Read} {i : ℕ} → 512 ≤ length ws → length set ≤ 65536 → r ≡ inputOf (length set) (readSet set) → r ≡ Ok i → Ready set ws
+set-ready {set} h k e f = record { standing = record { size = k; words = h; count = omega arith }; set = read-tree (length set) (readSet set) (sym e ∙ f) }
 
 -- ---- what a call leaves
 

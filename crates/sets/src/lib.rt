@@ -2,7 +2,7 @@
 // leaves the output all zeros.
 use leaf::Read;
 ghost use mathlib.Core.Path.{_≡_};
-ghost use Prim.Native.Nat.{_+_, _^_, _≤_, _<_};
+ghost use Prim.Native.Nat.{ℕ, _+_, _^_, _≤_, _<_};
 ghost use lib.ListN.{length};
 ghost use Rattle.errors.specs.Refusal.{done};
 ghost use Rattle.blocks.specs.Tree.{Tree};
@@ -69,7 +69,7 @@ fn holds(out: &[u8], n: usize) -> bool
     if 65536 < n {
         return false;
     }
-    match reader::read_input(&out[..n], 256, 160) {
+    match quick::read_input(&out[..n], 256, 160) {
         Read::Refused(_, _) => false,
         Read::Ok(_) => true,
     }
@@ -94,13 +94,11 @@ fn build_layout(s: &[u8], words: &mut [u64], out: &mut [u8]) -> Answer
     Answer::Refused(18, NOWHERE, 0, 0)
 }
 
-// The questions before building: 19, 1, then the reading of the set.
+// The questions behind 19: 1, then the reading of the set.
 fn built(set: &[u8], out: &mut [u8], words: &mut [u64]) -> Answer
-    ensures { λ r. ⌜ Leaves (now (out .entry)) (now (out .exit)) r (build-set (length (now (words .entry))) (length (now (out .entry))) (now (set .entry))) ⌝ }
+    requires { ⌜ 512 ≤ length (now words) ⌝ }
+    ensures { λ r. ⌜ ((n : ℕ) → 8192 ≤ n → Leaves (now (out .entry)) (now (out .exit)) r (build-set n (length (now (out .entry))) (now (set .entry)))) ⌝ }
 {
-    if words.len() < 8192 {
-        return Answer::Refused(19, NOWHERE, 0, 0);
-    }
     if 65536 < set.len() {
         return Answer::Refused(1, NOWHERE, 0, 0);
     }
@@ -116,8 +114,16 @@ pub fn build_set(set: &[u8], out: &mut [u8], words: &mut [u64]) -> Answer
     ensures { λ _. ⌜ now (out .exit) ≡ output-after (now (out .entry)) (build-set (length (now (words .entry))) (length (now (out .entry))) (now (set .entry))) ⌝ }
     ensures { λ _. ⌜ now (words .exit) ≡ words-after (now (words .entry)) ⌝ }
 {
-    let a = built(set, out, words);
+    let n = words.len();
     put::clear_words(words);
+    if n < 8192 {
+        put::clear_bytes(out);
+        return Answer::Refused(19, NOWHERE, 0, 0);
+    }
+    // a word for each entry of the registry
+    let entries = &mut words[..512];
+    let a = built(set, out, entries);
+    put::clear_words(entries);
     match a {
         Answer::Length(n) => Answer::Length(n),
         Answer::Refused(q, place, offset, value) => {

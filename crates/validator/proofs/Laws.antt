@@ -5,7 +5,8 @@ use mathlib.Core.List.{List, [], _∷_}
 use Prim.Native.Nat.{ℕ, _+_, _-_, _<_, _≤_}
 use native.Mathlib.Omega.{arith}
 use lib.Dec.{leb}
-use lib.ListN.{length, take, drop}
+use lib.ListN.{length, take, drop, replicate, length-replicate}
+use lib.Seq.{length-take-le}
 use borrow.Author.Tests.{le-leb, lt-leb, leb-true}
 use Rattle.errors.specs.Refusal.{Outcome, done, refused, _>>=_, ask, enough, unread, plain, UnknownType}
 use Rattle.errors.proofs.Laws.{done-one, asked, bound, bound-done}
@@ -187,10 +188,18 @@ module _ (n : ℕ) (s : List ℕ) (name : Name) (v : List ℕ) (len : ℕ) where
           ∙ ap (λ (z : Tree × ℕ). validate-type (layoutOf (j .layout)) name len (valuesOf (z .0))) (a .1)
           ∙ sym (validate-is ∙ ap (λ (o : Outcome (Tree × Tree)). o >>= (λ z. validate-type (layoutOf (z .0)) name len (valuesOf (z .1)))) (j .is))
 
-pub given : {n : ℕ} {s v ws : List ℕ} → n ≡ length ws → judgement.Read ≡ judgementOf (judge n s v 192) → Given s v 0 ws
-given {s} {v} {ws} en e =
-    let j = judged e in
-    record { layout = (j .layout, j .layout-read); values-read = input 2 192 v (j .other-read) .0; room = omega (arith, en, j .words); small = j .small-layout }
+-- the words lent to the open calls, of n words that are zero
+module _ (n : ℕ) (s v : List ℕ) (k : ℕ) {us : List ℕ} (e : us ≡ replicate n 0) (r : judgement.Read ≡ judgementOf (judge n s v k)) where
+  pub roomy : 16 ≤ length us
+  roomy = let l : length us ≡ n = ap length e ∙ length-replicate n 0 in omega (arith, judged r .words)
+
+  lent : 16 ≤ length (take 16 us)
+  lent = omega (arith, length-take-le 16 us roomy)
+
+pub given : (n : ℕ) (s v : List ℕ) {us : List ℕ} → us ≡ replicate n 0 → judgement.Read ≡ judgementOf (judge n s v 192) → Given s v 0 (take 16 us)
+given n s v e r =
+    let j = judged r in
+    record { layout = (j .layout, j .layout-read); values-read = input 2 192 v (j .other-read) .0; room = lent n s v 192 e r; small = j .small-layout }
 
 -- ---- a type of an accepted layout
 
@@ -242,10 +251,10 @@ module _ (n : ℕ) (s v : List ℕ) where
           f (j .layout) (j .layout-read) (j .other) (j .other-read)
           ∙ sym (run-is ∙ ap (λ (o : Outcome (Tree × Tree)). o >>= (λ z. validate-type (layoutOf (z .0)) (runOf (z .1) .type-name) (runOf (z .1) .buffer-length) (runOf (z .1) .values))) (j .is))
 
-pub given-run : {n : ℕ} {s v ws : List ℕ} → n ≡ length ws → judgement.Read ≡ judgementOf (judge n s v 193) → GivenRun s v ws
-given-run {s} {v} {ws} en e =
-    let j = judged e in
-    record { layout = (j .layout, j .layout-read); run-read = (j .other, j .other-read); room = omega (arith, en, j .words); small = j .small-layout }
+pub given-run : (n : ℕ) (s v : List ℕ) {us : List ℕ} → us ≡ replicate n 0 → judgement.Read ≡ judgementOf (judge n s v 193) → GivenRun s v (take 16 us)
+given-run n s v e r =
+    let j = judged r in
+    record { layout = (j .layout, j .layout-read); run-read = (j .other, j .other-read); room = lent n s v 193 e r; small = j .small-layout }
 
 -- where a run's name, buffer length and values stand
 pub record RunAt (s : List ℕ) (u : ℕ) (t : Tree) : Type 0 where

@@ -108,19 +108,20 @@ pub fn validate(words: &mut [u64], layout: &[u8], name: &[u8], values: &[u8], le
     ensures { λ r. ⌜ outcomeOf r ≡ validate (length (now (words .entry))) (now (layout .entry)) (now (name .entry)) (now (values .entry)) len ⌝ }
     ensures { λ _. ⌜ now (words .exit) ≡ replicate (length (now (words .entry))) 0 ⌝ }
 {
-    match judged(words.len(), layout, values, 192) {
-        Judgement::Unread(q, o) => {
-            put::clear_words(words);
-            Answer::Refused {
-                number: q,
-                place: 65535,
-                offset: o,
-                value: 0,
-            }
-        }
+    let n = words.len();
+    put::clear_words(words);
+    match judged(n, layout, values, 192) {
+        Judgement::Unread(q, o) => Answer::Refused {
+            number: q,
+            place: 65535,
+            offset: o,
+            value: 0,
+        },
         Judgement::Read => {
-            let a = evaluated(layout, name, values, 0, len, words);
-            put::clear_words(words);
+            // a word for each call that may be open
+            let calls = &mut words[..16];
+            let a = evaluated(layout, name, values, 0, len, calls);
+            put::clear_words(calls);
             a
         }
     }
@@ -142,19 +143,20 @@ pub fn validate_run(words: &mut [u64], layout: &[u8], run: &[u8]) -> Answer
     ensures { λ r. ⌜ outcomeOf r ≡ validate-run (length (now (words .entry))) (now (layout .entry)) (now (run .entry)) ⌝ }
     ensures { λ _. ⌜ now (words .exit) ≡ replicate (length (now (words .entry))) 0 ⌝ }
 {
-    match judged(words.len(), layout, run, 193) {
-        Judgement::Unread(q, o) => {
-            put::clear_words(words);
-            Answer::Refused {
-                number: q,
-                place: 65535,
-                offset: o,
-                value: 0,
-            }
-        }
+    let n = words.len();
+    put::clear_words(words);
+    match judged(n, layout, run, 193) {
+        Judgement::Unread(q, o) => Answer::Refused {
+            number: q,
+            place: 65535,
+            offset: o,
+            value: 0,
+        },
         Judgement::Read => {
-            let a = evaluated_run(layout, run, words);
-            put::clear_words(words);
+            // a word for each call that may be open
+            let calls = &mut words[..16];
+            let a = evaluated_run(layout, run, calls);
+            put::clear_words(calls);
             a
         }
     }

@@ -1,52 +1,28 @@
--- `put::clear_words` meets its contract. The loop's invariant: zeros as far as `i`, and what was there from `i` on. Assumes nothing.
+-- `put::clear_words` meets its contract. Assumes nothing.
+use native.Mathlib.Omega.{arith}
 use borrow.Author.Needs.{needs}
-use Prim.Native.Nat.{_-_}
-use lib.ListN.{length}
-use Rattle.put.proofs.Laws.{Cleared, clears}
 use Rattle.put.proofs.clear_words.Statement.{statement}
 use Rattle.put.proofs.clear_words.Tie as tie
 
-abbrev Inv-loop : tie.InvT-loop
-Inv-loop words₀ i₀ words i = Cleared words₀ words i
+any-bits-requires : tie.Need-any-bits-requires
+any-bits-requires c κs = search needs
 
-abbrev μ-loop : tie.MeasureT-loop
-μ-loop words₀ i₀ words i = length words₀ - i
+zero-words-requires : tie.Need-zero-words-requires
+zero-words-requires c κs = search needs
 
-loop-holds : tie.Need-loop-holds Inv-loop μ-loop
-loop-holds c = search clears
-
-mul-words : tie.Need-mul-words Inv-loop μ-loop
-mul-words c = search needs
-
-slice-write-words : tie.Need-slice-write-words Inv-loop μ-loop
-slice-write-words c = search needs
-
-add-i : tie.Need-add-i Inv-loop μ-loop
-add-i c = search needs
-
-loop-less : tie.Need-loop-less Inv-loop μ-loop
-loop-less c = search needs
-
-loop-again : tie.Need-loop-again Inv-loop μ-loop
-loop-again c = search clears
-
-same-length : tie.Need-same-length Inv-loop μ-loop
+same-length : tie.Need-same-length
 same-length c = search needs
 
-returns : tie.Need-returns Inv-loop μ-loop
-returns c = search clears
+returns : tie.Need-returns
+returns c = search needs
+
+same-length-2 : tie.Need-same-length-2
+same-length-2 c = search needs
+
+returns-2 : tie.Need-returns-2
+returns-2 c = c .before .any-bits .ensures (let z = c .if1 in omega arith)
 
 pub clear-words-spec : {M : Type 1} → statement M
 clear-words-spec =
     tie.close
-    (tie.spec
-    Inv-loop
-    μ-loop
-    loop-holds
-    mul-words
-    slice-write-words
-    add-i
-    loop-less
-    loop-again
-    same-length
-    returns)
+    (tie.spec any-bits-requires zero-words-requires same-length returns same-length-2 returns-2)

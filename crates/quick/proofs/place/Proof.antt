@@ -10,7 +10,7 @@ use Rattle.quick.proofs.place.Statement.{statement}
 use Rattle.quick.proofs.place.Tie as tie
 
 abbrev Inv-loop : tie.InvT-loop
-Inv-loop name n i₀ h₀ i h = (i ≤ length name) × (h ≡ folded (drop i name)) × (h < 32768)
+Inv-loop name n i₀ h₀ i h = (i ≤ length name) × (h ≡ folded (drop i name))
 
 abbrev μ-loop : tie.MeasureT-loop
 μ-loop name n i₀ h₀ i h = i
@@ -21,17 +21,26 @@ read8-requires c κs = omega arith
 read8-requires-2 : tie.Need-read8-requires-2 Inv-loop μ-loop
 read8-requires-2 c κs = omega arith
 
+read8-requires-3 : tie.Need-read8-requires-3 Inv-loop μ-loop
+read8-requires-3 c κs = omega arith
+
 mul-result : tie.Need-mul-result Inv-loop μ-loop
 mul-result c = omega arith
 
 add-result : tie.Need-add-result Inv-loop μ-loop
 add-result c = omega arith
 
+mul-result-2 : tie.Need-mul-result-2 Inv-loop μ-loop
+mul-result-2 c = omega arith
+
+add-result-2 : tie.Need-add-result-2 Inv-loop μ-loop
+add-result-2 c = omega arith
+
 returns : tie.Need-returns Inv-loop μ-loop
-returns c = (place-long _ _ _ (c .before .before .if1 .taken) (c .before .read8 .ensures) (c .read82 .ensures), omega arith)
+returns c = (place-long _ _ _ _ (c .before .before .before .if1 .taken) (c .before .before .read8 .ensures) (c .before .read82 .ensures) (c .read83 .ensures), omega arith)
 
 loop-holds : tie.Need-loop-holds Inv-loop μ-loop
-loop-holds c = (omega arith, fold-first (c .before .before .args .name .now), omega arith)
+loop-holds c = (omega arith, fold-first (c .before .before .args .name .now))
 
 sub-i : tie.Need-sub-i Inv-loop μ-loop
 sub-i c = omega arith
@@ -52,7 +61,7 @@ loop-less : tie.Need-loop-less Inv-loop μ-loop
 loop-less c = omega arith
 
 loop-again : tie.Need-loop-again Inv-loop μ-loop
-loop-again c = (omega (arith, c .before .before .before .loop .inv .0), fold-more _ _ _ _ (c .before .before .loop-test .taken) (c .before .before .before .loop .inv .0) (c .before .before .before .loop .inv .1) (c .wide .ensures .0), omega (arith, c .wide .ensures .1))
+loop-again c = (omega (arith, c .before .before .before .loop .inv .0), fold-more _ _ _ _ (c .before .before .loop-test .taken) (c .before .before .before .loop .inv .0) (c .before .before .before .loop .inv .1) (c .wide .ensures .0))
 
 returns-2 : tie.Need-returns-2 Inv-loop μ-loop
 returns-2 c = let z : c .before .loop .i ≡ 0 = omega (arith, c .loop-test .left) in (place-short _ _ (c .before .before .if1 .left) (rw z at (c .before .loop .inv .1)), omega arith)
@@ -65,8 +74,11 @@ place-spec =
     μ-loop
     read8-requires
     read8-requires-2
+    read8-requires-3
     mul-result
     add-result
+    mul-result-2
+    add-result-2
     returns
     loop-holds
     sub-i
