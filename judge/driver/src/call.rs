@@ -129,25 +129,28 @@ fn judge_lengths(input: &[u8]) -> Verdict {
 }
 
 fn judge_build(words: u64, room: u64, set: &[u8]) -> Verdict {
-    let no = match build::build(set, words, room) {
-        Ok(bytes) => return judge_layout(set, bytes),
+    let types = match build::types(set, words) {
+        Ok(types) => types,
+        Err(no) => return Verdict::rules_only(Answer::No(no)),
+    };
+    let no = match build::written(&types, room) {
+        Ok(bytes) => return judge_layout(&types, bytes),
         Err(no) => no,
     };
     let answer = Answer::No(no);
     match no.number {
-        16 | 17 => judge_before(answer, set, no.place as usize),
-        18 => judge_unfit(answer, set),
-        10..=15 => {
-            let theirs = rust::build(&read::set(set).unwrap(), usize::MAX);
+        16 | 17 => judge_before(answer, &types, no.place as usize),
+        18 => judge_unfit(answer, &types),
+        _ => {
+            let theirs = rust::build(&types, usize::MAX);
             let same = matches!(theirs, Err(e) if e == (no.number, no.place));
             Verdict::held(answer, format!("{:?}", theirs.err()), same)
         }
-        _ => Verdict::rules_only(answer),
     }
 }
 
-fn judge_layout(set: &[u8], bytes: Vec<u8>) -> Verdict {
-    let theirs = rust::build(&read::set(set).unwrap(), usize::MAX);
+fn judge_layout(types: &Set, bytes: Vec<u8>) -> Verdict {
+    let theirs = rust::build(types, usize::MAX);
     let (same, text) = match &theirs {
         Ok(trees) => (write::layout(trees) == bytes, "another layout".to_string()),
         Err(e) => (false, format!("{e:?}")),
@@ -156,8 +159,8 @@ fn judge_layout(set: &[u8], bytes: Vec<u8>) -> Verdict {
 }
 
 /// An added refusal inside a type: the types before it must have built.
-fn judge_before(answer: Answer, set: &[u8], place: usize) -> Verdict {
-    let theirs = rust::build(&read::set(set).unwrap(), place);
+fn judge_before(answer: Answer, types: &Set, place: usize) -> Verdict {
+    let theirs = rust::build(types, place);
     let mut v = Verdict::rules_only(answer);
     v.differs = theirs
         .err()
@@ -166,9 +169,8 @@ fn judge_before(answer: Answer, set: &[u8], place: usize) -> Verdict {
 }
 
 /// 18: every type must have built, to the same trees.
-fn judge_unfit(answer: Answer, set: &[u8]) -> Verdict {
-    let types = read::set(set).unwrap();
-    let same = rust::build(&types, usize::MAX).ok() == build::build_set(&types).ok();
+fn judge_unfit(answer: Answer, types: &Set) -> Verdict {
+    let same = rust::build(types, usize::MAX).ok() == build::build_set(types).ok();
     let mut v = Verdict::rules_only(answer);
     v.differs = (!same).then(|| "18, but the trees differ".to_string());
     v

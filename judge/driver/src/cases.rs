@@ -89,6 +89,37 @@ fn words(r: &mut Rng) -> u64 {
     }
 }
 
+/// The output that a build is lent: now and then none, or about as long as
+/// the layout, whose length is asked for only then.
+fn room(r: &mut Rng, size: impl FnOnce() -> u64) -> u64 {
+    match r.below(60) {
+        0 => size(),
+        1 => size().saturating_sub(1),
+        2 => 0,
+        _ => LIMIT as u64,
+    }
+}
+
+/// A build alone, without runs: nine of ten as in a case of sets, the tenth
+/// of a damaged set.
+pub fn set_call(seed: u64, index: u64) -> Call {
+    let r = &mut Rng::new(seed, index);
+    if index % 10 == 9 {
+        return Call::Build {
+            words: WORDS,
+            room: LIMIT as u64,
+            set: damaged_set(r, sets::set),
+        };
+    }
+    let set = write::set(&sets::set(r));
+    let size = || build::build(&set, WORDS, LIMIT as u64).map_or(0, |b| b.len() as u64);
+    Call::Build {
+        room: room(r, size),
+        words: words(r),
+        set,
+    }
+}
+
 fn set_case(r: &mut Rng) -> Case {
     set_case_of(r, sets::set)
 }
@@ -107,16 +138,10 @@ pub fn small_case(seed: u64, index: u64) -> Case {
 fn set_case_of(r: &mut Rng, set: fn(&mut Rng) -> Set) -> Case {
     let set = write::set(&set(r));
     let built = build::build(&set, WORDS, LIMIT as u64);
-    let size = built.as_ref().map_or(0, |b| b.len() as u64);
-    let room = match r.below(60) {
-        0 => size,
-        1 => size.saturating_sub(1),
-        2 => 0,
-        _ => LIMIT as u64,
-    };
+    let size = || built.as_ref().map_or(0, |b| b.len() as u64);
     let mut calls = vec![Call::Build {
+        room: room(r, size),
         words: words(r),
-        room,
         set: set.clone(),
     }];
     if let Ok(layout) = built {

@@ -13,6 +13,7 @@ mod gen;
 mod prng;
 mod rules;
 mod rust;
+mod stream;
 mod text;
 mod trip;
 mod vectors;
@@ -22,17 +23,19 @@ use std::process::ExitCode;
 
 const USAGE: &str = "usage: judge/run COMMAND
   compare [--cases N] [--seed S]   hold the rules and the Rust together
-  case --seed S --index I          make one case again
+  case --seed S --index I [--sets] make one case again; of the stream of sets
   answer SET                       the layout (hex) or the refusal
   answer LAYOUT RUN                the count or the refusal
   lengths < INPUT                  the program `lengths`, by the rules
   vectors FOLDER                   write the stored list
   check FOLDER                     read the stored list and answer it again
   findings                         the inputs behind docs/DIFFERENCES.md
-  stream [--cases N] [--seed S]    records of the list's form, to standard output
+  stream [--sets] [--cases N] [--seed S]
+                                   records of the list's form, to standard output;
+                                   with --sets one build for each case and no runs
   against PROGRAM [--cases N] [--seed S]
                                    hold a program `lengths` against the rules
-  bench                            time and speed, ours beside the Rust
+  bench [--markdown]               time and speed, ours beside the Rust
   trip                             M13: bytes and lines of the worked example
   antt [--cases N] [--seed S]      small cases as lines of text";
 
@@ -65,21 +68,23 @@ fn run() -> Result<(), String> {
     let Some((command, rest)) = args.split_first() else {
         return Err(USAGE.to_string());
     };
-    known_options(rest)?;
+    known_options(command, rest)?;
+    let flag = |name: &str| rest.iter().any(|a| a == name);
     let seed = option(rest, "--seed", 1)?;
     match command.as_str() {
         "compare" => compare_command(option(rest, "--cases", 100_000)?, seed),
-        "case" => text::case(seed, option(rest, "--index", 0)?),
+        "case" => text::case(seed, option(rest, "--index", 0)?, flag("--sets")),
         "answer" => text::answer(rest),
         "lengths" => text::lengths(),
         "vectors" => vectors::write_list(folder(rest)?),
         "check" => vectors::check_list(folder(rest)?),
-        "stream" => vectors::stream(option(rest, "--cases", 1000)?, seed),
+        "stream" if flag("--sets") => stream::sets(option(rest, "--cases", 1000)?, seed),
+        "stream" => stream::all(option(rest, "--cases", 1000)?, seed),
         "against" => against::against(program(rest)?, option(rest, "--cases", 1000)?, seed),
         "trip" => trip::trip(),
         "findings" => findings::show_all(),
         #[cfg(feature = "bench")]
-        "bench" => bench::bench(),
+        "bench" => bench::bench(flag("--markdown")),
         "antt" => text::antt(option(rest, "--cases", 1000)?, seed),
         _ => Err(format!("unknown command {command}\n{USAGE}")),
     }
@@ -91,12 +96,18 @@ fn program(args: &[String]) -> Result<&str, String> {
         .ok_or("a program is needed".to_string())
 }
 
-/// A misspelt option must not fall back to its default unseen.
-fn known_options(args: &[String]) -> Result<(), String> {
-    let known = ["--cases", "--seed", "--index"];
+/// An option that is misspelt, or another command's, must not be passed over.
+fn known_options(command: &str, args: &[String]) -> Result<(), String> {
+    let known: &[&str] = match command {
+        "compare" | "against" | "antt" => &["--cases", "--seed"],
+        "stream" => &["--cases", "--seed", "--sets"],
+        "case" => &["--seed", "--index", "--sets"],
+        "bench" => &["--markdown"],
+        _ => &[],
+    };
     let unknown = |a: &&String| a.starts_with("--") && !known.contains(&a.as_str());
     match args.iter().find(unknown) {
-        Some(a) => Err(format!("unknown option {a}\n{USAGE}")),
+        Some(a) => Err(format!("{command} has no option {a}\n{USAGE}")),
         None => Ok(()),
     }
 }

@@ -13,18 +13,35 @@ use std::collections::{BTreeMap, HashMap};
 /// `build_type` for each type in order, up to `stop`: the trees, or number
 /// and place.
 pub fn build(set: &Set, stop: usize) -> Result<Layout, (u8, u16)> {
-    let mut resolver = TypeResolver::new();
-    for t in set {
-        resolver.types.insert(t.name.clone(), resolved(t));
+    Ok(trees(&Types::new(set).build(stop)?))
+}
+
+/// The types of a set in the Rust's own values.
+pub struct Types {
+    resolver: TypeResolver,
+    order: Vec<String>,
+}
+
+impl Types {
+    pub fn new(set: &Set) -> Types {
+        let mut resolver = TypeResolver::new();
+        for t in set {
+            resolver.types.insert(t.name.clone(), resolved(t));
+        }
+        let order = set.iter().map(|t| t.name.clone()).collect();
+        Types { resolver, order }
     }
-    let builder = IrBuilder::new(&resolver);
-    let mut out = Vec::new();
-    for (place, t) in set.iter().enumerate().take(stop) {
-        let ty = resolver.get_type_info(&t.name).unwrap();
-        let built = builder.build_type(ty);
-        out.push(tree(&built.map_err(|e| (build_number(&e), place as u16))?));
+
+    pub fn build(&self, stop: usize) -> Result<Vec<TypeIr>, (u8, u16)> {
+        let builder = IrBuilder::new(&self.resolver);
+        let mut out = Vec::new();
+        for (place, name) in self.order.iter().enumerate().take(stop) {
+            let ty = self.resolver.get_type_info(name).unwrap();
+            let built = builder.build_type(ty);
+            out.push(built.map_err(|e| (build_number(&e), place as u16))?);
+        }
+        Ok(out)
     }
-    Ok(out)
 }
 
 fn build_number(e: &IrBuildError) -> u8 {
@@ -84,6 +101,15 @@ impl Judge {
         let interpreter = IrInterpreter::new(&self.ir, &self.index);
         let answer = interpreter.validate(ty, length as usize, values);
         Some(answer.map(|r| r.bytes_consumed).map_err(|e| self.no(&e)))
+    }
+
+    /// `validate` and nothing else: the type's place and the values in the
+    /// Rust's form are at hand.
+    #[cfg(feature = "bench")]
+    pub fn count(&self, place: usize, length: u64, values: &ParamMap) -> Option<u128> {
+        let interpreter = IrInterpreter::new(&self.ir, &self.index);
+        let answer = interpreter.validate(&self.ir.types[place], length as usize, values);
+        answer.ok().map(|r| r.bytes_consumed)
     }
 
     fn no(&self, e: &ReflectError) -> RunNo {
@@ -349,6 +375,10 @@ fn ir_two(kind: u16, left: IrNode, right: IrNode, meta: NodeMetadata) -> IrNode 
 }
 
 // The Rust's values to blocks.
+
+pub fn trees(built: &[TypeIr]) -> Layout {
+    built.iter().map(tree).collect()
+}
 
 fn tree(t: &TypeIr) -> Tree {
     Tree {

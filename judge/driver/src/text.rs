@@ -1,7 +1,7 @@
 //! Cases and answers as text.
 
 use crate::call::{judge, Answer, Call, Verdict};
-use crate::cases::{make, small_case};
+use crate::cases::{make, set_call, small_case};
 use crate::data::*;
 use crate::rules::{self, read};
 use std::collections::BTreeMap;
@@ -33,7 +33,14 @@ fn answer_text(answer: &Answer) -> String {
     }
 }
 
-pub fn case(seed: u64, index: u64) -> Result<(), String> {
+pub fn case(seed: u64, index: u64, sets: bool) -> Result<(), String> {
+    if sets {
+        let call = set_call(seed, index);
+        println!("seed {seed} index {index} of the sets");
+        show_call(&call);
+        show_verdict(&judge(&call));
+        return Ok(());
+    }
     let case = make(seed, index);
     println!("seed {seed} index {index}: {:?}", case.what);
     for (i, call) in case.calls.iter().enumerate() {

@@ -7,7 +7,6 @@ use crate::data::*;
 use crate::rules::build;
 use crate::{findings, trip, write};
 use std::collections::BTreeMap;
-use std::io::Write;
 use std::path::Path;
 
 pub const SEED: u64 = 2026;
@@ -110,7 +109,7 @@ fn answer_part(out: &mut Vec<u8>, answer: &Answer) {
     out.extend(no.value.to_le_bytes());
 }
 
-fn record(call: &Call, answer: &Answer, confirmed: bool) -> Vec<u8> {
+pub fn record(call: &Call, answer: &Answer, confirmed: bool) -> Vec<u8> {
     let mut body = Vec::new();
     let kind = match call {
         Call::Build { words, room, set } => {
@@ -258,26 +257,6 @@ fn build_call(words: u64, room: u64, set: &[u8]) -> Call {
         room,
         set: set.to_vec(),
     }
-}
-
-/// Every call of the cases as records on standard output: the comparison at
-/// scale for a program that replays the list.
-pub fn stream(cases: u64, seed: u64) -> Result<(), String> {
-    let mut out = std::io::stdout().lock();
-    for index in 0..cases {
-        for call in &make(seed, index).calls {
-            let v = judge(call);
-            if let Some(text) = &v.differs {
-                return Err(format!("seed {seed} index {index}: {text}"));
-            }
-            if !v.stopped() {
-                let bytes = record(call, &v.answer, v.confirmed);
-                out.write_all(&bytes)
-                    .map_err(|e| format!("standard output: {e}"))?;
-            }
-        }
-    }
-    Ok(())
 }
 
 /// Reads the list and answers every record again.

@@ -1,150 +1,137 @@
-//! Ours beside the Rust: the same bytes, one process, rounds in turn.
+//! Ours beside the Rust: the same bytes, one process, rounds in turn. Before
+//! a row is measured, both must give the same answer.
 
+mod building;
 mod inputs;
+mod measure;
 mod ours;
+mod table;
+mod validating;
 
 use crate::data::*;
 use crate::rules::read;
-use crate::{rust, write};
-use inputs::Asked;
+use building::{build_parts, building, by_bytes, by_parameters};
+use measure::{medians, work};
 use std::hint::black_box;
-use std::time::{Duration, Instant};
+use table::{Aim, Group, Parts, Row};
+use validating::{validate_parts, validating};
 
-const ROUNDS: usize = 15;
-const ROUND: Duration = Duration::from_millis(20);
-
-/// One line of the table; `bytes` where a speed is told.
-struct Row {
-    name: String,
-    bytes: Option<usize>,
-    ours: f64,
-    rust: f64,
+/// What ours answers where it accepts, with this last word.
+fn accepted(value: u64) -> ours::Answer {
+    [0, u64::from(NO_PLACE), 0, value]
 }
 
-pub fn bench() -> Result<(), String> {
-    let mut words = vec![0; WORDS as usize];
-    let mut rows = Vec::new();
-    let common = inputs::grown(1, 49_152, false);
-    rows.push(reading("read a layout", &mut words, &common)?);
-    let half = inputs::grown(1, 24_576, false);
-    rows.push(reading("read one half as long", &mut words, &half)?);
-    let long = inputs::grown(2, 61_440, true);
-    rows.push(reading("read one of long names", &mut words, &long)?);
-    rows.extend(validating("Trip", &mut words, &inputs::trip())?);
-    rows.extend(validating("15 calls", &mut words, &inputs::nested())?);
-    print(&rows);
+pub fn bench(markdown: bool) -> Result<(), String> {
+    let words = &mut vec![0; WORDS as usize];
+    let sets = by_bytes();
+    let groups = [
+        reading(words)?,
+        building(words, BUILD, &sets)?,
+        building(words, BUILD_PARAMETERS, &by_parameters())?,
+        validating(
+            words,
+            VALIDATE_VALUES,
+            [1, 16, 128, 512],
+            inputs::with_values,
+        )?,
+        validating(words, VALIDATE_CALLS, [1, 4, 8, 15], inputs::nested)?,
+        validating(words, VALIDATE_TYPES, [1, 16, 64, 256], inputs::among)?,
+    ];
+    let parts = [
+        build_parts(words, &sets[0])?,
+        build_parts(words, &sets[4])?,
+        validate_parts(words, "validate, 1 value", &inputs::trip())?,
+        validate_parts(words, "validate, 15 calls", &inputs::nested(15))?,
+        validate_parts(words, "validate, 256 types", &inputs::among(256))?,
+    ];
+    let aims = aims(&groups, &parts);
+    table::print(&groups, &parts, &aims, markdown);
     Ok(())
 }
 
-/// Nanoseconds of one call of each: the medians of rounds taken in turn.
-fn measure<A, B>(mut ours: impl FnMut() -> A, mut rust: impl FnMut() -> B) -> (f64, f64) {
-    let (many, many_rust) = (calls(&mut ours), calls(&mut rust));
-    let mut times = (Vec::new(), Vec::new());
-    for _ in 0..ROUNDS {
-        times.0.push(round(&mut ours, many));
-        times.1.push(round(&mut rust, many_rust));
+/// A group's title, and what its rows differ in.
+type Head = (&'static str, &'static str);
+
+const READ: Head = ("read a layout", "byte");
+const BUILD: Head = ("build a set", "byte of the set");
+const BUILD_PARAMETERS: Head = ("build, by parameters of a type", "parameter");
+const VALIDATE_VALUES: Head = ("validate, by values", "value");
+const VALIDATE_CALLS: Head = ("validate, by calls", "call");
+const VALIDATE_TYPES: Head = ("validate, by types", "type");
+
+/// What is aimed at, beside what was measured.
+fn aims(groups: &[Group; 6], parts: &[Parts; 5]) -> Vec<Aim> {
+    let whole = |what, wanted, row: &Row, parts: Option<&Parts>| Aim {
+        what,
+        wanted,
+        got: row.whole / row.ours,
+        bare: parts.map(Parts::bare),
+    };
+    let alone = |what, row: &Row| Aim {
+        what,
+        wanted: 1.0,
+        got: row.alone.unwrap_or(0.0) / row.ours,
+        bare: None,
+    };
+    let [read, build, _, values, calls, _] = groups;
+    let (trip, nested) = (&values.rows[0], &calls.rows[3]);
+    let trip_built = "build Trip, beside decode + build_type + encode";
+    let all_built = "build 48 types, beside decode + build_type + encode";
+    vec![
+        whole(
+            "read a layout of 48 KB, beside decode",
+            8.0,
+            &read.rows[3],
+            None,
+        ),
+        whole(trip_built, 5.0, &build.rows[0], Some(&parts[0])),
+        whole(all_built, 5.0, &build.rows[4], Some(&parts[1])),
+        whole(
+            "validate Trip, beside decode + validate",
+            5.0,
+            trip,
+            Some(&parts[2]),
+        ),
+        whole(
+            "validate 15 calls, beside decode + validate",
+            5.0,
+            nested,
+            Some(&parts[3]),
+        ),
+        alone("validate Trip, beside validate alone", trip),
+        alone("validate 15 calls, beside validate alone", nested),
+    ]
+}
+
+fn reading(words: &mut [u64]) -> Result<Group, String> {
+    let sizes = [6, 12, 24, 48].map(|k| inputs::grown(1, k * 1024, false));
+    let mut rows = Vec::new();
+    for layout in sizes {
+        rows.push(reading_row(words, "", &layout)?);
     }
-    (median(times.0), median(times.1))
+    let long = inputs::grown(2, 60 * 1024, true);
+    rows.push(Row {
+        size: None,
+        ..reading_row(words, ", long names", &long)?
+    });
+    Ok(Group { head: READ, rows })
 }
 
-/// How many calls fill a round.
-fn calls<A>(f: &mut impl FnMut() -> A) -> u32 {
-    let mut many = 1;
-    while round(f, many) * f64::from(many) < ROUND.as_nanos() as f64 {
-        many *= 2;
-    }
-    many
-}
-
-fn round<A>(f: &mut impl FnMut() -> A, many: u32) -> f64 {
-    let start = Instant::now();
-    (0..many).for_each(|_| drop(black_box(f())));
-    start.elapsed().as_nanos() as f64 / f64::from(many)
-}
-
-fn median(mut times: Vec<f64>) -> f64 {
-    times.sort_by(f64::total_cmp);
-    times[times.len() / 2]
-}
-
-fn reading(name: &str, words: &mut [u64], layout: &[u8]) -> Result<Row, String> {
-    let types = read::layout(layout).map_err(|no| format!("{name}: {no:?}"))?;
+fn reading_row(words: &mut [u64], note: &str, layout: &[u8]) -> Result<Row, String> {
+    let types = read::layout(layout).map_err(|no| format!("reading: {no:?}"))?;
     let answer = ours::read_layout(words, layout);
-    if answer != [0, u64::from(NO_PLACE), 0, 0] {
-        return Err(format!("{name}: ours {answer:?}"));
+    if answer != accepted(0) {
+        return Err(format!("reading {} bytes: ours {answer:?}", layout.len()));
     }
-    let (ours, rust) = measure(
-        || ours::read_layout(words, black_box(layout)),
-        || read::layout(black_box(layout)),
-    );
+    let [ours, whole] = medians([
+        work(|| ours::read_layout(words, black_box(layout))),
+        work(|| read::layout(black_box(layout))),
+    ]);
     Ok(Row {
-        name: format!("{name}, {} bytes, {} types", layout.len(), types.len()),
-        bytes: Some(layout.len()),
+        what: format!("{} bytes, {} types{note}", layout.len(), types.len()),
+        size: Some(layout.len()),
         ours,
-        rust,
+        whole,
+        alone: None,
     })
-}
-
-/// `validate` beside decoding and validating, and beside validating alone.
-fn validating(name: &str, words: &mut [u64], asked: &Asked) -> Result<[Row; 2], String> {
-    let values = write::values(&asked.values);
-    let theirs = decoded(&asked.layout)?;
-    let run =
-        |judge: &rust::Judge| judge.validate(asked.name.as_bytes(), asked.length, &asked.values);
-    let wanted = match run(&theirs) {
-        Some(Ok(count)) => count as u64,
-        other => return Err(format!("{name}: Rust {other:?}")),
-    };
-    let call = |words: &mut [u64]| {
-        let name = asked.name.as_bytes();
-        ours::validate(words, black_box(&asked.layout), name, &values, asked.length)
-    };
-    let answer = call(words);
-    if answer != [0, u64::from(NO_PLACE), 0, wanted] {
-        return Err(format!("{name}: ours {answer:?}, Rust {wanted}"));
-    }
-    let row = |what: &str, (ours, rust)| Row {
-        name: format!("validate {name}, {} bytes, {what}", asked.layout.len()),
-        bytes: None,
-        ours,
-        rust,
-    };
-    let whole = measure(
-        || call(words),
-        || {
-            let read = read::values(black_box(&values));
-            (
-                decoded(black_box(&asked.layout)).map(|judge| run(&judge)),
-                read,
-            )
-        },
-    );
-    let alone = measure(|| call(words), || run(black_box(&theirs)));
-    Ok([
-        row("Rust decodes too", whole),
-        row("Rust has decoded", alone),
-    ])
-}
-
-fn decoded(layout: &[u8]) -> Result<rust::Judge, String> {
-    let read = read::layout(layout).map_err(|no| format!("{no:?}"))?;
-    Ok(rust::Judge::new(&read))
-}
-
-fn print(rows: &[Row]) {
-    println!("{:<52} {:>16} {:>16} {:>7}", "", "ours", "Rust", "ratio");
-    for row in rows {
-        let told = |ns: f64| match row.bytes {
-            Some(bytes) => format!("{:.1} MB/s", bytes as f64 * 1000.0 / ns),
-            None => format!("{:.0} ns", ns),
-        };
-        let ratio = row.rust / row.ours;
-        println!(
-            "{:<52} {:>16} {:>16} {:>7.2}",
-            row.name,
-            told(row.ours),
-            told(row.rust),
-            ratio
-        );
-    }
 }

@@ -1,6 +1,6 @@
-//! The calls of crates/clib, from the archive that `rt staticlib clib` writes.
-//! There a slice is an address and a length, the answer four words: number
-//! (0 if accepted), place, offset, and value or count.
+//! The calls of crates/ciztarmo, from the archive. There a slice is an address
+//! and a length, the answer four words: number (0 if accepted), place, offset,
+//! and value, count or length.
 
 pub type Answer = [u64; 4];
 
@@ -10,6 +10,15 @@ extern "C" {
         words_len: usize,
         layout: *const u8,
         layout_len: usize,
+        answer: *mut Answer,
+    );
+    fn ciztarmo_build_set(
+        words: *mut u64,
+        words_len: usize,
+        set: *const u8,
+        set_len: usize,
+        out: *mut u8,
+        out_len: usize,
         answer: *mut Answer,
     );
     fn ciztarmo_validate(
@@ -35,6 +44,23 @@ pub fn read_layout(words: &mut [u64], layout: &[u8]) -> Answer {
             words.len(),
             layout.as_ptr(),
             layout.len(),
+            &mut answer,
+        );
+    }
+    answer
+}
+
+pub fn build_set(words: &mut [u64], set: &[u8], out: &mut [u8]) -> Answer {
+    let mut answer = [0; 4];
+    // SAFETY: as above.
+    unsafe {
+        ciztarmo_build_set(
+            words.as_mut_ptr(),
+            words.len(),
+            set.as_ptr(),
+            set.len(),
+            out.as_mut_ptr(),
+            out.len(),
             &mut answer,
         );
     }

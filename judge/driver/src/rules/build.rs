@@ -10,12 +10,21 @@ type B<T> = Result<T, u8>;
 
 /// The call: words and output length as the caller gives them.
 pub fn build(set: &[u8], words: u64, room: u64) -> Result<Vec<u8>, No> {
+    written(&types(set, words)?, room)
+}
+
+/// Its first part: 19, 1, and the reading of the set.
+pub fn types(set: &[u8], words: u64) -> Result<Set, No> {
     if words < WORDS {
         return Err(No::plain(19));
     }
     read::sizes(&[set])?;
-    let types = read::set(set)?;
-    let trees = build_set(&types)?;
+    read::set(set)
+}
+
+/// The rest: the layout of the types, in an output of `room` bytes.
+pub fn written(types: &[Type], room: u64) -> Result<Vec<u8>, No> {
+    let trees = build_set(types)?;
     let bytes = write::layout(&trees);
     let fits = bytes.len() <= LIMIT && bytes.len() as u64 <= room;
     match fits && read::layout(&bytes).is_ok() {

@@ -1,0 +1,185 @@
+//! What was measured, as aligned text or as Markdown.
+
+use super::Head;
+
+/// Nanoseconds of a call. `whole` is the Rust from bytes to the answer,
+/// `alone` the Rust's own call on values that it has.
+pub struct Row {
+    pub what: String,
+    /// Bytes, values, calls or types: what the rows of a group differ in. A
+    /// row of another sort has none.
+    pub size: Option<usize>,
+    pub ours: f64,
+    pub whole: f64,
+    pub alone: Option<f64>,
+}
+
+/// Rows that show how time grows with their size.
+pub struct Group {
+    pub head: Head,
+    pub rows: Vec<Row>,
+}
+
+/// One kind of call in parts: reading bytes to the judge's trees, from there
+/// to the Rust's values, the Rust's call, back to trees, and writing.
+pub struct Parts {
+    pub what: String,
+    pub ours: f64,
+    pub decode: f64,
+    pub convert: f64,
+    pub call: f64,
+    pub convert_back: f64,
+    pub encode: f64,
+}
+
+impl Parts {
+    /// The Rust's time over ours, with the conversions left out.
+    pub fn bare(&self) -> f64 {
+        (self.decode + self.call + self.encode) / self.ours
+    }
+}
+
+/// A ratio of the Rust's time to ours: wanted, measured, and measured without
+/// the conversions.
+pub struct Aim {
+    pub what: &'static str,
+    pub wanted: f64,
+    pub got: f64,
+    pub bare: Option<f64>,
+}
+
+/// A part that a call does not have took no time.
+fn micro(ns: f64) -> String {
+    match ns == 0.0 {
+        true => "-".to_string(),
+        false => format!("{:.2}", ns / 1000.0),
+    }
+}
+
+fn ratio(ratio: f64) -> String {
+    match ratio < 0.1 {
+        true => format!("{ratio:.4}"),
+        false => format!("{ratio:.2}"),
+    }
+}
+
+/// Nanoseconds of ours for each unit that a row has more than the one above.
+fn slope(rows: &[Row], i: usize) -> String {
+    let before = i.checked_sub(1).map(|before| &rows[before]);
+    match (before.and_then(|b| Some((b.size?, b.ours))), rows[i].size) {
+        (Some((size, ours)), Some(more)) => {
+            let units = more as f64 - size as f64;
+            format!("{:.2}", (rows[i].ours - ours) / units)
+        }
+        _ => "-".to_string(),
+    }
+}
+
+fn group_lines(group: &Group) -> Vec<Vec<String>> {
+    let head = [
+        group.head.0,
+        "ours, µs",
+        "Rust from bytes, µs",
+        "ratio",
+        "Rust's call alone, µs",
+        "ratio",
+    ];
+    let mut out = vec![head.map(str::to_string).to_vec()];
+    out[0].push(format!("ours, ns per {} more", group.head.1));
+    for (i, row) in group.rows.iter().enumerate() {
+        let alone = |told: &dyn Fn(f64) -> String| row.alone.map_or("-".to_string(), told);
+        out.push(vec![
+            row.what.clone(),
+            micro(row.ours),
+            micro(row.whole),
+            ratio(row.whole / row.ours),
+            alone(&micro),
+            alone(&|ns| ratio(ns / row.ours)),
+            slope(&group.rows, i),
+        ]);
+    }
+    out
+}
+
+fn parts_lines(parts: &[Parts]) -> Vec<Vec<String>> {
+    let head = [
+        "the Rust's side in parts, µs",
+        "decode",
+        "convert",
+        "call",
+        "convert back",
+        "encode",
+        "ours",
+        "ratio without conversions",
+    ];
+    let mut out = vec![head.map(str::to_string).to_vec()];
+    for p in parts {
+        let mut line = vec![p.what.clone()];
+        let times = [
+            p.decode,
+            p.convert,
+            p.call,
+            p.convert_back,
+            p.encode,
+            p.ours,
+        ];
+        line.extend(times.map(micro));
+        line.push(ratio(p.bare()));
+        out.push(line);
+    }
+    out
+}
+
+fn aim_lines(aims: &[Aim]) -> Vec<Vec<String>> {
+    let head = ["aim", "wanted", "ratio", "", "without conversions", ""];
+    let mut out = vec![head.map(str::to_string).to_vec()];
+    let met = |got: f64, aim: &Aim| match got >= aim.wanted {
+        true => "met".to_string(),
+        false => "not met".to_string(),
+    };
+    for aim in aims {
+        let bare = |told: &dyn Fn(f64) -> String| aim.bare.map_or("-".to_string(), told);
+        out.push(vec![
+            aim.what.to_string(),
+            format!("{}", aim.wanted),
+            ratio(aim.got),
+            met(aim.got, aim),
+            bare(&ratio),
+            bare(&|got| met(got, aim)),
+        ]);
+    }
+    out
+}
+
+pub fn print(groups: &[Group], parts: &[Parts], aims: &[Aim], markdown: bool) {
+    let last = [parts_lines(parts), aim_lines(aims)];
+    let tables = groups.iter().map(group_lines).chain(last);
+    let texts: Vec<String> = match markdown {
+        true => tables.map(|t| as_markdown(&t)).collect(),
+        false => tables.map(|t| as_text(&t)).collect(),
+    };
+    print!("{}", texts.join("\n"));
+}
+
+fn as_text(table: &[Vec<String>]) -> String {
+    let width = |column: usize| {
+        let widths = table.iter().map(|line| line[column].chars().count());
+        widths.max().unwrap_or(0)
+    };
+    let mut out = String::new();
+    for line in table {
+        out += &format!("{:<width$}", line[0], width = width(0));
+        for (column, text) in line.iter().enumerate().skip(1) {
+            out += &format!("  {text:>width$}", width = width(column));
+        }
+        out.push('\n');
+    }
+    out
+}
+
+fn as_markdown(table: &[Vec<String>]) -> String {
+    let row = |line: &Vec<String>| format!("| {} |\n", line.join(" | "));
+    let rule = format!("|---|{}\n", "---:|".repeat(table[0].len() - 1));
+    let body: String = table[1..].iter().map(row).collect();
+    format!("{}{rule}{body}", row(&table[0]))
+}
