@@ -2,3 +2,5 @@ pub mod Tests
 pub mod Segments
 pub mod Fields
 pub mod Listed
+pub mod Links
+pub mod Pass

@@ -6,8 +6,8 @@ use mathlib.Core.Option.{Option, some, none}
 use Prim.Native.Nat.{ℕ, zero, suc, _+_, _-_, _≤_, _<_}
 use native.Mathlib.Numerals.{add-one}
 use native.Mathlib.Omega.{arith}
-use lib.ListN.{length, take, drop, getD}
-use lib.Seq.{drop-cons}
+use lib.ListN.{length, take, drop, getD, set}
+use lib.Seq.{drop-cons, set-comm}
 use Rattle.blocks.specs.Bytes.{bytes}
 use Rattle.blocks.specs.Name.{Name, same, among}
 use Rattle.blocks.specs.Tree.{num}
@@ -16,8 +16,8 @@ use Rattle.blocks.proofs.Name.{same-eq}
 use Rattle.resolved.specs.Resolved.{ResolvedType, kindOf}
 use Rattle.ir.specs.Ir.{IrParameter}
 use Rattle.ir.specs.Layout.{parameterTree, listTree, entriesTree}
-use Rattle.put.specs.Poke.{Wrote}
-use Rattle.put.proofs.Laws.{parts, no-parts}
+use Rattle.put.specs.Poke.{poke, Wrote}
+use Rattle.put.proofs.Laws.{parts, no-parts, bytes-length}
 use Rattle.builder.specs.Names.{replace-colons, split, before-element}
 use Rattle.builder.specs.Registry.{Registry, firsts, into-parameters}
 use Rattle.builder.specs.Build.{fieldsOf, has-jagged, jagged-before, is-jagged-element-parameter, filter-jagged-element-parameters}
@@ -27,7 +27,7 @@ use Rattle.parameters.specs.declared.Segment.the-variants.{Part, Missing
 use Rattle.parameters.specs.Segments.{Found}
 use Rattle.parameters.proofs.Tests.{was-true, was-false}
 use Rattle.parameters.specs.Ready.{Ready}
-use Rattle.parameters.specs.Listed.{nameIn, names, lists, listed, Room, Jagged, Asks}
+use Rattle.parameters.specs.Listed.{nameIn, names, lists, Room, Jagged, Asks}
 
 -- ---- two names
 
@@ -96,6 +96,11 @@ module _ (t : ResolvedType) (s ws : List ℕ) (i : ℕ) {f : Bool} (e : f ≡ no
       ap not g ∙ ap (λ (b : Bool). b && not (is-jagged-element-parameter t (nameIn s ws i))) (sym (was-true f h) ∙ e)
 
 -- ---- one entry after another
+
+-- what is listed of the k entries from i on
+unfoldable pub listed : ResolvedType → List ℕ → List ℕ → ℕ → ℕ → List IrParameter
+listed t s ws i zero = []
+listed t s ws i (suc k) = cond (lists t s ws i) (entryOf s (getD ws i 0) .parameter ∷ listed t s ws (i + 1) k) (listed t s ws (i + 1) k)
 
 module _ (t : ResolvedType) (s ws : List ℕ) {i n : ℕ} where
   listed-step : i < n → listed t s ws i (n - i) ≡ cond (lists t s ws i) (entryOf s (getD ws i 0) .parameter ∷ listed t s ws (i + 1) (n - (i + 1))) (listed t s ws (i + 1) (n - (i + 1)))
@@ -220,20 +225,41 @@ module _ (t : ResolvedType) (s ws : List ℕ) {i n : ℕ} (k : ℕ) (c : Counts 
   count-end h = let l = ap (λ (l : List IrParameter). length l) (listed-end t s ws h) in omega arith
 
 -- behind their count
-pub counted : {xs ys zs : List ℕ} {p q u : ℕ} (t : ResolvedType) (s ws : List ℕ) (n : ℕ) {k : ℕ} → n ≤ length ws → k ≡ length (listed t s ws 0 n) → Wrote xs p (bytes 2 k) ys q →
+counted : {xs ys zs : List ℕ} {p q u : ℕ} (t : ResolvedType) (s ws : List ℕ) (n : ℕ) {k : ℕ} → n ≤ length ws → k ≡ length (listed t s ws 0 n) → Wrote xs p (bytes 2 k) ys q →
     Wrote ys q (write (entriesTree parameterTree (listed t s ws 0 n))) zs u → Wrote xs p (write (listTree parameterTree (filter-jagged-element-parameters t (into-parameters (entriesOf s ws n))))) zs u
 unfolding write
 counted {xs} {ys} {zs} {p} {q} {u} t s ws n h e v w =
     subst (λ (l : List IrParameter). Wrote xs p (write (listTree parameterTree l)) zs u) (sym (listed-is t s ws n h))
     (parts (num 2 (length (listed t s ws 0 n))) (entriesTree parameterTree (listed t s ws 0 n)) (subst (λ (m : ℕ). Wrote xs p (bytes 2 m) ys q) e v) w)
 
+-- a store behind a write
+set-behind : (xs : List ℕ) (i j x : ℕ) (cs : List ℕ) → i + length cs ≤ j → set (poke xs i cs) j x ≡ poke (set xs j x) i cs
+unfolding poke
+set-behind xs i j x [] h = refl
+set-behind xs i j x (c ∷ cs) h = rw (set-behind (set xs i c) (suc i) j x cs (omega arith), set-comm xs i j c x (omega arith))
+
+-- a write before another may come after it
+poke-before : (xs : List ℕ) (i j : ℕ) (cs bs : List ℕ) → i + length cs ≤ j → poke (poke xs j bs) i cs ≡ poke (poke xs i cs) j bs
+unfolding poke
+poke-before xs i j cs [] h = refl
+poke-before xs i j cs (b ∷ bs) h = rw (set-behind xs i j b cs h) (poke-before (set xs j b) i (suc j) cs bs (omega arith))
+
+-- their count is written last
+pub counted-last : {xs ys zs : List ℕ} {p q u : ℕ} (t : ResolvedType) (s ws : List ℕ) (n : ℕ) {k : ℕ} → n ≤ length ws → k ≡ length (listed t s ws 0 n) →
+    Wrote xs (p + 2) (write (entriesTree parameterTree (listed t s ws 0 n))) ys u → Wrote ys p (bytes 2 k) zs q → Wrote xs p (write (listTree parameterTree (filter-jagged-element-parameters t (into-parameters (entriesOf s ws n))))) zs u
+counted-last {xs} {ys} {zs} {p} {q} {u} t s ws n {k} h e w v =
+    let l : length (bytes 2 k) ≡ 2 = bytes-length 2 k in
+    let first : Wrote xs p (bytes 2 k) (poke xs p (bytes 2 k)) (p + 2) = record { end = rw l; left = refl } in
+    let rest : Wrote (poke xs p (bytes 2 k)) (p + 2) (write (entriesTree parameterTree (listed t s ws 0 n))) zs u = record {
+      end = w .end;
+      left = v .left ∙ rw (w .left) (poke-before xs p (p + 2) (bytes 2 k) (write (entriesTree parameterTree (listed t s ws 0 n))) (omega arith));
+    } in
+    counted t s ws n h e first rest
+
 -- ---- room for two names
 
 pub same-room : {s ws : List ℕ} {n : ℕ} {a b c d : List ℕ} → Room s ws n a b → length c ≡ length a → length d ≡ length b → Room s ws n c d
 same-room r e f = record { standing = r .standing; first = rw e (r .first); second = rw f (r .second) }
-
-pub same-asks : {s ws : List ℕ} {n type : ℕ} {j : Bool} {a b c d : List ℕ} → Asks s ws n type j a b → length c ≡ length a → length d ≡ length b → Asks s ws n type j c d
-same-asks r e f = record { room = same-room (r .room) e f; type-at = r .type-at; jagged-is = r .jagged-is }
 
 -- an entry has a place in the words
 pub placed : {s ws : List ℕ} {n i : ℕ} → Standing s ws n → i < n → (i < 512) × (i < length ws)

@@ -1,3 +1,4 @@
 pub mod Ready
 pub mod Segments
 pub mod Listed
+pub mod Links

@@ -1,7 +1,7 @@
 -- The entries that are listed, one by one: those whose name no earlier entry has, less the elements of jagged arrays.
 use Prim.Native.Nat.{ℕ, zero, suc, _+_, _≤_}
 use mathlib.Core.Path.{_≡_}
-use mathlib.Core.Bool.{Bool, true, false, not, _&&_, cond}
+use mathlib.Core.Bool.{Bool, true, false, not, _&&_}
 use mathlib.Core.List.{List, [], _∷_}
 use lib.ListN.{length, getD}
 use Rattle.blocks.specs.Bytes.{le2}
@@ -9,9 +9,8 @@ use Rattle.blocks.specs.Name.{Name, among}
 use Rattle.walk.specs.Accepted.{Accepted, tree}
 use Rattle.resolved.specs.Resolved.{ResolvedType}
 use Rattle.resolved.specs.Set.{typeOf}
-use Rattle.ir.specs.Ir.{IrParameter}
 use Rattle.builder.specs.Build.{is-jagged-element-parameter}
-use Rattle.registry.specs.Words.{Standing, entryOf, entryName}
+use Rattle.registry.specs.Words.{Standing, entryName}
 
 abbrev pub nameIn : List ℕ → List ℕ → ℕ → Name
 nameIn s ws i = entryName s (getD ws i 0)
@@ -24,11 +23,6 @@ names s ws (suc j) = nameIn s ws j ∷ names s ws j
 -- whether the entry at i is listed
 abbrev pub lists : ResolvedType → List ℕ → List ℕ → ℕ → Bool
 lists t s ws i = not (among (nameIn s ws i) (names s ws i)) && not (is-jagged-element-parameter t (nameIn s ws i))
-
--- what is listed of the k entries from i on
-unfoldable pub listed : ResolvedType → List ℕ → List ℕ → ℕ → ℕ → List IrParameter
-listed t s ws i zero = []
-listed t s ws i (suc k) = cond (lists t s ws i) (entryOf s (getD ws i 0) .parameter ∷ listed t s ws (i + 1) k) (listed t s ws (i + 1) k)
 
 -- the registry, and room for two names
 pub record Room (s ws : List ℕ) (n : ℕ) (a b : List ℕ) : Type 0 where

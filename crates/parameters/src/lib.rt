@@ -10,15 +10,16 @@ ghost use Rattle.blocks.specs.Write.{write};
 ghost use Rattle.walk.specs.Accepted.{Accepted, tree};
 ghost use Rattle.resolved.specs.Resolved.{kindOf, jaggedOf, fields};
 ghost use Rattle.resolved.specs.Set.{typeOf, thingOf, fieldsIn};
-ghost use Rattle.ir.specs.Layout.{parameterTree, listTree, entriesTree};
+ghost use Rattle.ir.specs.Layout.{parameterTree, listTree};
 ghost use Rattle.builder.specs.Names.{replace-colons, split, before-element, orElse};
 ghost use Rattle.builder.specs.Registry.{into-parameters};
 ghost use Rattle.builder.specs.Build.{fieldsOf, has-jagged, is-jagged-element-parameter, filter-jagged-element-parameters};
 ghost use Rattle.put.specs.Poke.{Wrote};
-ghost use Rattle.registry.specs.Words.{entriesOf};
+ghost use Rattle.registry.specs.Words.{Standing, entriesOf};
 ghost use Rattle.parameters.specs.Ready.{Ready};
 ghost use Rattle.parameters.specs.Segments.{pair, first-length, Found};
-ghost use Rattle.parameters.specs.Listed.{nameIn, names, lists, listed, Room, Jagged, Asks};
+ghost use Rattle.parameters.specs.Listed.{nameIn, names, lists, Room, Jagged, Asks};
+ghost use Rattle.parameters.specs.Links.{placeOf, OfPlace, Links, Linked};
 
 // A segment of a name: where it begins and ends.
 enum Segment {
@@ -187,45 +188,89 @@ fn is_jagged_element(
     }
 }
 
-// Whether two entries have one name.
-fn same_entry(
+// A link as an index.
+fn wide(x: u16) -> usize
+    ensures { λ r. ⌜ r ≡ x ⌝ }
+{
+    x as usize
+}
+
+// The place of a name in a table. Few names share one, unless they are made to: those are compared each with each.
+fn place(name: &[u8]) -> usize
+    ensures { λ r. ⌜ (r ≡ placeOf (now (name .entry))) × (r < 2039) ⌝ }
+{
+    let mut i = name.len();
+    let mut h = 0;
+    while 0 < i {
+        i -= 1;
+        h = h % 4294967296 * 31 + get::wide(name[i]);
+    }
+    h % 2039
+}
+
+// Whether the entry at j has this name.
+fn has_name(s: &[u8], words: &[u64], n: usize, j: usize, name: &[u8], b: &mut [u8]) -> bool
+    requires { ⌜ Standing (now s) (now words) n × (j < n) × (520 ≤ length (now b)) ⌝ }
+    ensures { λ r. ⌜ r ≡ same (now (name .entry)) (nameIn (now (s .entry)) (now (words .entry)) j) ⌝ }
+{
+    let w = words[j];
+    if registry::name_length(s, w) != name.len() {
+        return false;
+    }
+    let q = registry::put_entry_name(s, w, b, 0);
+    get::same_name(name, &b[2..q])
+}
+
+// Whether none of the first i entries has this name. The last of them has its place; the links lead to the earlier ones that
+// have it, and no other is asked.
+fn is_new(
     s: &[u8],
     words: &[u64],
     n: usize,
+    links: &[u16; 512],
     i: usize,
-    j: usize,
-    a: &mut [u8],
+    name: &[u8],
     b: &mut [u8],
 ) -> bool
-    requires { ⌜ Room (now s) (now words) n (now a) (now b) × (i < n) × (j < n) ⌝ }
-    ensures { λ r. ⌜ r ≡ same (nameIn (now (s .entry)) (now (words .entry)) i) (nameIn (now (s .entry)) (now (words .entry)) j) ⌝ }
-{
-    let v = words[i];
-    let w = words[j];
-    if registry::name_length(s, v) != registry::name_length(s, w) {
-        return false;
-    }
-    let p = registry::put_entry_name(s, v, a, 0);
-    let q = registry::put_entry_name(s, w, b, 0);
-    get::same_name(&a[2..p], &b[2..q])
-}
-
-// Whether no earlier entry has this one's name.
-fn is_first(s: &[u8], words: &[u64], n: usize, i: usize, a: &mut [u8], b: &mut [u8]) -> bool
-    requires { ⌜ Room (now s) (now words) n (now a) (now b) × (i < n) ⌝ }
-    ensures { λ r. ⌜ r ≡ not (among (nameIn (now (s .entry)) (now (words .entry)) i) (names (now (s .entry)) (now (words .entry)) i)) ⌝ }
+    requires { ⌜ Standing (now s) (now words) n × (i ≤ n) × (520 ≤ length (now b)) × Links (now links) (now s) (now words) i × OfPlace (now s) (now words) (placeOf (now name)) i ⌝ }
+    ensures { λ r. ⌜ r ≡ not (among (now (name .entry)) (names (now (s .entry)) (now (words .entry)) i)) ⌝ }
 {
     let mut j = i;
     while 0 < j {
         j -= 1;
-        if same_entry(s, words, n, i, j, a, b) {
+        if has_name(s, words, n, j, name, b) {
             return false;
         }
+        j = wide(links[j]);
     }
     true
 }
 
-// Whether an entry is listed.
+// Whether no earlier entry has this one's name. It is linked behind them.
+fn is_first(
+    s: &[u8],
+    words: &[u64],
+    n: usize,
+    i: usize,
+    table: &mut [u16; 2039],
+    links: &mut [u16; 512],
+    a: &mut [u8],
+    b: &mut [u8],
+) -> bool
+    requires { ⌜ Room (now s) (now words) n (now a) (now b) × (i < n) × Linked (now table) (now links) (now s) (now words) i ⌝ }
+    ensures { λ r. ⌜ r ≡ not (among (nameIn (now (s .entry)) (now (words .entry)) i) (names (now (s .entry)) (now (words .entry)) i)) ⌝ }
+    ensures { λ _. ⌜ Linked (now (table .exit)) (now (links .exit)) (now (s .entry)) (now (words .entry)) (i + 1) ⌝ }
+{
+    let q = registry::put_entry_name(s, words[i], a, 0);
+    let name = &a[2..q];
+    let p = place(name);
+    let last = table[p];
+    table[p] = (i + 1) as u16;
+    links[i] = last;
+    is_new(s, words, n, links, wide(last), name, b)
+}
+
+// Whether an entry is listed. It is linked behind the earlier ones.
 fn is_listed(
     s: &[u8],
     words: &[u64],
@@ -233,13 +278,16 @@ fn is_listed(
     i: usize,
     kind: usize,
     jagged: bool,
+    table: &mut [u16; 2039],
+    links: &mut [u16; 512],
     a: &mut [u8],
     b: &mut [u8],
 ) -> bool
-    requires { ⌜ Asks (now s) (now words) n kind jagged (now a) (now b) × (i < n) ⌝ }
+    requires { ⌜ Asks (now s) (now words) n kind jagged (now a) (now b) × (i < n) × Linked (now table) (now links) (now s) (now words) i ⌝ }
     ensures { λ r. ⌜ ((x : Accepted (now (s .entry)) 1 7 kind) → r ≡ lists (typeOf (tree x)) (now (s .entry)) (now (words .entry)) i) ⌝ }
+    ensures { λ _. ⌜ Linked (now (table .exit)) (now (links .exit)) (now (s .entry)) (now (words .entry)) (i + 1) ⌝ }
 {
-    if !is_first(s, words, n, i, a, b) {
+    if !is_first(s, words, n, i, table, links, a, b) {
         return false;
     }
     if !jagged {
@@ -248,63 +296,7 @@ fn is_listed(
     !is_jagged_element(s, words, n, i, kind, a, b)
 }
 
-// How many entries are listed.
-fn count_listed(
-    s: &[u8],
-    words: &[u64],
-    n: usize,
-    kind: usize,
-    jagged: bool,
-    a: &mut [u8],
-    b: &mut [u8],
-) -> usize
-    requires { ⌜ Asks (now s) (now words) n kind jagged (now a) (now b) ⌝ }
-    ensures { λ r. ⌜ ((x : Accepted (now (s .entry)) 1 7 kind) → r ≡ length (listed (typeOf (tree x)) (now (s .entry)) (now (words .entry)) 0 n)) ⌝ }
-    ensures { λ r. ⌜ r ≤ 512 ⌝ }
-{
-    let mut count = 0;
-    let mut i = 0;
-    while i < n {
-        if !is_listed(s, words, n, i, kind, jagged, a, b) {
-            i += 1;
-            continue;
-        }
-        count += 1;
-        i += 1;
-    }
-    count
-}
-
-// The parameters that are listed, one behind another.
-fn put_listed(
-    s: &[u8],
-    words: &[u64],
-    n: usize,
-    kind: usize,
-    jagged: bool,
-    a: &mut [u8],
-    b: &mut [u8],
-    out: &mut [u8],
-    at: usize,
-) -> usize
-    requires { ⌜ Asks (now s) (now words) n kind jagged (now a) (now b) × (at < 2 ^ 57 + 2) ⌝ }
-    ensures { λ r. ⌜ ((x : Accepted (now (s .entry)) 1 7 kind) → Wrote (now (out .entry)) at (write (entriesTree parameterTree (listed (typeOf (tree x)) (now (s .entry)) (now (words .entry)) 0 n))) (now (out .exit)) r) ⌝ }
-    ensures { λ r. ⌜ (at ≤ r) × (r ≤ at + 358400) ⌝ }
-{
-    let mut p = at;
-    let mut i = 0;
-    while i < n {
-        if !is_listed(s, words, n, i, kind, jagged, a, b) {
-            i += 1;
-            continue;
-        }
-        p = registry::put_parameter(s, words[i], out, p);
-        i += 1;
-    }
-    p
-}
-
-// The parameters of the type at `kind`, behind their count.
+// The parameters of the type at `kind`, behind their count, which is written last.
 pub fn put_parameters(
     s: &[u8],
     words: &[u64],
@@ -319,8 +311,32 @@ pub fn put_parameters(
 {
     let mut a = [0u8; 520];
     let mut b = [0u8; 520];
+    let mut table = [0u16; 2039];
+    let mut links = [0u16; 512];
     let jagged = any_jagged(s, kind);
-    let count = count_listed(s, words, n, kind, jagged, &mut a, &mut b);
-    let first = put::put_le(out, at, 2, count as u64);
-    put_listed(s, words, n, kind, jagged, &mut a, &mut b, out, first)
+    let mut p = at + 2;
+    let mut count = 0u64;
+    let mut i = 0;
+    while i < n {
+        if !is_listed(
+            s,
+            words,
+            n,
+            i,
+            kind,
+            jagged,
+            &mut table,
+            &mut links,
+            &mut a,
+            &mut b,
+        ) {
+            i += 1;
+            continue;
+        }
+        p = registry::put_parameter(s, words[i], out, p);
+        count += 1;
+        i += 1;
+    }
+    put::put_le(out, at, 2, count);
+    p
 }

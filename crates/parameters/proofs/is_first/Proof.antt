@@ -1,52 +1,93 @@
--- `parameters::is_first` meets its contract. The loop's invariant: the name is among all earlier ones if it is among the first j.
-use mathlib.Core.Path.{_≡_, refl, _∙_}
-use Prim.Native.Nat.{_≤_}
-use lib.ListN.{length}
-use Rattle.blocks.specs.Name.{among}
-use Rattle.parameters.specs.Listed.{nameIn, names}
-use Rattle.parameters.proofs.Listed.{met, unmet, none-met, same-room}
+-- `parameters::is_first` meets its contract. Assumes nothing.
+use Rattle.parameters.proofs.Segments.{behind-length}
+use Rattle.parameters.proofs.Listed.{placed}
+use Rattle.parameters.proofs.Links.{linked-more, asked-within, asked-links, asked-place, asked-all}
 use native.Mathlib.Omega.{arith}
+use borrow.Author.Needs.{needs}
 use Rattle.parameters.proofs.is_first.Statement.{statement}
 use Rattle.parameters.proofs.is_first.Tie as tie
 
-abbrev Inv-loop : tie.InvT-loop
-Inv-loop s words n i a₀ b₀ j₀ a b j = (j ≤ i) × (length a ≡ length a₀) × (length b ≡ length b₀) × (among (nameIn s words i) (names s words i) ≡ among (nameIn s words i) (names s words j))
+mul-put-entry-name : tie.Need-mul-put-entry-name
+mul-put-entry-name c = search needs
 
-abbrev μ-loop : tie.MeasureT-loop
-μ-loop s words n i a₀ b₀ j₀ a b j = j
+shared-slice-read-put-entry-name : tie.Need-shared-slice-read-put-entry-name
+shared-slice-read-put-entry-name c = search needs
 
-loop-holds : tie.Need-loop-holds Inv-loop μ-loop
-loop-holds c = (omega arith, refl, refl, refl)
+put-entry-name-requires : tie.Need-put-entry-name-requires
+put-entry-name-requires c κs = search needs
 
-sub-j : tie.Need-sub-j Inv-loop μ-loop
-sub-j c = omega (arith, c .loop-test .taken)
+sub-name : tie.Need-sub-name
+sub-name c = behind-length _ (c .before .before .put-entry-name .ensures .0) (c .before .before .put-entry-name .ensures .1 .1) (c .before .before .before .before .before .before .before .before .before .pre .0 .first) (c .before .before .put-entry-name .kept .1 .1 .0) .low
 
-same-entry-requires : tie.Need-same-entry-requires Inv-loop μ-loop
-same-entry-requires c κs = (same-room (c .before .before .before .before .before .before .before .before .pre .0) (c .before .before .before .loop .inv .1) (c .before .before .before .loop .inv .2), c .before .before .before .before .before .before .before .before .pre .1, omega (arith, c .before .before .before .before .before .before .before .before .pre .1, c .before .before .before .loop .inv .0, c .before .before .loop-test .taken))
+part-name-start : tie.Need-part-name-start
+part-name-start c = omega (arith, behind-length _ (c .before .before .before .put-entry-name .ensures .0) (c .before .before .before .put-entry-name .ensures .1 .1) (c .before .before .before .before .before .before .before .before .before .before .pre .0 .first) (c .before .before .before .put-entry-name .kept .1 .1 .0))
 
-same-length : tie.Need-same-length Inv-loop μ-loop
-same-length c = c .before .before .before .before .before .same-entry .kept .1 .1 .1 .1 .1 .0 ∙ c .before .before .before .before .before .before .before .before .before .loop .inv .1
+part-name-end : tie.Need-part-name-end
+part-name-end c = omega (arith, behind-length _ (c .before .before .before .put-entry-name .ensures .0) (c .before .before .before .put-entry-name .ensures .1 .1) (c .before .before .before .before .before .before .before .before .before .before .pre .0 .first) (c .before .before .before .put-entry-name .kept .1 .1 .0))
 
-same-length-2 : tie.Need-same-length-2 Inv-loop μ-loop
-same-length-2 c = c .before .before .before .before .before .same-entry .kept .1 .1 .1 .1 .1 .1 .0 ∙ c .before .before .before .before .before .before .before .before .before .loop .inv .2
+place-requires : tie.Need-place-requires
+place-requires c κs = search needs
 
-returns : tie.Need-returns Inv-loop μ-loop
-returns c = met _ _ _ (c .before .before .before .before .before .before .before .before .loop-test .taken) (c .before .before .before .before .before .before .before .before .before .loop .inv .3) (c .before .before .before .before .before .same-entry .ensures) (c .if1 .taken)
+mul-last : tie.Need-mul-last
+mul-last c = search needs
 
-loop-less : tie.Need-loop-less Inv-loop μ-loop
-loop-less c = omega (arith, c .before .before .before .before .before .before .before .before .loop-test .taken)
+element-copy-out-last : tie.Need-element-copy-out-last
+element-copy-out-last c = search needs
 
-loop-again : tie.Need-loop-again Inv-loop μ-loop
-loop-again c = (omega (arith, c .before .before .before .before .before .before .before .before .before .loop .inv .0), c .before .before .before .before .before .same-entry .kept .1 .1 .1 .1 .1 .0 ∙ c .before .before .before .before .before .before .before .before .before .loop .inv .1, c .before .before .before .before .before .same-entry .kept .1 .1 .1 .1 .1 .1 .0 ∙ c .before .before .before .before .before .before .before .before .before .loop .inv .2, unmet _ _ _ (c .before .before .before .before .before .before .before .before .loop-test .taken) (c .before .before .before .before .before .before .before .before .before .loop .inv .3) (c .before .before .before .before .before .same-entry .ensures) (c .if1 .left))
+add-table : tie.Need-add-table
+add-table c = search needs
 
-same-length-3 : tie.Need-same-length-3 Inv-loop μ-loop
-same-length-3 c = c .before .loop .inv .1
+cast-table : tie.Need-cast-table
+cast-table c = search needs
 
-same-length-4 : tie.Need-same-length-4 Inv-loop μ-loop
-same-length-4 c = c .before .loop .inv .2
+mul-table : tie.Need-mul-table
+mul-table c = search needs
 
-returns-2 : tie.Need-returns-2 Inv-loop μ-loop
-returns-2 c = none-met _ _ _ (c .loop-test .left) (c .before .loop .inv .3)
+element-write-table : tie.Need-element-write-table
+element-write-table c = search needs
+
+mul-links : tie.Need-mul-links
+mul-links c = search needs
+
+element-write-links : tie.Need-element-write-links
+element-write-links c = search needs
+
+wide-requires : tie.Need-wide-requires
+wide-requires c κs = search needs
+
+is-new-requires : tie.Need-is-new-requires
+is-new-requires c κs = (c .before .before .before .before .before .before .before .before .before .before .before .before .before .before .before .before .pre .0 .standing, omega (arith, c .before .before .before .before .before .before .before .before .before .before .before .before .before .before .before .before .pre .1, asked-within _ (c .before .before .before .before .before .before .before .before .before .before .before .before .before .before .before .before .pre .2) (behind-length _ (c .before .before .before .before .before .before .before .before .before .put-entry-name .ensures .0) (c .before .before .before .before .before .before .before .before .before .put-entry-name .ensures .1 .1) (c .before .before .before .before .before .before .before .before .before .before .before .before .before .before .before .before .pre .0 .first) (c .before .before .before .before .before .before .before .before .before .put-entry-name .kept .1 .1 .0) .is) (c .before .before .before .before .place .ensures .0) (c .before .wide .ensures)), c .before .before .before .before .before .before .before .before .before .before .before .before .before .before .before .before .pre .0 .second, asked-links _ (c .before .before .before .before .before .before .before .before .before .before .before .before .before .before .before .before .pre .2) (behind-length _ (c .before .before .before .before .before .before .before .before .before .put-entry-name .ensures .0) (c .before .before .before .before .before .before .before .before .before .put-entry-name .ensures .1 .1) (c .before .before .before .before .before .before .before .before .before .before .before .before .before .before .before .before .pre .0 .first) (c .before .before .before .before .before .before .before .before .before .put-entry-name .kept .1 .1 .0) .is) (c .before .before .before .before .place .ensures .0) (placed (c .before .before .before .before .before .before .before .before .before .before .before .before .before .before .before .before .pre .0 .standing) (c .before .before .before .before .before .before .before .before .before .before .before .before .before .before .before .before .pre .1) .0) (c .before .wide .ensures), asked-place _ (c .before .before .before .before .before .before .before .before .before .before .before .before .before .before .before .before .pre .2) (behind-length _ (c .before .before .before .before .before .before .before .before .before .put-entry-name .ensures .0) (c .before .before .before .before .before .before .before .before .before .put-entry-name .ensures .1 .1) (c .before .before .before .before .before .before .before .before .before .before .before .before .before .before .before .before .pre .0 .first) (c .before .before .before .before .before .before .before .before .before .put-entry-name .kept .1 .1 .0) .is) (c .before .before .before .before .place .ensures .0) (c .before .wide .ensures))
+
+same-length : tie.Need-same-length
+same-length c = search needs
+
+same-length-2 : tie.Need-same-length-2
+same-length-2 c = search needs
+
+returns : tie.Need-returns
+returns c = (asked-all _ (c .before .before .before .before .before .before .before .before .before .before .before .before .before .before .before .before .before .before .before .pre .2) (behind-length _ (c .before .before .before .before .before .before .before .before .before .before .before .before .put-entry-name .ensures .0) (c .before .before .before .before .before .before .before .before .before .before .before .before .put-entry-name .ensures .1 .1) (c .before .before .before .before .before .before .before .before .before .before .before .before .before .before .before .before .before .before .before .pre .0 .first) (c .before .before .before .before .before .before .before .before .before .before .before .before .put-entry-name .kept .1 .1 .0) .is) (c .before .before .before .before .before .before .before .place .ensures .0) (c .before .before .before .before .wide .ensures) (c .before .before .is-new .ensures), linked-more _ (c .before .before .before .before .before .before .before .before .before .before .before .before .before .before .before .before .before .before .before .pre .2) (behind-length _ (c .before .before .before .before .before .before .before .before .before .before .before .before .put-entry-name .ensures .0) (c .before .before .before .before .before .before .before .before .before .before .before .before .put-entry-name .ensures .1 .1) (c .before .before .before .before .before .before .before .before .before .before .before .before .before .before .before .before .before .before .before .pre .0 .first) (c .before .before .before .before .before .before .before .before .before .before .before .before .put-entry-name .kept .1 .1 .0) .is) (c .before .before .before .before .before .before .before .place .ensures .0) (placed (c .before .before .before .before .before .before .before .before .before .before .before .before .before .before .before .before .before .before .before .pre .0 .standing) (c .before .before .before .before .before .before .before .before .before .before .before .before .before .before .before .before .before .before .before .pre .1) .0))
 
 pub is-first-spec : {M : Type 1} → statement M
-is-first-spec = tie.close (tie.spec Inv-loop μ-loop loop-holds sub-j same-entry-requires same-length same-length-2 returns loop-less loop-again same-length-3 same-length-4 returns-2)
+is-first-spec =
+    tie.close
+    (tie.spec
+    mul-put-entry-name
+    shared-slice-read-put-entry-name
+    put-entry-name-requires
+    sub-name
+    part-name-start
+    part-name-end
+    place-requires
+    mul-last
+    element-copy-out-last
+    add-table
+    cast-table
+    mul-table
+    element-write-table
+    mul-links
+    element-write-links
+    wide-requires
+    is-new-requires
+    same-length
+    same-length-2
+    returns)

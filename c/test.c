@@ -1,0 +1,361 @@
+/*
+ * Tests of the archive's calls from C. Argument: the file examples/trip, the type Trip of document 01 with four runs.
+ *
+ * What is expected: the four answers are those of document 01's example. The layout's length (218) and the offsets are those that
+ * `judge/run answer` gives for the same inputs, by the rules of document 01 and the unchanged Rust.
+ *
+ * Prints the number of checks; a check that fails is told with file and line, and the status is 1.
+ */
+#include "ciztarmo.h"
+
+#include <stdio.h>
+#include <stdlib.h>
+#include <string.h>
+
+#define LAYOUT_LEN 218
+#define SPARE_WORDS 8
+#define DIRTY_WORD UINT64_C(0xA5C3A5C3A5C3A5C3)
+#define DIRTY_BYTE 0x5A
+
+static unsigned long checks, failures;
+
+static void check(int good, const char *what, int line)
+{
+    checks++;
+    if (good)
+        return;
+    failures++;
+    fprintf(stderr, "%s:%d: not so: %s\n", __FILE__, line, what);
+}
+
+#define CHECK(c) check((c) != 0, #c, __LINE__)
+
+/* Words and output lie on the heap, where the sanitizer sees an access outside them. */
+static uint64_t *words;
+static uint8_t *out;
+static uint8_t *too_long;
+static uint64_t answer[CIZTARMO_ANSWER_WORDS];
+
+static uint8_t trip[1024];
+static const uint8_t *set, *runs[4];
+static size_t set_len, run_lens[4];
+static uint8_t layout[LAYOUT_LEN];
+
+static const uint8_t name[] = {'T', 'r', 'i', 'p'};
+
+static void dirty(size_t many)
+{
+    for (size_t i = 0; i < many + SPARE_WORDS; i++)
+        words[i] = DIRTY_WORD;
+    for (int i = 0; i < CIZTARMO_ANSWER_WORDS; i++)
+        answer[i] = DIRTY_WORD;
+    memset(out, DIRTY_BYTE, CIZTARMO_MAX_INPUT);
+}
+
+/* The answer, the words that were lent (zero) and those behind them (as they were). */
+static void check_answer(int line, size_t many, uint64_t number, uint64_t place, uint64_t offset, uint64_t value)
+{
+    const uint64_t want[CIZTARMO_ANSWER_WORDS] = {number, place, offset, value};
+    int zero = 1, same = 1;
+    for (size_t i = 0; i < many; i++)
+        zero &= words[i] == 0;
+    for (size_t i = many; i < many + SPARE_WORDS; i++)
+        same &= words[i] == DIRTY_WORD;
+    check(zero, "the words are zero after the call", line);
+    check(same, "the words behind those that were lent are untouched", line);
+    for (int i = 0; i < CIZTARMO_ANSWER_WORDS; i++) {
+        checks++;
+        if (answer[i] == want[i])
+            continue;
+        failures++;
+        fprintf(stderr, "%s:%d: word %d of the answer is %llu, not %llu\n", __FILE__, line, i, (unsigned long long)answer[i],
+                (unsigned long long)want[i]);
+    }
+}
+
+#define ANSWER(many, number, place, offset, value) check_answer(__LINE__, many, number, place, offset, value)
+#define REFUSED(many, number, offset) check_answer(__LINE__, many, number, CIZTARMO_NO_PLACE, offset, 0)
+
+/* Whether bytes from a place up to another all have one value. */
+static int all(const uint8_t *bytes, size_t from, size_t to, uint8_t value)
+{
+    while (from < to && bytes[from] == value)
+        from++;
+    return from == to;
+}
+
+static size_t block_len(const uint8_t *b)
+{
+    return 4 + (b[0] | (size_t)b[1] << 8 | (size_t)b[2] << 16 | (size_t)b[3] << 24);
+}
+
+static int read_trip(const char *path)
+{
+    FILE *f = fopen(path, "rb");
+    if (f == NULL) {
+        perror(path);
+        return 0;
+    }
+    size_t n = fread(trip, 1, sizeof trip, f), at;
+    fclose(f);
+    if (n < 4 || (at = set_len = block_len(trip)) > n) {
+        fprintf(stderr, "%s: no block at byte 0\n", path);
+        return 0;
+    }
+    set = trip;
+    for (int i = 0; i < 4; i++) {
+        if (n - at < 4 || block_len(trip + at) > n - at) {
+            fprintf(stderr, "%s: no block at byte %lu\n", path, (unsigned long)at);
+            return 0;
+        }
+        runs[i] = trip + at;
+        run_lens[i] = block_len(runs[i]);
+        at += run_lens[i];
+    }
+    return 1;
+}
+
+/* Builds into an output of `room` bytes; the bytes behind it must stay. */
+static void build(size_t many, const uint8_t *bytes, size_t len, size_t room)
+{
+    dirty(many);
+    ciztarmo_build_set(words, many, bytes, len, out, room, answer);
+    CHECK(all(out, room, CIZTARMO_MAX_INPUT, DIRTY_BYTE));
+}
+
+static void test_build(void)
+{
+    const size_t rooms[] = {CIZTARMO_MAX_INPUT, LAYOUT_LEN + 1, LAYOUT_LEN};
+    build(CIZTARMO_WORDS, set, set_len, CIZTARMO_MAX_INPUT);
+    memcpy(layout, out, LAYOUT_LEN);
+    for (size_t i = 0; i < sizeof rooms / sizeof rooms[0]; i++) {
+        build(CIZTARMO_WORDS, set, set_len, rooms[i]);
+        ANSWER(CIZTARMO_WORDS, 0, CIZTARMO_NO_PLACE, 0, LAYOUT_LEN);
+        CHECK(memcmp(out, layout, LAYOUT_LEN) == 0);
+        CHECK(all(out, LAYOUT_LEN, rooms[i], DIRTY_BYTE));
+    }
+    build(2 * CIZTARMO_WORDS, set, set_len, CIZTARMO_MAX_INPUT);
+    ANSWER(2 * CIZTARMO_WORDS, 0, CIZTARMO_NO_PLACE, 0, LAYOUT_LEN);
+    CHECK(block_len(layout) == LAYOUT_LEN && layout[4] == 160);
+}
+
+static void test_refused_builds(void)
+{
+    const size_t rooms[] = {LAYOUT_LEN - 1, 1, 0};
+    for (size_t i = 0; i < sizeof rooms / sizeof rooms[0]; i++) {
+        build(CIZTARMO_WORDS, set, set_len, rooms[i]);
+        REFUSED(CIZTARMO_WORDS, CIZTARMO_LAYOUT_DOES_NOT_FIT, 0);
+        CHECK(all(out, 0, rooms[i], 0));
+    }
+    build(CIZTARMO_WORDS, set, set_len - 1, CIZTARMO_MAX_INPUT);
+    REFUSED(CIZTARMO_WORDS, CIZTARMO_BLOCK_DOES_NOT_FIT, 0);
+    CHECK(all(out, 0, CIZTARMO_MAX_INPUT, 0));
+
+    /* The size expression `n` renamed to `m`, which no owner names: refused while the type is built, after bytes were written. */
+    uint8_t other[sizeof trip];
+    memcpy(other, set, set_len);
+    other[set_len - 1] = 'm';
+    build(CIZTARMO_WORDS, other, set_len, CIZTARMO_MAX_INPUT);
+    ANSWER(CIZTARMO_WORDS, CIZTARMO_MISSING_PARAMETER, 0, 0, 0);
+    CHECK(all(out, 0, CIZTARMO_MAX_INPUT, 0));
+}
+
+/* The example's four answers: counts 13 and 1, then 25 with the required count, then 21 at the node that asks for legs.n. */
+static void test_runs(void)
+{
+    const uint64_t want[4][4] = {{0, CIZTARMO_NO_PLACE, 0, 13},
+                                 {0, CIZTARMO_NO_PLACE, 0, 1},
+                                 {CIZTARMO_BUFFER_TOO_SMALL, 0, 0, 13},
+                                 {CIZTARMO_MISSING_IR_PARAMETER, 0, 150, 0}};
+    const uint64_t lens[4] = {13, 8, 12, 13};
+    for (int i = 0; i < 4; i++) {
+        dirty(CIZTARMO_WORDS);
+        ciztarmo_validate_run(words, CIZTARMO_WORDS, layout, LAYOUT_LEN, runs[i], run_lens[i], answer);
+        ANSWER(CIZTARMO_WORDS, want[i][0], want[i][1], want[i][2], want[i][3]);
+        /* A run is: length, kind, name with its length, buffer length, values. */
+        const uint8_t *values = runs[i] + 4 + 2 + 2 + sizeof name + 8;
+        dirty(CIZTARMO_WORDS);
+        ciztarmo_validate(words, CIZTARMO_WORDS, layout, LAYOUT_LEN, name, sizeof name, values, block_len(values), lens[i], answer);
+        ANSWER(CIZTARMO_WORDS, want[i][0], want[i][1], want[i][2], want[i][3]);
+    }
+}
+
+typedef void reading(uint64_t *, size_t, const uint8_t *, size_t, uint64_t[4]);
+
+static reading *const readings[] = {ciztarmo_read_set, ciztarmo_read_layout, ciztarmo_read_values, ciztarmo_read_run};
+#define READINGS (sizeof readings / sizeof readings[0])
+
+static void read_with(reading *call, size_t many, const uint8_t *bytes, size_t len)
+{
+    dirty(many);
+    call(words, many, bytes, len, answer);
+}
+
+static void test_readings(void)
+{
+    const uint8_t *values = runs[0] + 4 + 2 + 2 + sizeof name + 8;
+    const uint8_t *good[] = {set, layout, values, runs[0]};
+    const size_t lens[] = {set_len, LAYOUT_LEN, block_len(values), run_lens[0]};
+    for (size_t call = 0; call < READINGS; call++)
+        for (size_t input = 0; input < READINGS; input++) {
+            read_with(readings[call], CIZTARMO_WORDS, good[input], lens[input]);
+            if (call == input)
+                ANSWER(CIZTARMO_WORDS, 0, CIZTARMO_NO_PLACE, 0, 0);
+            else
+                REFUSED(CIZTARMO_WORDS, CIZTARMO_BLOCK_DOES_NOT_FIT, 0);
+        }
+}
+
+/* One byte of an accepted input is changed; the refusal has the start of the block that holds it. */
+static void changed(reading *call, const uint8_t *good, size_t len, size_t at, uint8_t to, uint64_t number, uint64_t offset, int line)
+{
+    uint8_t *bytes = malloc(len);
+    if (bytes == NULL) {
+        check(0, "there is memory", line);
+        return;
+    }
+    memcpy(bytes, good, len);
+    bytes[at] = to;
+    read_with(call, CIZTARMO_WORDS, bytes, len);
+    check_answer(line, CIZTARMO_WORDS, number, CIZTARMO_NO_PLACE, offset, 0);
+    free(bytes);
+}
+
+static void test_refused_readings(void)
+{
+    /* In the set: its type stands at 8, the field n at 56 (its type at 74), the field legs at 109, its array at 122. */
+    changed(ciztarmo_read_set, set, set_len, 4, 37, CIZTARMO_BLOCK_DOES_NOT_FIT, 0, __LINE__);
+    changed(ciztarmo_read_set, set, set_len, 12, 8, CIZTARMO_BLOCK_DOES_NOT_FIT, 8, __LINE__);
+    changed(ciztarmo_read_set, set, set_len, 16, 0x1F, CIZTARMO_INVALID_NAME, 8, __LINE__);
+    changed(ciztarmo_read_set, set, set_len, 20, 2, CIZTARMO_INVALID_FLAG_OR_LITERAL, 8, __LINE__);
+    changed(ciztarmo_read_set, set, set_len, 54, 65, CIZTARMO_ABOVE_LIMIT, 8, __LINE__);
+    changed(ciztarmo_read_set, set, set_len, 65, 2, CIZTARMO_INVALID_FLAG_OR_LITERAL, 56, __LINE__);
+    changed(ciztarmo_read_set, set, set_len, 82, 0x7F, CIZTARMO_INVALID_NAME, 74, __LINE__);
+    changed(ciztarmo_read_set, set, set_len, 140, 2, CIZTARMO_INVALID_FLAG_OR_LITERAL, 122, __LINE__);
+    /* In the layout: the node that asks for legs.n stands at 150, the parameter at 202. */
+    changed(ciztarmo_read_layout, layout, LAYOUT_LEN, 150 + 4, 145, CIZTARMO_BLOCK_DOES_NOT_FIT, 150, __LINE__);
+    changed(ciztarmo_read_layout, layout, LAYOUT_LEN, LAYOUT_LEN - 1, 7, CIZTARMO_INVALID_FLAG_OR_LITERAL, 202, __LINE__);
+    changed(ciztarmo_read_run, runs[0], run_lens[0], 4, 192, CIZTARMO_BLOCK_DOES_NOT_FIT, 0, __LINE__);
+    /* In the run: the values stand at 20. */
+    changed(ciztarmo_read_run, runs[0], run_lens[0], 26, 2, CIZTARMO_BLOCK_DOES_NOT_FIT, 20, __LINE__);
+    changed(ciztarmo_read_run, runs[0], run_lens[0], 27, 3, CIZTARMO_ABOVE_LIMIT, 20, __LINE__);
+
+    static const uint8_t twice[] = {26, 0, 0, 0, 192, 0, 2, 0, 1, 0, 'a', 0, 0, 0, 0, 0, 0, 0, 0, 1, 0, 'b', 0, 0, 0, 0, 0, 0, 0, 0};
+    read_with(ciztarmo_read_values, CIZTARMO_WORDS, twice, sizeof twice);
+    ANSWER(CIZTARMO_WORDS, 0, CIZTARMO_NO_PLACE, 0, 0);
+    changed(ciztarmo_read_values, twice, sizeof twice, 21, 'a', CIZTARMO_NAMES_OUT_OF_ORDER, 0, __LINE__);
+}
+
+/* All seven calls on the same inputs, where the one refusal stands before any reading. */
+static void every_call(size_t many, const uint8_t *a, size_t a_len, const uint8_t *b, size_t b_len, uint64_t number, int line)
+{
+    for (size_t i = 0; i < READINGS; i++) {
+        read_with(readings[i], many, a, a_len);
+        check_answer(line, many, number, CIZTARMO_NO_PLACE, 0, 0);
+    }
+    build(many, a, a_len, CIZTARMO_MAX_INPUT);
+    check_answer(line, many, number, CIZTARMO_NO_PLACE, 0, 0);
+    check(all(out, 0, CIZTARMO_MAX_INPUT, 0), "a refused build leaves zeros", line);
+    for (int swapped = 0; swapped < 2; swapped++) {
+        const uint8_t *first = swapped ? b : a, *second = swapped ? a : b;
+        const size_t first_len = swapped ? b_len : a_len, second_len = swapped ? a_len : b_len;
+        dirty(many);
+        ciztarmo_validate(words, many, first, first_len, name, sizeof name, second, second_len, 13, answer);
+        check_answer(line, many, number, CIZTARMO_NO_PLACE, 0, 0);
+        dirty(many);
+        ciztarmo_validate_run(words, many, first, first_len, second, second_len, answer);
+        check_answer(line, many, number, CIZTARMO_NO_PLACE, 0, 0);
+    }
+}
+
+static void test_before_reading(void)
+{
+    const size_t few[] = {CIZTARMO_WORDS - 1, 1, 0};
+    for (size_t i = 0; i < sizeof few / sizeof few[0]; i++)
+        every_call(few[i], set, set_len, layout, LAYOUT_LEN, CIZTARMO_TOO_FEW_WORDS, __LINE__);
+    /* 19 is asked before 1. */
+    every_call(CIZTARMO_WORDS - 1, too_long, CIZTARMO_MAX_INPUT + 1, set, set_len, CIZTARMO_TOO_FEW_WORDS, __LINE__);
+    every_call(CIZTARMO_WORDS, too_long, CIZTARMO_MAX_INPUT + 1, layout, LAYOUT_LEN, CIZTARMO_INPUT_TOO_LONG, __LINE__);
+    every_call(CIZTARMO_WORDS, too_long, CIZTARMO_MAX_INPUT, layout, LAYOUT_LEN, CIZTARMO_BLOCK_DOES_NOT_FIT, __LINE__);
+    every_call(CIZTARMO_WORDS, too_long, 0, too_long, 0, CIZTARMO_BLOCK_DOES_NOT_FIT, __LINE__);
+    every_call(CIZTARMO_WORDS, NULL, 0, NULL, 0, CIZTARMO_BLOCK_DOES_NOT_FIT, __LINE__);
+}
+
+static void test_asked_names(void)
+{
+    const uint8_t *values = runs[0] + 4 + 2 + 2 + sizeof name + 8;
+    const struct {
+        const uint8_t *name;
+        size_t len;
+    } unknown[] = {{name, 3}, {name, 0}, {NULL, 0}, {too_long, CIZTARMO_MAX_INPUT + 1}, {(const uint8_t *)"trip", 4}};
+    for (size_t i = 0; i < sizeof unknown / sizeof unknown[0]; i++) {
+        dirty(CIZTARMO_WORDS);
+        ciztarmo_validate(words, CIZTARMO_WORDS, layout, LAYOUT_LEN, unknown[i].name, unknown[i].len, values, block_len(values), 13,
+                          answer);
+        REFUSED(CIZTARMO_WORDS, CIZTARMO_UNKNOWN_TYPE, 0);
+    }
+}
+
+/* An output without an address and no words: nothing is written. */
+static void test_no_buffers(void)
+{
+    dirty(CIZTARMO_WORDS);
+    ciztarmo_build_set(words, CIZTARMO_WORDS, set, set_len, NULL, 0, answer);
+    REFUSED(CIZTARMO_WORDS, CIZTARMO_LAYOUT_DOES_NOT_FIT, 0);
+    dirty(0);
+    ciztarmo_build_set(NULL, 0, set, set_len, NULL, 0, answer);
+    REFUSED(0, CIZTARMO_TOO_FEW_WORDS, 0);
+}
+
+static int used(uint64_t number)
+{
+    return number <= 6 || (number >= 10 && number <= 27);
+}
+
+static void test_texts(void)
+{
+    for (uint64_t n = 0; n < 300; n++) {
+        const char *text = ciztarmo_refusal_name(n), *sentence = ciztarmo_refusal_sentence(n);
+        CHECK(text != NULL && sentence != NULL);
+        CHECK(used(n) == (strcmp(text, "?") != 0) && used(n) == (strcmp(sentence, "?") != 0));
+        for (uint64_t m = 0; m < n && used(n); m++)
+            CHECK(strcmp(text, ciztarmo_refusal_name(m)) != 0 && strcmp(sentence, ciztarmo_refusal_sentence(m)) != 0);
+    }
+    CHECK(strcmp(ciztarmo_refusal_name(UINT64_MAX), "?") == 0);
+    CHECK(strcmp(ciztarmo_refusal_name(CIZTARMO_UNSUPPORTED_SIZE), "UnsupportedSize") == 0);
+    CHECK(strcmp(ciztarmo_refusal_name(CIZTARMO_MISSING_TYPE), "MissingType") == 0);
+    CHECK(strcmp(ciztarmo_refusal_name(CIZTARMO_TOO_FEW_WORDS), "TooFewWords") == 0);
+    CHECK(strcmp(ciztarmo_refusal_name(CIZTARMO_BUFFER_TOO_SMALL), "BufferTooSmall") == 0);
+    CHECK(CIZTARMO_UNKNOWN_TYPE == 20 && CIZTARMO_TOO_MANY_CALLS == 27 && CIZTARMO_UNSUPPORTED_EXPRESSION == 14);
+}
+
+int main(int argc, char **argv)
+{
+    words = malloc((2 * CIZTARMO_WORDS + SPARE_WORDS) * sizeof *words);
+    out = malloc(CIZTARMO_MAX_INPUT);
+    too_long = calloc(CIZTARMO_MAX_INPUT + 1, 1);
+    if (argc != 2 || words == NULL || out == NULL || too_long == NULL) {
+        fprintf(stderr, "usage: test examples/trip\n");
+        return 2;
+    }
+    if (!read_trip(argv[1]))
+        return 2;
+    test_build();
+    test_refused_builds();
+    test_runs();
+    test_readings();
+    test_refused_readings();
+    test_before_reading();
+    test_asked_names();
+    test_no_buffers();
+    test_texts();
+    free(words);
+    free(out);
+    free(too_long);
+    if (failures != 0) {
+        fprintf(stderr, "%lu of %lu checks failed\n", failures, checks);
+        return 1;
+    }
+    printf("%lu\n", checks);
+    return 0;
+}

@@ -1,0 +1,177 @@
+//! Every call of the stored list, through the safe functions.
+
+mod stored;
+
+use ciztarmo::{Refusal, Work};
+use std::collections::BTreeMap;
+use stored::{counted, records, Answer, Call, Record};
+
+/// What a byte of a lent output holds before a call.
+const BEFORE: u8 = 0xA5;
+
+/// The answer, and for a build the output behind it.
+fn answered(call: &Call) -> Option<Answer> {
+    match call {
+        Call::Build {
+            words,
+            room,
+            set,
+            layout,
+        } => Some(built(*words, *room, set, layout)),
+        Call::Validate {
+            words,
+            length,
+            layout,
+            name,
+            values,
+        } => {
+            let count = Work::with_words(*words).validate(layout, name, values, *length);
+            Some(Answer::of(count))
+        }
+        Call::Run { words, layout, run } => {
+            let count = Work::with_words(*words).validate_run(layout, run);
+            Some(Answer::of(count))
+        }
+        Call::Lengths => None,
+    }
+}
+
+/// Builds into an output of the record's length and looks at every byte of it.
+fn built(words: usize, room: usize, set: &[u8], layout: &[u8]) -> Answer {
+    let mut out = vec![BEFORE; room];
+    let result = Work::with_words(words).build_set_into(set, &mut out);
+    match result {
+        Ok(length) => {
+            assert_eq!(length, layout.len(), "the layout's length");
+            assert_eq!(&out[..length], layout, "the layout's bytes");
+            assert!(out[length..].iter().all(|b| *b == BEFORE), "bytes behind");
+        }
+        Err(_) => assert!(out.iter().all(|b| *b == 0), "a refused build's output"),
+    }
+    // The list has 0 as the value of an accepted build.
+    Answer::of(result.map(|_| 0))
+}
+
+fn name_of(call: &Call) -> &'static str {
+    match call {
+        Call::Build { .. } => "build",
+        Call::Validate { .. } => "validate",
+        Call::Run { .. } => "run",
+        Call::Lengths => "lengths",
+    }
+}
+
+#[test]
+fn every_record_has_its_answer() {
+    let mut met: BTreeMap<(String, u8), usize> = BTreeMap::new();
+    let mut all = 0;
+    for record in records() {
+        all += 1;
+        let Some(answer) = answered(&record.call) else {
+            continue;
+        };
+        assert_eq!(answer, record.answer, "answers.bin, byte {}", record.at);
+        let key = (name_of(&record.call).to_string(), answer.number);
+        *met.entry(key).or_default() += 1;
+    }
+    let (total, mut counts) = counted();
+    counts.retain(|(call, _), _| call != "lengths");
+    assert_eq!((all, met), (total, counts), "the counts of counts.txt");
+}
+
+/// The list is neither cut nor empty: so many records of each call stand in it.
+#[test]
+fn the_list_is_whole() {
+    let mut met: BTreeMap<&str, usize> = BTreeMap::new();
+    for record in records() {
+        *met.entry(name_of(&record.call)).or_default() += 1;
+    }
+    let expected = [
+        ("build", 2226),
+        ("lengths", 312),
+        ("run", 1829),
+        ("validate", 1870),
+    ];
+    assert_eq!(met, BTreeMap::from(expected));
+}
+
+/// Where `build_set` takes an output of its own, 65,536 bytes, it gives the same layout.
+#[test]
+fn an_output_of_its_own() {
+    let mut work = Work::new();
+    let mut accepted = 0;
+    for record in records() {
+        let Call::Build { set, layout, .. } = &record.call else {
+            continue;
+        };
+        if record.answer.number == 0 {
+            assert_eq!(work.build_set(set).as_ref(), Ok(layout), "{}", record.at);
+            accepted += 1;
+        }
+    }
+    assert_eq!(accepted, 461);
+}
+
+/// Reading alone refuses exactly where the whole call refuses an input, with the same answer.
+#[test]
+fn reading_alone() {
+    let (mut accepted, mut refused) = (0, 0);
+    for record in records() {
+        let Some(read) = read(&record.call) else {
+            continue;
+        };
+        let expected = expected_reading(&record);
+        assert_eq!(Answer::of(read.map(|()| 0)), expected, "{}", record.at);
+        match read {
+            Ok(()) => accepted += 1,
+            Err(_) => refused += 1,
+        }
+    }
+    // All 5,925 records but those of `lengths`; refused are those with 1 to 6 and 19.
+    assert_eq!((accepted, refused), (3942, 1983));
+}
+
+/// Reads the inputs of a call: 19, then 1 for each, then one behind the other.
+fn read(call: &Call) -> Option<Result<(), Refusal>> {
+    let mut work;
+    match call {
+        Call::Build { words, set, .. } => {
+            work = Work::with_words(*words);
+            Some(work.read_set(set))
+        }
+        Call::Validate {
+            words,
+            layout,
+            values,
+            ..
+        } => {
+            work = Work::with_words(*words);
+            let first = work.read_layout(layout);
+            let second = work.read_values(values);
+            Some(first_no(first, second))
+        }
+        Call::Run { words, layout, run } => {
+            work = Work::with_words(*words);
+            let first = work.read_layout(layout);
+            let second = work.read_run(run);
+            Some(first_no(first, second))
+        }
+        Call::Lengths => None,
+    }
+}
+
+/// Which of two readings decides: 1 is asked of both inputs before either is read.
+fn first_no(first: Result<(), Refusal>, second: Result<(), Refusal>) -> Result<(), Refusal> {
+    match (first, second) {
+        (Err(_), Err(no)) if no.number().code() == 1 => second,
+        (Err(_), _) => first,
+        (Ok(()), _) => second,
+    }
+}
+
+fn expected_reading(record: &Record) -> Answer {
+    match record.answer.of_reading() {
+        true => record.answer,
+        false => Answer::of(Ok(0)),
+    }
+}

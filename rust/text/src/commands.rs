@@ -1,0 +1,178 @@
+//! The commands, from an input to an output or a message.
+
+use crate::decode::decode;
+use crate::lines::written;
+use crate::model::*;
+use crate::show;
+use crate::source::Source;
+use crate::tree;
+use crate::words;
+use ciztarmo::Work;
+
+/// An output, and what is said beside it.
+#[derive(Debug, Default)]
+pub struct Done {
+    pub output: Vec<u8>,
+    pub remarks: Vec<String>,
+}
+
+/// What a command answers: its output, or a message that says what is wrong and where.
+pub type Answer = Result<Done, String>;
+
+impl Done {
+    fn only(output: impl Into<Vec<u8>>) -> Done {
+        Done {
+            output: output.into(),
+            remarks: Vec::new(),
+        }
+    }
+
+    /// Notes a refusal where nothing is checked; else it ends the command.
+    fn note(&mut self, accepted: Result<(), String>, unchecked: bool) -> Result<(), String> {
+        match accepted {
+            Err(message) if unchecked => {
+                let remark = format!("{message}; written all the same (--unchecked)");
+                self.remarks.push(remark);
+                Ok(())
+            }
+            other => other,
+        }
+    }
+}
+
+/// How much stack a command gets. Reading and writing call themselves for what is nested; the
+/// deepest text needs less than a tenth of it.
+const STACK: usize = 32 << 20;
+
+/// Runs a command on a stack of its own, so that its room does not depend on the caller.
+fn roomy(command: impl FnOnce() -> Answer + Send) -> Answer {
+    std::thread::scope(|scope| {
+        let builder = std::thread::Builder::new().stack_size(STACK);
+        match builder.spawn_scoped(scope, command) {
+            Ok(thread) => thread
+                .join()
+                .unwrap_or_else(|p| std::panic::resume_unwind(p)),
+            Err(e) => Err(format!("no thread can be started: {e}")),
+        }
+    })
+}
+
+/// Text to blocks.
+pub fn blocks(file: &str, input: &[u8], unchecked: bool) -> Answer {
+    roomy(|| to_blocks(file, input, unchecked))
+}
+
+/// Blocks to text.
+pub fn show(file: &str, input: &[u8], unchecked: bool) -> Answer {
+    roomy(|| to_text(file, input, unchecked))
+}
+
+/// The layouts of an input, and of its sets, as trees.
+pub fn tree(file: &str, input: &[u8]) -> Answer {
+    roomy(|| to_tree(file, input))
+}
+
+/// The answers to the runs behind a set, in words.
+pub fn lengths(file: &str, input: &[u8]) -> Answer {
+    roomy(|| to_words(file, input))
+}
+
+/// Whether every block is accepted and every set is built.
+pub fn check(file: &str, input: &[u8]) -> Answer {
+    roomy(|| checked(file, input))
+}
+
+fn to_blocks(file: &str, input: &[u8], unchecked: bool) -> Answer {
+    let source = Source::read_text(file, input)?;
+    let mut work = Work::new();
+    let mut done = Done::default();
+    for piece in &source.pieces {
+        done.note(source.accepted(&mut work, piece), unchecked)?;
+        done.output.extend(&piece.bytes);
+    }
+    Ok(done)
+}
+
+fn to_text(file: &str, input: &[u8], unchecked: bool) -> Answer {
+    let source = Source::read_blocks(file, input)?;
+    let mut work = Work::new();
+    let mut done = Done::default();
+    let mut blocks = Vec::new();
+    for piece in &source.pieces {
+        done.note(source.accepted(&mut work, piece), unchecked)?;
+        blocks.push(piece.block().map_err(|fault| {
+            let byte = piece.file_offset() + fault.offset;
+            format!("{file}: byte {byte}: it has no text: {}", fault.message)
+        })?);
+    }
+    done.output = show::show(&blocks).into_bytes();
+    Ok(done)
+}
+
+fn to_tree(file: &str, input: &[u8]) -> Answer {
+    let source = Source::read(file, input)?;
+    let mut work = Work::new();
+    let mut drawn = Vec::new();
+    for piece in &source.pieces {
+        source.accepted(&mut work, piece)?;
+        let layout = match piece.kind {
+            SET => source.built(&mut work, piece)?,
+            LAYOUT => piece.bytes.clone(),
+            _ => continue,
+        };
+        drawn.push(tree::draw(&layout_of(file, &layout)?));
+    }
+    if drawn.is_empty() {
+        return Err(format!("{file}: neither a set nor a layout stands in it"));
+    }
+    drawn.retain(|drawing| !drawing.is_empty());
+    Ok(Done::only(drawn.join("\n")))
+}
+
+fn layout_of(file: &str, layout: &[u8]) -> Result<Layout, String> {
+    match decode(layout) {
+        Ok(Block::Layout(layout)) => Ok(layout),
+        Ok(_) => Err(format!("{file}: no layout was built")),
+        Err(fault) => Err(format!(
+            "{file}: the layout can't be drawn: {}",
+            fault.message
+        )),
+    }
+}
+
+fn to_words(file: &str, input: &[u8]) -> Answer {
+    let source = Source::read(file, input)?;
+    let mut work = Work::new();
+    for piece in &source.pieces {
+        source.accepted(&mut work, piece)?;
+    }
+    let (set, runs) = match source.pieces.split_first() {
+        Some((set, runs)) if set.kind == SET => (set, runs),
+        _ => return Err(format!("{file}: a set must stand first")),
+    };
+    let layout = source.built(&mut work, set)?;
+    let trees = layout_of(file, &layout)?.types;
+    let mut out = String::new();
+    for piece in runs {
+        let place = source.place(piece);
+        let Ok(Block::Run(run)) = piece.block() else {
+            return Err(format!("{place}: behind the set stand runs only"));
+        };
+        let answer = work.validate_run(&layout, &piece.bytes);
+        let said = words::answer(answer, &layout, &trees, &run);
+        out += &format!("{place}: {}: {said}\n", written(&run.name));
+    }
+    Ok(Done::only(out))
+}
+
+fn checked(file: &str, input: &[u8]) -> Answer {
+    let source = Source::read(file, input)?;
+    let mut work = Work::new();
+    for piece in &source.pieces {
+        source.accepted(&mut work, piece)?;
+        if piece.kind == SET {
+            source.built(&mut work, piece)?;
+        }
+    }
+    Ok(Done::default())
+}

@@ -1,0 +1,21 @@
+//! Sets, layouts, values and runs as text for people, and back to blocks.
+//!
+//! A text is read line by line into values (`parse`), which are written as blocks (`encode`);
+//! blocks are taken apart into the same values (`decode`), which are written as text (`show`).
+//! Whether blocks are accepted is asked of the proved readers (`source`). docs/TEXT.md describes
+//! the form.
+
+#![forbid(unsafe_code)]
+
+pub mod commands;
+pub mod decode;
+pub mod encode;
+pub mod expr;
+pub mod lines;
+pub mod model;
+pub mod parse;
+pub mod parse_layout;
+pub mod show;
+pub mod source;
+pub mod tree;
+pub mod words;

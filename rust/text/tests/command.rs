@@ -1,0 +1,235 @@
+//! The command line: statuses, files, standard input and output.
+
+mod common;
+
+use common::{read, repository};
+use std::io::Write;
+use std::path::PathBuf;
+use std::process::{Command, Output, Stdio};
+
+fn text(args: &[&str]) -> Command {
+    let mut command = Command::new(env!("CARGO_BIN_EXE_text"));
+    command.args(args).current_dir(repository("examples"));
+    command
+}
+
+fn run(args: &[&str]) -> Output {
+    text(args).output().unwrap()
+}
+
+fn fed(args: &[&str], input: &[u8]) -> Output {
+    let mut command = text(args);
+    command
+        .stdin(Stdio::piped())
+        .stdout(Stdio::piped())
+        .stderr(Stdio::piped());
+    let mut child = command.spawn().unwrap();
+    child.stdin.take().unwrap().write_all(input).unwrap();
+    child.wait_with_output().unwrap()
+}
+
+fn error(output: &Output) -> String {
+    String::from_utf8(output.stderr.clone()).unwrap()
+}
+
+/// A folder of this test's own, empty.
+fn folder(test: &str) -> PathBuf {
+    let folder = PathBuf::from(env!("CARGO_TARGET_TMPDIR")).join(test);
+    let _ = std::fs::remove_dir_all(&folder);
+    std::fs::create_dir_all(&folder).unwrap();
+    folder
+}
+
+/// A call that is not understood: status 2, nothing on standard output, a message and the usage.
+fn misused(args: &[&str], message: &str) {
+    let output = run(args);
+    assert_eq!(output.status.code(), Some(2), "{args:?}");
+    assert!(output.stdout.is_empty());
+    let said = error(&output);
+    assert!(
+        said.starts_with(&format!("text: {message}\nusage: text blocks FILE ")),
+        "{said}"
+    );
+}
+
+#[test]
+fn misuse() {
+    misused(&[], "no command");
+    misused(&["convert", "trip.txt"], "there is no command convert");
+    misused(&["blocks"], "blocks needs a file");
+    misused(&["tree", "trip", "trip"], "tree takes one file");
+    misused(&["blocks", "trip.txt", "-o"], "-o needs a file");
+    misused(
+        &["blocks", "trip.txt", "-o", "a", "-o", "b"],
+        "blocks does not take -o",
+    );
+    misused(&["tree", "trip.txt", "-o", "x"], "tree does not take -o");
+    misused(
+        &["check", "--unchecked", "trip.txt"],
+        "check does not take --unchecked",
+    );
+    misused(&["show", "--all", "trip"], "show does not take --all");
+}
+
+#[test]
+fn help() {
+    for word in ["help", "-h", "--help"] {
+        let output = run(&[word]);
+        assert_eq!(output.status.code(), Some(0));
+        assert!(output.stdout.starts_with(b"usage: text blocks FILE "));
+        assert!(output.stderr.is_empty());
+    }
+}
+
+#[test]
+fn files_that_cannot_be_read() {
+    for command in ["blocks", "show", "tree", "lengths", "check"] {
+        for file in ["nowhere.txt", "."] {
+            let output = run(&[command, file]);
+            assert_eq!(output.status.code(), Some(2));
+            assert!(output.stdout.is_empty());
+            assert!(
+                error(&output).starts_with(&format!("{file}: ")),
+                "{}",
+                error(&output)
+            );
+        }
+    }
+}
+
+#[test]
+fn wrong_inputs() {
+    let output = fed(&["check", "-"], b"set\n  struct a\n");
+    assert_eq!(output.status.code(), Some(1));
+    assert!(output.stdout.is_empty());
+    let message = "<stdin>:2:11: the end of the line where one of `size`, `variable` must stand\n";
+    assert_eq!(error(&output), message);
+    let twice = b"set\n  primitive a size 1\n  primitive a size 1\n";
+    let output = fed(&["blocks", "-"], twice);
+    assert_eq!(output.status.code(), Some(1));
+    assert!(output.stdout.is_empty());
+    let message = "<stdin>:3: refused 6: an earlier type has the same name";
+    assert_eq!(error(&output), format!("{message}\n"));
+    let output = fed(&["blocks", "-", "--unchecked"], twice);
+    assert_eq!(output.status.code(), Some(0));
+    assert!(!output.stdout.is_empty());
+    assert_eq!(
+        error(&output),
+        format!("{message}; written all the same (--unchecked)\n")
+    );
+}
+
+#[test]
+fn each_command() {
+    let checked = run(&["check", "zones.txt"]);
+    assert_eq!(
+        (
+            checked.status.code(),
+            checked.stdout.len(),
+            checked.stderr.len()
+        ),
+        (Some(0), 0, 0)
+    );
+    assert_eq!(run(&["blocks", "trip.txt"]).stdout, read("examples/trip"));
+    assert_eq!(
+        run(&["tree", "transfers.txt"]).stdout,
+        read("examples/transfers.tree")
+    );
+    assert_eq!(run(&["tree", "trip"]).stdout, read("examples/trip.tree"));
+    let shown = run(&["show", "trip"]).stdout;
+    assert_eq!(fed(&["blocks", "-"], &shown).stdout, read("examples/trip"));
+    let said = String::from_utf8(run(&["lengths", "trip"]).stdout).unwrap();
+    assert!(
+        said.starts_with("trip: byte 205: Trip: 13 bytes of 13\n"),
+        "{said}"
+    );
+}
+
+#[test]
+fn inputs_without_what_is_asked_for() {
+    let says = |command: &str, input: &str, message: &str| {
+        let output = fed(&[command, "-"], input.as_bytes());
+        assert_eq!(output.status.code(), Some(1));
+        assert!(output.stdout.is_empty());
+        assert_eq!(error(&output), format!("{message}\n"));
+    };
+    says(
+        "tree",
+        "run T length 1\n",
+        "<stdin>: neither a set nor a layout stands in it",
+    );
+    says(
+        "lengths",
+        "run T length 1\n",
+        "<stdin>: a set must stand first",
+    );
+    let set = "set\n  primitive T size 1\n";
+    says(
+        "lengths",
+        &format!("{set}run T length 1\nvalues\n"),
+        "<stdin>:4: behind the set stand runs only",
+    );
+    says(
+        "lengths",
+        "set\n  struct a variable\n",
+        "<stdin>:2: refused 11: references that the layout needs are missing",
+    );
+}
+
+/// An output file is whole or as it was, and nothing else is left in its folder.
+#[test]
+fn output_files() {
+    let folder = folder("output_files");
+    let out = folder.join("out");
+    let path = out.to_str().unwrap();
+    let output = run(&["blocks", "trip.txt", "-o", path]);
+    assert_eq!((output.status.code(), output.stdout.len()), (Some(0), 0));
+    assert_eq!(std::fs::read(&out).unwrap(), read("examples/trip"));
+    let output = fed(&["blocks", "-o", path, "-"], b"run a\n");
+    assert_eq!(output.status.code(), Some(1));
+    assert_eq!(std::fs::read(&out).unwrap(), read("examples/trip"));
+    let output = run(&["show", "-o", path, path]);
+    assert_eq!(output.status.code(), Some(0));
+    assert!(std::fs::read(&out).unwrap().starts_with(b"set\n"));
+    assert_eq!(std::fs::read_dir(&folder).unwrap().count(), 1);
+}
+
+#[test]
+fn output_files_that_cannot_be_written() {
+    let folder = folder("no_output_files");
+    let (inside, itself) = (folder.join("a/b"), folder.clone());
+    for path in [inside, itself] {
+        let path = path.to_str().unwrap();
+        let output = run(&["blocks", "trip.txt", "-o", path]);
+        assert_eq!(output.status.code(), Some(2), "{path}");
+        assert!(
+            error(&output).starts_with(&format!("{path}: ")),
+            "{}",
+            error(&output)
+        );
+    }
+    assert_eq!(std::fs::read_dir(&folder).unwrap().count(), 0);
+}
+
+/// A link stays a link; what it points to is replaced.
+#[cfg(unix)]
+#[test]
+fn output_through_a_link() {
+    let folder = folder("output_through_a_link");
+    let (file, link) = (folder.join("file"), folder.join("link"));
+    std::fs::write(&file, "old").unwrap();
+    std::os::unix::fs::symlink(&file, &link).unwrap();
+    let output = run(&["blocks", "trip.txt", "-o", link.to_str().unwrap()]);
+    assert_eq!(output.status.code(), Some(0));
+    assert!(std::fs::symlink_metadata(&link)
+        .unwrap()
+        .file_type()
+        .is_symlink());
+    assert_eq!(std::fs::read(&file).unwrap(), read("examples/trip"));
+    assert_eq!(
+        run(&["blocks", "trip.txt", "-o", "/dev/null"])
+            .status
+            .code(),
+        Some(2)
+    );
+}

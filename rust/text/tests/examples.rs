@@ -1,0 +1,150 @@
+//! The stored examples: their blocks, the lines of `lengths` and the drawn trees. The .out files
+//! were printed by the program `lengths` (`./text blocks FILE | ./lengths`), the .tree files by
+//! `./text tree FILE`; that the counts are what they should be is computed by hand in the comments
+//! of the texts.
+
+mod common;
+
+use ciztarmo::Work;
+use ciztarmo_text::commands;
+use common::{blocks, cut, read, show};
+
+const EXAMPLES: [&str; 3] = ["trip", "zones", "transfers"];
+
+fn text(example: &str) -> String {
+    String::from_utf8(read(&format!("examples/{example}.txt"))).unwrap()
+}
+
+#[test]
+fn trip_is_the_worked_example() {
+    assert_eq!(blocks(&text("trip")), read("examples/trip"));
+}
+
+/// A line of `lengths` for a run.
+fn line(work: &mut Work, layout: &[u8], number: usize, run: &[u8]) -> String {
+    // The buffer length stands behind the type's name.
+    let name = usize::from(u16::from_le_bytes([run[6], run[7]]));
+    let length = u64::from_le_bytes(run[8 + name..16 + name].try_into().unwrap());
+    match work.validate_run(layout, run) {
+        Ok(count) => {
+            let (count, length) = (u128::from(count), u128::from(length));
+            let fill = (200 * count + length).checked_div(2 * length).unwrap_or(0);
+            format!("{number} 0 {count} {fill}\n")
+        }
+        Err(refusal) => format!(
+            "{number} {} {} 0\n",
+            refusal.number().code(),
+            refusal.value()
+        ),
+    }
+}
+
+#[test]
+fn outputs() {
+    let mut work = Work::new();
+    for example in EXAMPLES {
+        let input = blocks(&text(example));
+        let pieces = cut(&input).unwrap();
+        let layout = work.build_set(pieces[0]).unwrap();
+        let runs = pieces[1..].iter().enumerate();
+        let lines: String = runs
+            .map(|(i, run)| line(&mut work, &layout, i, run))
+            .collect();
+        let stored = read(&format!("examples/{example}.out"));
+        assert_eq!(lines, String::from_utf8(stored).unwrap(), "{example}");
+    }
+}
+
+#[test]
+fn outputs_have_the_refusals() {
+    for example in ["zones", "transfers"] {
+        let stored = String::from_utf8(read(&format!("examples/{example}.out"))).unwrap();
+        assert!((6..=12).contains(&stored.lines().count()));
+        for number in [0, 21, 22, 25] {
+            let with = |line: &str| line.split(' ').nth(1) == Some(&number.to_string());
+            assert!(stored.lines().any(with), "{example}: {number}");
+        }
+    }
+}
+
+#[test]
+fn trees() {
+    for example in EXAMPLES {
+        let stored = String::from_utf8(read(&format!("examples/{example}.tree"))).unwrap();
+        // From the text, from the set's blocks, and from the layout that is built.
+        let input = blocks(&text(example));
+        let layout = Work::new().build_set(cut(&input).unwrap()[0]).unwrap();
+        for source in [
+            text(example).as_bytes(),
+            &input,
+            &layout,
+            show(&layout).as_bytes(),
+        ] {
+            let drawn = commands::tree(example, source).unwrap().output;
+            assert_eq!(String::from_utf8(drawn).unwrap(), stored, "{example}");
+        }
+    }
+}
+
+/// A layout has a text too, and it is read back.
+#[test]
+fn layouts() {
+    for example in EXAMPLES {
+        let layout = Work::new()
+            .build_set(cut(&blocks(&text(example))).unwrap()[0])
+            .unwrap();
+        assert_eq!(blocks(&show(&layout)), layout);
+    }
+    let trip = Work::new()
+        .build_set(cut(&read("examples/trip")).unwrap()[0])
+        .unwrap();
+    let shown = "\
+layout
+  type Trip
+    align-up 1
+      add-checked
+        align-up 1
+          const 1
+        align-up 1
+          mul-checked
+            field-ref n parameter legs.n
+            const 4
+    parameter legs.n
+";
+    assert_eq!(show(&trip), shown);
+}
+
+#[test]
+fn answers_in_words() {
+    let said = commands::lengths("trip.txt", text("trip").as_bytes()).unwrap();
+    let lines = "\
+trip.txt:16: Trip: 13 bytes of 13
+trip.txt:20: Trip: 1 byte of 8
+trip.txt:24: Trip: refused 25: 13 bytes are needed and 12 are there
+trip.txt:28: Trip: refused 21: the value legs.n is missing
+";
+    assert_eq!(String::from_utf8(said.output).unwrap(), lines);
+}
+
+/// What docs/TEXT.md shows of the worked example is what the tool does.
+#[test]
+fn the_description() {
+    let page = String::from_utf8(read("docs/TEXT.md")).unwrap();
+    let indented = |text: &str| -> String {
+        let line = |l: &str| format!("    {l}").trim_end().to_string() + "\n";
+        text.lines().map(line).collect()
+    };
+    let tree = String::from_utf8(read("examples/trip.tree")).unwrap();
+    assert!(page.contains(&indented(&tree)));
+    // The set and the first run.
+    let trip = read("examples/trip");
+    let pieces = cut(&trip).unwrap();
+    let shown = show(&[pieces[0], pieces[1]].concat());
+    assert!(page.contains(&indented(&shown)));
+    for line in [
+        "examples/trip.txt:16: Trip: 13 bytes of 13",
+        "the value legs.n is missing",
+    ] {
+        assert!(page.contains(line), "{line}");
+    }
+}
