@@ -1,8 +1,8 @@
 /*
  * Ciztarmo: record layouts for ticket validators, for C and C++ programs.
  *
- * Link libciztarmo.a (the command `archive` of the repository prints its folder). Of the C library it needs memset alone. Compile ciztarmo.c
- * too if you want the names and sentences of refusals. Byte forms, limits and refusals: docs/FORMAT.md.
+ * Link libciztarmo.a (the command `archive` of the repository prints its folder). Of the C library it needs memset alone. Compile
+ * ciztarmo.c too if you want the names and sentences of refusals. Byte forms, limits and refusals: docs/FORMAT.md.
  *
  * What holds for every call:
  *
@@ -19,8 +19,8 @@
  * - Reading, building and evaluating recurse over nested blocks, of which at most 32 are open in a set and 256 in a layout;
  *   evaluating also over calls of types, of which at most 16 are open. So the stack is bounded, but not small. Measured (stack.c) on
  *   hostile inputs: reading 124 KB, building 58 KB, and validating 1.87 MB, where a type of 254 nested nodes calls itself. On the
- *   type Trip of document 01 no call takes more than 6 KB. A thread that validates layouts which it did not build itself should have
- *   CIZTARMO_STACK_BYTES left. The proofs say nothing of the stack.
+ *   type Trip of document 01 no call takes more than 6 KB. A thread that validates with sets or layouts from somebody whom it
+ *   does not trust should have CIZTARMO_STACK_BYTES left. The proofs say nothing of the stack.
  *
  * What the calls answer is proved (README.md, "What is proved"); what is said here of stack and NULL is measured and tested.
  *
@@ -36,7 +36,7 @@
 extern "C" {
 #endif
 
-/* Working words that a call needs; with fewer it answers 19. More are cleared and not used. */
+/* Working words that a call needs; with fewer it answers 19. More may be lent; they are cleared like the others. */
 #define CIZTARMO_WORDS 8192
 
 /* The longest input in bytes; a longer one gives 1. No built layout is longer, so an out of this size is never too small. */
@@ -70,7 +70,7 @@ enum ciztarmo_refusal {
     CIZTARMO_ACCEPTED = 0,
     /* reading */
     CIZTARMO_INPUT_TOO_LONG = 1,          /* an input is longer than 65,536 bytes */
-    CIZTARMO_BLOCK_DOES_NOT_FIT = 2,      /* a block is not inside its parent, may not stand there, or is not used up; or bytes follow */
+    CIZTARMO_BLOCK_DOES_NOT_FIT = 2,      /* a block is not inside its parent, may not stand there or is not used up; bytes follow */
     CIZTARMO_INVALID_NAME = 3,            /* a name or text is above 255 bytes or has a byte outside 0x20 to 0x7E */
     CIZTARMO_ABOVE_LIMIT = 4,             /* a count, or the number of open blocks, is above its limit */
     CIZTARMO_INVALID_FLAG_OR_LITERAL = 5, /* a flag is neither 0 nor 1, or a literal is outside its type */
@@ -119,10 +119,10 @@ void ciztarmo_build_set(uint64_t *words, size_t words_len, const uint8_t *set, s
 
 /*
  * Validating: how many bytes a record of the type `name` takes, by its layout, for the parameter values of a block 192 and a buffer
- * of len bytes. Answers 0, no place, 0 and the count, which is at most len. Refuses with 19, 1, then 2 to 6 for the layout, then 2 to
- * 6 for the values, then 20 to 24, 26 and 27 from the evaluation, then 25. The offset of 2 to 6 does not say which of the two inputs
- * it is in: ciztarmo_read_layout tells. `name` is the bare name, without a length before it or a zero behind it; neither 1 nor 3 is
- * asked of it, and a name that no type has gives 20.
+ * of len bytes. Answers 0, no place, 0 and the count, which is at most len. Refuses with 19, 1, then 2 to 6 for the layout, then
+ * 2 to 6 for the values, then 20 to 24, 26 and 27 from the evaluation, then 25. The offset of 2 to 6 does not say which of the two
+ * inputs it is in: ciztarmo_read_layout tells. `name` is the bare name, without a length before it or a zero behind it; neither 1
+ * nor 3 is asked of it, and a name that no type has gives 20.
  *
  * It always ends, but its time is bounded by calls, not by bytes: a layout of 65,536 bytes in which each type calls the next k times
  * can take k^16 steps. Bound the time from outside where a layout comes from somebody you do not trust.

@@ -207,7 +207,8 @@ static void test_readings(void)
 }
 
 /* One byte of an accepted input is changed; the refusal has the start of the block that holds it. */
-static void changed(reading *call, const uint8_t *good, size_t len, size_t at, uint8_t to, uint64_t number, uint64_t offset, int line)
+static void changed(reading *call, const uint8_t *good, size_t len, size_t at, uint8_t to, uint64_t number, uint64_t offset,
+                    int line)
 {
     uint8_t *bytes = malloc(len);
     if (bytes == NULL) {
@@ -240,7 +241,9 @@ static void test_refused_readings(void)
     changed(ciztarmo_read_run, runs[0], run_lens[0], 26, 2, CIZTARMO_BLOCK_DOES_NOT_FIT, 20, __LINE__);
     changed(ciztarmo_read_run, runs[0], run_lens[0], 27, 3, CIZTARMO_ABOVE_LIMIT, 20, __LINE__);
 
-    static const uint8_t twice[] = {26, 0, 0, 0, 192, 0, 2, 0, 1, 0, 'a', 0, 0, 0, 0, 0, 0, 0, 0, 1, 0, 'b', 0, 0, 0, 0, 0, 0, 0, 0};
+    static const uint8_t twice[] = {26, 0, 0, 0, 192, 0, 2, 0,                 /* values: 2 */
+                                    1,  0, 'a', 0, 0, 0, 0, 0, 0, 0, 0, /* a is 0 */
+                                    1,  0, 'b', 0, 0, 0, 0, 0, 0, 0, 0}; /* b is 0 */
     read_with(ciztarmo_read_values, CIZTARMO_WORDS, twice, sizeof twice);
     ANSWER(CIZTARMO_WORDS, 0, CIZTARMO_NO_PLACE, 0, 0);
     changed(ciztarmo_read_values, twice, sizeof twice, 21, 'a', CIZTARMO_NAMES_OUT_OF_ORDER, 0, __LINE__);

@@ -197,18 +197,44 @@ fn output_files() {
 #[test]
 fn output_files_that_cannot_be_written() {
     let folder = folder("no_output_files");
-    let (inside, itself) = (folder.join("a/b"), folder.clone());
-    for path in [inside, itself] {
-        let path = path.to_str().unwrap();
-        let output = run(&["blocks", "trip.txt", "-o", path]);
+    let shown = folder.to_str().unwrap();
+    // In a folder that is not there, a folder, and a name that only a folder can have.
+    for path in [
+        format!("{shown}/a/b"),
+        shown.to_string(),
+        format!("{shown}/a/"),
+    ] {
+        let output = run(&["blocks", "trip.txt", "-o", &path]);
         assert_eq!(output.status.code(), Some(2), "{path}");
-        assert!(
-            error(&output).starts_with(&format!("{path}: ")),
-            "{}",
-            error(&output)
-        );
+        let said = error(&output);
+        assert!(said.starts_with(&format!("{path}: ")), "{said}");
     }
     assert_eq!(std::fs::read_dir(&folder).unwrap().count(), 0);
+}
+
+/// What is no file is not replaced. A pipe of the test's own stands for all such things: a fault
+/// must not cost the machine a device.
+#[cfg(unix)]
+#[test]
+fn output_to_what_is_no_file() {
+    use std::os::unix::fs::FileTypeExt;
+    let folder = folder("no_file");
+    let pipe = folder.join("pipe");
+    assert!(Command::new("mkfifo")
+        .arg(&pipe)
+        .status()
+        .unwrap()
+        .success());
+    let path = pipe.to_str().unwrap();
+    let output = run(&["blocks", "trip.txt", "-o", path]);
+    assert_eq!(output.status.code(), Some(2));
+    let message = format!("{path}: this is no file that could be replaced\n");
+    assert_eq!(error(&output), message);
+    assert!(std::fs::symlink_metadata(&pipe)
+        .unwrap()
+        .file_type()
+        .is_fifo());
+    assert_eq!(std::fs::read_dir(&folder).unwrap().count(), 1);
 }
 
 /// A link stays a link; what it points to is replaced.
@@ -226,10 +252,4 @@ fn output_through_a_link() {
         .file_type()
         .is_symlink());
     assert_eq!(std::fs::read(&file).unwrap(), read("examples/trip"));
-    assert_eq!(
-        run(&["blocks", "trip.txt", "-o", "/dev/null"])
-            .status
-            .code(),
-        Some(2)
-    );
 }

@@ -372,6 +372,8 @@ fn without_a_text() {
         "byte 0: it has no text: the body is not used up",
     );
     faulty(block(192, &[1, 0]), &format!("byte 0: {past}"));
+    let behind = [block(192, &[0, 0]), block(192, &[1, 0])].concat();
+    faulty(behind, &format!("byte 8: {past}"));
     let accented = [&[1, 0][..], &[1, 0, 0xe9], &[0; 8]].concat();
     faulty(
         block(192, &accented),
