@@ -95,21 +95,19 @@ fn build_counted(
     n: usize,
     owner: &[u8],
     depth: usize,
-    size: usize,
-    references: usize,
+    p: Shape,
     out: &mut [u8],
     at: usize,
-    alignment: u64,
 ) -> Built
-    requires { ⌜ ReadyCount (now s) (now words) n (now owner) depth size (at + 38) × Accepted (now s) 32 32 references ⌝ }
-    ensures { λ r. ⌜ Within (at + 38) (1024 * (4 + le4 (now (s .entry)) size)) r ⌝ }
-    ensures { λ r. ⌜ ((e : Accepted (now (s .entry)) 64 91 size) (f : Accepted (now (s .entry)) 32 32 references) → Begins (now (s .entry)) (now (out .entry)) at (now (words .exit)) 136 alignment (now (out .exit)) r (counted (now (owner .entry)) (prefixOf depth) (exprOf (tree e)) (ownersOf (tree f)) (entriesOf (now (s .entry)) (now (words .entry)) n))) ⌝ }
+    requires { ⌜ ReadyCount (now s) (now words) n (now owner) depth (p .size) (at + 38) × Accepted (now s) 32 32 (p .references) ⌝ }
+    ensures { λ r. ⌜ Within (at + 38) (1024 * (4 + le4 (now (s .entry)) (p .size))) r ⌝ }
+    ensures { λ r. ⌜ ((e : Accepted (now (s .entry)) 64 91 (p .size)) (f : Accepted (now (s .entry)) 32 32 (p .references)) → Begins (now (s .entry)) (now (out .entry)) at (now (words .exit)) 136 (p .alignment) (now (out .exit)) r (counted (now (owner .entry)) (prefixOf depth) (exprOf (tree e)) (ownersOf (tree f)) (entriesOf (now (s .entry)) (now (words .entry)) n))) ⌝ }
 {
-    let c = build_count(s, words, n, owner, depth, size, out, at, 136, alignment);
+    let c = build_count(s, words, n, owner, depth, p.size, out, at, 136, p.alignment);
     if c.no != 0 {
         return c;
     }
-    let k = registry::extend_with(s, words, c.count, references);
+    let k = registry::extend_with(s, words, c.count, p.references);
     Built {
         at: c.at,
         count: k.count,
@@ -154,17 +152,15 @@ fn sum_over_array(
     n: usize,
     owner: &[u8],
     depth: usize,
-    size: usize,
-    element: usize,
+    p: Shape,
     out: &mut [u8],
     at: usize,
-    alignment: u64,
 ) -> Built
-    requires { ⌜ ReadyCount (now s) (now words) n (now owner) depth size (at + 38) × Accepted (now s) 1 7 element ⌝ }
-    ensures { λ r. ⌜ Within at (2048 + 1024 * (4 + le4 (now (s .entry)) size)) r ⌝ }
-    ensures { λ r. ⌜ ((e : Accepted (now (s .entry)) 64 91 size) (t : Accepted (now (s .entry)) 1 7 element) (h : Head) → h .alignment ≡ alignment → Builds (now (s .entry)) (now (out .entry)) at (now (words .entry)) (now (out .exit)) r (summed h (now (owner .entry)) (prefixOf depth) (exprOf (tree e)) (kindOf (typeOf (tree t))) (entriesOf (now (s .entry)) (now (words .entry)) n))) ⌝ }
+    requires { ⌜ ReadyCount (now s) (now words) n (now owner) depth (p .size) (at + 38) × Accepted (now s) 1 7 (p .element) ⌝ }
+    ensures { λ r. ⌜ Within at (2048 + 1024 * (4 + le4 (now (s .entry)) (p .size))) r ⌝ }
+    ensures { λ r. ⌜ ((e : Accepted (now (s .entry)) 64 91 (p .size)) (t : Accepted (now (s .entry)) 1 7 (p .element)) (h : Head) → h .alignment ≡ p .alignment → Builds (now (s .entry)) (now (out .entry)) at (now (words .entry)) (now (out .exit)) r (summed h (now (owner .entry)) (prefixOf depth) (exprOf (tree e)) (kindOf (typeOf (tree t))) (entriesOf (now (s .entry)) (now (words .entry)) n))) ⌝ }
 {
-    let c = build_count(s, words, n, owner, depth, size, out, at, 144, alignment);
+    let c = build_count(s, words, n, owner, depth, p.size, out, at, 144, p.alignment);
     if c.no != 0 {
         return Built {
             at,
@@ -172,6 +168,7 @@ fn sum_over_array(
             no: c.no,
         };
     }
+    let element = p.element;
     if get::read2(s, element + 4) != 7 {
         return Built {
             at,
@@ -180,8 +177,8 @@ fn sum_over_array(
         };
     }
     let target = types::name_at(s, types::target(s, element));
-    let p = put::put_name(out, c.at, target);
-    let u = put::put_name(out, p, owner);
+    let q = put::put_name(out, c.at, target);
+    let u = put::put_name(out, q, owner);
     close_array(out, at, u);
     Built {
         at: u,
@@ -207,31 +204,9 @@ pub fn build_array_node_with_prefix(
 {
     let p = read_shape(s, words, n, array);
     if p.sums {
-        return sum_over_array(
-            s,
-            words,
-            n,
-            owner,
-            depth,
-            p.size,
-            p.element,
-            out,
-            at,
-            p.alignment,
-        );
+        return sum_over_array(s, words, n, owner, depth, p, out, at);
     }
-    let c = build_counted(
-        s,
-        words,
-        n,
-        owner,
-        depth,
-        p.size,
-        p.references,
-        out,
-        at,
-        p.alignment,
-    );
+    let c = build_counted(s, words, n, owner, depth, p, out, at);
     if c.no != 0 {
         return Built {
             at,
