@@ -100,8 +100,8 @@ pub extern "C" fn ciztarmo_build_set(
         sets::Answer::Length(n) => {
             *answer = [0, 65535, 0, n as u64];
         }
-        sets::Answer::Refused(number, place, offset, value) => {
-            *answer = [number, place, offset as u64, value];
+        sets::Answer::Refused(q, place, offset, value) => {
+            *answer = [q, place, offset as u64, value];
         }
     }
 }

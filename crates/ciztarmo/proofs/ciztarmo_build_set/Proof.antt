@@ -11,8 +11,8 @@ build-set-requires c κs = search needs
 enum-known-n : tie.Need-enum-known-n
 enum-known-n c = search needs
 
-enum-known-number : tie.Need-enum-known-number
-enum-known-number c = search needs
+enum-known-q : tie.Need-enum-known-q
+enum-known-q c = search needs
 
 same-length : tie.Need-same-length
 same-length c = search needs
@@ -30,7 +30,7 @@ same-length-4 : tie.Need-same-length-4
 same-length-4 c = search needs
 
 returns-2 : tie.Need-returns-2
-returns-2 c = let call = c .before .before .before .before .before .before .before .before .build-set in (built-no _ (sym (c .before .before .number .given .1) ∙ call .ensures .0), (call .ensures .1 .0, call .ensures .1 .1))
+returns-2 c = let call = c .before .before .before .before .before .before .before .before .build-set in (built-no _ (sym (c .before .before .q .given .1) ∙ call .ensures .0), (call .ensures .1 .0, call .ensures .1 .1))
 
 pub ciztarmo-build-set-spec : {M : Type 1} → statement M
 ciztarmo-build-set-spec =
@@ -38,7 +38,7 @@ ciztarmo-build-set-spec =
     (tie.spec
     build-set-requires
     enum-known-n
-    enum-known-number
+    enum-known-q
     same-length
     same-length-2
     returns
