@@ -127,23 +127,34 @@ static size_t open_type(struct bytes *b, int kind, const char *name)
     return at;
 }
 
-/* An array of arrays of bytes, each of two elements: 2 + arrays blocks are open together. */
-static void put_arrays(struct bytes *b, int arrays)
+/* A sum that holds another sum, and at last a literal: 1 + sums expressions are open together. */
+static void put_sums(struct bytes *b, int sums)
 {
-    const size_t at = open_type(b, arrays > 0 ? 5 : 1, "a");
-    if (arrays > 0) {
-        put(b, 0, 1);
-        put_arrays(b, arrays - 1);
-        const size_t literal = open_block(b, 64);
+    const size_t at = open_block(b, sums > 0 ? 68 : 64);
+    if (sums > 0) {
+        put_sums(b, sums - 1);
+        put_sums(b, 0);
+    } else {
         put(b, 0, 1);
         put(b, 2, 8);
-        close_block(b, literal);
     }
     close_block(b, at);
 }
 
-/* A struct of 64 arrays, of which the first holds arrays as deep as the set may be. */
-static void make_set(struct bytes *b, int arrays)
+/* An array of arrays of bytes, of as many elements as the sum gives: 2 + arrays, or 2 + sums blocks are open together. */
+static void put_arrays(struct bytes *b, int arrays, int sums)
+{
+    const size_t at = open_type(b, arrays > 0 ? 5 : 1, "a");
+    if (arrays > 0) {
+        put(b, 0, 1);
+        put_arrays(b, arrays - 1, 0);
+        put_sums(b, sums);
+    }
+    close_block(b, at);
+}
+
+/* A struct of 64 arrays, of which the first holds arrays or sums as deep as the set may be. */
+static void make_set(struct bytes *b, int arrays, int sums)
 {
     b->len = 0;
     const size_t set = open_block(b, 36);
@@ -154,7 +165,7 @@ static void make_set(struct bytes *b, int arrays)
         const size_t field = open_block(b, 33);
         put_name(b, "f");
         put(b, 0, 1);
-        put_arrays(b, i == 0 ? arrays : 1);
+        put_arrays(b, i == 0 ? arrays : 1, i == 0 ? sums : 0);
         close_block(b, field);
     }
     close_block(b, type);
@@ -229,33 +240,45 @@ static size_t measure(const char *what, void (*call)(void))
     return used;
 }
 
-int main(int argc, char **argv)
+static void within_the_limits(void)
 {
-    (void)argv;
-    tell = argc > 1;
     make_layout(&layout, 254);
-    make_values(&values, 0);
-    make_values(&run, 1);
-    make_set(&set, 27);
-
     CHECK(measure("read_layout, 256 blocks open", read_layout) <= CIZTARMO_STACK_BYTES_READING);
     CHECK(answer[CIZTARMO_NUMBER] == CIZTARMO_ACCEPTED);
     CHECK(measure("validate, 16 calls of 254 nodes", validate) <= CIZTARMO_STACK_BYTES);
     CHECK(answer[CIZTARMO_NUMBER] == CIZTARMO_TOO_MANY_CALLS);
     CHECK(measure("validate_run, 16 calls of 254 nodes", validate_run) <= CIZTARMO_STACK_BYTES);
     CHECK(answer[CIZTARMO_NUMBER] == CIZTARMO_TOO_MANY_CALLS);
-    CHECK(measure("read_set, 32 blocks open", read_set) <= CIZTARMO_STACK_BYTES_READING);
-    CHECK(answer[CIZTARMO_NUMBER] == CIZTARMO_ACCEPTED);
-    CHECK(measure("build_set, 32 blocks open", build) <= CIZTARMO_STACK_BYTES_READING);
-    CHECK(answer[CIZTARMO_NUMBER] == CIZTARMO_ACCEPTED);
+    for (int sums = 0; sums < 2; sums++) {
+        make_set(&set, sums ? 1 : 27, sums ? 27 : 0);
+        CHECK(measure("read_set, 32 blocks open", read_set) <= CIZTARMO_STACK_BYTES_READING);
+        CHECK(answer[CIZTARMO_NUMBER] == CIZTARMO_ACCEPTED);
+        CHECK(measure("build_set, 32 blocks open", build) <= CIZTARMO_STACK_BYTES_READING);
+        CHECK(answer[CIZTARMO_NUMBER] == CIZTARMO_ACCEPTED);
+    }
+}
 
-    /* One block more is one too many, so nothing deeper can come. */
+/* One block more is one too many, so nothing deeper can come. */
+static void beyond_the_limits(void)
+{
     make_layout(&layout, 255);
-    make_set(&set, 28);
     CHECK(measure("read_layout, 257 blocks open", read_layout) <= CIZTARMO_STACK_BYTES_READING);
     CHECK(answer[CIZTARMO_NUMBER] == CIZTARMO_ABOVE_LIMIT);
-    CHECK(measure("read_set, 33 blocks open", read_set) <= CIZTARMO_STACK_BYTES_READING);
-    CHECK(answer[CIZTARMO_NUMBER] == CIZTARMO_ABOVE_LIMIT);
+    for (int sums = 0; sums < 2; sums++) {
+        make_set(&set, sums ? 1 : 28, sums ? 28 : 0);
+        CHECK(measure("read_set, 33 blocks open", read_set) <= CIZTARMO_STACK_BYTES_READING);
+        CHECK(answer[CIZTARMO_NUMBER] == CIZTARMO_ABOVE_LIMIT);
+    }
+}
+
+int main(int argc, char **argv)
+{
+    (void)argv;
+    tell = argc > 1;
+    make_values(&values, 0);
+    make_values(&run, 1);
+    within_the_limits();
+    beyond_the_limits();
     if (failures != 0)
         return 1;
     printf("%d\n", checks);
