@@ -1,0 +1,312 @@
+/*
+ * seeds ANSWERS EXAMPLE FOLDER: writes the inputs from which the fuzzer starts, one file each: the calls of the stored list (form:
+ * judge/vectors/README.md), some of them damaged at every part, the example of document 01, and inputs at the limits. Of the stored
+ * answers only the number is used, to tell good inputs from others; the driver answers anew.
+ */
+#include "damage.h"
+#include "limits.h"
+
+#include <stdio.h>
+#include <stdlib.h>
+#include <string.h>
+
+#define MOST_BYTES (64 << 20)
+
+static const char *folder;
+static unsigned long written;
+
+static void stop(const char *file, const char *what, size_t at)
+{
+    fprintf(stderr, "seeds: %s: %s at byte %lu\n", file, what, (unsigned long)at);
+    exit(1);
+}
+
+static void write_seed(const struct attack_input *in)
+{
+    static uint8_t out[ATTACK_HEADER + 3 * ATTACK_PART];
+    char path[4096];
+    const size_t len = attack_write(in, out, sizeof out);
+    snprintf(path, sizeof path, "%s/seed-%05lu", folder, written++);
+    FILE *f = fopen(path, "wb");
+    if (f == NULL || fwrite(out, 1, len, f) != len || fclose(f) != 0) {
+        perror(path);
+        exit(1);
+    }
+}
+
+static struct attack_bytes read_file(const char *path)
+{
+    FILE *f = fopen(path, "rb");
+    uint8_t *bytes = malloc(MOST_BYTES);
+    if (f == NULL || bytes == NULL) {
+        perror(path);
+        exit(1);
+    }
+    const struct attack_bytes read = {bytes, fread(bytes, 1, MOST_BYTES, f)};
+    fclose(f);
+    return read;
+}
+
+/* The bytes of a record that are left. */
+struct rest {
+    const char *file;
+    const uint8_t *start;
+    struct attack_bytes bytes;
+};
+
+static struct attack_bytes take(struct rest *rest, uint64_t len)
+{
+    if (rest->bytes.len < len)
+        stop(rest->file, "cut off", (size_t)(rest->bytes.at - rest->start));
+    const struct attack_bytes taken = {rest->bytes.at, (size_t)len};
+    rest->bytes.at += len;
+    rest->bytes.len -= (size_t)len;
+    return taken;
+}
+
+static uint64_t number(struct rest *rest, size_t bytes)
+{
+    return attack_get(take(rest, bytes).at, bytes);
+}
+
+/* A part: 4 bytes of length and that many bytes. What is longer than an input of the fuzzer can be is cut. */
+static struct attack_bytes part(struct rest *rest)
+{
+    struct attack_bytes taken = take(rest, number(rest, 4));
+    taken.len = taken.len < ATTACK_PART ? taken.len : ATTACK_PART;
+    return taken;
+}
+
+static uint8_t words_choice(uint64_t words)
+{
+    return words == 8192 ? 0 : words == 8191 ? 252 : words == 0 ? 253 : words == 8193 ? 254 : 255;
+}
+
+/* The kinds of sets and layouts, of runs and of values that were damaged already. */
+static uint8_t blocks_done[256], runs_done[256], values_done[256];
+
+/* The calls to which a damaged input is put. */
+static struct attack_input damaged;
+static uint8_t damaged_calls[2];
+static int damaged_second;
+
+static void take_damaged(const uint8_t *bytes, size_t len)
+{
+    struct attack_input in = damaged;
+    for (int i = 0; i < 2; i++) {
+        const int reads = damaged_calls[i] <= ATTACK_READ_RUN;
+        in.what = damaged_calls[i];
+        *(damaged_second && !reads ? &in.second : &in.first) = (struct attack_bytes){bytes, len};
+        write_seed(&in);
+        in = damaged;
+    }
+}
+
+/* A good part of an input, damaged and put to two calls: the one that reads it, and another. */
+static void damage(const struct attack_input *in, int second, uint8_t read, uint8_t other, uint8_t done[256])
+{
+    const struct attack_bytes part = second ? in->second : in->first;
+    damaged = *in;
+    damaged_second = second;
+    damaged_calls[0] = read;
+    damaged_calls[1] = other;
+    if (part.len < 1000)
+        damage_each(part.at, part.len, done, take_damaged);
+}
+
+static void build_record(struct rest *rest)
+{
+    struct attack_input in = {ATTACK_BUILD_SET, 0, 0, 0x5A, 0, 0, {NULL, 0}, {NULL, 0}, {NULL, 0}};
+    in.words = words_choice(number(rest, 4));
+    const uint64_t room = number(rest, 4);
+    in.first = part(rest);
+    const uint64_t refused = number(rest, 1);
+    take(rest, 14);
+    const size_t len = part(rest).len;
+    if (room < 65536)
+        in.room = refused == 0 && room == len ? 240 : room == 0 ? 243 : 241;
+    write_seed(&in);
+    if (refused == 0)
+        damage(&in, 0, ATTACK_READ_SET, ATTACK_BUILD_SET, blocks_done);
+}
+
+static void validate_record(struct rest *rest, int run)
+{
+    struct attack_input in = {ATTACK_VALIDATE, 0, 0, 0x5A, 0, 0, {NULL, 0}, {NULL, 0}, {NULL, 0}};
+    in.words = words_choice(number(rest, 4));
+    if (run)
+        in.what = ATTACK_VALIDATE_RUN;
+    else
+        in.length = number(rest, 8);
+    in.first = part(rest);
+    if (!run)
+        in.name = part(rest);
+    in.second = part(rest);
+    const uint64_t refused = number(rest, 1);
+    take(rest, 14);
+    if (in.name.len <= 65535)
+        write_seed(&in);
+    if (refused == 0 || refused >= 20) {
+        damage(&in, 0, ATTACK_READ_LAYOUT, in.what, blocks_done);
+        if (run)
+            damage(&in, 1, ATTACK_READ_RUN, ATTACK_VALIDATE_RUN, runs_done);
+        else
+            damage(&in, 1, ATTACK_READ_VALUES, ATTACK_VALIDATE, values_done);
+    }
+    if (written % 8 != 0)
+        return;
+    /* Some as readings of one input. */
+    in.what = ATTACK_READ_LAYOUT;
+    write_seed(&in);
+    in.what = run ? ATTACK_READ_RUN : ATTACK_READ_VALUES;
+    in.first = in.second;
+    write_seed(&in);
+}
+
+/* Standard input of `lengths`: a set and runs, each put to the set's layout. */
+static void blocks_of(struct attack_bytes input)
+{
+    struct attack_input in = {ATTACK_READ_SET, 0, 0, 0x5A, 0, 0, {NULL, 0}, {NULL, 0}, {NULL, 0}};
+    while (input.len >= 4) {
+        const uint64_t len = 4 + attack_get(input.at, 4);
+        if (len > input.len || len > ATTACK_PART)
+            return;
+        const struct attack_bytes block = {input.at, (size_t)len};
+        if (in.first.at == NULL)
+            in.first = block;
+        else
+            in.second = block;
+        write_seed(&in);
+        in.what = ATTACK_BUILD_RUN;
+        input.at += len;
+        input.len -= (size_t)len;
+    }
+}
+
+static void list(const char *file)
+{
+    struct rest rest = {file, NULL, read_file(file)};
+    rest.start = rest.bytes.at;
+    while (rest.bytes.len > 0) {
+        const uint64_t kind = number(&rest, 1);
+        number(&rest, 1);
+        struct rest record = {file, rest.start, take(&rest, number(&rest, 4))};
+        if (kind == 1)
+            build_record(&record);
+        else if (kind == 2 || kind == 4)
+            validate_record(&record, kind == 4);
+        else if (kind == 3)
+            blocks_of(part(&record));
+        else
+            stop(file, "no record", (size_t)(record.bytes.at - rest.start));
+    }
+}
+
+static struct limit_bytes limit, values;
+
+static void limit_seed_of_length(enum attack_what what, uint64_t length)
+{
+    static const uint8_t asked[] = "T00000";
+    struct attack_input in = {(uint8_t)what, 0, 0, 0x5A, 0, length, {limit.at, limit.len}, {asked, 6}, {values.at, values.len}};
+    write_seed(&in);
+}
+
+static void limit_seed(enum attack_what what)
+{
+    limit_seed_of_length(what, 1 << 20);
+}
+
+/* Each limit, and one beyond it. A layout of 256 primitive types has 8 + 256 * (41 + the length of a name) bytes. */
+static void limits(void)
+{
+    limit_values(&values, 512);
+    for (int more = 0; more < 2; more++) {
+        limit_types(&limit, 256 + more, 0, 0);
+        limit_seed(ATTACK_BUILD_VALIDATE);
+        limit_fields(&limit, 2, 64 + more, 64, 1);
+        limit_seed(ATTACK_BUILD_VALIDATE);
+        limit_fields(&limit, 3, 64, 64 + more, 1);
+        limit_seed(ATTACK_BUILD_VALIDATE);
+        limit_fields(&limit, 2, 2, 2, 32 + more);
+        limit_seed(ATTACK_BUILD_VALIDATE);
+        limit_depth_set(&limit, 32 + more);
+        limit_seed(ATTACK_BUILD_VALIDATE);
+        limit_depth_layout(&limit, 256 + more);
+        limit_seed(ATTACK_VALIDATE);
+        limit_calls(&limit, 17 + more, 0, 0);
+        limit_seed(ATTACK_VALIDATE);
+        limit_calls(&limit, 3, 512 + more, 512);
+        limit_seed(ATTACK_VALIDATE);
+        limit_calls(&limit, 3, 512, 512 + more);
+        limit_seed(ATTACK_VALIDATE);
+        limit_values(&limit, 512 + more);
+        limit_seed(ATTACK_READ_VALUES);
+    }
+    limit_values(&values, 0);
+    for (int longer = 245; longer < 252; longer++) {
+        limit_types(&limit, 256, 208, longer);
+        limit_seed(ATTACK_BUILD_VALIDATE);
+    }
+}
+
+/* A registry that is full or nearly so, at a field of each kind. */
+static void registries(void)
+{
+    for (uint64_t kind = 3; kind <= 7; kind++) {
+        for (int paths = 0; paths < 3; paths++) {
+            limit_registry(&limit, 8, kind, paths);
+            limit_seed(ATTACK_BUILD_VALIDATE);
+            limit_registry(&limit, 7, kind, 62 + paths);
+            limit_seed(ATTACK_BUILD_VALIDATE);
+        }
+    }
+}
+
+/* Names that are near 255 or 511 bytes when they are joined. */
+static void long_names(void)
+{
+    static const struct limit_names names[] = {
+        {"T", 0, 0, 120, 0, 1, 0},   {"T", 0, 120, 122, 0, 1, 0},  {"T", 0, 120, 123, 0, 1, 0},
+        {"T", 0, 240, 10, 0, 1, 1},  {"T", 0, 130, 0, 0, 1, 1},    {"T", 0, 130, 0, 0, 1, 2},
+        {"T", 0, 0, 0, 0, 1, 1},     {"T", 0, 0, 0, 170, 3, 0},    {"T", 0, 0, 0, 245, 2, 0},
+        {"T", 0, 0, 0, 245, 4, 0},   {"T", 239, 0, 0, 0, 1, 0},    {"T", 244, 0, 0, 0, 1, 0},
+        {"T", 249, 0, 0, 0, 2, 0},   {"T", 240, 0, 0, 0, 1, 1},    {"f::p", 0, 0, 0, 0, 1, 0},
+        {"p00000::p", 0, 0, 0, 0, 1, 0}, {"f00000::p", 0, 0, 10, 10, 2, 0}};
+    for (size_t i = 0; i < sizeof names / sizeof names[0]; i++)
+        for (uint64_t kind = 3; kind <= 7; kind++)
+            for (int root = 0; root < 2; root++) {
+                limit_long(&limit, kind, root, &names[i]);
+                limit_seed(ATTACK_BUILD_VALIDATE);
+            }
+}
+
+/* Every operation of a node on every pair of numbers at which a rule changes. */
+static void operations(void)
+{
+    static const uint64_t numbers[] = {0,   1,   2,   7,   8,          9,  63, 64, 65, 127,
+                                       128, 129, UINT64_C(1) << 32, UINT64_C(1) << 63, UINT64_MAX - 7, UINT64_MAX};
+    const size_t many = sizeof numbers / sizeof numbers[0];
+    limit_values(&values, 0);
+    for (uint64_t kind = 131; kind <= 143; kind++)
+        for (size_t i = 0; i < many * many && kind != 132 && kind != 133; i++) {
+            limit_operation(&limit, kind, numbers[i / many], numbers[i % many]);
+            limit_seed_of_length(ATTACK_VALIDATE, UINT64_MAX);
+        }
+}
+
+int main(int argc, char **argv)
+{
+    if (argc != 4) {
+        fprintf(stderr, "usage: seeds ANSWERS EXAMPLE FOLDER\n");
+        return 2;
+    }
+    folder = argv[3];
+    list(argv[1]);
+    blocks_of(read_file(argv[2]));
+    limits();
+    registries();
+    long_names();
+    operations();
+    printf("%lu\n", written);
+    return 0;
+}
