@@ -8,15 +8,16 @@ use lib.ListN.{length, getD, take, drop}
 use borrow.Author.Tests.{le-leb}
 use Rattle.errors.specs.Refusal.{done, _>>=_, ask}
 use Rattle.blocks.specs.declared.Part.{Part}
-use Rattle.blocks.specs.declared.Part.the-variants.{Text, Key, Number, Flag, OptText, Blocks}
+use Rattle.blocks.specs.declared.Part.the-variants.{Text, Key, Number, Flag, OptText, Block, Blocks, Values}
 use Rattle.blocks.specs.Bytes.{le2, le4}
 use Rattle.blocks.specs.Name.{isText}
 use Rattle.blocks.specs.Grammar.{partsOf, within, findRow, grammar, node, metadata}
 use Rattle.blocks.specs.Read.{Step, Earlier, Reader, readText, readNumber, readFlag, readOptional, readCount, readEntries, readList, readPart, readParts, readHeader, readBlock}
+use Rattle.leaf.specs.declared.Read.{Read}
 use Rattle.leaf.specs.declared.Read.the-variants.{Ok}
 use Rattle.leaf.specs.declared.Head.the-variants.{Found}
 use Rattle.leaf.specs.declared.Count.the-variants.{Of}
-use Rattle.leaf.specs.Answer.{forget, headOf, countOf}
+use Rattle.leaf.specs.Answer.{forget, readEntry, headOf, countOf}
 use Rattle.leaf.proofs.Laws.{text-is, optional-on, optional-off, flag-done}
 use Rattle.leaf.proofs.Lists.{list-of, any-go}
 use Rattle.reader.proofs.Blocks.{parts-none, parts-go, block-ok}
@@ -112,6 +113,33 @@ module _ (s : List ℕ) (kind at end stop i : ℕ) (y : 0 < stop) (g : Sized s a
       → (room : ℕ) (e : Earlier) → 0 < room → Reads r (readBlock room s e kind kind at end)
   unfolding readPart
   argument-yes k f c room e l z = let q = c z in rw (q .0) (begun room e (Text ∷ []) (rw k argument-parts) l (part-last _ s e at stop Text i (f at (omega arith))) (q .1))
+
+-- ---- values and runs
+
+values-parts : partsOf 192 ≡ Values 512 ∷ []
+unfolding partsOf findRow grammar
+values-parts = refl
+
+run-parts : partsOf 193 ≡ Text ∷ Number ∷ Block 192 192 ∷ []
+unfolding partsOf findRow grammar
+run-parts = refl
+
+module _ (s : List ℕ) (at end stop : ℕ) (y : 0 < stop) (g : Sized s at end stop) where
+  pub values-yes : (room k : ℕ) → k ≡ le2 s (at + 4) → k ≡ 192 → 0 < room → {x : Read} → x ≡ forget (readList (readEntry true s at stop) (Earlier.ascending [] 0) 512 s at stop (at + 6)) → {i r : ℕ} → x ≡ Ok i → (0 < r → (r ≡ stop) × (i ≡ stop))
+      → (e : Earlier) → Reads r (readBlock room s e 192 192 at end)
+  unfolding readPart readEntry
+  values-yes room k w u l f d c e z =
+      let q = c z in
+      rw (q .0) (block-yes s at end stop y g room e 192 192 k w (omega arith) (omega arith) l (rw (u, values-parts) (part-last (readBlock (room - 1) s) s e at stop (Values 512) (at + 6) (sym f ∙ d))) (q .1))
+
+  pub run-yes : (room : ℕ) → le2 s (at + 4) ≡ 193 → 2 ≤ room → {i : ℕ} → 0 < i → ((start : ℕ) → Reads i (readText s start stop (at + 6))) → i + 8 ≤ stop → {j r : ℕ} → ((e : Earlier) → Reads j (readBlock (room - 1) s e 192 192 (i + 8) stop)) → (0 < r → (r ≡ stop) × (j ≡ stop))
+      → (e : Earlier) → Reads r (readBlock room s e 193 193 at end)
+  unfolding readPart
+  run-yes room w l {i} x d h v c e z =
+      let q = c z in
+      let rb = readBlock (room - 1) s in
+      let behind = part-then rb s e at stop Number (Block 192 192 ∷ []) i (number-yes s stop i h at (omega arith)) (part-last rb s e at stop (Block 192 192) (i + 8) (v Earlier.any (omega arith))) in
+      rw (q .0) (begun s 193 at end stop i y g w x d room e (Number ∷ Block 192 192 ∷ []) run-parts (omega arith) behind (q .1))
 
 -- ---- cases
 

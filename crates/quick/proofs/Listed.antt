@@ -209,5 +209,13 @@ layout-yes room s end stop k g y e w x l d f =
     let p = part-last (readBlock (room - 1) s) s Earlier.any 0 end (Distinct 161 161 256) 6 (d 0 (omega arith)) in
     rw e at (b (rw (x, layout-parts, e) p) (f ∙ sym e))
 
-pub input-yes : (room kind : ℕ) (s : List ℕ) → kind ≡ 160 → forget (readBlock room s Earlier.any 160 160 0 (length s)) ≡ Ok (length s) → Ok (length s) ≡ inputOf (length s) (readInput room kind s)
-input-yes room kind s k d = rw k (sym (input-ok room 160 s d refl))
+pub input-yes : (room kind : ℕ) (s : List ℕ) → forget (readBlock room s Earlier.any kind kind 0 (length s)) ≡ Ok (length s) → Ok (length s) ≡ inputOf (length s) (readInput room kind s)
+input-yes room kind s d = sym (input-ok room kind s d refl)
+
+-- a kind, as the code's match has it
+pub layout-is : (room : ℕ) (s : List ℕ) {kind : ℕ} → kind ≡ 160 → forget (readBlock room s Earlier.any 160 160 0 (length s)) ≡ Ok (length s) → forget (readBlock room s Earlier.any kind kind 0 (length s)) ≡ Ok (length s)
+layout-is room s h d = rw h d
+
+-- all of an input was read
+pub all-yes : (room : ℕ) (s : List ℕ) {kind k r : ℕ} → kind ≡ k → ((e : Earlier) → Reads r (readBlock room s e k k 0 (length s))) → (0 < r) × (r ≡ length s) → forget (readBlock room s Earlier.any kind kind 0 (length s)) ≡ Ok (length s)
+all-yes room s h d q = rw h (d Earlier.any (q .0) ∙ ap Ok (q .1))

@@ -1,5 +1,5 @@
-// A quick reader of layouts. It answers with one number and says only yes; where it does not, the reader puts the questions
-// again, one by one.
+// A quick reader of layouts, values and runs. It answers with one number and says only yes; where it does not, the reader puts
+// the questions again, one by one.
 use leaf::Read;
 ghost use mathlib.Core.Path.{_≡_};
 ghost use mathlib.Core.Bool.{true, false};
@@ -388,14 +388,81 @@ fn layout(s: &[u8], room: usize) -> bool
     trees(s, room - 1, 6, n) == n
 }
 
-// An input: an outermost block of one kind, and nothing behind it. A layout is first tried quickly.
+// A block of values.
+fn values(s: &[u8], room: usize, at: usize, end: usize) -> usize
+    requires { ⌜ (at ≤ end) × (end ≤ length (now s)) ⌝ }
+    ensures { λ r. ⌜ ((e : Earlier) → Reads r (readBlock room (now (s .entry)) e 192 192 at end)) × (r ≤ end) ⌝ }
+{
+    let stop = sized(s, at, end);
+    if stop == 0 {
+        return 0;
+    }
+    if get::read2(s, at + 4) != 192 {
+        return 0;
+    }
+    if room == 0 {
+        return 0;
+    }
+    match leaf::entries(s, true, 512, at, at + 6, stop) {
+        Read::Ok(i) => closed(i, stop),
+        Read::Refused(_, _) => 0,
+    }
+}
+
+// A run: a type's name, a buffer length and values.
+fn run(s: &[u8], room: usize, at: usize, end: usize) -> usize
+    requires { ⌜ (at ≤ end) × (end ≤ length (now s)) ⌝ }
+    ensures { λ r. ⌜ ((e : Earlier) → Reads r (readBlock room (now (s .entry)) e 193 193 at end)) × (r ≤ end) ⌝ }
+{
+    let stop = sized(s, at, end);
+    if stop == 0 {
+        return 0;
+    }
+    if get::read2(s, at + 4) != 193 {
+        return 0;
+    }
+    if room < 2 {
+        return 0;
+    }
+    let i = text(s, at + 6, stop);
+    if i == 0 {
+        return 0;
+    }
+    if stop < i + 8 {
+        return 0;
+    }
+    closed(values(s, room - 1, i + 8, stop), stop)
+}
+
+// Whether all of the input, which is not empty, was read.
+fn all_read(r: usize, n: usize) -> bool
+    ensures { λ b. ⌜ (b ≡ true → (0 < r) × (r ≡ n)) ⌝ }
+{
+    if r == 0 {
+        return false;
+    }
+    r == n
+}
+
+// Whether the input is a layout, values or a run, as its kind says. If not, nothing is said.
+fn quickly(s: &[u8], room: usize, kind: usize) -> bool
+    ensures { λ r. ⌜ (r ≡ true → forget (readBlock room (now (s .entry)) Earlier.any kind kind 0 (length (now (s .entry)))) ≡ Ok (length (now (s .entry)))) ⌝ }
+{
+    let n = s.len();
+    match kind {
+        160 => layout(s, room),
+        192 => all_read(values(s, room, 0, n), n),
+        193 => all_read(run(s, room, 0, n), n),
+        _ => false,
+    }
+}
+
+// An input: an outermost block of one kind, and nothing behind it. It is first tried quickly.
 pub fn read_input(s: &[u8], room: usize, kind: usize) -> Read
     ensures { λ r. ⌜ r ≡ inputOf (length (now (s .entry))) (readInput room kind (now (s .entry))) ⌝ }
 {
-    if kind == 160 {
-        if layout(s, room) {
-            return Read::Ok(s.len());
-        }
+    if quickly(s, room, kind) {
+        return Read::Ok(s.len());
     }
     reader::read_input(s, room, kind)
 }

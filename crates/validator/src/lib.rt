@@ -35,7 +35,7 @@ fn judged(n: usize, layout: &[u8], values: &[u8], kind: usize) -> Judgement
     }
     match quick::read_input(layout, 256, 160) {
         Read::Refused(q, o) => Judgement::Unread(q, o),
-        Read::Ok(_) => match reader::read_input(values, 2, kind) {
+        Read::Ok(_) => match quick::read_input(values, 2, kind) {
             Read::Refused(q, o) => Judgement::Unread(q, o),
             Read::Ok(_) => Judgement::Read,
         },

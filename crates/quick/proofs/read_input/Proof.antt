@@ -4,11 +4,11 @@ use Rattle.quick.proofs.Listed.{input-yes}
 use Rattle.quick.proofs.read_input.Statement.{statement}
 use Rattle.quick.proofs.read_input.Tie as tie
 
-layout-requires : tie.Need-layout-requires
-layout-requires c κs = search needs
+quickly-requires : tie.Need-quickly-requires
+quickly-requires c κs = search needs
 
 returns : tie.Need-returns
-returns c = input-yes _ _ _ (c .before .before .if1 .taken) (c .before .layout .ensures (c .if2 .taken))
+returns c = input-yes _ _ _ (c .before .quickly .ensures (c .if1 .taken))
 
 read-input-requires : tie.Need-read-input-requires
 read-input-requires c κs = search needs
@@ -17,4 +17,4 @@ returns-2 : tie.Need-returns-2
 returns-2 c = c .read-input .ensures
 
 pub read-input-spec : {M : Type 1} → statement M
-read-input-spec = tie.close (tie.spec layout-requires returns read-input-requires returns-2)
+read-input-spec = tie.close (tie.spec quickly-requires returns read-input-requires returns-2)
