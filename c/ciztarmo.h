@@ -7,15 +7,15 @@
  * What holds for every call:
  *
  * - A buffer is an address and a length. The address must be valid for that many elements, words must be aligned as a uint64_t is,
- *   and the buffers of one call (inputs, words, out, answer) must not overlap. With length 0 nothing is read or written there, and
- *   the address may be NULL; `answer` is never NULL.
+ *   and the buffers of one call (inputs, words, out, answer, answers) must not overlap. With length 0 nothing is read or written
+ *   there, and the address may be NULL; `answer` is never NULL.
  * - Nothing is asked of what the buffers hold. Any bytes may be handed in as an input; words and out may hold anything before.
- * - Only words, answer and, in ciztarmo_build_set, out are written. No call allocates, keeps an address, reads or writes a file, or
- *   has a state between calls: calls on different buffers may run in several threads.
+ * - Only words, answer or answers and, in ciztarmo_build_set, out are written. No call allocates, keeps an address, reads or writes
+ *   a file, or has a state between calls: calls on different buffers may run in several threads.
  * - All words_len words are zero after the call, whatever it answers, also if they are too few.
  * - The first question that gets a "no" decides. 19 is asked first (are there 8,192 words?), then 1 of every input (is it at most
- *   65,536 bytes long?), then reading: 2 to 6.
- * - The answer is four words, see enum ciztarmo_answer.
+ *   65,536 bytes long?), then reading: 2 to 6. In ciztarmo_validate_runs each run is an input, and is asked by itself.
+ * - The answer is four words, see enum ciztarmo_answer; ciztarmo_validate_runs gives four for each run.
  * - Reading, building and evaluating recurse over nested blocks, of which at most 32 are open in a set and 256 in a layout;
  *   evaluating also over calls of types, of which at most 16 are open. So the stack is bounded, but not small. Measured (stack.c) on
  *   hostile inputs: reading 124 KB, building 63 KB, and validating 1.87 MB, where a type of 254 nested nodes calls itself. On the
@@ -133,6 +133,16 @@ void ciztarmo_validate(uint64_t *words, size_t words_len, const uint8_t *layout,
 /* The same with name, buffer length and values in one run block (193), which is read, and refused, in the place of the values. */
 void ciztarmo_validate_run(uint64_t *words, size_t words_len, const uint8_t *layout, size_t layout_len, const uint8_t *run,
                            size_t run_len, uint64_t answer[4]);
+
+/*
+ * Validating many runs (blocks 193) over one layout, which is read once. The runs stand one behind the other in `runs`: each is as
+ * long as its length field says, or as much of it as is there. Each is answered as ciztarmo_validate_run answers it alone, in four
+ * words, one behind the other in `answers`. Returns how many runs have their answers there: from the first on, as many as there are
+ * and as answers_len / 4 has room for. Words of `answers` behind them stay as they were. Together the runs may be longer than 65,536
+ * bytes. The offset of 2 to 6 is counted from the start of the run, or of the layout.
+ */
+size_t ciztarmo_validate_runs(uint64_t *words, size_t words_len, const uint8_t *layout, size_t layout_len, const uint8_t *runs,
+                              size_t runs_len, uint64_t *answers, size_t answers_len);
 
 /*
  * In ciztarmo.c. The name of a refusal, such as "BufferTooSmall", and a sentence about it; "Accepted" for 0. For a number that no

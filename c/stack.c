@@ -202,6 +202,11 @@ static void validate_run(void)
     ciztarmo_validate_run(words, CIZTARMO_WORDS, layout.at, layout.len, run.at, run.len, answer);
 }
 
+static void validate_runs(void)
+{
+    ciztarmo_validate_runs(words, CIZTARMO_WORDS, layout.at, layout.len, run.at, run.len, answer, CIZTARMO_ANSWER_WORDS);
+}
+
 /* Where the stack stood before the call. */
 static uintptr_t before;
 
@@ -224,6 +229,7 @@ static size_t measure(const char *what, void (*call)(void))
         exit(2);
     }
     memset(stack, PAINT, STACK);
+    memset(answer, PAINT, sizeof answer);
     pthread_attr_init(&attributes);
     if (pthread_attr_setstack(&attributes, stack, STACK) != 0 || pthread_create(&thread, &attributes, in_thread, &call) != 0 ||
         pthread_join(thread, NULL) != 0) {
@@ -248,6 +254,8 @@ static void within_the_limits(void)
     CHECK(measure("validate, 16 calls of 254 nodes", validate) <= CIZTARMO_STACK_BYTES);
     CHECK(answer[CIZTARMO_NUMBER] == CIZTARMO_TOO_MANY_CALLS);
     CHECK(measure("validate_run, 16 calls of 254 nodes", validate_run) <= CIZTARMO_STACK_BYTES);
+    CHECK(answer[CIZTARMO_NUMBER] == CIZTARMO_TOO_MANY_CALLS);
+    CHECK(measure("validate_runs, 16 calls of 254 nodes", validate_runs) <= CIZTARMO_STACK_BYTES);
     CHECK(answer[CIZTARMO_NUMBER] == CIZTARMO_TOO_MANY_CALLS);
     for (int sums = 0; sums < 2; sums++) {
         make_set(&set, sums ? 1 : 27, sums ? 27 : 0);

@@ -13,7 +13,10 @@
 #include <string.h>
 
 #define LAYOUT_LEN 218
+#define RUNS 4
 #define SPARE_WORDS 8
+#define MOST_RUNS (RUNS * 512)
+#define ROOM (MOST_RUNS * CIZTARMO_ANSWER_WORDS)
 #define DIRTY_WORD UINT64_C(0xA5C3A5C3A5C3A5C3)
 #define DIRTY_BYTE 0x5A
 
@@ -30,16 +33,23 @@ static void check(int good, const char *what, int line)
 
 #define CHECK(c) check((c) != 0, #c, __LINE__)
 
-/* Words and output lie on the heap, where the sanitizer sees an access outside them. */
-static uint64_t *words;
+/* Words, answers and output lie on the heap, where the sanitizer sees an access outside them. */
+static uint64_t *words, *answers;
 static uint8_t *out;
+/* A block of one byte more than an input may have. */
 static uint8_t *too_long;
 static uint64_t answer[CIZTARMO_ANSWER_WORDS];
 
 static uint8_t trip[1024];
-static const uint8_t *set, *runs[4];
-static size_t set_len, run_lens[4];
+static const uint8_t *set, *runs[RUNS];
+static size_t set_len, run_lens[RUNS], runs_len;
 static uint8_t layout[LAYOUT_LEN];
+
+/* The example's four answers: counts 13 and 1, then 25 with the required count, then 21 at the node that asks for legs.n. */
+static const uint64_t run_answers[RUNS][CIZTARMO_ANSWER_WORDS] = {{0, CIZTARMO_NO_PLACE, 0, 13},
+                                                                  {0, CIZTARMO_NO_PLACE, 0, 1},
+                                                                  {CIZTARMO_BUFFER_TOO_SMALL, 0, 0, 13},
+                                                                  {CIZTARMO_MISSING_IR_PARAMETER, 0, 150, 0}};
 
 static const uint8_t name[] = {'T', 'r', 'i', 'p'};
 
@@ -52,10 +62,9 @@ static void dirty(size_t many)
     memset(out, DIRTY_BYTE, CIZTARMO_MAX_INPUT);
 }
 
-/* The answer, the words that were lent (zero) and those behind them (as they were). */
-static void check_answer(int line, size_t many, uint64_t number, uint64_t place, uint64_t offset, uint64_t value)
+/* The words that were lent (zero) and those behind them (as they were). */
+static void check_words(int line, size_t many)
 {
-    const uint64_t want[CIZTARMO_ANSWER_WORDS] = {number, place, offset, value};
     int zero = 1, same = 1;
     for (size_t i = 0; i < many; i++)
         zero &= words[i] == 0;
@@ -63,14 +72,25 @@ static void check_answer(int line, size_t many, uint64_t number, uint64_t place,
         same &= words[i] == DIRTY_WORD;
     check(zero, "the words are zero after the call", line);
     check(same, "the words behind those that were lent are untouched", line);
+}
+
+static void check_four(int line, const uint64_t *got, const uint64_t *want)
+{
     for (int i = 0; i < CIZTARMO_ANSWER_WORDS; i++) {
         checks++;
-        if (answer[i] == want[i])
+        if (got[i] == want[i])
             continue;
         failures++;
-        fprintf(stderr, "%s:%d: word %d of the answer is %llu, not %llu\n", __FILE__, line, i, (unsigned long long)answer[i],
+        fprintf(stderr, "%s:%d: word %d of the answer is %llu, not %llu\n", __FILE__, line, i, (unsigned long long)got[i],
                 (unsigned long long)want[i]);
     }
+}
+
+static void check_answer(int line, size_t many, uint64_t number, uint64_t place, uint64_t offset, uint64_t value)
+{
+    const uint64_t want[CIZTARMO_ANSWER_WORDS] = {number, place, offset, value};
+    check_words(line, many);
+    check_four(line, answer, want);
 }
 
 #define ANSWER(many, number, place, offset, value) check_answer(__LINE__, many, number, place, offset, value)
@@ -103,7 +123,7 @@ static int read_trip(const char *path)
         return 0;
     }
     set = trip;
-    for (int i = 0; i < 4; i++) {
+    for (int i = 0; i < RUNS; i++) {
         if (n - at < 4 || block_len(trip + at) > n - at) {
             fprintf(stderr, "%s: no block at byte %lu\n", path, (unsigned long)at);
             return 0;
@@ -112,6 +132,7 @@ static int read_trip(const char *path)
         run_lens[i] = block_len(runs[i]);
         at += run_lens[i];
     }
+    runs_len = at - set_len;
     return 1;
 }
 
@@ -160,24 +181,193 @@ static void test_refused_builds(void)
     CHECK(all(out, 0, CIZTARMO_MAX_INPUT, 0));
 }
 
-/* The example's four answers: counts 13 and 1, then 25 with the required count, then 21 at the node that asks for legs.n. */
 static void test_runs(void)
 {
-    const uint64_t want[4][4] = {{0, CIZTARMO_NO_PLACE, 0, 13},
-                                 {0, CIZTARMO_NO_PLACE, 0, 1},
-                                 {CIZTARMO_BUFFER_TOO_SMALL, 0, 0, 13},
-                                 {CIZTARMO_MISSING_IR_PARAMETER, 0, 150, 0}};
-    const uint64_t lens[4] = {13, 8, 12, 13};
-    for (int i = 0; i < 4; i++) {
+    const uint64_t lens[RUNS] = {13, 8, 12, 13};
+    for (int i = 0; i < RUNS; i++) {
+        const uint64_t *want = run_answers[i];
         dirty(CIZTARMO_WORDS);
         ciztarmo_validate_run(words, CIZTARMO_WORDS, layout, LAYOUT_LEN, runs[i], run_lens[i], answer);
-        ANSWER(CIZTARMO_WORDS, want[i][0], want[i][1], want[i][2], want[i][3]);
+        ANSWER(CIZTARMO_WORDS, want[0], want[1], want[2], want[3]);
         /* A run is: length, kind, name with its length, buffer length, values. */
         const uint8_t *values = runs[i] + 4 + 2 + 2 + sizeof name + 8;
         dirty(CIZTARMO_WORDS);
         ciztarmo_validate(words, CIZTARMO_WORDS, layout, LAYOUT_LEN, name, sizeof name, values, block_len(values), lens[i], answer);
-        ANSWER(CIZTARMO_WORDS, want[i][0], want[i][1], want[i][2], want[i][3]);
+        ANSWER(CIZTARMO_WORDS, want[0], want[1], want[2], want[3]);
     }
+}
+
+/* A layout and runs one behind the other, with the words that are lent for both. */
+struct question {
+    size_t many;
+    const uint8_t *layout;
+    size_t layout_len;
+    const uint8_t *runs;
+    size_t runs_len;
+};
+
+static const uint64_t *answer_of(size_t run)
+{
+    return answers + run * CIZTARMO_ANSWER_WORDS;
+}
+
+/* Asks with room for `room` words of answers; the words behind the answers that are given must stay. */
+static size_t ask(int line, const struct question *q, size_t room)
+{
+    int same = 1;
+    dirty(q->many);
+    for (size_t i = 0; i < ROOM + SPARE_WORDS; i++)
+        answers[i] = DIRTY_WORD;
+    const size_t given =
+        ciztarmo_validate_runs(words, q->many, q->layout, q->layout_len, q->runs, q->runs_len, answers, room);
+    check_words(line, q->many);
+    check(given <= room / CIZTARMO_ANSWER_WORDS, "there is room for the answers", line);
+    for (size_t i = given * CIZTARMO_ANSWER_WORDS; i < ROOM + SPARE_WORDS; i++)
+        same &= answers[i] == DIRTY_WORD;
+    check(same, "the words behind the answers are untouched", line);
+    return given;
+}
+
+/* The length of the run at the front: what its length field says, or what is there. */
+static size_t piece_len(const uint8_t *bytes, size_t len)
+{
+    return len < 4 || block_len(bytes) > len ? len : block_len(bytes);
+}
+
+/* Each run has the answer that ciztarmo_validate_run gives it alone. Returns how many there are. */
+static size_t as_alone(int line, const struct question *q)
+{
+    const size_t given = ask(line, q, ROOM);
+    size_t run = 0;
+    for (size_t at = 0, len; at < q->runs_len; at += len, run++) {
+        len = piece_len(q->runs + at, q->runs_len - at);
+        ciztarmo_validate_run(words, q->many, q->layout, q->layout_len, q->runs + at, len, answer);
+        if (run < given)
+            check_four(line, answer_of(run), answer);
+    }
+    check(run == given, "there are as many answers as runs", line);
+    return given;
+}
+
+/* The four runs in one call. Room for fewer answers, or for parts of one more, gives those that fit. */
+static void test_many_runs(void)
+{
+    const struct question q = {CIZTARMO_WORDS, layout, LAYOUT_LEN, runs[0], runs_len};
+    const struct question more_words = {2 * CIZTARMO_WORDS, layout, LAYOUT_LEN, runs[0], runs_len};
+    for (size_t room = 0; room < (RUNS + 2) * CIZTARMO_ANSWER_WORDS; room++) {
+        const size_t given = ask(__LINE__, &q, room), fit = room / CIZTARMO_ANSWER_WORDS;
+        CHECK(given == (fit < RUNS ? fit : RUNS));
+        for (size_t i = 0; i < given && i < RUNS; i++)
+            check_four(__LINE__, answer_of(i), run_answers[i]);
+    }
+    CHECK(as_alone(__LINE__, &more_words) == RUNS);
+}
+
+/* The runs cut off anywhere: what is left of the last one is refused. */
+static void test_cut_runs(void)
+{
+    for (size_t len = 0; len <= runs_len; len++) {
+        const struct question q = {CIZTARMO_WORDS, layout, LAYOUT_LEN, runs[0], len};
+        const size_t given = as_alone(__LINE__, &q);
+        size_t whole = 0, at = 0;
+        while (whole < RUNS && run_lens[whole] <= len - at)
+            at += run_lens[whole++];
+        CHECK(given == whole + (at < len));
+        CHECK(at == len || answer_of(whole)[CIZTARMO_NUMBER] == CIZTARMO_BLOCK_DOES_NOT_FIT);
+    }
+}
+
+/* What is refused before a run is read is told of every run. */
+static void test_refused_runs(void)
+{
+    uint8_t other[LAYOUT_LEN];
+    memcpy(other, layout, LAYOUT_LEN);
+    other[LAYOUT_LEN - 1] = 7;
+    const struct {
+        size_t many;
+        const uint8_t *layout;
+        size_t layout_len, number, offset;
+    } cases[] = {{CIZTARMO_WORDS - 1, layout, LAYOUT_LEN, CIZTARMO_TOO_FEW_WORDS, 0},
+                 {1, layout, LAYOUT_LEN, CIZTARMO_TOO_FEW_WORDS, 0},
+                 {0, layout, LAYOUT_LEN, CIZTARMO_TOO_FEW_WORDS, 0},
+                 {CIZTARMO_WORDS, too_long, CIZTARMO_MAX_INPUT + 1, CIZTARMO_INPUT_TOO_LONG, 0},
+                 {CIZTARMO_WORDS, NULL, 0, CIZTARMO_BLOCK_DOES_NOT_FIT, 0},
+                 {CIZTARMO_WORDS, layout, LAYOUT_LEN - 1, CIZTARMO_BLOCK_DOES_NOT_FIT, 0},
+                 {CIZTARMO_WORDS, other, LAYOUT_LEN, CIZTARMO_INVALID_FLAG_OR_LITERAL, 202}};
+    for (size_t i = 0; i < sizeof cases / sizeof cases[0]; i++) {
+        const struct question q = {cases[i].many, cases[i].layout, cases[i].layout_len, runs[0], runs_len};
+        const uint64_t want[] = {cases[i].number, CIZTARMO_NO_PLACE, cases[i].offset, 0};
+        CHECK(as_alone(__LINE__, &q) == RUNS);
+        for (size_t run = 0; run < RUNS; run++)
+            check_four(__LINE__, answer_of(run), want);
+    }
+}
+
+/* Blocks too short for a kind or a name, a good run, and three bytes. */
+static void test_short_runs(void)
+{
+    static const uint8_t before[] = {0, 0, 0, 0, 1, 0, 0, 0, 193, 2, 0, 0, 0, 193, 0}, behind[] = {44, 0, 0};
+    const uint64_t want[] = {2, 2, 2, 0, 2};
+    uint8_t bytes[sizeof before + sizeof trip + sizeof behind];
+    memcpy(bytes, before, sizeof before);
+    memcpy(bytes + sizeof before, runs[0], run_lens[0]);
+    memcpy(bytes + sizeof before + run_lens[0], behind, sizeof behind);
+    const struct question q = {CIZTARMO_WORDS, layout, LAYOUT_LEN, bytes, sizeof before + run_lens[0] + sizeof behind};
+    CHECK(as_alone(__LINE__, &q) == 5);
+    for (size_t run = 0; run < 5; run++)
+        CHECK(answer_of(run)[CIZTARMO_NUMBER] == want[run]);
+    check_four(__LINE__, answer_of(3), run_answers[0]);
+}
+
+/* A block of 65,536 bytes or one more, there whole, and a run behind it. 1 is asked of each before the layout is read. */
+static void test_long_runs(void)
+{
+    uint8_t *bytes = calloc(CIZTARMO_MAX_INPUT + 1 + sizeof trip, 1);
+    if (bytes == NULL) {
+        check(0, "there is memory", __LINE__);
+        return;
+    }
+    for (size_t more = 0; more < 2; more++) {
+        const size_t len = CIZTARMO_MAX_INPUT + more;
+        memcpy(bytes, too_long, 4);
+        bytes[0] -= (uint8_t)(1 - more);
+        memcpy(bytes + len, runs[0], run_lens[0]);
+        const struct question q = {CIZTARMO_WORDS, layout, LAYOUT_LEN, bytes, len + run_lens[0]};
+        CHECK(as_alone(__LINE__, &q) == 2);
+        CHECK(answer_of(0)[CIZTARMO_NUMBER] == (more ? CIZTARMO_INPUT_TOO_LONG : CIZTARMO_BLOCK_DOES_NOT_FIT));
+        check_four(__LINE__, answer_of(1), run_answers[0]);
+        const struct question refused = {CIZTARMO_WORDS, layout, LAYOUT_LEN - 1, bytes, len + run_lens[0]};
+        CHECK(as_alone(__LINE__, &refused) == 2);
+        CHECK(answer_of(0)[CIZTARMO_NUMBER] == (more ? CIZTARMO_INPUT_TOO_LONG : CIZTARMO_BLOCK_DOES_NOT_FIT));
+        CHECK(answer_of(1)[CIZTARMO_NUMBER] == CIZTARMO_BLOCK_DOES_NOT_FIT);
+    }
+    /* Cut off, but longer than an input may be. */
+    for (int at = 2; at < 4; at++) {
+        const struct question cut = {CIZTARMO_WORDS, layout, LAYOUT_LEN, bytes, CIZTARMO_MAX_INPUT + 1};
+        memset(bytes, 0, 4);
+        bytes[at] = 2;
+        CHECK(as_alone(__LINE__, &cut) == 1 && answer_of(0)[CIZTARMO_NUMBER] == CIZTARMO_INPUT_TOO_LONG);
+    }
+    free(bytes);
+}
+
+/* The four runs again and again, together longer than an input may be. */
+static void test_runs_again(void)
+{
+    const size_t times = MOST_RUNS / RUNS, len = times * runs_len;
+    uint8_t *bytes = malloc(len);
+    if (bytes == NULL) {
+        check(0, "there is memory", __LINE__);
+        return;
+    }
+    for (size_t i = 0; i < times; i++)
+        memcpy(bytes + i * runs_len, runs[0], runs_len);
+    const struct question q = {CIZTARMO_WORDS, layout, LAYOUT_LEN, bytes, len};
+    CHECK(len > CIZTARMO_MAX_INPUT);
+    CHECK(ask(__LINE__, &q, ROOM) == MOST_RUNS);
+    for (size_t i = 0; i < times; i++)
+        CHECK(memcmp(answer_of(i * RUNS), run_answers, sizeof run_answers) == 0);
+    free(bytes);
 }
 
 typedef void reading(uint64_t *, size_t, const uint8_t *, size_t, uint64_t[4]);
@@ -249,7 +439,7 @@ static void test_refused_readings(void)
     changed(ciztarmo_read_values, twice, sizeof twice, 21, 'a', CIZTARMO_NAMES_OUT_OF_ORDER, 0, __LINE__);
 }
 
-/* All seven calls on the same inputs, where the one refusal stands before any reading. */
+/* All eight calls on the same inputs, where the one refusal stands before any reading. */
 static void every_call(size_t many, const uint8_t *a, size_t a_len, const uint8_t *b, size_t b_len, uint64_t number, int line)
 {
     for (size_t i = 0; i < READINGS; i++) {
@@ -268,6 +458,12 @@ static void every_call(size_t many, const uint8_t *a, size_t a_len, const uint8_
         dirty(many);
         ciztarmo_validate_run(words, many, first, first_len, second, second_len, answer);
         check_answer(line, many, number, CIZTARMO_NO_PLACE, 0, 0);
+        const struct question q = {many, first, first_len, second, second_len};
+        const uint64_t want[] = {number, CIZTARMO_NO_PLACE, 0, 0};
+        const size_t given = ask(line, &q, ROOM);
+        check(given == (second_len > 0), "one run has an answer", line);
+        if (given > 0)
+            check_four(line, answer_of(0), want);
     }
 }
 
@@ -299,7 +495,7 @@ static void test_asked_names(void)
     }
 }
 
-/* An output without an address and no words: nothing is written. */
+/* An output without an address, no words, no room for answers: nothing is written. */
 static void test_no_buffers(void)
 {
     dirty(CIZTARMO_WORDS);
@@ -308,6 +504,10 @@ static void test_no_buffers(void)
     dirty(0);
     ciztarmo_build_set(NULL, 0, set, set_len, NULL, 0, answer);
     REFUSED(0, CIZTARMO_TOO_FEW_WORDS, 0);
+    dirty(CIZTARMO_WORDS);
+    CHECK(ciztarmo_validate_runs(words, CIZTARMO_WORDS, layout, LAYOUT_LEN, runs[0], runs_len, NULL, 0) == 0);
+    check_words(__LINE__, CIZTARMO_WORDS);
+    CHECK(ciztarmo_validate_runs(NULL, 0, NULL, 0, NULL, 0, NULL, 0) == 0);
 }
 
 static int used(uint64_t number)
@@ -337,15 +537,24 @@ int main(int argc, char **argv)
     words = malloc((2 * CIZTARMO_WORDS + SPARE_WORDS) * sizeof *words);
     out = malloc(CIZTARMO_MAX_INPUT);
     too_long = calloc(CIZTARMO_MAX_INPUT + 1, 1);
-    if (argc != 2 || words == NULL || out == NULL || too_long == NULL) {
+    answers = malloc((ROOM + SPARE_WORDS) * sizeof *answers);
+    if (argc != 2 || words == NULL || out == NULL || too_long == NULL || answers == NULL) {
         fprintf(stderr, "usage: test examples/trip\n");
         return 2;
     }
+    too_long[0] = (CIZTARMO_MAX_INPUT + 1 - 4) & 0xFF;
+    too_long[1] = (CIZTARMO_MAX_INPUT + 1 - 4) >> 8;
     if (!read_trip(argv[1]))
         return 2;
     test_build();
     test_refused_builds();
     test_runs();
+    test_many_runs();
+    test_cut_runs();
+    test_refused_runs();
+    test_short_runs();
+    test_long_runs();
+    test_runs_again();
     test_readings();
     test_refused_readings();
     test_before_reading();
@@ -355,6 +564,7 @@ int main(int argc, char **argv)
     free(words);
     free(out);
     free(too_long);
+    free(answers);
     if (failures != 0) {
         fprintf(stderr, "%lu of %lu checks failed\n", failures, checks);
         return 1;

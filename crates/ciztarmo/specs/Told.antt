@@ -1,14 +1,10 @@
--- An outcome as four words: "A refusal gives number, type place in the set or layout (65,535 if none), offset and value." An
--- accepted call has number 0, no place, and its count as value.
+-- Outcomes as four words.
 use Prim.Native.Nat.{ℕ}
-use mathlib.Core.List.{List, [], _∷_}
+use mathlib.Core.List.{List}
 use lib.ListN.{length}
-use Rattle.errors.specs.Refusal.{Outcome, done, refused, nowhere}
+use Rattle.errors.specs.Refusal.{Outcome, done, refused}
 use Rattle.blocks.specs.Tree.{Tree}
-
-unfoldable pub told : Outcome ℕ → List ℕ
-told (done n) = 0 ∷ nowhere ∷ 0 ∷ n ∷ []
-told (refused r) = r .number ∷ r .place ∷ r .offset ∷ r .value ∷ []
+unfoldable pub use Rattle.runs.specs.Told.{told}
 
 -- an accepted reading has no count
 unfoldable pub read : Outcome Tree → Outcome ℕ

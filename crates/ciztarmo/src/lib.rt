@@ -1,7 +1,10 @@
 // The calls for C and Rust programs. A slice is passed as its first element's address and its length, an array by its address.
-// The answer goes into the caller's four words: number (0 if accepted), place, offset, and value or count.
+// The answer goes into the caller's four words: number (0 if accepted), place, offset, and value or count; where there are many,
+// one behind the other.
 ghost use mathlib.Core.Path.{_≡_};
-ghost use lib.ListN.{length, replicate};
+ghost use mathlib.Core.List.{_++_};
+ghost use Prim.Native.Nat.{_*_};
+ghost use lib.ListN.{length, drop, replicate};
 ghost use Rattle.errors.specs.Refusal.{Outcome};
 ghost use Rattle.blocks.specs.Tree.{Tree};
 ghost use Rattle.blocks.specs.Read.{readSet, readLayout, readValues, readRun};
@@ -9,6 +12,8 @@ ghost use Rattle.inputs.specs.Inputs.{readCall, answerOf};
 ghost use Rattle.leaves.specs.Outcome.{outcomeOf};
 ghost use Rattle.interpreter.specs.Validate.{validate, validate-run};
 ghost use Rattle.builder.specs.Build.{build-set, output-after, words-after};
+ghost use Rattle.runs.specs.Runs.{validate-runs, given};
+ghost use Rattle.runs.specs.Told.{told-all};
 ghost use Rattle.ciztarmo.specs.Told.{told, read, built};
 
 // What a reading answered, as four words.
@@ -136,4 +141,20 @@ pub extern "C" fn ciztarmo_validate_run(
 {
     let a = validator::validate_run(words, layout, run);
     tell_count(a, answer);
+}
+
+// The counts of the bytes that runs, one behind the other, ask for, over one layout: how many runs have their answers in
+// `answers`, four words each. Those from the first on have for which there is room.
+#[no_mangle]
+pub extern "C" fn ciztarmo_validate_runs(
+    words: &mut [u64],
+    layout: &[u8],
+    runs: &[u8],
+    answers: &mut [u64],
+) -> usize
+    ensures { λ r. ⌜ r ≡ length (given (length (now (answers .entry))) (validate-runs (length (now (words .entry))) (now (layout .entry)) (now (runs .entry)))) ⌝ }
+    ensures { λ r. ⌜ now (answers .exit) ≡ told-all (given (length (now (answers .entry))) (validate-runs (length (now (words .entry))) (now (layout .entry)) (now (runs .entry)))) ++ drop (4 * r) (now (answers .entry)) ⌝ }
+    ensures { λ _. ⌜ now (words .exit) ≡ replicate (length (now (words .entry))) 0 ⌝ }
+{
+    runs::validate_runs(words, layout, runs, answers)
 }

@@ -1,6 +1,6 @@
 -- What the code returns for each kind of node is what the node evaluates to; premises as the code's places have them.
 use mathlib.Core.Path.{_≡_, refl, sym, _∙_, ap, subst, fun-ext}
-use mathlib.Core.Bool.{Bool, true, false, cond}
+use mathlib.Core.Bool.{Bool, true, false, not, cond}
 use mathlib.Core.List.{List, [], _∷_, _++_}
 use mathlib.Core.Option.{Option, some, none}
 use Prim.Native.Nat.{ℕ, zero, suc, _+_, _-_, _*_, _/_, _%_, _≤_, _<_}
@@ -9,7 +9,7 @@ use native.Mathlib.Omega.{arith}
 use lib.Dec.{eqb}
 use lib.ListN.{length, getD, set, drop, length-set}
 use lib.Seq.{getD-set-same, getD-set-other}
-use borrow.Author.Tests.{eq-eqb, ne-eqb, le-leb}
+use borrow.Author.Tests.{eq-eqb, ne-eqb, le-leb, not-true, not-false}
 use Rattle.errors.specs.Refusal.{Outcome, done, refused, _>>=_, Refusal, plain, UnknownType, MissingIrParameter, InvalidTagValue}
 use Rattle.blocks.specs.Bytes.{le2, le4, le8}
 use Rattle.blocks.specs.Name.{Name}
@@ -23,7 +23,7 @@ use Rattle.ir.specs.Layout.{Form, formOf, makeThing, thingOf, nodeIn, defaultIn
 use Rattle.walk.specs.Accepted.{Accepted, tree, nameAt}
 use Rattle.walk.proofs.Laws.{opened, each}
 use Rattle.interpreter.specs.Arithmetic.{Result, operate, align-up}
-use Rattle.interpreter.specs.Eval.{Calls, ParamMap, find, at, valueOr, lift, eval-node, eval-cases, eval-default, collect-arguments, inherited, lookup-type, eval-call, eval-within}
+use Rattle.interpreter.specs.Eval.{Calls, ParamMap, find, at as refusal, valueOr, lift, eval-node, eval-cases, eval-default, collect-arguments, inherited, lookup-type, eval-call, eval-within}
 use Rattle.nodes.proofs.Laws.{Standing, kinds}
 use Rattle.nodes.proofs.Shape.{bodyOf, number-at, child-at, node-is, node-in, cases-in, default-in, located}
 use Rattle.arithmetic.specs.declared.Num.{Num}
@@ -36,13 +36,11 @@ use Rattle.context.specs.declared.Held.the-variants.{Value, Absent}
 use Rattle.context.specs.Names.{heldOf}
 use Rattle.context.specs.Context.{Context, Pair, Open, callAt, treeAt, argumentsOf, parametersOf, Same}
 use Rattle.context.proofs.Calls.{context-same}
-use Rattle.leaves.specs.declared.Answer.{Answer}
-use Rattle.leaves.specs.declared.Answer.the-variants.{Count, Refused}
 use Rattle.leaves.specs.declared.Choice.{Choice}
 use Rattle.leaves.specs.declared.Choice.the-variants.{Node, Nothing}
 use Rattle.leaves.specs.declared.Arguments.{Arguments}
 use Rattle.leaves.specs.declared.Arguments.the-variants.{All, Lacking}
-use Rattle.leaves.specs.Outcome.{outcomeOf}
+use Rattle.leaves.specs.Outcome.{outcomeIn}
 use Rattle.leaves.specs.Steps.{Rooted, pick, casesOf, defaultOf, Picked, Bound}
 use Rattle.leaves.proofs.Nodes.{held-is, absent-is}
 use Rattle.evaluator.specs.Evaluates.{Ready, Evaluates}
@@ -50,7 +48,7 @@ use Rattle.evaluator.specs.Evaluates.{Ready, Evaluates}
 -- ---- the allowance of open calls
 
 abbrev entering : ℕ → List TypeIr → ℕ → ParamMap → ℕ → ℕ → ParamMap → IrNode → Outcome ℕ
-entering zero types p γ a i δ root = refused (at p a 27 0)
+entering zero types p γ a i δ root = refused (refusal p a 27 0)
 entering (suc left) types p γ a i δ root = eval-within left types i δ root
 
 -- what a call does with so many calls left
@@ -86,17 +84,17 @@ module _ {s : List ℕ} {at p q : ℕ} (st : Standing s at 2 p) (su : Standing s
       ∙ ap (λ (m : ℕ). eval-node call pl γ (nodeOf (tree (align-child su a k .0))) >>= (λ v. lift pl at (align-up v m))) (align-number st a k .1)
       ∙ ap (λ (o : Outcome ℕ). o >>= (λ v. lift pl at (align-up v (le8 s p)))) (sym (within-is left types pl γ (nodeOf (tree (align-child su a k .0)))))
 
-  module _ (o : Answer) (e : (c : Accepted s 128 144 q) → outcomeOf o ≡ eval-within left types pl γ (nodeOf (tree c))) where
-    then-align : (z : Outcome ℕ) → outcomeOf o ≡ z → eval-within left types pl γ (nodeOf (tree a)) ≡ (z >>= (λ v. lift pl at (align-up v (le8 s p))))
-    then-align z f = align-is ∙ ap (λ (o : Outcome ℕ). o >>= (λ v. lift pl at (align-up v (le8 s p)))) (sym (e (align-child su a k .0)) ∙ f)
+  module _ (r : Bool) (out : List ℕ) (e : (c : Accepted s 128 144 q) → outcomeIn r out ≡ eval-within left types pl γ (nodeOf (tree c))) where
+    then-align : {b : Bool} → r ≡ b → eval-within left types pl γ (nodeOf (tree a)) ≡ (outcomeIn b out >>= (λ v. lift pl at (align-up v (le8 s p))))
+    then-align f = align-is ∙ ap (λ (o : Outcome ℕ). o >>= (λ v. lift pl at (align-up v (le8 s p)))) (sym (e (align-child su a k .0)) ∙ ap (λ (b : Bool). outcomeIn b out) f)
 
-    pub align-stops : {n x y z : ℕ} → o ≡ Refused n x y z → outcomeOf (Refused n x y z) ≡ eval-within left types pl γ (nodeOf (tree a))
+    pub align-stops : not r ≡ true → outcomeIn false out ≡ eval-within left types pl γ (nodeOf (tree a))
     unfolding _>>=_
-    align-stops {n} {x} {y} {z} f = sym (then-align (outcomeOf (Refused n x y z)) (ap outcomeOf f))
+    align-stops f = sym (then-align (not-true r f))
 
-    pub align-goes : {v m : ℕ} {z : Num} (r : Answer) → o ≡ Count v → m ≡ le8 s p → z ≡ numOf (align-up v m) → ((x : Result) → z ≡ numOf x → outcomeOf r ≡ lift pl at x) → outcomeOf r ≡ eval-within left types pl γ (nodeOf (tree a))
+    pub align-goes : {m : ℕ} {z : Num} {o : Outcome ℕ} → not r ≡ false → m ≡ le8 s p → z ≡ numOf (align-up (getD out 0 0) m) → ((x : Result) → z ≡ numOf x → o ≡ lift pl at x) → o ≡ eval-within left types pl γ (nodeOf (tree a))
     unfolding _>>=_
-    align-goes {v} {m} r f em ez er = er (align-up v m) ez ∙ ap (λ (m : ℕ). lift pl at (align-up v m)) em ∙ sym (then-align (done v) (ap outcomeOf f))
+    align-goes {m} f em ez eo = eo (align-up (getD out 0 0) m) ez ∙ ap (λ (m : ℕ). lift pl at (align-up (getD out 0 0) m)) em ∙ sym (then-align (not-false r f))
 
 -- ---- two operands
 
@@ -143,28 +141,31 @@ module _ {s : List ℕ} {at : ℕ} (a : Accepted s 128 144 at) (lo : 134 ≤ le2
         ∙ ap (λ (o : Outcome ℕ). o >>= (λ x. eval-node call pl γ (nodeOf (tree (right-child su .0))) >>= (λ y. lift pl at (operate op x y)))) (sym (within-is left types pl γ (nodeOf (tree (left-child st .0)))))
         ∙ ap (λ (o : Outcome ℕ). run (left-child st .0) >>= (λ x. o >>= (λ y. lift pl at (operate op x y)))) (sym (within-is left types pl γ (nodeOf (tree (right-child su .0)))))
 
-    module _ (o : Answer) (e : (c : Accepted s 128 144 p) → outcomeOf o ≡ run c) where
-      pub left-stops : {n x y z : ℕ} → o ≡ Refused n x y z → outcomeOf (Refused n x y z) ≡ run a
+    module _ (r : Bool) (out : List ℕ) (e : (c : Accepted s 128 144 p) → outcomeIn r out ≡ run c) where
+      left-is : {b : Bool} → r ≡ b → run a ≡ (outcomeIn b out >>= (λ x. run (right-child su .0) >>= (λ y. lift pl at (operate (opOf (le2 s (at + 4))) x y))))
+      left-is f = binary-is ∙ ap (λ (o : Outcome ℕ). o >>= (λ x. run (right-child su .0) >>= (λ y. lift pl at (operate (opOf (le2 s (at + 4))) x y)))) (sym (e (left-child st .0)) ∙ ap (λ (b : Bool). outcomeIn b out) f)
+
+      pub left-stops : not r ≡ true → outcomeIn false out ≡ run a
       unfolding _>>=_
-      left-stops {n} {x} {y} {z} f = sym (binary-is ∙ ap (λ (o : Outcome ℕ). o >>= (λ x. run (right-child su .0) >>= (λ y. lift pl at (operate (opOf (le2 s (at + 4))) x y)))) (sym (e (left-child st .0)) ∙ ap outcomeOf f))
+      left-stops f = sym (left-is (not-true r f))
 
-      module _ (o₂ : Answer) (e₂ : (c : Accepted s 128 144 q) → outcomeOf o₂ ≡ run c) {v : ℕ} (f : o ≡ Count v) where
-        both-are : run a ≡ (outcomeOf o₂ >>= (λ y. lift pl at (operate (opOf (le2 s (at + 4))) v y)))
+      module _ (r₂ : Bool) (out₂ : List ℕ) (e₂ : (c : Accepted s 128 144 q) → outcomeIn r₂ out₂ ≡ run c) (f : not r ≡ false) where
+        both-are : {b : Bool} → r₂ ≡ b → run a ≡ (outcomeIn b out₂ >>= (λ y. lift pl at (operate (opOf (le2 s (at + 4))) (getD out 0 0) y)))
         unfolding _>>=_
-        both-are = binary-is ∙ ap (λ (o : Outcome ℕ). o >>= (λ x. run (right-child su .0) >>= (λ y. lift pl at (operate (opOf (le2 s (at + 4))) x y)))) (sym (e (left-child st .0)) ∙ ap outcomeOf f) ∙ ap (λ (o : Outcome ℕ). o >>= (λ y. lift pl at (operate (opOf (le2 s (at + 4))) v y))) (sym (e₂ (right-child su .0)))
+        both-are g = left-is (not-false r f) ∙ ap (λ (o : Outcome ℕ). o >>= (λ y. lift pl at (operate (opOf (le2 s (at + 4))) (getD out 0 0) y))) (sym (e₂ (right-child su .0)) ∙ ap (λ (b : Bool). outcomeIn b out₂) g)
 
-        pub right-stops : {n x y z : ℕ} → o₂ ≡ Refused n x y z → outcomeOf (Refused n x y z) ≡ run a
+        pub right-stops : not r₂ ≡ true → outcomeIn false out₂ ≡ run a
         unfolding _>>=_
-        right-stops g = sym (both-are ∙ ap (λ (o : Answer). outcomeOf o >>= (λ y. lift pl at (operate (opOf (le2 s (at + 4))) v y))) g)
+        right-stops g = sym (both-are (not-true r₂ g))
 
-        pub both-go : {w k : ℕ} {z : Num} (r : Answer) → o₂ ≡ Count w → k ≡ le2 s (at + 4) → z ≡ numOf (operate (opOf k) v w) → ((x : Result) → z ≡ numOf x → outcomeOf r ≡ lift pl at x) → outcomeOf r ≡ run a
+        pub both-go : {k : ℕ} {z : Num} {o : Outcome ℕ} → not r₂ ≡ false → k ≡ le2 s (at + 4) → z ≡ numOf (operate (opOf k) (getD out 0 0) (getD out₂ 0 0)) → ((x : Result) → z ≡ numOf x → o ≡ lift pl at x) → o ≡ run a
         unfolding _>>=_
-        both-go {w} {k} r g ek ez er = er (operate (opOf k) v w) ez ∙ ap (λ (k : ℕ). lift pl at (operate (opOf k) v w)) ek ∙ sym (both-are ∙ ap (λ (o : Answer). outcomeOf o >>= (λ y. lift pl at (operate (opOf (le2 s (at + 4))) v y))) g)
+        both-go {k} g ek ez eo = eo (operate (opOf k) (getD out 0 0) (getD out₂ 0 0)) ez ∙ ap (λ (k : ℕ). lift pl at (operate (opOf k) (getD out 0 0) (getD out₂ 0 0))) ek ∙ sym (both-are (not-false r₂ g))
 
 -- ---- Switch
 
 picking : Calls → ℕ → ParamMap → ℕ → ℕ → Option IrNode → Outcome ℕ
-picking call p γ a v none = refused (at p a InvalidTagValue v)
+picking call p γ a v none = refused (refusal p a InvalidTagValue v)
 picking call p γ a v (some n) = eval-node call p γ n
 
 pick-is : (call : Calls) (p : ℕ) (γ : ParamMap) (a v : ℕ) (cs : SwitchCases) (d : DefaultNode) → eval-cases call p γ v cs (eval-default call p γ a v d) ≡ picking call p γ a v (pick v cs d)
@@ -187,7 +188,7 @@ picked-none e (Picked.nothing g) = g
 
 module _ {s : List ℕ} {at : ℕ} (k : le2 s (at + 4) ≡ 132) (left : ℕ) (types : List TypeIr) (pl : ℕ) (γ : ParamMap) (a : Accepted s 128 144 at) where
   missed : Refusal
-  missed = record { number = MissingIrParameter; place = pl; offset = at; value = 0 }
+  missed = refusal pl at MissingIrParameter 0
 
   switch-is : eval-within left types pl γ (nodeOf (tree a)) ≡ (valueOr missed (find (text (part 2 (bodyOf a))) γ) >>= (λ v. picking (callsAt left types) pl γ at v (pick v (casesOf (bodyOf a)) (defaultOf (bodyOf a)))))
   unfolding formOf makeThing eval-node missed
@@ -200,7 +201,7 @@ module _ {s : List ℕ} {at : ℕ} (k : le2 s (at + 4) ≡ 132) (left : ℕ) (ty
       ∙ ap (λ (f : ℕ → Outcome ℕ). o >>= f) (fun-ext (λ v. pick-is call pl γ at v (casesOf (bodyOf a)) (defaultOf (bodyOf a))))
 
   module _ {r : Held} (er : r ≡ heldOf (find (text (part 2 (bodyOf a))) γ)) where
-    pub switch-misses : r ≡ Absent → outcomeOf (Refused 21 pl at 0) ≡ eval-within left types pl γ (nodeOf (tree a))
+    pub switch-misses : r ≡ Absent → refused (refusal pl at 21 0) ≡ eval-within left types pl γ (nodeOf (tree a))
     unfolding valueOr _>>=_ missed
     switch-misses f = sym (switch-is ∙ ap (λ (o : Option ℕ). valueOr missed o >>= (λ v. picking (callsAt left types) pl γ at v (pick v (casesOf (bodyOf a)) (defaultOf (bodyOf a))))) (absent-is {o = find (text (part 2 (bodyOf a))) γ} er f))
 
@@ -209,13 +210,13 @@ module _ {s : List ℕ} {at : ℕ} (k : le2 s (at + 4) ≡ 132) (left : ℕ) (ty
       unfolding valueOr _>>=_
       switch-picks = switch-is ∙ ap (λ (o : Option ℕ). valueOr missed o >>= (λ v. picking (callsAt left types) pl γ at v (pick v (casesOf (bodyOf a)) (defaultOf (bodyOf a))))) (held-is {o = find (text (part 2 (bodyOf a))) γ} er f)
 
-      pub switch-ends : {c : Choice} → c ≡ Nothing → Picked a v c → outcomeOf (Refused 22 pl at v) ≡ eval-within left types pl γ (nodeOf (tree a))
+      pub switch-ends : {c : Choice} → c ≡ Nothing → Picked a v c → refused (refusal pl at 22 v) ≡ eval-within left types pl γ (nodeOf (tree a))
       unfolding picking
       switch-ends g p = sym (switch-picks ∙ ap (picking (callsAt left types) pl γ at v) (picked-none g p))
 
-      pub switch-goes : {c : Choice} {q : ℕ} (o : Answer) → c ≡ Node q → Picked a v c → ((x : Accepted s 128 144 q) → outcomeOf o ≡ eval-within left types pl γ (nodeOf (tree x))) → outcomeOf o ≡ eval-within left types pl γ (nodeOf (tree a))
+      pub switch-goes : {c : Choice} {q : ℕ} {o : Outcome ℕ} → c ≡ Node q → Picked a v c → ((x : Accepted s 128 144 q) → o ≡ eval-within left types pl γ (nodeOf (tree x))) → o ≡ eval-within left types pl γ (nodeOf (tree a))
       unfolding picking
-      switch-goes o g p e = let x = picked-node g p in e (x .0) ∙ within-is left types pl γ (nodeOf (tree (x .0))) ∙ sym (switch-picks ∙ ap (picking (callsAt left types) pl γ at v) (x .2))
+      switch-goes g p e = let x = picked-node g p in e (x .0) ∙ within-is left types pl γ (nodeOf (tree (x .0))) ∙ sym (switch-picks ∙ ap (picking (callsAt left types) pl γ at v) (x .2))
 
 -- ---- CallNested
 
@@ -234,9 +235,9 @@ found-none : {s : List ℕ} {n : Name} {ts : List TypeIr} {r : Place} → r ≡ 
 found-none e (TreeFound.at a h) = let z : _≡_ {A = ℕ} 0 1 = cc in absurd (omega arith)
 found-none e (TreeFound.missing h) = h
 
-bound-lacks : {p : ℕ} {γ : ParamMap} {xs : List IrArgument} {r : Arguments} {q : ℕ} → r ≡ Lacking q → Bound p γ xs r → collect-arguments p γ xs [] ≡ refused (at p q MissingIrParameter 0)
+bound-lacks : {p : ℕ} {γ : ParamMap} {xs : List IrArgument} {r : Arguments} {q : ℕ} → r ≡ Lacking q → Bound p γ xs r → collect-arguments p γ xs [] ≡ refused (refusal p q MissingIrParameter 0)
 bound-lacks e (Bound.all δ h) = let z : _≡_ {A = ℕ} 0 1 = cc in absurd (omega arith)
-bound-lacks {p} {q} e (Bound.lacking {q = r} h) = let f : r ≡ q = cc in h ∙ ap (λ (q : ℕ). refused (at p q MissingIrParameter 0)) f
+bound-lacks {p} {q} e (Bound.lacking {q = r} h) = let f : r ≡ q = cc in h ∙ ap (λ (q : ℕ). refused (refusal p q MissingIrParameter 0)) f
 
 pub bound-all : {p : ℕ} {γ : ParamMap} {xs : List IrArgument} {r : Arguments} → r ≡ All → Bound p γ xs r → (δ : ParamMap) × (collect-arguments p γ xs [] ≡ done δ)
 bound-all e (Bound.all δ h) = (δ, h)
@@ -247,7 +248,7 @@ module _ {s : List ℕ} {at : ℕ} (k : le2 s (at + 4) ≡ 133) (left : ℕ) (ty
   unfolding formOf makeThing eval-node
   call-is = within-is left types pl γ (nodeOf (tree a)) ∙ ap (eval-node (callsAt left types) pl γ) (node-is a k refl)
 
-  pub call-lacks : {r : Arguments} {q : ℕ} → r ≡ Lacking q → Bound pl γ (argumentsOf (tree a)) r → outcomeOf (Refused 21 pl q 0) ≡ eval-within left types pl γ (nodeOf (tree a))
+  pub call-lacks : {r : Arguments} {q : ℕ} → r ≡ Lacking q → Bound pl γ (argumentsOf (tree a)) r → refused (refusal pl q 21 0) ≡ eval-within left types pl γ (nodeOf (tree a))
   unfolding eval-call _>>=_
   call-lacks e b = sym (call-is ∙ ap (λ (o : Outcome ParamMap). o >>= (λ δ. lookup-type 0 (text (part 2 (bodyOf a))) types >>= (λ t. entering left types pl γ at (t .0) (δ ++ inherited γ (t .1 .parameters)) (t .1 .root)))) (bound-lacks e b))
 
@@ -256,7 +257,7 @@ module _ {s : List ℕ} {at : ℕ} (k : le2 s (at + 4) ≡ 133) (left : ℕ) (ty
     unfolding eval-call _>>=_
     looked-up = call-is ∙ ap (λ (o : Outcome ParamMap). o >>= (λ δ. lookup-type 0 (text (part 2 (bodyOf a))) types >>= (λ t. entering left types pl γ at (t .0) (δ ++ inherited γ (t .1 .parameters)) (t .1 .root)))) b
 
-    pub call-unknown : {r : Place} → r ≡ PlaceNone → TreeFound s (text (part 2 (bodyOf a))) types r → outcomeOf (Refused 20 65535 0 0) ≡ eval-within left types pl γ (nodeOf (tree a))
+    pub call-unknown : {r : Place} → r ≡ PlaceNone → TreeFound s (text (part 2 (bodyOf a))) types r → refused (refusal 65535 0 20 0) ≡ eval-within left types pl γ (nodeOf (tree a))
     unfolding _>>=_
     call-unknown e f = sym (looked-up ∙ ap (λ (o : Outcome (ℕ × TypeIr)). o >>= (λ t. entering left types pl γ at (t .0) (δ ++ inherited γ (t .1 .parameters)) (t .1 .root))) (found-none e f))
 
@@ -265,11 +266,11 @@ module _ {s : List ℕ} {at : ℕ} (k : le2 s (at + 4) ≡ 133) (left : ℕ) (ty
       unfolding _>>=_
       call-enters = looked-up ∙ ap (λ (o : Outcome (ℕ × TypeIr)). o >>= (λ t. entering left types pl γ at (t .0) (δ ++ inherited γ (t .1 .parameters)) (t .1 .root))) f
 
-      pub call-stops : left ≡ 0 → outcomeOf (Refused 27 pl at 0) ≡ eval-within left types pl γ (nodeOf (tree a))
+      pub call-stops : left ≡ 0 → refused (refusal pl at 27 0) ≡ eval-within left types pl γ (nodeOf (tree a))
       call-stops z = sym (call-enters ∙ ap (λ (l : ℕ). entering l types pl γ at i (δ ++ inherited γ (t .parameters)) (t .root)) z)
 
-      pub call-goes : (o : Answer) → (left ≡ 0 → ⊥) → outcomeOf o ≡ eval-within (left - 1) types i (δ ++ inherited γ (t .parameters)) (t .root) → outcomeOf o ≡ eval-within left types pl γ (nodeOf (tree a))
-      call-goes o n e = e ∙ sym (call-enters ∙ opens left n types pl γ at i (δ ++ inherited γ (t .parameters)) (t .root))
+      call-goes : {o : Outcome ℕ} → (left ≡ 0 → ⊥) → o ≡ eval-within (left - 1) types i (δ ++ inherited γ (t .parameters)) (t .root) → o ≡ eval-within left types pl γ (nodeOf (tree a))
+      call-goes n e = e ∙ sym (call-enters ∙ opens left n types pl γ at i (δ ++ inherited γ (t .parameters)) (t .root))
 
 -- ---- words
 
@@ -334,15 +335,15 @@ module _ {s values : List ℕ} {block len : ℕ} {ws : List ℕ} {left depth at 
       room : Ready s values block len ws left depth at → depth + 1 + (left - 1) ≤ length ws
       room x = omega (arith, x .room)
 
-  pub call-answers : (pl : ℕ) (o : Answer) → Evaluates s values block len (set ws depth w) (left - 1) (depth + 1) i q o → Evaluates s values block len ws left depth pl at o
-  call-answers pl o ev γ x t rd a =
+  pub call-answers : (pl : ℕ) (o : Bool) (out : List ℕ) → Evaluates s values block len (set ws depth w) (left - 1) (depth + 1) i q o out → Evaluates s values block len ws left depth pl at o out
+  call-answers pl o out ev γ x t rd a =
       let c = found-at ef (d t rd a) in
       let y = bound-all er (b pl γ x a) in
       let z = e (c .0) in
-      call-goes k left (layoutOf t) pl γ a (y .1) (c .1) o n
+      call-goes k left (layoutOf t) pl γ a (y .1) (c .1) n
       (ev (y .0 ++ inherited γ (parametersOf (tree (c .0)))) (opened-call pl h l ew x a k (c .0) (y .1)) t rd (z .root)
       ∙ ap (eval-within (left - 1) (layoutOf t) i (y .0 ++ inherited γ (parametersOf (tree (c .0))))) (sym (z .is)))
 
--- a leaf
-pub leaf-answers : {s values : List ℕ} {block len : ℕ} {ws : List ℕ} {depth at : ℕ} (left pl : ℕ) (o : Answer) → ((call : Calls) (γ : ParamMap) → Context s values block len ws depth γ → (a : Accepted s 128 144 at) → outcomeOf o ≡ eval-node call pl γ (nodeOf (tree a))) → Evaluates s values block len ws left depth pl at o
-leaf-answers left pl o e γ x t rd a = e (callsAt left (layoutOf t)) γ x a ∙ sym (within-is left (layoutOf t) pl γ (nodeOf (tree a)))
+-- a node that holds none
+pub leaf-answers : {o : Outcome ℕ} {s : List ℕ} {at : ℕ} (left : ℕ) (types : List TypeIr) (pl : ℕ) (γ : ParamMap) (a : Accepted s 128 144 at) → ((call : Calls) → o ≡ eval-node call pl γ (nodeOf (tree a))) → o ≡ eval-within left types pl γ (nodeOf (tree a))
+leaf-answers left types pl γ a e = e (callsAt left types) ∙ sym (within-is left types pl γ (nodeOf (tree a)))

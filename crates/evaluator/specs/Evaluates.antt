@@ -1,6 +1,7 @@
 -- What evaluating a node asks for, and what it answers: the definition's outcome, in every context that the words hold.
 use Prim.Native.Nat.{ℕ, _+_, _≤_}
 use mathlib.Core.Path.{_≡_}
+use mathlib.Core.Bool.{Bool}
 use mathlib.Core.List.{List}
 use lib.ListN.{length}
 use Rattle.errors.specs.Refusal.{done}
@@ -10,8 +11,7 @@ use Rattle.ir.specs.Layout.{nodeOf, layoutOf}
 use Rattle.walk.specs.Accepted.{Accepted, tree}
 use Rattle.interpreter.specs.Eval.{ParamMap, eval-within}
 use Rattle.context.specs.Context.{Context}
-use Rattle.leaves.specs.declared.Answer.{Answer}
-use Rattle.leaves.specs.Outcome.{outcomeOf}
+use Rattle.leaves.specs.Outcome.{outcomeIn}
 
 -- the bytes of a layout that was read and those of the values, the words with `depth` open calls, `left` calls that may still
 -- open, a node at an offset of the layout
@@ -22,6 +22,6 @@ pub record Ready (s values : List ℕ) (block len : ℕ) (words : List ℕ) (lef
   pub room : depth + left ≤ length words
   pub small : length s ≤ 65536
 
-abbrev pub Evaluates : List ℕ → List ℕ → ℕ → ℕ → List ℕ → ℕ → ℕ → ℕ → ℕ → Answer → Type 0
-Evaluates s values block len words left depth place at r =
-    (γ : ParamMap) → Context s values block len words depth γ → (t : Tree) → readLayout s ≡ done t → (a : Accepted s 128 144 at) → outcomeOf r ≡ eval-within left (layoutOf t) place γ (nodeOf (tree a))
+abbrev pub Evaluates : List ℕ → List ℕ → ℕ → ℕ → List ℕ → ℕ → ℕ → ℕ → ℕ → Bool → List ℕ → Type 0
+Evaluates s values block len words left depth place at r out =
+    (γ : ParamMap) → Context s values block len words depth γ → (t : Tree) → readLayout s ≡ done t → (a : Accepted s 128 144 at) → outcomeIn r out ≡ eval-within left (layoutOf t) place γ (nodeOf (tree a))

@@ -1,7 +1,6 @@
 // interpreter.rs, `eval_node`, `eval_switch`, `eval_call`, over the accepted bytes of a layout. Left before right, arguments
 // before the type lookup.
 use context::Held;
-use leaves::Answer;
 use leaves::Arguments;
 use leaves::Choice;
 use lookup::Place;
@@ -12,7 +11,7 @@ ghost use Rattle.blocks.specs.Bytes.{le2};
 ghost use Rattle.context.specs.Context.{Same};
 ghost use Rattle.evaluator.specs.Evaluates.{Ready, Evaluates};
 
-// What the node at an offset evaluates to; `place` is the place of the type whose tree holds it.
+// What the node at an offset evaluates to, left in out; `place` is the place of the type whose tree holds it.
 pub fn eval_node(
     s: &[u8],
     at: usize,
@@ -23,23 +22,22 @@ pub fn eval_node(
     words: &mut [u64],
     depth: usize,
     place: usize,
-) -> Answer
+    out: &mut [u64; 4],
+) -> bool
     requires { ⌜ Ready (now s) (now values) block len (now words) left depth at ⌝ }
     ensures { λ r. ⌜ Same depth (now (words .entry)) (now (words .exit)) ⌝ }
-    ensures { λ r. ⌜ Evaluates (now (s .entry)) (now (values .entry)) block len (now (words .entry)) left depth place at r ⌝ }
+    ensures { λ r. ⌜ Evaluates (now (s .entry)) (now (values .entry)) block len (now (words .entry)) left depth place at r (now (out .exit)) ⌝ }
 {
     let kind = get::read2(s, at + 4);
-    if kind < 131 {
-        return leaves::leaf(s, values, block, len, words, depth, place, at, kind);
-    }
-    if 143 < kind {
-        return leaves::leaf(s, values, block, len, words, depth, place, at, kind);
-    }
     match kind {
-        131 => eval_align(s, at, left, values, block, len, words, depth, place),
-        132 => eval_switch(s, at, left, values, block, len, words, depth, place),
-        133 => eval_call(s, at, left, values, block, len, words, depth, place),
-        _ => eval_binary(s, at, left, values, block, len, words, depth, place),
+        128 => leaves::counted(0, out),
+        129 => leaves::constant(s, at, out),
+        130 => leaves::field(s, values, block, len, words, depth, place, at, out),
+        131 => eval_align(s, at, left, values, block, len, words, depth, place, out),
+        132 => eval_switch(s, at, left, values, block, len, words, depth, place, out),
+        133 => eval_call(s, at, left, values, block, len, words, depth, place, out),
+        144 => leaves::refused(24, place, at, 0, out),
+        _ => eval_binary(s, at, left, values, block, len, words, depth, place, out),
     }
 }
 
@@ -54,31 +52,24 @@ fn eval_align(
     words: &mut [u64],
     depth: usize,
     place: usize,
-) -> Answer
+    out: &mut [u64; 4],
+) -> bool
     requires { ⌜ Ready (now s) (now values) block len (now words) left depth at × (le2 (now s) (at + 4) ≡ 131) ⌝ }
     ensures { λ r. ⌜ Same depth (now (words .entry)) (now (words .exit)) ⌝ }
-    ensures { λ r. ⌜ Evaluates (now (s .entry)) (now (values .entry)) block len (now (words .entry)) left depth place at r ⌝ }
+    ensures { λ r. ⌜ Evaluates (now (s .entry)) (now (values .entry)) block len (now (words .entry)) left depth place at r (now (out .exit)) ⌝ }
 {
     let p = nodes::part_at(s, at, 2);
     let q = nodes::part_at(s, at, 3);
-    match eval_node(s, q, left, values, block, len, words, depth, place) {
-        Answer::Count(x) => leaves::lifted(
-            place,
-            at,
-            arithmetic::align_up(x, get::read8(s, p) as u64),
-        ),
-        Answer::Refused {
-            number,
-            place,
-            offset,
-            value,
-        } => Answer::Refused {
-            number,
-            place,
-            offset,
-            value,
-        },
+    if !eval_node(s, q, left, values, block, len, words, depth, place, out) {
+        return false;
     }
+    let x = out[0];
+    leaves::lifted(
+        place,
+        at,
+        arithmetic::align_up(x, get::read8(s, p) as u64),
+        out,
+    )
 }
 
 // A node of two operands, left before right.
@@ -92,41 +83,24 @@ fn eval_binary(
     words: &mut [u64],
     depth: usize,
     place: usize,
-) -> Answer
+    out: &mut [u64; 4],
+) -> bool
     requires { ⌜ Ready (now s) (now values) block len (now words) left depth at × ((134 ≤ le2 (now s) (at + 4)) × (le2 (now s) (at + 4) ≤ 143)) ⌝ }
     ensures { λ r. ⌜ Same depth (now (words .entry)) (now (words .exit)) ⌝ }
-    ensures { λ r. ⌜ Evaluates (now (s .entry)) (now (values .entry)) block len (now (words .entry)) left depth place at r ⌝ }
+    ensures { λ r. ⌜ Evaluates (now (s .entry)) (now (values .entry)) block len (now (words .entry)) left depth place at r (now (out .exit)) ⌝ }
 {
     let kind = get::read2(s, at + 4);
     let p = nodes::part_at(s, at, 2);
     let q = nodes::part_at(s, at, 3);
-    match eval_node(s, p, left, values, block, len, words, depth, place) {
-        Answer::Count(x) => match eval_node(s, q, left, values, block, len, words, depth, place) {
-            Answer::Count(y) => leaves::lifted(place, at, arithmetic::operate(kind, x, y)),
-            Answer::Refused {
-                number,
-                place,
-                offset,
-                value,
-            } => Answer::Refused {
-                number,
-                place,
-                offset,
-                value,
-            },
-        },
-        Answer::Refused {
-            number,
-            place,
-            offset,
-            value,
-        } => Answer::Refused {
-            number,
-            place,
-            offset,
-            value,
-        },
+    if !eval_node(s, p, left, values, block, len, words, depth, place, out) {
+        return false;
     }
+    let x = out[0];
+    if !eval_node(s, q, left, values, block, len, words, depth, place, out) {
+        return false;
+    }
+    let y = out[0];
+    leaves::lifted(place, at, arithmetic::operate(kind, x, y), out)
 }
 
 // A Switch node.
@@ -140,26 +114,17 @@ fn eval_switch(
     words: &mut [u64],
     depth: usize,
     place: usize,
-) -> Answer
+    out: &mut [u64; 4],
+) -> bool
     requires { ⌜ Ready (now s) (now values) block len (now words) left depth at × (le2 (now s) (at + 4) ≡ 132) ⌝ }
     ensures { λ r. ⌜ Same depth (now (words .entry)) (now (words .exit)) ⌝ }
-    ensures { λ r. ⌜ Evaluates (now (s .entry)) (now (values .entry)) block len (now (words .entry)) left depth place at r ⌝ }
+    ensures { λ r. ⌜ Evaluates (now (s .entry)) (now (values .entry)) block len (now (words .entry)) left depth place at r (now (out .exit)) ⌝ }
 {
     match leaves::tag(s, values, block, len, words, depth, at) {
-        Held::Absent => Answer::Refused {
-            number: 21,
-            place,
-            offset: at,
-            value: 0,
-        },
+        Held::Absent => leaves::refused(21, place, at, 0, out),
         Held::Value(v) => match leaves::selected(s, at, v) {
-            Choice::Node(q) => eval_node(s, q, left, values, block, len, words, depth, place),
-            Choice::Nothing => Answer::Refused {
-                number: 22,
-                place,
-                offset: at,
-                value: v,
-            },
+            Choice::Node(q) => eval_node(s, q, left, values, block, len, words, depth, place, out),
+            Choice::Nothing => leaves::refused(22, place, at, v, out),
         },
     }
 }
@@ -175,37 +140,34 @@ fn eval_call(
     words: &mut [u64],
     depth: usize,
     place: usize,
-) -> Answer
+    out: &mut [u64; 4],
+) -> bool
     requires { ⌜ Ready (now s) (now values) block len (now words) left depth at × (le2 (now s) (at + 4) ≡ 133) ⌝ }
     ensures { λ r. ⌜ Same depth (now (words .entry)) (now (words .exit)) ⌝ }
-    ensures { λ r. ⌜ Evaluates (now (s .entry)) (now (values .entry)) block len (now (words .entry)) left depth place at r ⌝ }
+    ensures { λ r. ⌜ Evaluates (now (s .entry)) (now (values .entry)) block len (now (words .entry)) left depth place at r (now (out .exit)) ⌝ }
 {
     match leaves::collect_arguments(s, values, block, len, words, depth, at) {
-        Arguments::Lacking(q) => Answer::Refused {
-            number: 21,
-            place,
-            offset: q,
-            value: 0,
-        },
+        Arguments::Lacking(q) => leaves::refused(21, place, q, 0, out),
         Arguments::All => match leaves::called(s, at) {
-            Place::Missing => Answer::Refused {
-                number: 20,
-                place: 65535,
-                offset: 0,
-                value: 0,
-            },
+            Place::Missing => leaves::refused(20, 65535, 0, 0, out),
             Place::At(i, callee) => {
                 if left == 0 {
-                    return Answer::Refused {
-                        number: 27,
-                        place,
-                        offset: at,
-                        value: 0,
-                    };
+                    return leaves::refused(27, place, at, 0, out);
                 }
                 let root = leaves::root(s, callee);
                 words[depth] = at as u64 + callee as u64 * 4294967296;
-                eval_node(s, root, left - 1, values, block, len, words, depth + 1, i)
+                eval_node(
+                    s,
+                    root,
+                    left - 1,
+                    values,
+                    block,
+                    len,
+                    words,
+                    depth + 1,
+                    i,
+                    out,
+                )
             }
         },
     }

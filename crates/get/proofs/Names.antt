@@ -1,8 +1,8 @@
--- Names, a byte at a time: what stands from a place on decides what is still open. Assumes nothing.
-use mathlib.Core.Path.{_≡_, refl, ap}
+-- Names, a byte at a time: the same from a place on, or what stands from a place on decides which is less. Assumes nothing.
+use mathlib.Core.Path.{_≡_, refl, sym, ap}
 use mathlib.Core.Bool.{Bool, true, false, _&&_, _||_}
 use mathlib.Core.List.{List, []}
-use Prim.Native.Nat.{ℕ, _+_, _<_, _≤_}
+use Prim.Native.Nat.{ℕ, suc, _+_, _-_, _<_, _≤_}
 use native.Mathlib.Numerals.{add-one}
 use native.Mathlib.Nat.{le-antisymm, le-of-lt}
 use native.Mathlib.Omega.{arith}
@@ -11,34 +11,41 @@ use lib.ListN.{length, drop, getD, drop-of-length-le}
 use lib.Seq.{drop-cons}
 use borrow.Author.Tests.{le-leb, lt-leb, lt-ltb, le-ltb, eq-eqb, ne-eqb, ltb-true, ltb-false}
 use Rattle.blocks.specs.Name.{same, less}
-use Rattle.blocks.proofs.Name.{same-eq}
+use Rattle.blocks.proofs.Name.{same-eq, same-refl}
 
 -- ---- same_name
 
-pub same-long : (a b : List ℕ) → (length a ≡ length b → ⊥) → false ≡ same a b
-same-long a b h = go (same a b) refl
+differ : (a b : List ℕ) → (a ≡ b → ⊥) → false ≡ same a b
+differ a b h = go (same a b) refl
   where
     go : (t : Bool) → same a b ≡ t → false ≡ t
-    go true e = absurd (h (ap length (same-eq a b e)))
+    go true e = absurd (h (same-eq a b e))
     go false e = refl
 
-module _ (a b : List ℕ) (i : ℕ) (e : same a b ≡ same (drop i a) (drop i b)) (l : length a ≡ length b) where
-  module _ (h : i < length a) where
-    same-step : same a b ≡ (eqb (getD a i 0) (getD b i 0) && same (drop (i + 1) a) (drop (i + 1) b))
-    unfolding same
-    same-step = rw (e, add-one, drop-cons a i 0 h, drop-cons b i 0 (omega arith))
+pub same-long : (a b : List ℕ) → (length a ≡ length b → ⊥) → false ≡ same a b
+same-long a b h = differ a b (λ e. h (ap length e))
 
-    pub same-not : (getD a i 0 ≡ getD b i 0 → ⊥) → false ≡ same a b
-    same-not k = rw (same-step, ne-eqb _ _ k)
+pub same-not : (a b : List ℕ) (i : ℕ) → (getD a i 0 ≡ getD b i 0 → ⊥) → false ≡ same a b
+same-not a b i h = differ a b (λ e. h (ap (λ (l : List ℕ). getD l i 0) e))
 
-    pub same-more : getD a i 0 ≡ getD b i 0 → same a b ≡ same (drop (i + 1) a) (drop (i + 1) b)
-    same-more k = rw (same-step, eq-eqb _ _ k)
+-- the bytes from i on are the same
+module _ (a b : List ℕ) (l : length a ≡ length b) where
+  pub same-none : drop (length a) a ≡ drop (length a) b
+  same-none = rw (drop-of-length-le a {i = length a} (omega arith), drop-of-length-le b {i = length a} (omega arith))
 
-  pub same-end : length a ≤ i → true ≡ same a b
-  unfolding same
-  same-end h = rw (e, drop-of-length-le a h, drop-of-length-le b (rw l at h))
+  module _ (i : ℕ) (e : drop i a ≡ drop i b) where
+    pub same-more : 0 < i → i ≤ length a → getD a (i - 1) 0 ≡ getD b (i - 1) 0 → drop (i - 1) a ≡ drop (i - 1) b
+    same-more h k q =
+        let z : suc (i - 1) ≡ i = omega arith in
+        rw (drop-cons a (i - 1) 0 (omega arith), drop-cons b (i - 1) 0 (omega arith), z, e, q)
 
-pub ruleset sames = (same-long, same-not, same-more, same-end)
+    pub same-end : i ≤ 0 → true ≡ same a b
+    same-end h =
+        let z : i ≡ 0 = omega arith in
+        let q : a ≡ b = rw z at e in
+        rw q (sym (same-refl b))
+
+pub ruleset sames = (same-long, same-none, same-more, same-end)
 
 -- ---- less_name
 

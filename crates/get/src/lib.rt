@@ -105,19 +105,19 @@ pub fn is_text(s: &[u8]) -> bool
     true
 }
 
-// Names are compared by their bytes.
+// Names are compared by their bytes, the last one first: names that differ mostly do so at their end, and there the loop ends.
 pub fn same_name(a: &[u8], b: &[u8]) -> bool
     ensures { λ r. ⌜ r ≡ same (now (a .entry)) (now (b .entry)) ⌝ }
 {
     if a.len() != b.len() {
         return false;
     }
-    let mut i = 0;
-    while i < a.len() {
+    let mut i = a.len();
+    while 0 < i {
+        i -= 1;
         if a[i] != b[i] {
             return false;
         }
-        i += 1;
     }
     true
 }

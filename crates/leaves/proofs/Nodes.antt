@@ -20,9 +20,9 @@ use Rattle.ir.specs.Ir.{IrNode, TypeIr}
 use Rattle.ir.specs.Layout.{formOf, makeThing, nodeOf, layoutOf}
 use Rattle.walk.specs.Accepted.{Accepted, tree, nameAt}
 use Rattle.interpreter.specs.Arithmetic.{Result, value, fault}
-use Rattle.interpreter.specs.Eval.{Calls, ParamMap, find, at, valueOr, lift, chosen, eval-node, lookup-type}
+use Rattle.interpreter.specs.Eval.{Calls, ParamMap, find, at as refusal, valueOr, lift, chosen, eval-node, lookup-type}
 use Rattle.nodes.specs.Located.{Located}
-use Rattle.nodes.proofs.Laws.{Standing, kinds}
+use Rattle.nodes.proofs.Laws.{Standing}
 use Rattle.nodes.proofs.Shape.{bodyOf, text-at, number-at, MaybeText, maybe-text, node-is, located}
 use Rattle.arithmetic.specs.declared.Num.{Num}
 use Rattle.arithmetic.specs.declared.Num.the-variants.{Value as NumValue, Fault}
@@ -34,22 +34,19 @@ use Rattle.context.specs.declared.Held.the-variants.{Value, Absent}
 use Rattle.context.specs.Names.{heldOf}
 use Rattle.context.specs.Context.{Context}
 use Rattle.context.proofs.Names.{slice-is}
-use Rattle.leaves.specs.declared.Answer.{Answer}
-use Rattle.leaves.specs.declared.Answer.the-variants.{Count, Refused}
-use Rattle.leaves.specs.Outcome.{outcomeOf}
 use Rattle.leaves.specs.Steps.{Rooted, FieldName}
 
 -- ---- arithmetic
 
-pub lifted-value : (p a v : ℕ) (n : Num) → n ≡ NumValue v → (x : Result) → n ≡ numOf x → outcomeOf (Count v) ≡ lift p a x
+pub lifted-value : (p a v : ℕ) (n : Num) → n ≡ NumValue v → (x : Result) → n ≡ numOf x → done v ≡ lift p a x
 unfolding lift
 lifted-value p a v n e (value w) f = let h : v ≡ w = cc in ap done h
 lifted-value p a v n e (fault q) f = let z : _≡_ {A = ℕ} 0 1 = cc in absurd (omega arith)
 
-pub lifted-fault : (p a q : ℕ) (n : Num) → n ≡ Fault q → (x : Result) → n ≡ numOf x → outcomeOf (Refused q p a 0) ≡ lift p a x
+pub lifted-fault : (p a q : ℕ) (n : Num) → n ≡ Fault q → (x : Result) → n ≡ numOf x → refused (refusal p a q 0) ≡ lift p a x
 unfolding lift
 lifted-fault p a q n e (value w) f = let z : _≡_ {A = ℕ} 0 1 = cc in absurd (omega arith)
-lifted-fault p a q n e (fault r) f = let h : q ≡ r = cc in ap (λ (q : ℕ). refused (at p a q 0)) h
+lifted-fault p a q n e (fault r) f = let h : q ≡ r = cc in ap (λ (q : ℕ). refused (refusal p a q 0)) h
 
 -- ---- Const
 
@@ -57,7 +54,7 @@ pub const-at : {s : List ℕ} {at p : ℕ} → Standing s at 2 p → (a : Accept
 unfolding partsOf nodeTable
 const-at st a k = number-at (located 2 st a k refl)
 
-pub const-is : {s : List ℕ} {at p v : ℕ} → Standing s at 2 p → le2 s (at + 4) ≡ 129 → v ≡ le8 s p → (call : Calls) (pl : ℕ) (γ : ParamMap) (a : Accepted s 128 144 at) → outcomeOf (Count v) ≡ eval-node call pl γ (nodeOf (tree a))
+pub const-is : {s : List ℕ} {at p v : ℕ} → Standing s at 2 p → le2 s (at + 4) ≡ 129 → v ≡ le8 s p → (call : Calls) (pl : ℕ) (γ : ParamMap) (a : Accepted s 128 144 at) → done v ≡ eval-node call pl γ (nodeOf (tree a))
 unfolding formOf makeThing eval-node
 const-is st k ev call pl γ a = sym (ap (eval-node call pl γ) (node-is a k refl) ∙ ap done (const-at st a k .1 ∙ sym ev))
 
@@ -98,36 +95,28 @@ absent-none (some w) r e f = let z : _≡_ {A = ℕ} 0 1 = cc in absurd (omega a
 pub absent-is : {o : Option ℕ} {r : Held} → r ≡ heldOf o → r ≡ Absent → o ≡ none
 absent-is {o} {r} e f = absent-none o r e f
 
-ref-is : {s : List ℕ} {at q : ℕ} → FieldName s at q → le2 s (at + 4) ≡ 130 → (call : Calls) (pl : ℕ) (γ : ParamMap) (a : Accepted s 128 144 at) → eval-node call pl γ (nodeOf (tree a)) ≡ valueOr (record { number = MissingIrParameter; place = pl; offset = at; value = 0 }) (find (nameAt s q) γ)
+ref-is : {s : List ℕ} {at q : ℕ} → FieldName s at q → le2 s (at + 4) ≡ 130 → (call : Calls) (pl : ℕ) (γ : ParamMap) (a : Accepted s 128 144 at) → eval-node call pl γ (nodeOf (tree a)) ≡ valueOr (refusal pl at MissingIrParameter 0) (find (nameAt s q) γ)
 unfolding formOf makeThing eval-node
-ref-is {at} n k call pl γ a = ap (eval-node call pl γ) (node-is a k refl) ∙ ap (λ (m : Name). valueOr (record { number = MissingIrParameter; place = pl; offset = at; value = 0 }) (find m γ)) (n .is a)
+ref-is {at} n k call pl γ a = ap (eval-node call pl γ) (node-is a k refl) ∙ ap (λ (m : Name). valueOr (refusal pl at MissingIrParameter 0) (find m γ)) (n .is a)
 
 module _ {s values : List ℕ} {block len : ℕ} {words : List ℕ} {depth at q : ℕ} {r : Held} (pl : ℕ) (n : FieldName s at q) (k : le2 s (at + 4) ≡ 130) (e : (γ : ParamMap) → Context s values block len words depth γ → r ≡ heldOf (find (nameAt s q) γ)) (call : Calls) (γ : ParamMap) (c : Context s values block len words depth γ) (a : Accepted s 128 144 at) where
-  pub ref-found : {v : ℕ} → r ≡ Value v → outcomeOf (Count v) ≡ eval-node call pl γ (nodeOf (tree a))
+  pub ref-found : {v : ℕ} → r ≡ Value v → done v ≡ eval-node call pl γ (nodeOf (tree a))
   unfolding valueOr
-  ref-found f = sym (ref-is n k call pl γ a ∙ ap (valueOr (record { number = MissingIrParameter; place = pl; offset = at; value = 0 })) (held-value (find (nameAt s q) γ) r _ (e γ c) f))
+  ref-found f = sym (ref-is n k call pl γ a ∙ ap (valueOr (refusal pl at MissingIrParameter 0)) (held-value (find (nameAt s q) γ) r _ (e γ c) f))
 
-  pub ref-absent : r ≡ Absent → outcomeOf (Refused 21 pl at 0) ≡ eval-node call pl γ (nodeOf (tree a))
+  pub ref-absent : r ≡ Absent → refused (refusal pl at 21 0) ≡ eval-node call pl γ (nodeOf (tree a))
   unfolding valueOr
-  ref-absent f = sym (ref-is n k call pl γ a ∙ ap (valueOr (record { number = MissingIrParameter; place = pl; offset = at; value = 0 })) (absent-none (find (nameAt s q) γ) r (e γ c) f))
+  ref-absent f = sym (ref-is n k call pl γ a ∙ ap (valueOr (refusal pl at MissingIrParameter 0)) (absent-none (find (nameAt s q) γ) r (e γ c) f))
 
 -- ---- ZeroSize, SumOverArray
 
-pub zero-is : {s : List ℕ} {at k : ℕ} → k ≡ le2 s (at + 4) → k ≡ 128 → (call : Calls) (pl : ℕ) (γ : ParamMap) (a : Accepted s 128 144 at) → outcomeOf (Count 0) ≡ eval-node call pl γ (nodeOf (tree a))
+pub zero-is : {s : List ℕ} {at k : ℕ} → k ≡ le2 s (at + 4) → k ≡ 128 → (call : Calls) (pl : ℕ) (γ : ParamMap) (a : Accepted s 128 144 at) → done 0 ≡ eval-node call pl γ (nodeOf (tree a))
 unfolding formOf makeThing eval-node
 zero-is ek k call pl γ a = sym (ap (eval-node call pl γ) (node-is a (sym ek ∙ k) refl))
 
-pub sum-is : {s : List ℕ} {at k : ℕ} → k ≡ le2 s (at + 4) → k ≡ 144 → (call : Calls) (pl : ℕ) (γ : ParamMap) (a : Accepted s 128 144 at) → outcomeOf (Refused 24 pl at 0) ≡ eval-node call pl γ (nodeOf (tree a))
+pub sum-is : {s : List ℕ} {at k : ℕ} → k ≡ le2 s (at + 4) → k ≡ 144 → (call : Calls) (pl : ℕ) (γ : ParamMap) (a : Accepted s 128 144 at) → refused (refusal pl at 24 0) ≡ eval-node call pl γ (nodeOf (tree a))
 unfolding formOf makeThing eval-node
 sum-is ek k call pl γ a = sym (ap (eval-node call pl γ) (node-is a (sym ek ∙ k) refl))
-
--- a kind that is neither of 128 to 130 nor of 131 to 143
-pub last-kind : {s : List ℕ} {at k : ℕ} → Accepted s 128 144 at → k ≡ le2 s (at + 4) → (131 ≤ k → 144 ≤ k) → (k ≡ 128 → ⊥) → (k ≡ 129 → ⊥) → (k ≡ 130 → ⊥) → k ≡ 144
-last-kind {s} {at} {k} a e f x y z =
-    let b = kinds a in
-    let low : 131 ≤ k = omega (arith, b .0) in
-    let high = f low in
-    omega (arith, b .1)
 
 -- ---- the tag of a Switch, the type of a CallNested
 

@@ -8,19 +8,19 @@ ghost use mathlib.Core.List.{List};
 ghost use mathlib.Core.Option.{Option};
 ghost use Prim.Native.Nat.{ℕ, _+_, _≤_};
 ghost use lib.ListN.{length};
-ghost use Rattle.errors.specs.Refusal.{done};
+ghost use Rattle.errors.specs.Refusal.{done, refused as stop};
 ghost use Rattle.blocks.specs.Bytes.{le2};
 ghost use Rattle.blocks.specs.Tree.{Tree, text, body, part};
 ghost use Rattle.blocks.specs.Read.{readLayout};
 ghost use Rattle.ir.specs.Layout.{nodeOf, layoutOf};
 ghost use Rattle.walk.specs.Accepted.{Accepted, tree};
 ghost use Rattle.interpreter.specs.Arithmetic.{Result};
-ghost use Rattle.interpreter.specs.Eval.{Calls, ParamMap, find, lift, eval-node};
+ghost use Rattle.interpreter.specs.Eval.{Calls, ParamMap, find, at, lift, eval-node};
 ghost use Rattle.arithmetic.specs.Num.{numOf};
 ghost use Rattle.lookup.specs.Found.{TreeFound};
 ghost use Rattle.context.specs.Names.{heldOf};
 ghost use Rattle.context.specs.Context.{Context, argumentsOf};
-ghost use Rattle.leaves.specs.Outcome.{outcomeOf};
+ghost use Rattle.leaves.specs.Outcome.{outcomeIn};
 ghost use Rattle.leaves.specs.Steps.{Rooted, Picked, Bound, FieldName};
 
 // A count, or a refusal.
@@ -46,28 +46,39 @@ pub enum Arguments {
     Lacking(usize),
 }
 
+// A count, left in the caller's words. They are written as a whole, so that the proof needs no length; one store is compiled.
+pub fn counted(n: u64, out: &mut [u64; 4]) -> bool
+    ensures { λ r. ⌜ outcomeIn r (now (out .exit)) ≡ done n ⌝ }
+{
+    *out = [n, out[1], out[2], out[3]];
+    true
+}
+
+// A refusal, left in the caller's words.
+pub fn refused(number: u64, place: usize, offset: usize, value: u64, out: &mut [u64; 4]) -> bool
+    ensures { λ r. ⌜ outcomeIn r (now (out .exit)) ≡ stop (at place offset number value) ⌝ }
+{
+    *out = [number, place as u64, offset as u64, value];
+    false
+}
+
 // A result of arithmetic, at a node.
-pub fn lifted(place: usize, at: usize, n: Num) -> Answer
-    ensures { λ r. ⌜ ((x : Result) → n ≡ numOf x → outcomeOf r ≡ lift place at x) ⌝ }
+pub fn lifted(place: usize, at: usize, n: Num, out: &mut [u64; 4]) -> bool
+    ensures { λ r. ⌜ ((x : Result) → n ≡ numOf x → outcomeIn r (now (out .exit)) ≡ lift place at x) ⌝ }
 {
     match n {
-        Num::Value(v) => Answer::Count(v),
-        Num::Fault(q) => Answer::Refused {
-            number: q,
-            place,
-            offset: at,
-            value: 0,
-        },
+        Num::Value(v) => counted(v, out),
+        Num::Fault(q) => refused(q, place, at, 0, out),
     }
 }
 
 // A Const node.
-pub fn constant(s: &[u8], at: usize) -> Answer
+pub fn constant(s: &[u8], at: usize, out: &mut [u64; 4]) -> bool
     requires { ⌜ Accepted (now s) 128 144 at × (le2 (now s) (at + 4) ≡ 129) ⌝ }
-    ensures { λ r. ⌜ ((call : Calls) (p : ℕ) (γ : ParamMap) (a : Accepted (now (s .entry)) 128 144 at) → outcomeOf r ≡ eval-node call p γ (nodeOf (tree a))) ⌝ }
+    ensures { λ r. ⌜ ((call : Calls) (p : ℕ) (γ : ParamMap) (a : Accepted (now (s .entry)) 128 144 at) → outcomeIn r (now (out .exit)) ≡ eval-node call p γ (nodeOf (tree a))) ⌝ }
 {
     let p = nodes::part_at(s, at, 2);
-    Answer::Count(get::read8(s, p) as u64)
+    counted(get::read8(s, p) as u64, out)
 }
 
 // The offset of the name that a FieldRef node looks for.
@@ -94,46 +105,14 @@ pub fn field(
     depth: usize,
     place: usize,
     at: usize,
-) -> Answer
+    out: &mut [u64; 4],
+) -> bool
     requires { ⌜ Accepted (now s) 128 144 at × (le2 (now s) (at + 4) ≡ 130) × ((γ : ParamMap) × Context (now s) (now values) block len (now words) depth γ) ⌝ }
-    ensures { λ r. ⌜ ((call : Calls) (γ : ParamMap) → Context (now (s .entry)) (now (values .entry)) block len (now (words .entry)) depth γ → (a : Accepted (now (s .entry)) 128 144 at) → outcomeOf r ≡ eval-node call place γ (nodeOf (tree a))) ⌝ }
+    ensures { λ r. ⌜ ((call : Calls) (γ : ParamMap) → Context (now (s .entry)) (now (values .entry)) block len (now (words .entry)) depth γ → (a : Accepted (now (s .entry)) 128 144 at) → outcomeIn r (now (out .exit)) ≡ eval-node call place γ (nodeOf (tree a))) ⌝ }
 {
     match context::find(s, field_name(s, at), values, block, len, words, depth) {
-        Held::Value(v) => Answer::Count(v),
-        Held::Absent => Answer::Refused {
-            number: 21,
-            place,
-            offset: at,
-            value: 0,
-        },
-    }
-}
-
-// A node of a kind that holds no node to evaluate.
-pub fn leaf(
-    s: &[u8],
-    values: &[u8],
-    block: usize,
-    len: u64,
-    words: &[u64],
-    depth: usize,
-    place: usize,
-    at: usize,
-    kind: usize,
-) -> Answer
-    requires { ⌜ Accepted (now s) 128 144 at × (kind ≡ le2 (now s) (at + 4)) × (131 ≤ kind → 144 ≤ kind) × ((γ : ParamMap) × Context (now s) (now values) block len (now words) depth γ) ⌝ }
-    ensures { λ r. ⌜ ((call : Calls) (γ : ParamMap) → Context (now (s .entry)) (now (values .entry)) block len (now (words .entry)) depth γ → (a : Accepted (now (s .entry)) 128 144 at) → outcomeOf r ≡ eval-node call place γ (nodeOf (tree a))) ⌝ }
-{
-    match kind {
-        128 => Answer::Count(0),
-        129 => constant(s, at),
-        130 => field(s, values, block, len, words, depth, place, at),
-        _ => Answer::Refused {
-            number: 24,
-            place,
-            offset: at,
-            value: 0,
-        },
+        Held::Value(v) => counted(v, out),
+        Held::Absent => refused(21, place, at, 0, out),
     }
 }
 

@@ -1,15 +1,18 @@
 -- The laws of writing. Assumes nothing.
-use mathlib.Core.Path.{_≡_, refl, sym, ap, subst, _∙_}
+use mathlib.Core.Path.{_≡_, refl, sym, ap, _∙_}
 use mathlib.Core.Bool.{Bool, true, false, cond}
 use mathlib.Core.List.{List, [], _∷_, _++_, append-assoc, append-nil}
-use Prim.Native.Nat.{ℕ, zero, suc, _+_, _-_, _%_, _/_, _<_, _≤_}
+use Prim.Native.Nat.{ℕ, zero, suc, _+_, _-_, _*_, _%_, _/_, _<_, _≤_}
 use native.Mathlib.Numerals.{add-one, sub-one}
 use native.Mathlib.Nat.{add-zero, zero-add, not-suc-le-zero}
 use native.Mathlib.Omega.{arith}
+use borrow.Author.Count.{below-more}
 use borrow.Author.Fill.{fill-none, fill-more}
-use lib.ListN.{length, set, drop, getD, replicate, take, length-set, length-append, length-replicate, drop-of-length-le}
+use borrow.Author.Tests.{leb-true, leb-false}
+use lib.Dec.{leb}
+use lib.ListN.{length, set, drop, getD, replicate, take, length-set, length-append, length-replicate, length-drop, getD-replicate, drop-of-length-le}
 use lib.Bits.{bitAnd, bitOr, or-add-and, and-le-l, and-le-r}
-use lib.Seq.{sets-eq, length-sets, set-comm, set-set, set-out, set-getD, drop-cons, length-take-le}
+use lib.Seq.{sets-eq, length-sets, set-comm, set-set, set-out, drop-cons, getD-drop, ext-getD, take-all, length-take-le}
 use Rattle.blocks.specs.Bytes.{bytes}
 use Rattle.blocks.specs.Tree.{Tree, name, num, block, nil, cons}
 use Rattle.blocks.specs.Write.{write}
@@ -159,10 +162,15 @@ clear-end ws us i h c =
 
 pub ruleset clears = (clear-none, clear-more, clear-end)
 
--- the bits of the first i entries together: where they are 0, so are the entries
-pub record Bits (ws : List ℕ) (bits i : ℕ) : Type 0 where
-  pub within : i ≤ length ws
-  pub zeros : bits ≡ 0 → Cleared ws ws i
+-- ---- bits
+
+-- the first n entries are 0
+abbrev pub Zeros : List ℕ → ℕ → Type 0
+Zeros ws n = (k : ℕ) → k < n → getD ws k 0 ≡ 0
+
+-- the bits of the first i numbers of f together: where they are 0, so are the numbers
+abbrev pub Bits : (ℕ → ℕ) → ℕ → ℕ → Type 0
+Bits f bits i = bits ≡ 0 → (k : ℕ) → k < i → f k ≡ 0
 
 or-none : (a b : ℕ) → bitOr a b ≡ 0 → (a ≡ 0) × (b ≡ 0)
 or-none a b h =
@@ -171,22 +179,63 @@ or-none a b h =
     let r : bitAnd a b ≤ b = and-le-r a b in
     (omega arith, omega arith)
 
-pub bits-none : (ws : List ℕ) → Bits ws 0 0
-bits-none ws = record { within = omega arith; zeros = λ _. clear-none ws }
+pub bits-none : (f : ℕ → ℕ) → Bits f 0 0
+bits-none f e k h = absurd (not-suc-le-zero h)
 
-pub bits-more : (ws : List ℕ) (bits i : ℕ) → i < length ws → Bits ws bits i → Bits ws (bitOr bits (getD ws i 0)) (i + 1)
-bits-more ws bits i h b =
-    record {
-      within = omega arith;
-      zeros = λ e. let o = or-none bits (getD ws i 0) e in
-          let same : set ws i 0 ≡ ws = rw (← o .1) (set-getD ws i 0) in
-          subst (λ (us : List ℕ). Cleared ws us (i + 1)) same (clear-more ws ws i h (b .zeros (o .0)));
-    }
+pub bits-more : (f : ℕ → ℕ) (bits i : ℕ) → Bits f bits i → Bits f (bitOr bits (f i)) (i + 1)
+bits-more f bits i b e = let o = or-none bits (f i) e in below-more (λ (k : ℕ). f k ≡ 0) i (b (o .0)) (o .1)
 
-pub bits-end : (ws : List ℕ) (bits i : ℕ) → length ws ≤ i → Bits ws bits i → bits ≡ 0 → ws ≡ replicate (length ws) 0
-bits-end ws bits i h b e = clear-end ws ws i h (b .zeros e)
+pub zeros-end : (ws : List ℕ) → Zeros ws (length ws) → ws ≡ replicate (length ws) 0
+zeros-end ws z = ext-getD 0 ws (replicate (length ws) 0) (sym (length-replicate (length ws) 0)) (λ k h. z k h ∙ sym (getD-replicate (length ws) k 0 0 h))
 
-pub ruleset gathers = (bits-none, bits-more, bits-end)
+-- what stands at k in each of five parts of n entries, together
+unfoldable pub fifths : List ℕ → ℕ → ℕ → ℕ
+fifths ws n k = bitOr (bitOr (bitOr (bitOr (getD ws k 0) (getD ws (n + k) 0)) (getD ws (2 * n + k) 0)) (getD ws (3 * n + k) 0)) (getD ws (4 * n + k) 0)
+
+module _ (ws : List ℕ) where
+  -- n more behind the first a
+  zeros-more : (a n m : ℕ) → m ≤ a + n → Zeros ws a → ((k : ℕ) → k < n → getD ws (a + k) 0 ≡ 0) → Zeros ws m
+  zeros-more a n m l f g k h = go (leb a k) refl
+    where
+      go : (t : Bool) → leb a k ≡ t → getD ws k 0 ≡ 0
+      go true q =
+          let i : a ≤ k = leb-true a k q in
+          let z : a + (k - a) ≡ k = omega arith in
+          rw z at (g (k - a) (omega arith))
+      go false q = f k (omega (arith, leb-false a k q))
+
+  module _ (n : ℕ) where
+    fifths-none : (k : ℕ) → fifths ws n k ≡ 0 → (getD ws k 0 ≡ 0) × (getD ws (n + k) 0 ≡ 0) × (getD ws (2 * n + k) 0 ≡ 0) × (getD ws (3 * n + k) 0 ≡ 0) × (getD ws (4 * n + k) 0 ≡ 0)
+    unfolding fifths
+    fifths-none k h =
+        let e = or-none _ (getD ws (4 * n + k) 0) h in
+        let d = or-none _ (getD ws (3 * n + k) 0) (e .0) in
+        let c = or-none _ (getD ws (2 * n + k) 0) (d .0) in
+        let b = or-none (getD ws k 0) (getD ws (n + k) 0) (c .0) in
+        (b .0, b .1, c .1, d .1, e .1)
+
+    fifths-zeros : ((k : ℕ) → k < n → fifths ws n k ≡ 0) → Zeros ws (5 * n)
+    fifths-zeros h =
+        zeros-more (4 * n) n (5 * n) (omega arith)
+        (zeros-more (3 * n) n (4 * n) (omega arith)
+        (zeros-more (2 * n) n (3 * n) (omega arith)
+        (zeros-more n n (2 * n) (omega arith) (λ k l. fifths-none k (h k l) .0) (λ k l. fifths-none k (h k l) .1))
+        (λ k l. fifths-none k (h k l) .2))
+        (λ k l. fifths-none k (h k l) .3))
+        (λ k l. fifths-none k (h k l) .4)
+
+    -- the parts, and the rest behind them
+    abbrev pub Rest : List ℕ
+    Rest = take (length ws - 5 * n) (drop (5 * n) ws)
+
+    pub fifths-end : (bits i r : ℕ) → n ≤ i → Bits (fifths ws n) bits i → (r ≡ 0 → Rest ≡ replicate (length Rest) 0) → bitOr bits r ≡ 0 → ws ≡ replicate (length ws) 0
+    fifths-end bits i r l b f e =
+        let o = or-none bits r e in
+        let d = length-drop (5 * n) ws in
+        let w : Rest ≡ drop (5 * n) ws = take-all (length ws - 5 * n) (drop (5 * n) ws) (omega arith) in
+        let z : drop (5 * n) ws ≡ replicate (length (drop (5 * n) ws)) 0 = rw w at (f (o .1)) in
+        zeros-end ws (zeros-more (5 * n) (length ws - 5 * n) (length ws) (omega arith) (fifths-zeros (λ k h. b (o .0) k (omega arith)))
+        (λ k h. sym (getD-drop (5 * n) ws k 0) ∙ rw z (getD-replicate (length (drop (5 * n) ws)) k 0 0 (omega arith))))
 
 -- ---- a part that is cleared in zeros
 

@@ -106,7 +106,7 @@ pub fn clear_bytes(out: &mut [u8])
 }
 
 // The words' bits together: 0 only where every word is 0.
-fn any_bits(words: &[u64]) -> u64
+fn few_bits(words: &[u64]) -> u64
     ensures { λ r. ⌜ (r ≡ 0 → now (words .entry) ≡ replicate (length (now (words .entry))) 0) ⌝ }
 {
     let mut bits = 0;
@@ -116,6 +116,25 @@ fn any_bits(words: &[u64]) -> u64
         i += 1;
     }
     bits
+}
+
+// The same, faster for many words: five fifths are read side by side, so that the processor fetches from five places at once.
+fn any_bits(words: &[u64]) -> u64
+    ensures { λ r. ⌜ (r ≡ 0 → now (words .entry) ≡ replicate (length (now (words .entry))) 0) ⌝ }
+{
+    let fifth = words.len() / 5;
+    let mut bits = 0;
+    let mut i = 0;
+    while i < fifth {
+        let b = fifth + i;
+        let c = 2 * fifth + i;
+        let d = 3 * fifth + i;
+        let e = 4 * fifth + i;
+        bits |= words[i] | words[b] | words[c] | words[d] | words[e];
+        i += 1;
+    }
+    let rest = 5 * fifth;
+    bits | few_bits(&words[rest..])
 }
 
 // Every word is 0 after it.

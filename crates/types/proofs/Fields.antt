@@ -8,6 +8,7 @@ use native.Mathlib.Omega.{arith}
 use lib.Dec.{eqb}
 use lib.ListN.{length, getD}
 use borrow.Author.Tests.{eq-eqb, ne-eqb}
+use Rattle.blocks.proofs.Name.{false-true}
 use Rattle.blocks.specs.declared.Part.the-variants.{Text, Number, Block}
 use Rattle.blocks.specs.Bytes.{le2, le8}
 use Rattle.blocks.specs.Grammar.{partsOf, findRow, grammar, nodeTable}
@@ -161,6 +162,7 @@ module _ {s : List ℕ} {at p : ℕ} (ep : p ≡ nameEnd s at) where
       subst (λ (n : ℕ). FieldAt a (record { placed = true; offset = n; kind = p + 1 + 8 })) (sym ev)
       (subst (λ (n : ℕ). FieldAt a (record { placed = true; offset = le8 s (n + 1); kind = n + 1 + 8 })) (sym ep) (record {
         named = d .named;
+        unplaced = λ e. false-true (sym e);
         type = d .type;
         is = field-is a d (some-offset _ _ f);
       }))
@@ -171,6 +173,7 @@ module _ {s : List ℕ} {at p : ℕ} (ep : p ≡ nameEnd s at) where
       let d = field-free a f in
       subst (λ (n : ℕ). FieldAt a (record { placed = false; offset = 0; kind = n + 1 })) (sym ep) (record {
         named = d .named;
+        unplaced = λ e. refl;
         type = d .type;
         is = field-is a d (no-offset _ _ f);
       })

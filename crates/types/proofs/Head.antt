@@ -7,6 +7,7 @@ use native.Mathlib.Omega.{arith}
 use lib.Dec.{eqb}
 use lib.ListN.{length, getD}
 use borrow.Author.Tests.{eq-eqb, ne-eqb}
+use Rattle.blocks.proofs.Name.{false-true}
 use Rattle.blocks.specs.declared.Part.{Part}
 use Rattle.blocks.specs.declared.Part.the-variants.{Key, Number, Size, Block}
 use Rattle.blocks.specs.Bytes.{le2, le4, le8}
@@ -170,15 +171,16 @@ bounds {s} {at} a =
 -- ---- the answers of `type_head`
 
 module _ {s : List ℕ} {at : ℕ} where
-  pub head-at : {v : Bool} {z al q : ℕ} → q ≡ alignmentAt s at → al ≡ le8 s q → sizeOf (sizeTree s at) ≡ sized v z → (a : Accepted s 1 7 at) → HeadAt a (record { variable = v; size = z; alignment = al; references = q + 8 })
+  pub head-at : {v : Bool} {z al q : ℕ} → q ≡ alignmentAt s at → al ≡ le8 s q → sizeOf (sizeTree s at) ≡ sized v z → (v ≡ true → z ≡ 0) → (a : Accepted s 1 7 at) → HeadAt a (record { variable = v; size = z; alignment = al; references = q + 8 })
   unfolding part
-  head-at {v} {z} {al} {q} eq ea ez a =
+  head-at {v} {z} {al} {q} eq ea ez ev a =
       let h = type-headed a .1 in
       let g = head-got a h in
       subst (λ (n : ℕ). HeadAt a (record { variable = v; size = z; alignment = al; references = n + 8 })) (sym eq) (record {
         named = h .named;
         name = ap (λ (z : Head). z .name) g;
         size = ap (λ (z : Head). z .size) g ∙ ez;
+        unsized = ev;
         alignment = ap (λ (z : Head). z .alignment) g ∙ ap (le8 s) (sym eq) ∙ sym ea;
         references = h .references;
         owners = ap (λ (z : Head). z .dynamic-params) g;
@@ -195,10 +197,11 @@ module _ {s : List ℕ} {at q al p : ℕ} (eq : q ≡ alignmentAt s at) (ea : al
   pub head-const : {z : ℕ} → getD s p 0 ≡ 0 → z ≡ le8 s (p + 1) → (a : Accepted s 1 7 at) → HeadAt a (record { variable = false; size = z; alignment = al; references = q + 8 })
   head-const {z} f ez = head-at eq ea
       (const-size (getD s (nameEnd s at) 0) (le8 s (nameEnd s at + 1)) (ap (λ (n : ℕ). getD s n 0) (sym ep) ∙ f) ∙ ap ResolvedSize.Const (ap (λ (n : ℕ). le8 s (n + 1)) (sym ep) ∙ sym ez))
+      (λ e. false-true e)
 
   pub head-variable : (getD s p 0 ≡ 0 → ⊥) → (a : Accepted s 1 7 at) → HeadAt a (record { variable = true; size = 0; alignment = al; references = q + 8 })
   head-variable f a =
       let e : getD s p 0 ≡ getD s (nameEnd s at) 0 = ap (λ (n : ℕ). getD s n 0) ep in
       let l = type-headed a .1 .small in
       let one : getD s (nameEnd s at) 0 ≡ 1 = omega (arith, e, l, f) in
-      head-at eq ea (variable-size (getD s (nameEnd s at) 0) (le8 s (nameEnd s at + 1)) one) a
+      head-at eq ea (variable-size (getD s (nameEnd s at) 0) (le8 s (nameEnd s at + 1)) one) (λ e. refl) a

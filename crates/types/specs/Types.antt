@@ -50,6 +50,7 @@ pub record HeadAt {s : List ℕ} {at : ℕ} (a : Accepted s 1 7 at) (r : TypeHea
   pub named : Named s (at + 6)
   pub name : head (typeOf (tree a)) .name ≡ nameAt s (at + 6)
   pub size : head (typeOf (tree a)) .size ≡ sized (r .variable) (r .size)
+  pub unsized : r .variable ≡ true → r .size ≡ 0
   pub alignment : head (typeOf (tree a)) .alignment ≡ r .alignment
   pub references : Accepted s 32 32 (r .references)
   pub owners : head (typeOf (tree a)) .dynamic-params ≡ ownersOf (tree references)
@@ -88,6 +89,7 @@ pub record TargetAt {s : List ℕ} {at : ℕ} (a : Accepted s 1 7 at) (q : ℕ) 
 -- a field, before other fields u
 pub record FieldAt {s : List ℕ} {at : ℕ} (a : Accepted s 33 33 at) (r : FieldParts) : Type 0 where
   pub named : Named s (at + 6)
+  pub unplaced : r .placed ≡ false → r .offset ≡ 0
   pub type : Accepted s 1 7 (r .kind)
   pub is : (u : Tree) → fields (fieldsIn (view thingOf (cons (tree a) u))) ≡
       record { name = nameAt s (at + 6); offset = offsetOf (r .placed) (r .offset); field-type = typeOf (tree type) } ∷ fields (fieldsIn (view thingOf u))

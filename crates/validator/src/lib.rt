@@ -11,7 +11,7 @@ ghost use Rattle.blocks.specs.Read.{readLayout, readRun};
 ghost use Rattle.ir.specs.Layout.{layoutOf};
 ghost use Rattle.walk.specs.Accepted.{Accepted, tree};
 ghost use Rattle.interpreter.specs.Validate.{valuesOf, validate-type, validate, validate-run, runOf};
-ghost use Rattle.leaves.specs.Outcome.{outcomeOf};
+ghost use Rattle.leaves.specs.Outcome.{outcomeOf, outcomeIn};
 ghost use Rattle.validator.specs.Validator.{judge, judgementOf, fitted, Given, GivenRun};
 
 // Whether the inputs are read; if not, the number and the offset of the refusal.
@@ -39,6 +39,21 @@ fn judged(n: usize, layout: &[u8], values: &[u8], kind: usize) -> Judgement
             Read::Refused(q, o) => Judgement::Unread(q, o),
             Read::Ok(_) => Judgement::Read,
         },
+    }
+}
+
+// What evaluating left in its four words.
+fn answered(ok: bool, out: &[u64; 4]) -> Answer
+    ensures { λ r. ⌜ outcomeOf r ≡ outcomeIn ok (now (out .entry)) ⌝ }
+{
+    if ok {
+        return Answer::Count(out[0]);
+    }
+    Answer::Refused {
+        number: out[0],
+        place: out[1] as usize,
+        offset: out[2] as usize,
+        value: out[3],
     }
 }
 
@@ -95,11 +110,20 @@ fn evaluated(
         },
         Place::At(i, at) => {
             let root = leaves::root(layout, at);
-            fitting(
-                evaluator::eval_node(layout, root, 16, values, block, len, words, 0, i),
-                i,
+            let mut out = [0u64; 4];
+            let ok = evaluator::eval_node(
+                layout,
+                root,
+                16,
+                values,
+                block,
                 len,
-            )
+                words,
+                0,
+                i,
+                &mut out,
+            );
+            fitting(answered(ok, &out), i, len)
         }
     }
 }
@@ -128,7 +152,7 @@ pub fn validate(words: &mut [u64], layout: &[u8], name: &[u8], values: &[u8], le
 }
 
 // The count of a run: its name, its buffer length and its values stand one behind the other.
-fn evaluated_run(layout: &[u8], run: &[u8], words: &mut [u64]) -> Answer
+pub fn evaluated_run(layout: &[u8], run: &[u8], words: &mut [u64]) -> Answer
     requires { ⌜ GivenRun (now layout) (now run) (now words) ⌝ }
     ensures { λ _. ⌜ length (now (words .exit)) ≡ length (now (words .entry)) ⌝ }
     ensures { λ r. ⌜ ((t : Tree) → readLayout (now (layout .entry)) ≡ done t → (u : Tree) → readRun (now (run .entry)) ≡ done u → outcomeOf r ≡ validate-type (layoutOf t) (runOf u .type-name) (runOf u .buffer-length) (runOf u .values)) ⌝ }

@@ -2,6 +2,7 @@
 //! counts what follows it, a 2-byte kind and a body.
 
 use crate::error::Error;
+use crate::names::number;
 
 /// The bytes of a block, or why it can't be written.
 pub(crate) type Block = Result<Vec<u8>, Error>;
@@ -82,6 +83,22 @@ pub(crate) fn block_length(body: u64) -> Result<u32, Error> {
     u32::try_from(body.saturating_add(2)).map_err(|_| Error::BlockTooLong)
 }
 
+/// How many blocks stand one behind the other, of which the last may be cut off.
+pub(crate) fn count_blocks(mut bytes: &[u8]) -> usize {
+    let mut count = 0;
+    while !bytes.is_empty() {
+        count += 1;
+        bytes = behind_block(bytes).unwrap_or(&[]);
+    }
+    count
+}
+
+/// What stands behind the first block, if that is whole.
+fn behind_block(bytes: &[u8]) -> Option<&[u8]> {
+    let length = number(bytes, 0, 4)?;
+    bytes.get(4..)?.get(length..)
+}
+
 #[cfg(test)]
 mod tests {
     use super::*;
@@ -94,6 +111,22 @@ mod tests {
         assert_eq!(block_length(most - 2), Ok(u32::MAX));
         for more in [most - 1, most, u64::MAX] {
             assert_eq!(block_length(more), Err(Error::BlockTooLong));
+        }
+    }
+
+    /// Two blocks, cut off anywhere; the shortest blocks; a length field without an end.
+    #[test]
+    fn blocks_are_counted() {
+        let two = [2, 0, 0, 0, 193, 0, 1, 0, 0, 0, 7];
+        for cut in 0..=two.len() {
+            let count = usize::from(cut > 0) + usize::from(cut > 6);
+            assert_eq!(count_blocks(&two[..cut]), count, "{cut} bytes");
+        }
+        assert_eq!(count_blocks(&[0; 65_537]), 16_385);
+        for at in 0..4 {
+            let mut bytes = [0; 60];
+            bytes[at] = 255;
+            assert_eq!(count_blocks(&bytes), 1);
         }
     }
 }

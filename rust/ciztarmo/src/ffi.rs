@@ -1,8 +1,9 @@
 //! The calls of libciztarmo.a: the only unsafe code of this crate.
 //!
 //! Each call takes a slice as its address and its length and puts its answer into four words:
-//! number (0 if accepted), type place, offset, and value or count. No call asks anything of the
-//! contents of a slice, keeps an address, or writes outside the slices that are lent to write.
+//! number (0 if accepted), type place, offset, and value or count; `validate_runs` has an answer
+//! for each run. No call asks anything of the contents of a slice, keeps an address, or writes
+//! outside the slices that are lent to write.
 
 pub type Answer = [u64; 4];
 
@@ -41,6 +42,16 @@ extern "C" {
         run_len: usize,
         answer: *mut Answer,
     );
+    fn ciztarmo_validate_runs(
+        words: *mut u64,
+        words_len: usize,
+        layout: *const u8,
+        layout_len: usize,
+        runs: *const u8,
+        runs_len: usize,
+        answers: *mut u64,
+        answers_len: usize,
+    ) -> usize;
 }
 
 /// What stands in the four words before a call; no call answers it.
@@ -106,4 +117,17 @@ pub fn validate_run(words: &mut [u64], layout: &[u8], run: &[u8]) -> Answer {
     // SAFETY: as in `validate`.
     unsafe { ciztarmo_validate_run(w, wn, l, ln, run.as_ptr(), run.len(), &mut a) };
     a
+}
+
+/// The answers to the runs that stand one behind the other, from the first on, at most `most`.
+pub fn validate_runs(words: &mut [u64], layout: &[u8], runs: &[u8], most: usize) -> Vec<Answer> {
+    let mut all = vec![UNANSWERED; most];
+    let (w, wn) = (words.as_mut_ptr(), words.len());
+    let (l, ln) = (layout.as_ptr(), layout.len());
+    let (r, rn) = (runs.as_ptr(), runs.len());
+    let (a, an) = (all.as_mut_ptr().cast::<u64>(), 4 * all.len());
+    // SAFETY: as in `validate`; so many answers are four times as many words without gaps.
+    let given = unsafe { ciztarmo_validate_runs(w, wn, l, ln, r, rn, a, an) };
+    all.truncate(given);
+    all
 }

@@ -11,7 +11,7 @@
 //! A trip is one byte `n` and then `n` legs of four bytes each:
 //!
 //! ```
-//! use ciztarmo::{Expr, Field, Number, Set, Type, Values};
+//! use ciztarmo::{Expr, Field, Number, Run, Set, Type, Values};
 //!
 //! let legs = Type::array("Trip::legs", Type::primitive("leg", 4), Expr::field("n"));
 //! let trip = Type::structure(
@@ -28,6 +28,10 @@
 //! let none = Values::of([("legs.n", 0)])?;
 //! assert_eq!(layout.length_of("Trip", &three, 13)?, 13);
 //! assert_eq!(layout.length_of("Trip", &none, 8)?, 1);
+//!
+//! // Many records in one call, which reads the layout once.
+//! let runs = [Run::new("Trip", &three, 13)?, Run::new("Trip", &none, 8)?];
+//! assert_eq!(layout.lengths_of(&runs), [Ok(13), Ok(1)]);
 //!
 //! // A buffer of 12 bytes is too short for three legs.
 //! let refusal = layout.length_of("Trip", &three, 12).unwrap_err();
@@ -50,6 +54,7 @@
 //! Who has the bytes of a set, a layout, values or a run already calls the functions
 //! [`build_set`], [`validate`] and so on. Each makes the working words that it needs; where there
 //! are many calls, a [`Work`] keeps them. [`Layout::read`] takes the bytes of a stored layout.
+//! [`validate_runs`] takes many runs that stand one behind the other.
 //!
 //! # Linking
 //!
@@ -87,5 +92,5 @@ pub use types::{Field, SizedVariant, Type, Variant};
 pub use values::{Run, Values};
 pub use work::{
     build_set, build_set_into, read_layout, read_run, read_set, read_values, validate,
-    validate_run, Work, LIMIT, WORDS,
+    validate_run, validate_runs, Work, LIMIT, WORDS,
 };

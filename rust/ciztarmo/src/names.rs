@@ -26,7 +26,7 @@ fn name(block: &[u8], at: usize) -> Option<&str> {
 }
 
 /// The little-endian number of so many bytes at an offset.
-fn number(block: &[u8], at: usize, size: usize) -> Option<usize> {
+pub(crate) fn number(block: &[u8], at: usize, size: usize) -> Option<usize> {
     let bytes = block.get(at..)?.get(..size)?;
     let fold = |n, byte: &u8| n << 8 | usize::from(*byte);
     Some(bytes.iter().rev().fold(0, fold))

@@ -120,4 +120,16 @@ impl Layout {
     pub fn length_of_run_with(&self, work: &mut Work, run: &Run) -> Result<u64, Refusal> {
         work.validate_run(&self.bytes, run.as_bytes())
     }
+
+    /// Counts the bytes of the record that each run asks for, in one call, which reads the layout
+    /// once.
+    pub fn lengths_of(&self, runs: &[Run]) -> Vec<Result<u64, Refusal>> {
+        self.lengths_of_with(&mut Work::new(), runs)
+    }
+
+    /// [`lengths_of`](Layout::lengths_of) with the caller's working words.
+    pub fn lengths_of_with(&self, work: &mut Work, runs: &[Run]) -> Vec<Result<u64, Refusal>> {
+        let bytes: Vec<u8> = runs.iter().flat_map(Run::as_bytes).copied().collect();
+        work.validate_runs(&self.bytes, &bytes)
+    }
 }

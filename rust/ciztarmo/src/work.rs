@@ -1,5 +1,6 @@
 //! The plain calls: bytes in, an answer or a refusal out.
 
+use crate::block::count_blocks;
 use crate::ffi;
 use crate::refusal::{accepted, Refusal};
 use std::fmt;
@@ -98,6 +99,18 @@ impl Work {
     pub fn validate_run(&mut self, layout: &[u8], run: &[u8]) -> Result<u64, Refusal> {
         accepted(ffi::validate_run(&mut self.words, layout, run))
     }
+
+    /// Counts the bytes of the records that many runs (blocks 193) ask for, over one layout, which
+    /// is read once.
+    ///
+    /// The runs stand one behind the other: each is as long as its length field says, or as much
+    /// of it as is there. Each has the answer that [`validate_run`](Work::validate_run) gives it
+    /// alone. Each may have [`LIMIT`] bytes; together they may have more.
+    pub fn validate_runs(&mut self, layout: &[u8], runs: &[u8]) -> Vec<Result<u64, Refusal>> {
+        let most = count_blocks(runs);
+        let answers = ffi::validate_runs(&mut self.words, layout, runs, most);
+        answers.into_iter().map(accepted).collect()
+    }
 }
 
 /// [`Work::read_set`] with working words for this call alone.
@@ -145,6 +158,11 @@ pub fn validate_run(layout: &[u8], run: &[u8]) -> Result<u64, Refusal> {
     Work::new().validate_run(layout, run)
 }
 
+/// [`Work::validate_runs`] with working words for this call alone.
+pub fn validate_runs(layout: &[u8], runs: &[u8]) -> Vec<Result<u64, Refusal>> {
+    Work::new().validate_runs(layout, runs)
+}
+
 #[cfg(test)]
 mod tests {
     use super::*;
@@ -153,7 +171,7 @@ mod tests {
     #[test]
     fn words_are_zero_after_a_call() {
         let empty_set = [4, 0, 0, 0, 36, 0, 0, 0];
-        let calls: [fn(&mut Work, &[u8]) -> bool; 7] = [
+        let calls: [fn(&mut Work, &[u8]) -> bool; 8] = [
             |work, bytes| work.read_set(bytes).is_ok(),
             |work, bytes| work.read_layout(bytes).is_ok(),
             |work, bytes| work.read_values(bytes).is_ok(),
@@ -161,6 +179,7 @@ mod tests {
             |work, bytes| work.build_set(bytes).is_ok(),
             |work, bytes| work.validate(bytes, "", bytes, 0).is_ok(),
             |work, bytes| work.validate_run(bytes, bytes).is_ok(),
+            |work, bytes| work.validate_runs(bytes, bytes)[0].is_ok(),
         ];
         let mut accepted = Vec::new();
         for call in calls {

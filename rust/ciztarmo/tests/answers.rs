@@ -3,6 +3,7 @@
 mod stored;
 
 use ciztarmo::{Refusal, Work};
+use std::cmp::Ordering;
 use std::collections::BTreeMap;
 use stored::{counted, records, Answer, Call, Record};
 
@@ -110,6 +111,65 @@ fn an_output_of_its_own() {
         }
     }
     assert_eq!(accepted, 461);
+}
+
+/// Where a run may stand among others, by its length and its length field.
+#[derive(PartialEq)]
+enum Stands {
+    Anywhere,
+    /// It is cut off.
+    Last,
+    /// It is empty, or bytes follow its block.
+    Nowhere,
+}
+
+fn stands(run: &[u8]) -> Stands {
+    let whole = match run.get(..4) {
+        Some(field) => 4 + u32::from_le_bytes(field.try_into().expect("four bytes")) as usize,
+        None => 4,
+    };
+    match run.len().cmp(&whole) {
+        Ordering::Equal => Stands::Anywhere,
+        Ordering::Less if !run.is_empty() => Stands::Last,
+        _ => Stands::Nowhere,
+    }
+}
+
+/// Runs with the same words and layout, joined: in one call each has the answer of its record.
+#[test]
+fn runs_in_one_call() {
+    let mut groups: BTreeMap<_, Vec<_>> = BTreeMap::new();
+    for record in records() {
+        if let Call::Run { words, layout, run } = record.call {
+            let group = groups.entry((words, layout)).or_default();
+            group.push((run, record.answer));
+        }
+    }
+    let (mut several, mut alone, mut last, mut left_out) = (0, 0, 0, 0);
+    for ((words, layout), runs) in groups {
+        let that = |place| runs.iter().filter(move |(run, _)| stands(run) == place);
+        let joined: Vec<_> = that(Stands::Anywhere).collect();
+        ask_together(words, &layout, &joined);
+        for cut in that(Stands::Last) {
+            ask_together(words, &layout, &[&joined[..], &[cut]].concat());
+            last += 1;
+        }
+        match joined.len() {
+            1 => alone += 1,
+            many => several += many,
+        }
+        left_out += that(Stands::Nowhere).count();
+    }
+    // All 1,829 records; those left out have bytes behind their block.
+    assert_eq!((several, alone, last, left_out), (1211, 574, 28, 16));
+}
+
+fn ask_together(words: usize, layout: &[u8], runs: &[&(Vec<u8>, Answer)]) {
+    let bytes: Vec<u8> = runs.iter().flat_map(|(run, _)| run).copied().collect();
+    let answers = Work::with_words(words).validate_runs(layout, &bytes);
+    let answers: Vec<Answer> = answers.into_iter().map(Answer::of).collect();
+    let expected: Vec<Answer> = runs.iter().map(|(_, answer)| *answer).collect();
+    assert_eq!(answers, expected);
 }
 
 /// Reading alone refuses exactly where the whole call refuses an input, with the same answer.

@@ -22,6 +22,7 @@ fn every_call(words: usize) -> Vec<Option<Refusal>> {
         work.build_set_into(&set(), &mut [0; 100]).err(),
         work.validate(&layout, "u8", &values.to_bytes(), 1).err(),
         work.validate_run(&layout, run.as_bytes()).err(),
+        work.validate_runs(&layout, run.as_bytes())[0].err(),
     ]
 }
 

@@ -1,6 +1,6 @@
 //! The worked example of document 01, written by the builder and counted.
 
-use ciztarmo::{Expr, Field, Layout, Number, Run, Set, Type, Values, Work};
+use ciztarmo::{Expr, Field, Layout, Number, Run, Set, Type, Values, Work, LIMIT};
 
 const EXAMPLE: &str = concat!(env!("CARGO_MANIFEST_DIR"), "/../../examples/trip");
 
@@ -91,6 +91,35 @@ fn the_four_answers() {
     }
 }
 
+/// The same in one call, with the layout read once.
+#[test]
+fn the_four_answers_together() {
+    let layout = trip().build().expect("the layout");
+    let all = |answers: Vec<_>| answers.into_iter().map(told).collect::<Vec<_>>();
+    assert_eq!(all(layout.lengths_of(&runs())), ANSWERS);
+    let mut work = Work::new();
+    assert_eq!(all(layout.lengths_of_with(&mut work, &runs())), ANSWERS);
+    assert_eq!(all(layout.lengths_of(&[])), []);
+    let bytes = blocks()[1..].concat();
+    assert_eq!(all(work.validate_runs(layout.as_bytes(), &bytes)), ANSWERS);
+    // Three bytes more are a run that is cut off.
+    let more = [&bytes[..], &bytes[..3]].concat();
+    let answers = all(work.validate_runs(layout.as_bytes(), &more));
+    assert_eq!(answers[..4], ANSWERS);
+    assert_eq!(answers[4..], [(2, 0, None)]);
+}
+
+/// Together the runs are longer than an input may be.
+#[test]
+fn the_four_answers_again_and_again() {
+    let layout = trip().build().expect("the layout");
+    let runs = vec![runs(); 500].concat();
+    let bytes: usize = runs.iter().map(|run| run.as_bytes().len()).sum();
+    assert!(bytes > LIMIT);
+    let answers: Vec<_> = layout.lengths_of(&runs).into_iter().map(told).collect();
+    assert_eq!(answers, vec![ANSWERS; 500].concat());
+}
+
 #[test]
 fn the_free_functions() {
     let blocks = blocks();
@@ -111,6 +140,8 @@ fn the_free_functions() {
         told_by.push(told(by_run));
     }
     assert_eq!(told_by, ANSWERS);
+    let together = ciztarmo::validate_runs(&layout, &blocks[1..].concat());
+    assert_eq!(together.into_iter().map(told).collect::<Vec<_>>(), ANSWERS);
 }
 
 #[test]

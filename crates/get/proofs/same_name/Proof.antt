@@ -1,24 +1,26 @@
--- `get::same_name` meets its contract. The loop's invariant: the bytes from `i` on decide. Assumes nothing.
-use Prim.Native.Nat.{_≤_, _-_}
-use mathlib.Core.Path.{_≡_, refl}
+-- `get::same_name` meets its contract. The loop's invariant: the bytes from `i` on are the same. Assumes nothing.
+use Prim.Native.Nat.{_≤_}
+use mathlib.Core.Path.{_≡_}
 use native.Mathlib.Omega.{arith}
 use lib.ListN.{length, drop}
-use Rattle.blocks.specs.Name.{same}
-use Rattle.get.proofs.Names.{sames}
+use Rattle.get.proofs.Names.{same-not, sames}
 use Rattle.get.proofs.same_name.Statement.{statement}
 use Rattle.get.proofs.same_name.Tie as tie
 
 abbrev Inv-loop : tie.InvT-loop
-Inv-loop a b i₀ i = (i ≤ length a) × (same a b ≡ same (drop i a) (drop i b))
+Inv-loop a b i₀ i = (i ≤ length a) × (drop i a ≡ drop i b)
 
 abbrev μ-loop : tie.MeasureT-loop
-μ-loop a b i₀ i = length a - i
+μ-loop a b i₀ i = i
 
 returns : tie.Need-returns Inv-loop μ-loop
 returns c = search sames
 
 loop-holds : tie.Need-loop-holds Inv-loop μ-loop
-loop-holds c = (omega arith, refl)
+loop-holds c = (omega arith, search sames)
+
+sub-i : tie.Need-sub-i Inv-loop μ-loop
+sub-i c = omega arith
 
 shared-slice-read-if2 : tie.Need-shared-slice-read-if2 Inv-loop μ-loop
 shared-slice-read-if2 c = omega arith
@@ -27,10 +29,7 @@ shared-slice-read-if2-2 : tie.Need-shared-slice-read-if2-2 Inv-loop μ-loop
 shared-slice-read-if2-2 c = omega arith
 
 returns-2 : tie.Need-returns-2 Inv-loop μ-loop
-returns-2 c = search sames
-
-add-i : tie.Need-add-i Inv-loop μ-loop
-add-i c = omega arith
+returns-2 c = same-not _ _ _ (c .if2 .taken)
 
 loop-less : tie.Need-loop-less Inv-loop μ-loop
 loop-less c = omega arith
@@ -49,10 +48,10 @@ same-name-spec =
     μ-loop
     returns
     loop-holds
+    sub-i
     shared-slice-read-if2
     shared-slice-read-if2-2
     returns-2
-    add-i
     loop-less
     loop-again
     returns-3)

@@ -14,6 +14,7 @@ use Rattle.leaves.proofs.constant.Tie as tie
 use Rattle.leaves.proofs.constant.Reads as reads
 use Rattle.leaves.proofs.constant.Lts as lts
 use Rattle.get.proofs.read8.Reads as read8-reads
+use Rattle.leaves.proofs.counted.Reads as counted-reads
 use Rattle.nodes.proofs.part_at.Reads as part-at-reads
 
 part-at-requires : tie.Need-part-at-requires
@@ -22,8 +23,11 @@ part-at-requires c κs = (c .before .pre .0, omega arith, enough _ _ (omega (ari
 read8-requires : tie.Need-read8-requires
 read8-requires c κs = const-at (c .part-at .ensures) (c .before .before .pre .0) (c .before .before .pre .1) .0
 
+counted-requires : tie.Need-counted-requires
+counted-requires c κs = search needs
+
 returns : tie.Need-returns
-returns c = const-is (c .before .part-at .ensures) (c .before .before .before .pre .1) (c .read8 .ensures)
+returns c = λ k pl γ a. c .counted .ensures ∙ const-is (c .before .before .before .part-at .ensures) (c .before .before .before .before .before .pre .1) (c .before .before .read8 .ensures) k pl γ a
 
 pub constant-spec : {M : Type 1} → statement M
-constant-spec = tie.close (tie.spec part-at-requires read8-requires returns)
+constant-spec = tie.close (tie.spec part-at-requires read8-requires counted-requires returns)

@@ -25,15 +25,21 @@ find-requires c κs = (c .field-name .ensures .inside, c .before .before .before
 enum-known-v : tie.Need-enum-known-v
 enum-known-v c = search needs
 
+counted-requires : tie.Need-counted-requires
+counted-requires c κs = search needs
+
 enum-told : tie.Need-enum-told
 enum-told c = search needs
 
+refused-requires : tie.Need-refused-requires
+refused-requires c κs = search needs
+
 returns : tie.Need-returns
-returns c = λ k γ x a. ref-found _ (c .before .before .before .before .field-name .ensures) (c .before .before .before .before .before .before .before .before .pre .1) (c .before .before .before .find .ensures) k γ x a (c .before .v .given .1)
+returns c = λ k γ x a. c .counted .ensures ∙ ref-found _ (c .before .before .before .before .before .before .field-name .ensures) (c .before .before .before .before .before .before .before .before .before .before .pre .1) (c .before .before .before .before .before .find .ensures) k γ x a (c .before .before .before .v .given .1)
 
 returns-2 : tie.Need-returns-2
-returns-2 c = λ k γ x a. ref-absent _ (c .before .before .before .field-name .ensures) (c .before .before .before .before .before .before .before .pre .1) (c .before .before .find .ensures) k γ x a (c .enum-told .given .1)
+returns-2 c = λ k γ x a. c .refused .ensures ∙ ref-absent _ (c .before .before .before .before .before .field-name .ensures) (c .before .before .before .before .before .before .before .before .before .pre .1) (c .before .before .before .before .find .ensures) k γ x a (c .before .before .enum-told .given .1)
 
 pub field-spec : {M : Type 1} → statement M
 field-spec =
-    tie.close (tie.spec field-name-requires find-requires enum-known-v enum-told returns returns-2)
+    tie.close (tie.spec field-name-requires find-requires enum-known-v counted-requires enum-told refused-requires returns returns-2)

@@ -1,30 +1,32 @@
 -- `leaves::lifted` meets its contract. Assumes nothing.
-use mathlib.Core.Path.{_≡_, refl, sym, _∙_, ap}
-use mathlib.Core.List.{List}
-use Prim.Native.Nat.{ℕ, _+_, _-_, _≤_}
-use native.Mathlib.Omega.{arith}
-use lib.ListN.{length}
-use Rattle.blocks.specs.Bytes.{le2, le4}
-use Rattle.walk.specs.Accepted.{nameAt}
-use Rattle.leaves.proofs.Nodes.{enough}
+use mathlib.Core.Path.{_∙_}
 use Rattle.leaves.proofs.Nodes.{lifted-value, lifted-fault}
 use borrow.Author.Needs.{needs}
 use Rattle.leaves.proofs.lifted.Statement.{statement}
 use Rattle.leaves.proofs.lifted.Tie as tie
 use Rattle.leaves.proofs.lifted.Reads as reads
 use Rattle.leaves.proofs.lifted.Lts as lts
+use Rattle.leaves.proofs.counted.Reads as counted-reads
+use Rattle.leaves.proofs.refused.Reads as refused-reads
 
 enum-known-n : tie.Need-enum-known-n
 enum-known-n c = search needs
 
+counted-requires : tie.Need-counted-requires
+counted-requires c κs = search needs
+
 enum-known-n-2 : tie.Need-enum-known-n-2
 enum-known-n-2 c = search needs
 
+refused-requires : tie.Need-refused-requires
+refused-requires c κs = search needs
+
 returns : tie.Need-returns
-returns c = lifted-value _ _ _ _ (c .before .n .given .1)
+returns c = λ x e. c .counted .ensures ∙ lifted-value _ _ _ _ (c .before .before .before .n .given .1) x e
 
 returns-2 : tie.Need-returns-2
-returns-2 c = lifted-fault _ _ _ _ (c .before .n2 .given .1)
+returns-2 c = λ x e. c .refused .ensures ∙ lifted-fault _ _ _ _ (c .before .before .before .n2 .given .1) x e
 
 pub lifted-spec : {M : Type 1} → statement M
-lifted-spec = tie.close (tie.spec enum-known-n enum-known-n-2 returns returns-2)
+lifted-spec =
+    tie.close (tie.spec enum-known-n counted-requires enum-known-n-2 refused-requires returns returns-2)

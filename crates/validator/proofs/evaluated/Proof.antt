@@ -18,7 +18,10 @@ root-requires : tie.Need-root-requires
 root-requires c κs = type-tree (c .before .before .before .lookup-type .ensures) (c .before .i .given .1) (c .before .before .before .before .before .before .before .before .pre)
 
 eval-node-requires : tie.Need-eval-node-requires
-eval-node-requires c κs = root-ready (c .before .before .before .before .before .lookup-type .ensures) (c .before .before .before .i .given .1) (c .before .root .ensures) _ (c .before .before .before .before .before .before .before .before .before .before .pre) (omega arith)
+eval-node-requires c κs = root-ready (c .before .before .before .before .before .before .lookup-type .ensures) (c .before .before .before .before .i .given .1) (c .before .before .root .ensures) _ (c .before .before .before .before .before .before .before .before .before .before .before .pre) (omega arith)
+
+answered-requires : tie.Need-answered-requires
+answered-requires c κs = search needs
 
 fitting-requires : tie.Need-fitting-requires
 fitting-requires c κs = search needs
@@ -30,7 +33,7 @@ same-length : tie.Need-same-length
 same-length c = search needs
 
 returns-2 : tie.Need-returns-2
-returns-2 c = (omega arith, type-goes (c .before .before .before .before .before .before .before .before .before .lookup-type .ensures) (c .before .before .before .before .before .before .before .i .given .1) (c .before .before .before .before .before .root .ensures) (c .before .before .before .eval-node .result) (c .fitting .result) (c .before .before .before .eval-node .ensures .1) (c .fitting .ensures))
+returns-2 c = (omega arith, type-goes (c .before .before .before .before .before .before .before .before .before .before .before .before .lookup-type .ensures) (c .before .before .before .before .before .before .before .before .before .before .i .given .1) (c .before .before .before .before .before .before .before .before .root .ensures) (c .before .before .before .before .before .eval-node .result) _ (c .before .answered .result) (c .fitting .result) (c .before .before .before .before .before .eval-node .ensures .1) (c .before .answered .ensures) (c .fitting .ensures))
 
 pub evaluated-spec : {M : Type 1} → statement M
 evaluated-spec =
@@ -41,6 +44,7 @@ evaluated-spec =
     enum-known-i
     root-requires
     eval-node-requires
+    answered-requires
     fitting-requires
     returns
     same-length

@@ -14,7 +14,7 @@ use building::{build_parts, building, by_bytes, by_parameters};
 use measure::{medians, work};
 use std::hint::black_box;
 use table::{Aim, Group, Parts, Row};
-use validating::{validate_parts, validating};
+use validating::{validate_parts, validating, validating_runs};
 
 /// What ours answers where it accepts, with this last word.
 fn accepted(value: u64) -> ours::Answer {
@@ -36,6 +36,13 @@ pub fn bench(markdown: bool) -> Result<(), String> {
         )?,
         validating(words, VALIDATE_CALLS, [1, 4, 8, 15], inputs::nested)?,
         validating(words, VALIDATE_TYPES, [1, 16, 64, 256], inputs::among)?,
+        validating_runs(words, VALIDATE_RUNS, &[1, 16, 256, 1024], &inputs::trip())?,
+        validating_runs(
+            words,
+            VALIDATE_RUNS_CALLS,
+            &[1, 16, 256],
+            &inputs::nested(15),
+        )?,
     ];
     let parts = [
         build_parts(words, &sets[0])?,
@@ -58,14 +65,19 @@ const BUILD_PARAMETERS: Head = ("build, by parameters of a type", "parameter");
 const VALIDATE_VALUES: Head = ("validate, by values", "value");
 const VALIDATE_CALLS: Head = ("validate, by calls", "call");
 const VALIDATE_TYPES: Head = ("validate, by types", "type");
+const VALIDATE_RUNS: Head = (
+    "validate runs of the worked example, one call, times per run",
+    "run",
+);
+const VALIDATE_RUNS_CALLS: Head = ("validate runs of 15 calls, one call, times per run", "run");
 
 /// What is aimed at, beside what was measured.
-fn aims(groups: &[Group; 6], parts: &[Parts; 5]) -> Vec<Aim> {
+fn aims(groups: &[Group; 8], parts: &[Parts; 5]) -> Vec<Aim> {
     let whole = |what, wanted, row: &Row, parts: Option<&Parts>| Aim {
         what,
         wanted,
         got: row.whole / row.ours,
-        bare: parts.map(Parts::bare),
+        bare: parts.map(|p| p.bare() / p.ours),
     };
     let alone = |what, row: &Row| Aim {
         what,
@@ -73,8 +85,9 @@ fn aims(groups: &[Group; 6], parts: &[Parts; 5]) -> Vec<Aim> {
         got: row.alone.unwrap_or(0.0) / row.ours,
         bare: None,
     };
-    let [read, build, _, values, calls, _] = groups;
+    let [read, build, _, values, calls, _, runs, runs_calls] = groups;
     let (trip, nested) = (&values.rows[0], &calls.rows[3]);
+    let (trip_runs, nested_runs) = (&runs.rows[2], &runs_calls.rows[2]);
     let trip_built = "build Trip, beside decode + build_type + encode";
     let all_built = "build 48 types, beside decode + build_type + encode";
     vec![
@@ -100,6 +113,22 @@ fn aims(groups: &[Group; 6], parts: &[Parts; 5]) -> Vec<Aim> {
         ),
         alone("validate Trip, beside validate alone", trip),
         alone("validate 15 calls, beside validate alone", nested),
+        alone(
+            "validate Trip, 256 runs a call, beside validate alone",
+            trip_runs,
+        ),
+        alone(
+            "validate 15 calls, 256 runs a call, beside validate alone",
+            nested_runs,
+        ),
+        // Beside the Rust of one validation, as in the row of 1 value, where
+        // the layout too is decoded each time.
+        Aim {
+            what: "validate Trip, 256 runs a call, beside decode + validate each time",
+            wanted: 5.0,
+            got: trip.whole / trip_runs.ours,
+            bare: Some(parts[2].bare() / trip_runs.ours),
+        },
     ]
 }
 

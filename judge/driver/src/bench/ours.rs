@@ -1,5 +1,5 @@
 //! The calls of crates/ciztarmo, from the archive. There a slice is an address
-//! and a length, the answer four words: number (0 if accepted), place, offset,
+//! and a length, an answer four words: number (0 if accepted), place, offset,
 //! and value, count or length.
 
 pub type Answer = [u64; 4];
@@ -33,6 +33,16 @@ extern "C" {
         len: u64,
         answer: *mut Answer,
     );
+    fn ciztarmo_validate_runs(
+        words: *mut u64,
+        words_len: usize,
+        layout: *const u8,
+        layout_len: usize,
+        runs: *const u8,
+        runs_len: usize,
+        answers: *mut u64,
+        answers_len: usize,
+    ) -> usize;
 }
 
 pub fn read_layout(words: &mut [u64], layout: &[u8]) -> Answer {
@@ -85,4 +95,26 @@ pub fn validate(words: &mut [u64], layout: &[u8], name: &[u8], values: &[u8], le
         );
     }
     answer
+}
+
+/// How many runs have their answers.
+pub fn validate_runs(
+    words: &mut [u64],
+    layout: &[u8],
+    runs: &[u8],
+    answers: &mut [Answer],
+) -> usize {
+    // SAFETY: as above; an answer is four words.
+    unsafe {
+        ciztarmo_validate_runs(
+            words.as_mut_ptr(),
+            words.len(),
+            layout.as_ptr(),
+            layout.len(),
+            runs.as_ptr(),
+            runs.len(),
+            answers.as_mut_ptr().cast(),
+            4 * answers.len(),
+        )
+    }
 }

@@ -7,7 +7,7 @@ use super::Head;
 pub struct Row {
     pub what: String,
     /// Bytes, values, calls or types: what the rows of a group differ in. A
-    /// row of another sort has none.
+    /// row of another sort, or with times for each run, has none.
     pub size: Option<usize>,
     pub ours: f64,
     pub whole: f64,
@@ -33,9 +33,9 @@ pub struct Parts {
 }
 
 impl Parts {
-    /// The Rust's time over ours, with the conversions left out.
+    /// The Rust's time with the conversions left out.
     pub fn bare(&self) -> f64 {
-        (self.decode + self.call + self.encode) / self.ours
+        self.decode + self.call + self.encode
     }
 }
 
@@ -124,7 +124,7 @@ fn parts_lines(parts: &[Parts]) -> Vec<Vec<String>> {
             p.ours,
         ];
         line.extend(times.map(micro));
-        line.push(ratio(p.bare()));
+        line.push(ratio(p.bare() / p.ours));
         out.push(line);
     }
     out

@@ -19,11 +19,15 @@ pub fn validating(
     let mut rows = Vec::new();
     for size in sizes {
         let asked = asked(size);
-        let many = if size == 1 { "" } else { "s" };
-        let what = format!("{size} {}{many}, {} bytes", head.1, asked.layout.len());
+        let what = label(size, head, &asked);
         rows.push(validating_row(words, what, size, &asked)?);
     }
     Ok(Group { head, rows })
+}
+
+fn label(size: usize, head: Head, asked: &Asked) -> String {
+    let many = if size == 1 { "" } else { "s" };
+    format!("{size} {}{many}, {} bytes", head.1, asked.layout.len())
 }
 
 /// What a validation is asked on each side, with the count of the Rust.
@@ -109,6 +113,111 @@ fn validating_row(
     Ok(Row {
         what,
         size: Some(size),
+        ours,
+        whole,
+        alone: Some(alone),
+    })
+}
+
+/// A question as so many runs, one behind the other, and what the Rust is
+/// asked for each.
+struct Runs<'a> {
+    question: Question<'a>,
+    many: usize,
+    bytes: Vec<u8>,
+    decoded: Vec<(u64, ParamMap)>,
+}
+
+impl<'a> Runs<'a> {
+    fn new(asked: &'a Asked, many: usize) -> Result<Runs<'a>, String> {
+        let run = Run {
+            name: asked.name.clone(),
+            length: asked.length,
+            values: asked.values.clone(),
+        };
+        Ok(Runs {
+            question: Question::new(asked)?,
+            many,
+            bytes: write::run(&run).repeat(many),
+            decoded: vec![(asked.length, params(&asked.values)); many],
+        })
+    }
+
+    fn ours(&self, words: &mut [u64], answers: &mut [ours::Answer]) -> usize {
+        let layout = black_box(&self.question.asked.layout);
+        ours::validate_runs(words, layout, black_box(&self.bytes), answers)
+    }
+
+    /// The Rust, from bytes: decoding the layout once, then each run, and
+    /// `validate`.
+    fn whole(&self, counts: &mut [Option<u128>]) -> Option<()> {
+        let trees = read::layout(black_box(&self.question.asked.layout)).ok()?;
+        let judge = rust::Judge::new(&trees);
+        let runs = black_box(&self.bytes).chunks(self.bytes.len() / self.many);
+        for (run, count) in runs.zip(counts) {
+            let run = read::run(run).ok()?;
+            *count = judge.count(self.question.place, run.length, &params(&run.values));
+        }
+        Some(())
+    }
+
+    /// `validate` alone, for each run.
+    fn alone(&self, counts: &mut [Option<u128>]) {
+        let judge = black_box(&self.question.judge);
+        for ((length, params), count) in black_box(&self.decoded).iter().zip(counts) {
+            *count = judge.count(self.question.place, *length, params);
+        }
+    }
+
+    /// Every run has the question's count on each side.
+    fn same(&self, words: &mut [u64]) -> Result<(), String> {
+        let count = self.question.count;
+        let mut answers = vec![[0; 4]; self.many];
+        let given = self.ours(words, &mut answers);
+        let other = answers.iter().find(|a| **a != accepted(count));
+        if given != self.many || other.is_some() {
+            return Err(format!("ours {given} runs, {other:?}, Rust {count}"));
+        }
+        let (mut whole, mut alone) = (vec![None; self.many], vec![None; self.many]);
+        self.whole(&mut whole);
+        self.alone(&mut alone);
+        let counts = &mut whole.iter().chain(&alone);
+        match counts.find(|c| **c != Some(u128::from(count))) {
+            None => Ok(()),
+            Some(other) => Err(format!("Rust {count} and {other:?}")),
+        }
+    }
+}
+
+/// One question as several runs: times for each run.
+pub fn validating_runs(
+    words: &mut [u64],
+    head: Head,
+    sizes: &[usize],
+    asked: &Asked,
+) -> Result<Group, String> {
+    let mut rows = Vec::new();
+    for &many in sizes {
+        let what = label(many, head, asked);
+        rows.push(runs_row(words, what, many, asked)?);
+    }
+    Ok(Group { head, rows })
+}
+
+fn runs_row(words: &mut [u64], what: String, many: usize, asked: &Asked) -> Result<Row, String> {
+    let runs = Runs::new(asked, many).map_err(|e| format!("{what}: {e}"))?;
+    runs.same(words).map_err(|e| format!("{what}: {e}"))?;
+    let mut answers = vec![[0; 4]; many];
+    let (mut whole, mut alone) = (vec![None; many], vec![None; many]);
+    let times = medians([
+        work(|| runs.ours(words, black_box(&mut answers))),
+        work(|| runs.whole(black_box(&mut whole))),
+        work(|| runs.alone(black_box(&mut alone))),
+    ]);
+    let [ours, whole, alone] = times.map(|ns| ns / many as f64);
+    Ok(Row {
+        what,
+        size: None,
         ours,
         whole,
         alone: Some(alone),
