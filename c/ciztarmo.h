@@ -139,7 +139,8 @@ void ciztarmo_validate_run(uint64_t *words, size_t words_len, const uint8_t *lay
  * long as its length field says, or as much of it as is there. Each is answered as ciztarmo_validate_run answers it alone, in four
  * words, one behind the other in `answers`. Returns how many runs have their answers there: from the first on, as many as there are
  * and as answers_len / 4 has room for. Words of `answers` behind them stay as they were. Together the runs may be longer than 65,536
- * bytes. The offset of 2 to 6 is counted from the start of the run, or of the layout.
+ * bytes. The offset of 2 to 6 is counted from the start of the run, or of the layout. A refusal stands in an answer alone: with no
+ * run, or no room, the call returns 0 even where there are too few words.
  */
 size_t ciztarmo_validate_runs(uint64_t *words, size_t words_len, const uint8_t *layout, size_t layout_len, const uint8_t *runs,
                               size_t runs_len, uint64_t *answers, size_t answers_len);
