@@ -143,6 +143,30 @@ pub extern "C" fn ciztarmo_validate_run(
     tell_count(a, answer);
 }
 
+// The count of a type's bytes, with no words lent: the call has those that it needs.
+#[no_mangle]
+pub extern "C" fn ciztarmo_length_of(
+    layout: &[u8],
+    name: &[u8],
+    values: &[u8],
+    len: u64,
+    answer: &mut [u64; 4],
+)
+    ensures { λ _. ⌜ now (answer .exit) ≡ told (validate 8192 (now (layout .entry)) (now (name .entry)) (now (values .entry)) len) ⌝ }
+{
+    let a = validator::length_of(layout, name, values, len);
+    tell_count(a, answer);
+}
+
+// The count of the bytes that a run asks for, with no words lent.
+#[no_mangle]
+pub extern "C" fn ciztarmo_length_of_run(layout: &[u8], run: &[u8], answer: &mut [u64; 4])
+    ensures { λ _. ⌜ now (answer .exit) ≡ told (validate-run 8192 (now (layout .entry)) (now (run .entry))) ⌝ }
+{
+    let a = validator::length_of_run(layout, run);
+    tell_count(a, answer);
+}
+
 // The counts of the bytes that runs, one behind the other, ask for, over one layout: how many runs have their answers in
 // `answers`, four words each. Those from the first on have for which there is room.
 #[no_mangle]

@@ -193,13 +193,13 @@ module _ (n : ℕ) (s v : List ℕ) (k : ℕ) {us : List ℕ} (e : us ≡ replic
   pub roomy : 16 ≤ length us
   roomy = let l : length us ≡ n = ap length e ∙ length-replicate n 0 in omega (arith, judged r .words)
 
-  lent : 16 ≤ length (take 16 us)
+  pub lent : 16 ≤ length (take 16 us)
   lent = omega (arith, length-take-le 16 us roomy)
 
-pub given : (n : ℕ) (s v : List ℕ) {us : List ℕ} → us ≡ replicate n 0 → judgement.Read ≡ judgementOf (judge n s v 192) → Given s v 0 (take 16 us)
-given n s v e r =
+pub given : (n : ℕ) (s v : List ℕ) {ws : List ℕ} → 16 ≤ length ws → judgement.Read ≡ judgementOf (judge n s v 192) → Given s v 0 ws
+given n s v h r =
     let j = judged r in
-    record { layout = (j .layout, j .layout-read); values-read = input 2 192 v (j .other-read) .0; room = lent n s v 192 e r; small = j .small-layout }
+    record { layout = (j .layout, j .layout-read); values-read = input 2 192 v (j .other-read) .0; room = h; small = j .small-layout }
 
 -- ---- a type of an accepted layout
 
@@ -251,10 +251,10 @@ module _ (n : ℕ) (s v : List ℕ) where
           f (j .layout) (j .layout-read) (j .other) (j .other-read)
           ∙ sym (run-is ∙ ap (λ (o : Outcome (Tree × Tree)). o >>= (λ z. validate-type (layoutOf (z .0)) (runOf (z .1) .type-name) (runOf (z .1) .buffer-length) (runOf (z .1) .values))) (j .is))
 
-pub given-run : (n : ℕ) (s v : List ℕ) {us : List ℕ} → us ≡ replicate n 0 → judgement.Read ≡ judgementOf (judge n s v 193) → GivenRun s v (take 16 us)
-given-run n s v e r =
+pub given-run : (n : ℕ) (s v : List ℕ) {ws : List ℕ} → 16 ≤ length ws → judgement.Read ≡ judgementOf (judge n s v 193) → GivenRun s v ws
+given-run n s v h r =
     let j = judged r in
-    record { layout = (j .layout, j .layout-read); run-read = (j .other, j .other-read); room = lent n s v 193 e r; small = j .small-layout }
+    record { layout = (j .layout, j .layout-read); run-read = (j .other, j .other-read); room = h; small = j .small-layout }
 
 -- where a run's name, buffer length and values stand
 pub record RunAt (s : List ℕ) (u : ℕ) (t : Tree) : Type 0 where

@@ -151,6 +151,25 @@ pub fn validate(words: &mut [u64], layout: &[u8], name: &[u8], values: &[u8], le
     }
 }
 
+// The same with working words of its own, of which it needs one for each call that may be open: none are lent, so that 19 is
+// never answered and no word has to be cleared.
+pub fn length_of(layout: &[u8], name: &[u8], values: &[u8], len: u64) -> Answer
+    ensures { λ r. ⌜ outcomeOf r ≡ validate 8192 (now (layout .entry)) (now (name .entry)) (now (values .entry)) len ⌝ }
+{
+    match judged(8192, layout, values, 192) {
+        Judgement::Unread(q, o) => Answer::Refused {
+            number: q,
+            place: 65535,
+            offset: o,
+            value: 0,
+        },
+        Judgement::Read => {
+            let mut calls = [0u64; 16];
+            evaluated(layout, name, values, 0, len, &mut calls)
+        }
+    }
+}
+
 // The count of a run: its name, its buffer length and its values stand one behind the other.
 pub fn evaluated_run(layout: &[u8], run: &[u8], words: &mut [u64]) -> Answer
     requires { ⌜ GivenRun (now layout) (now run) (now words) ⌝ }
@@ -182,6 +201,24 @@ pub fn validate_run(words: &mut [u64], layout: &[u8], run: &[u8]) -> Answer
             let a = evaluated_run(layout, run, calls);
             put::clear_words(calls);
             a
+        }
+    }
+}
+
+// The same with working words of its own.
+pub fn length_of_run(layout: &[u8], run: &[u8]) -> Answer
+    ensures { λ r. ⌜ outcomeOf r ≡ validate-run 8192 (now (layout .entry)) (now (run .entry)) ⌝ }
+{
+    match judged(8192, layout, run, 193) {
+        Judgement::Unread(q, o) => Answer::Refused {
+            number: q,
+            place: 65535,
+            offset: o,
+            value: 0,
+        },
+        Judgement::Read => {
+            let mut calls = [0u64; 16];
+            evaluated_run(layout, run, &mut calls)
         }
     }
 }

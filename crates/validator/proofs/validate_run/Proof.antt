@@ -4,7 +4,7 @@ use Prim.Native.Nat.{ℕ}
 use lib.ListN.{length, replicate}
 use lib.Seq.{length-take-le}
 use Rattle.put.proofs.Laws.{part-cleared}
-use Rattle.validator.proofs.Laws.{roomy, run-stops, run-goes, given-run}
+use Rattle.validator.proofs.Laws.{roomy, lent, run-stops, run-goes, given-run}
 use borrow.Author.Needs.{needs}
 use Rattle.validator.proofs.validate_run.Statement.{statement}
 use Rattle.validator.proofs.validate_run.Tie as tie
@@ -28,7 +28,7 @@ slice-aggregate-calls : tie.Need-slice-aggregate-calls
 slice-aggregate-calls c = sym (length-take-le 16 (c .before .before .before .before .before .before .clear-words .last .0) (roomy _ _ _ _ (c .before .before .before .before .before .before .clear-words .ensures) (sym (c .before .enum-told .given .1) ∙ c .before .before .before .judged .ensures)))
 
 evaluated-run-requires : tie.Need-evaluated-run-requires
-evaluated-run-requires c κs = given-run _ _ _ (c .before .before .before .before .before .before .before .clear-words .ensures) (sym (c .before .before .enum-told .given .1) ∙ c .before .before .before .before .judged .ensures)
+evaluated-run-requires c κs = given-run _ _ _ (lent _ _ _ _ (c .before .before .before .before .before .before .before .clear-words .ensures) (sym (c .before .before .enum-told .given .1) ∙ c .before .before .before .before .judged .ensures)) (sym (c .before .before .enum-told .given .1) ∙ c .before .before .before .before .judged .ensures)
 
 clear-words-requires-2 : tie.Need-clear-words-requires-2
 clear-words-requires-2 c κs = search needs

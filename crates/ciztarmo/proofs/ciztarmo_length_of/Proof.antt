@@ -1,0 +1,18 @@
+-- `ciztarmo::ciztarmo_length_of` meets its contract. Assumes nothing.
+use mathlib.Core.Path.{ap, _∙_}
+use Rattle.ciztarmo.specs.Told.{told}
+use borrow.Author.Needs.{needs}
+use Rattle.ciztarmo.proofs.ciztarmo_length_of.Statement.{statement}
+use Rattle.ciztarmo.proofs.ciztarmo_length_of.Tie as tie
+
+length-of-requires : tie.Need-length-of-requires
+length-of-requires c κs = search needs
+
+tell-count-requires : tie.Need-tell-count-requires
+tell-count-requires c κs = search needs
+
+returns : tie.Need-returns
+returns c = c .tell-count .ensures ∙ ap told (c .before .before .length-of .ensures)
+
+pub ciztarmo-length-of-spec : {M : Type 1} → statement M
+ciztarmo-length-of-spec = tie.close (tie.spec length-of-requires tell-count-requires returns)
