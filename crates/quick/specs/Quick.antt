@@ -5,7 +5,7 @@ use mathlib.Core.Bool.{Bool, cond}
 use mathlib.Core.List.{List, [], _∷_}
 use lib.Dec.{ltb}
 use lib.ListN.{length, getD}
-use Rattle.blocks.specs.Bytes.{le4, le8, nameAt}
+use Rattle.blocks.specs.Bytes.{le2, le4, le8, nameAt}
 use Rattle.blocks.specs.Name.{Name}
 use Rattle.blocks.specs.Read.{Step}
 use Rattle.leaf.specs.declared.Read.the-variants.{Ok}
@@ -19,6 +19,10 @@ Reads r x = 0 < r → forget x ≡ Ok r
 -- the offset behind the block at `at`, by its length; 0 says nothing
 abbrev pub Sized : List ℕ → ℕ → ℕ → ℕ → Type 0
 Sized s at end r = 0 < r → (at + 6 ≤ end) × (2 ≤ le4 s at) × (r ≡ at + 4 + le4 s at) × (r ≤ end)
+
+-- a count at an offset, at most that of type trees, and room for it before the end of a block
+abbrev pub Counted : List ℕ → ℕ → ℕ → ℕ → Type 0
+Counted s at n end = (at + 2 ≤ end) × (end ≤ length s) × (n ≡ le2 s at) × (n ≤ 256)
 
 -- a short name as a number, its first byte lowest; the remainder, by 2 ^ 56, takes nothing away from it
 unfoldable pub folded : Name → ℕ

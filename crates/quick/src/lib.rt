@@ -14,7 +14,7 @@ ghost use Rattle.leaf.specs.Answer.{forget};
 ghost use Rattle.leaf.specs.Seen.{nameAt, NameIn, namesBefore, Stand};
 ghost use Rattle.ir.specs.Rows.{partOf};
 ghost use Rattle.reader.specs.Input.{inputOf};
-ghost use Rattle.quick.specs.Quick.{Reads, Sized, placeOf, Marked};
+ghost use Rattle.quick.specs.Quick.{Reads, Sized, Counted, placeOf, Marked};
 
 // A name or a text.
 fn text(s: &[u8], at: usize, end: usize) -> usize
@@ -337,18 +337,33 @@ fn tree(s: &[u8], room: usize, at: usize, end: usize) -> usize
     closed(entries(s, 162, j, stop), stop)
 }
 
-// A count and type trees, their names distinct.
-fn trees(s: &[u8], room: usize, at: usize, end: usize) -> usize
-    requires { ⌜ (at ≤ end) × (end ≤ length (now s)) ⌝ }
+// n type trees behind their count at `at`, their names distinct: each is compared with all before it.
+fn few_trees(s: &[u8], room: usize, at: usize, n: usize, end: usize) -> usize
+    requires { ⌜ Counted (now s) at n end ⌝ }
     ensures { λ r. ⌜ ((start : ℕ) → Reads r (readList (λ f a. readBlock room (now (s .entry)) f 161 161 a end) (Earlier.distinct []) 256 (now (s .entry)) start end at)) × (r ≤ end) ⌝ }
 {
-    if end < at + 2 {
-        return 0;
+    let first = at + 2;
+    let mut i = first;
+    let mut count = 0;
+    while count < n {
+        let next = tree(s, room, i, end);
+        if next == 0 {
+            return 0;
+        }
+        if !leaf::differs(s, first, count, i + 6) {
+            return 0;
+        }
+        i = next;
+        count += 1;
     }
-    let n = get::read2(s, at);
-    if 256 < n {
-        return 0;
-    }
+    i
+}
+
+// The same for many: a name is compared only where it falls together with one before it.
+fn many_trees(s: &[u8], room: usize, at: usize, n: usize, end: usize) -> usize
+    requires { ⌜ Counted (now s) at n end ⌝ }
+    ensures { λ r. ⌜ ((start : ℕ) → Reads r (readList (λ f a. readBlock room (now (s .entry)) f 161 161 a end) (Earlier.distinct []) 256 (now (s .entry)) start end at)) × (r ≤ end) ⌝ }
+{
     let first = at + 2;
     let mut marks = [0u8; 4096];
     let mut i = first;
@@ -365,6 +380,24 @@ fn trees(s: &[u8], room: usize, at: usize, end: usize) -> usize
         count += 1;
     }
     i
+}
+
+// A count and type trees, their names distinct. To compare a few names takes less time than to clear the marks.
+fn trees(s: &[u8], room: usize, at: usize, end: usize) -> usize
+    requires { ⌜ (at ≤ end) × (end ≤ length (now s)) ⌝ }
+    ensures { λ r. ⌜ ((start : ℕ) → Reads r (readList (λ f a. readBlock room (now (s .entry)) f 161 161 a end) (Earlier.distinct []) 256 (now (s .entry)) start end at)) × (r ≤ end) ⌝ }
+{
+    if end < at + 2 {
+        return 0;
+    }
+    let n = get::read2(s, at);
+    if 256 < n {
+        return 0;
+    }
+    if n < 6 {
+        return few_trees(s, room, at, n, end);
+    }
+    many_trees(s, room, at, n, end)
 }
 
 // Whether the input is a layout. If not, nothing is said.
