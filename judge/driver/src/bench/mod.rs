@@ -7,6 +7,7 @@ mod measure;
 mod ours;
 mod table;
 mod validating;
+mod words;
 
 use crate::data::*;
 use crate::rules::read;
@@ -14,7 +15,7 @@ use building::{build_parts, building, by_bytes, by_parameters};
 use measure::{medians, work};
 use std::hint::black_box;
 use table::{Aim, Group, Parts, Row};
-use validating::{validate_parts, validating, validating_runs};
+use validating::{validate_parts, validating, validating_runs, Call};
 
 /// What ours answers where it accepts, with this last word.
 fn accepted(value: u64) -> ours::Answer {
@@ -24,32 +25,42 @@ fn accepted(value: u64) -> ours::Answer {
 pub fn bench(markdown: bool) -> Result<(), String> {
     let words = &mut vec![0; WORDS as usize];
     let sets = by_bytes();
-    let groups = [
+    let mut groups = vec![
         reading(words)?,
         building(words, BUILD, &sets)?,
         building(words, BUILD_PARAMETERS, &by_parameters())?,
-        validating(
-            words,
-            VALIDATE_VALUES,
-            [1, 16, 128, 512],
-            inputs::with_values,
-        )?,
-        validating(words, VALIDATE_CALLS, [1, 4, 8, 15], inputs::nested)?,
-        validating(words, VALIDATE_TYPES, [1, 16, 64, 256], inputs::among)?,
-        validating_runs(words, VALIDATE_RUNS, &[1, 16, 256, 1024], &inputs::trip())?,
-        validating_runs(
-            words,
-            VALIDATE_RUNS_CALLS,
-            &[1, 16, 256],
-            &inputs::nested(15),
-        )?,
     ];
+    for (call, heads) in [
+        (Call::LengthOf, LENGTH_OF),
+        (Call::Validate, VALIDATE),
+    ] {
+        let [values, calls, types] = heads;
+        let (many, nested, among) = (inputs::with_values, inputs::nested, inputs::among);
+        groups.push(validating(words, call, values, [1, 16, 128, 512], many)?);
+        groups.push(validating(words, call, calls, [1, 4, 8, 15], nested)?);
+        groups.push(validating(words, call, types, [1, 16, 64, 256], among)?);
+    }
+    let (trip, nested) = (inputs::trip(), inputs::nested(15));
+    groups.push(validating_runs(
+        words,
+        VALIDATE_RUNS,
+        &[1, 16, 256, 1024],
+        &trip,
+    )?);
+    groups.push(validating_runs(
+        words,
+        VALIDATE_RUNS_CALLS,
+        &[1, 16, 256],
+        &nested,
+    )?);
+    groups.push(words::looking(words, &groups[6].rows[0]));
     let parts = [
         build_parts(words, &sets[0])?,
         build_parts(words, &sets[4])?,
-        validate_parts(words, "validate, 1 value", &inputs::trip())?,
-        validate_parts(words, "validate, 15 calls", &inputs::nested(15))?,
-        validate_parts(words, "validate, 256 types", &inputs::among(256))?,
+        validate_parts(words, Call::Validate, "validate, 1 value", &trip)?,
+        validate_parts(words, Call::Validate, "validate, 15 calls", &nested)?,
+        validate_parts(words, Call::LengthOf, "length_of, 1 value", &trip)?,
+        validate_parts(words, Call::LengthOf, "length_of, 15 calls", &nested)?,
     ];
     let aims = aims(&groups, &parts);
     table::print(&groups, &parts, &aims, markdown);
@@ -62,9 +73,16 @@ type Head = (&'static str, &'static str);
 const READ: Head = ("read a layout", "byte");
 const BUILD: Head = ("build a set", "byte of the set");
 const BUILD_PARAMETERS: Head = ("build, by parameters of a type", "parameter");
-const VALIDATE_VALUES: Head = ("validate, by values", "value");
-const VALIDATE_CALLS: Head = ("validate, by calls", "call");
-const VALIDATE_TYPES: Head = ("validate, by types", "type");
+const LENGTH_OF: [Head; 3] = [
+    ("length_of, by values", "value"),
+    ("length_of, by calls", "call"),
+    ("length_of, by types", "type"),
+];
+const VALIDATE: [Head; 3] = [
+    ("validate, by values", "value"),
+    ("validate, by calls", "call"),
+    ("validate, by types", "type"),
+];
 const VALIDATE_RUNS: Head = (
     "validate runs of the worked example, one call, times per run",
     "run",
@@ -72,7 +90,7 @@ const VALIDATE_RUNS: Head = (
 const VALIDATE_RUNS_CALLS: Head = ("validate runs of 15 calls, one call, times per run", "run");
 
 /// What is aimed at, beside what was measured.
-fn aims(groups: &[Group; 8], parts: &[Parts; 5]) -> Vec<Aim> {
+fn aims(groups: &[Group], parts: &[Parts; 6]) -> Vec<Aim> {
     let whole = |what, wanted, row: &Row, parts: Option<&Parts>| Aim {
         what,
         wanted,
@@ -85,31 +103,56 @@ fn aims(groups: &[Group; 8], parts: &[Parts; 5]) -> Vec<Aim> {
         got: row.alone.unwrap_or(0.0) / row.ours,
         bare: None,
     };
-    let [read, build, _, values, calls, _, runs, runs_calls] = groups;
-    let (trip, nested) = (&values.rows[0], &calls.rows[3]);
-    let (trip_runs, nested_runs) = (&runs.rows[2], &runs_calls.rows[2]);
-    let trip_built = "build Trip, beside decode + build_type + encode";
-    let all_built = "build 48 types, beside decode + build_type + encode";
+    let row = |group: usize, row: usize| &groups[group].rows[row];
+    let (trip, nested) = (row(6, 0), row(7, 3));
+    let (trip_own, nested_own) = (row(3, 0), row(4, 3));
+    let (trip_runs, nested_runs) = (row(9, 2), row(10, 2));
+    let [built_trip, built_all, trip_parts, nested_parts, own_parts, nested_own_parts] =
+        parts.each_ref();
     vec![
         whole(
             "read a layout of 48 KB, beside decode",
             8.0,
-            &read.rows[3],
+            row(0, 3),
             None,
         ),
-        whole(trip_built, 5.0, &build.rows[0], Some(&parts[0])),
-        whole(all_built, 5.0, &build.rows[4], Some(&parts[1])),
+        whole(
+            "build Trip, beside decode + build_type + encode",
+            5.0,
+            row(1, 0),
+            Some(built_trip),
+        ),
+        whole(
+            "build 48 types, beside decode + build_type + encode",
+            5.0,
+            row(1, 4),
+            Some(built_all),
+        ),
+        whole(
+            "length_of Trip, beside decode + validate",
+            5.0,
+            trip_own,
+            Some(own_parts),
+        ),
+        whole(
+            "length_of 15 calls, beside decode + validate",
+            5.0,
+            nested_own,
+            Some(nested_own_parts),
+        ),
+        alone("length_of Trip, beside validate alone", trip_own),
+        alone("length_of 15 calls, beside validate alone", nested_own),
         whole(
             "validate Trip, beside decode + validate",
             5.0,
             trip,
-            Some(&parts[2]),
+            Some(trip_parts),
         ),
         whole(
             "validate 15 calls, beside decode + validate",
             5.0,
             nested,
-            Some(&parts[3]),
+            Some(nested_parts),
         ),
         alone("validate Trip, beside validate alone", trip),
         alone("validate 15 calls, beside validate alone", nested),
@@ -127,7 +170,7 @@ fn aims(groups: &[Group; 8], parts: &[Parts; 5]) -> Vec<Aim> {
             what: "validate Trip, 256 runs a call, beside decode + validate each time",
             wanted: 5.0,
             got: trip.whole / trip_runs.ours,
-            bare: Some(parts[2].bare() / trip_runs.ours),
+            bare: Some(trip_parts.bare() / trip_runs.ours),
         },
     ]
 }

@@ -33,6 +33,16 @@ extern "C" {
         len: u64,
         answer: *mut Answer,
     );
+    fn ciztarmo_length_of(
+        layout: *const u8,
+        layout_len: usize,
+        name: *const u8,
+        name_len: usize,
+        values: *const u8,
+        values_len: usize,
+        len: u64,
+        answer: *mut Answer,
+    );
     fn ciztarmo_validate_runs(
         words: *mut u64,
         words_len: usize,
@@ -84,6 +94,25 @@ pub fn validate(words: &mut [u64], layout: &[u8], name: &[u8], values: &[u8], le
         ciztarmo_validate(
             words.as_mut_ptr(),
             words.len(),
+            layout.as_ptr(),
+            layout.len(),
+            name.as_ptr(),
+            name.len(),
+            values.as_ptr(),
+            values.len(),
+            len,
+            &mut answer,
+        );
+    }
+    answer
+}
+
+/// The same with no words lent.
+pub fn length_of(layout: &[u8], name: &[u8], values: &[u8], len: u64) -> Answer {
+    let mut answer = [0; 4];
+    // SAFETY: as above.
+    unsafe {
+        ciztarmo_length_of(
             layout.as_ptr(),
             layout.len(),
             name.as_ptr(),

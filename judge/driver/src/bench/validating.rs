@@ -10,8 +10,18 @@ use crate::{rust, write};
 use abi_reflect::ir::interpreter::ParamMap;
 use std::hint::black_box;
 
+/// The two calls that validate one record.
+#[derive(Clone, Copy)]
+pub enum Call {
+    /// `ciztarmo_validate`, which is lent working words.
+    Validate,
+    /// `ciztarmo_length_of`, which is lent none.
+    LengthOf,
+}
+
 pub fn validating(
     words: &mut [u64],
+    call: Call,
     head: Head,
     sizes: [usize; 4],
     asked: fn(usize) -> Asked,
@@ -20,7 +30,7 @@ pub fn validating(
     for size in sizes {
         let asked = asked(size);
         let what = label(size, head, &asked);
-        rows.push(validating_row(words, what, size, &asked)?);
+        rows.push(validating_row(words, call, what, size, &asked)?);
     }
     Ok(Group { head, rows })
 }
@@ -63,10 +73,14 @@ impl<'a> Question<'a> {
         Ok(question)
     }
 
-    fn ours(&self, words: &mut [u64]) -> ours::Answer {
+    fn ours(&self, call: Call, words: &mut [u64]) -> ours::Answer {
         let Asked { layout, name, .. } = self.asked;
         let (layout, values) = (black_box(layout), black_box(&self.values));
-        ours::validate(words, layout, name.as_bytes(), values, self.asked.length)
+        let (name, length) = (name.as_bytes(), self.asked.length);
+        match call {
+            Call::Validate => ours::validate(words, layout, name, values, length),
+            Call::LengthOf => ours::length_of(layout, name, values, length),
+        }
     }
 
     /// The Rust, from bytes: decoding layout and values, then `validate`.
@@ -83,8 +97,8 @@ impl<'a> Question<'a> {
         judge.count(self.place, self.asked.length, black_box(&self.params))
     }
 
-    fn same(&self, words: &mut [u64]) -> Result<(), String> {
-        let answer = self.ours(words);
+    fn same(&self, call: Call, words: &mut [u64]) -> Result<(), String> {
+        let answer = self.ours(call, words);
         match answer == accepted(self.count) {
             true => Ok(()),
             false => Err(format!("ours {answer:?}, Rust {}", self.count)),
@@ -99,14 +113,16 @@ fn params(values: &Values) -> ParamMap {
 
 fn validating_row(
     words: &mut [u64],
+    call: Call,
     what: String,
     size: usize,
     asked: &Asked,
 ) -> Result<Row, String> {
     let question = Question::new(asked).map_err(|e| format!("{what}: {e}"))?;
-    question.same(words).map_err(|e| format!("{what}: {e}"))?;
+    let same = question.same(call, words);
+    same.map_err(|e| format!("{what}: {e}"))?;
     let [ours, whole, alone] = medians([
-        work(|| question.ours(words)),
+        work(|| question.ours(call, words)),
         work(|| question.whole()),
         work(|| question.alone()),
     ]);
@@ -224,12 +240,18 @@ fn runs_row(words: &mut [u64], what: String, many: usize, asked: &Asked) -> Resu
     })
 }
 
-pub fn validate_parts(words: &mut [u64], what: &str, asked: &Asked) -> Result<Parts, String> {
+pub fn validate_parts(
+    words: &mut [u64],
+    call: Call,
+    what: &str,
+    asked: &Asked,
+) -> Result<Parts, String> {
     let question = Question::new(asked).map_err(|e| format!("{what}: {e}"))?;
-    question.same(words).map_err(|e| format!("{what}: {e}"))?;
+    let same = question.same(call, words);
+    same.map_err(|e| format!("{what}: {e}"))?;
     let trees = read::layout(&asked.layout).map_err(|no| format!("{no:?}"))?;
-    let [ours, decode, convert, call] = medians([
-        work(|| question.ours(words)),
+    let [ours, decode, convert, alone] = medians([
+        work(|| question.ours(call, words)),
         work(|| {
             let layout = read::layout(black_box(&asked.layout));
             (layout, read::values(black_box(&question.values)))
@@ -245,7 +267,7 @@ pub fn validate_parts(words: &mut [u64], what: &str, asked: &Asked) -> Result<Pa
         ours,
         decode,
         convert,
-        call,
+        call: alone,
         convert_back: 0.0,
         encode: 0.0,
     })
