@@ -2,13 +2,14 @@
 // The answer goes into the caller's four words: number (0 if accepted), place, offset, and value or count; where there are many,
 // one behind the other.
 ghost use mathlib.Core.Path.{_≡_};
-ghost use mathlib.Core.List.{_++_};
-ghost use Prim.Native.Nat.{_*_};
+ghost use mathlib.Core.List.{List, _++_};
+ghost use Prim.Native.Nat.{ℕ, _*_};
 ghost use lib.ListN.{length, drop, replicate};
 ghost use Rattle.errors.specs.Refusal.{Outcome};
 ghost use Rattle.blocks.specs.Tree.{Tree};
 ghost use Rattle.blocks.specs.Read.{readSet, readLayout, readValues, readRun};
 ghost use Rattle.inputs.specs.Inputs.{readCall, answerOf};
+ghost use Rattle.sets.specs.Sets.{answerOf as layoutAnswer};
 ghost use Rattle.leaves.specs.Outcome.{outcomeOf};
 ghost use Rattle.interpreter.specs.Validate.{validate, validate-run};
 ghost use Rattle.builder.specs.Build.{build-set, output-after, words-after};
@@ -26,6 +27,20 @@ fn tell_reading(a: inputs::Answer, answer: &mut [u64; 4])
         }
         inputs::Answer::Refused(number, place, offset, value) => {
             *answer = [number, place, offset as u64, value];
+        }
+    }
+}
+
+// What a build answered, as four words.
+fn tell_length(a: sets::Answer, answer: &mut [u64; 4])
+    ensures { λ _. ⌜ ((o : Outcome (List ℕ)) → a ≡ layoutAnswer o → now (answer .exit) ≡ told (built o)) ⌝ }
+{
+    match a {
+        sets::Answer::Length(n) => {
+            *answer = [0, 65535, 0, n as u64];
+        }
+        sets::Answer::Refused(q, place, offset, value) => {
+            *answer = [q, place, offset as u64, value];
         }
     }
 }
@@ -101,14 +116,18 @@ pub extern "C" fn ciztarmo_build_set(
     ensures { λ _. ⌜ now (out .exit) ≡ output-after (now (out .entry)) (build-set (length (now (words .entry))) (length (now (out .entry))) (now (set .entry))) ⌝ }
     ensures { λ _. ⌜ now (words .exit) ≡ words-after (now (words .entry)) ⌝ }
 {
-    match sets::build_set(set, out, words) {
-        sets::Answer::Length(n) => {
-            *answer = [0, 65535, 0, n as u64];
-        }
-        sets::Answer::Refused(q, place, offset, value) => {
-            *answer = [q, place, offset as u64, value];
-        }
-    }
+    let a = sets::build_set(set, out, words);
+    tell_length(a, answer);
+}
+
+// The same with no words lent: the call has those that it needs.
+#[no_mangle]
+pub extern "C" fn ciztarmo_layout_of(set: &[u8], out: &mut [u8], answer: &mut [u64; 4])
+    ensures { λ _. ⌜ now (answer .exit) ≡ told (built (build-set 8192 (length (now (out .entry))) (now (set .entry)))) ⌝ }
+    ensures { λ _. ⌜ now (out .exit) ≡ output-after (now (out .entry)) (build-set 8192 (length (now (out .entry))) (now (set .entry))) ⌝ }
+{
+    let a = sets::layout_of(set, out);
+    tell_length(a, answer);
 }
 
 // The count of a type's bytes.

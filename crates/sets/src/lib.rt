@@ -132,3 +132,20 @@ pub fn build_set(set: &[u8], out: &mut [u8], words: &mut [u64]) -> Answer
         }
     }
 }
+
+// The same with working words of its own, of which it needs one for each entry of the registry: none are lent, so that 19 is
+// never answered and no word has to be cleared.
+pub fn layout_of(set: &[u8], out: &mut [u8]) -> Answer
+    ensures { λ r. ⌜ r ≡ answerOf (build-set 8192 (length (now (out .entry))) (now (set .entry))) ⌝ }
+    ensures { λ _. ⌜ now (out .exit) ≡ output-after (now (out .entry)) (build-set 8192 (length (now (out .entry))) (now (set .entry))) ⌝ }
+{
+    let mut entries = [0u64; 512];
+    let a = built(set, out, &mut entries);
+    match a {
+        Answer::Length(n) => Answer::Length(n),
+        Answer::Refused(q, place, offset, value) => {
+            put::clear_bytes(out);
+            Answer::Refused(q, place, offset, value)
+        }
+    }
+}

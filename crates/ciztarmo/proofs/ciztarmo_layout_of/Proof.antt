@@ -1,0 +1,19 @@
+-- `ciztarmo::ciztarmo_layout_of` meets its contract. Assumes nothing.
+use borrow.Author.Needs.{needs}
+use Rattle.ciztarmo.proofs.ciztarmo_layout_of.Statement.{statement}
+use Rattle.ciztarmo.proofs.ciztarmo_layout_of.Tie as tie
+
+layout-of-requires : tie.Need-layout-of-requires
+layout-of-requires c κs = search needs
+
+tell-length-requires : tie.Need-tell-length-requires
+tell-length-requires c κs = search needs
+
+same-length : tie.Need-same-length
+same-length c = search needs
+
+returns : tie.Need-returns
+returns c = let call = c .before .before .before .before .layout-of in (c .tell-length .ensures _ (call .ensures .0), call .ensures .1)
+
+pub ciztarmo-layout-of-spec : {M : Type 1} → statement M
+ciztarmo-layout-of-spec = tie.close (tie.spec layout-of-requires tell-length-requires same-length returns)
