@@ -10,11 +10,12 @@
  *   and the buffers of one call (inputs, words, out, answer, answers) must not overlap. With length 0 nothing is read or written
  *   there, and the address may be NULL; `answer` is never NULL.
  * - Nothing is asked of what the buffers hold. Any bytes may be handed in as an input; words and out may hold anything before.
- * - Only words, answer or answers and, in ciztarmo_build_set, out are written. No call allocates, keeps an address, reads or writes
+ * - Only words, answer or answers and, where a set is built, out are written. No call allocates, keeps an address, reads or writes
  *   a file, or has a state between calls: calls on different buffers may run in several threads.
  * - All words_len words are zero after the call, whatever it answers, also if they are too few.
- * - The first question that gets a "no" decides. 19 is asked first (are there 8,192 words?), then 1 of every input (is it at most
- *   65,536 bytes long?), then reading: 2 to 6. In ciztarmo_validate_runs each run is an input, and is asked by itself.
+ * - The first question that gets a "no" decides. 19 is asked first (are there 8,192 words? A call that is lent none has its own),
+ *   then 1 of every input (is it at most 65,536 bytes long?), then reading: 2 to 6. In ciztarmo_validate_runs each run is an input,
+ *   and is asked by itself.
  * - The answer is four words, see enum ciztarmo_answer; ciztarmo_validate_runs gives four for each run.
  * - Reading, building and evaluating recurse over nested blocks, of which at most 32 are open in a set and 256 in a layout;
  *   evaluating also over calls of types, of which at most 16 are open. So the stack is bounded, but not small. Measured (stack.c) on
@@ -118,6 +119,12 @@ void ciztarmo_build_set(uint64_t *words, size_t words_len, const uint8_t *set, s
                         uint64_t answer[4]);
 
 /*
+ * The same with no words lent: the call has those that it needs on its stack. It answers what ciztarmo_build_set answers with
+ * CIZTARMO_WORDS words, never 19, and takes less time on a small set, because no words have to be looked at.
+ */
+void ciztarmo_layout_of(const uint8_t *set, size_t set_len, uint8_t *out, size_t out_len, uint64_t answer[4]);
+
+/*
  * Validating: how many bytes a record of the type `name` takes, by its layout, for the parameter values of a block 192 and a buffer
  * of len bytes. Answers 0, no place, 0 and the count, which is at most len. Refuses with 19, 1, then 2 to 6 for the layout, then
  * 2 to 6 for the values, then 20 to 24, 26 and 27 from the evaluation, then 25. The offset of 2 to 6 does not say which of the two
@@ -133,6 +140,15 @@ void ciztarmo_validate(uint64_t *words, size_t words_len, const uint8_t *layout,
 /* The same with name, buffer length and values in one run block (193), which is read, and refused, in the place of the values. */
 void ciztarmo_validate_run(uint64_t *words, size_t words_len, const uint8_t *layout, size_t layout_len, const uint8_t *run,
                            size_t run_len, uint64_t answer[4]);
+
+/*
+ * The same two with no words lent: they have those that they need on their stack, and answer what ciztarmo_validate and
+ * ciztarmo_validate_run answer with CIZTARMO_WORDS words, never 19. For one record of a small layout they are the fastest calls: to
+ * look at lent words, all of which must be zero afterwards, takes several times as long as the rest.
+ */
+void ciztarmo_length_of(const uint8_t *layout, size_t layout_len, const uint8_t *name, size_t name_len, const uint8_t *values,
+                        size_t values_len, uint64_t len, uint64_t answer[4]);
+void ciztarmo_length_of_run(const uint8_t *layout, size_t layout_len, const uint8_t *run, size_t run_len, uint64_t answer[4]);
 
 /*
  * Validating many runs (blocks 193) over one layout, which is read once. The runs stand one behind the other in `runs`: each is as

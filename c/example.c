@@ -9,8 +9,7 @@
 
 #include <stdio.h>
 
-/* Too large for some stacks. Their contents need no care before or between calls. */
-static uint64_t words[CIZTARMO_WORDS];
+/* Too large for some stacks. */
 static uint8_t layout[CIZTARMO_MAX_INPUT];
 
 /* The fare office's type set, as in examples/trip: a block 36 with one struct. */
@@ -53,12 +52,12 @@ int main(void)
     const uint64_t bytes_left = 40; /* in the buffer that the record is read from */
     uint64_t answer[CIZTARMO_ANSWER_WORDS];
 
-    ciztarmo_build_set(words, CIZTARMO_WORDS, set, sizeof set, layout, sizeof layout, answer);
+    ciztarmo_layout_of(set, sizeof set, layout, sizeof layout, answer);
     if (refused("the set", answer))
         return 1;
     const size_t layout_len = (size_t)answer[CIZTARMO_VALUE];
 
-    ciztarmo_validate(words, CIZTARMO_WORDS, layout, layout_len, name, sizeof name, values, sizeof values, bytes_left, answer);
+    ciztarmo_length_of(layout, layout_len, name, sizeof name, values, sizeof values, bytes_left, answer);
     if (refused("the record", answer))
         return 1;
     printf("%llu\n", (unsigned long long)answer[CIZTARMO_VALUE]);

@@ -35,7 +35,7 @@ static void check(int good, const char *what, int line)
 
 /* Words, answers and output lie on the heap, where the sanitizer sees an access outside them. */
 static uint64_t *words, *answers;
-static uint8_t *out;
+static uint8_t *out, *own_out;
 /* A block of one byte more than an input may have. */
 static uint8_t *too_long;
 static uint64_t answer[CIZTARMO_ANSWER_WORDS];
@@ -136,12 +136,52 @@ static int read_trip(const char *path)
     return 1;
 }
 
+/*
+ * The calls that build and validate. With enough words the call that is lent none must leave the same: called first, it leaves its
+ * answer in `own`.
+ */
+static uint64_t own[CIZTARMO_ANSWER_WORDS];
+
+static void before_own(size_t many)
+{
+    dirty(many);
+    memcpy(own, answer, sizeof own);
+}
+
+static void check_own(size_t many, int line)
+{
+    if (many >= CIZTARMO_WORDS)
+        check_four(line, own, answer);
+}
+
 /* Builds into an output of `room` bytes; the bytes behind it must stay. */
 static void build(size_t many, const uint8_t *bytes, size_t len, size_t room)
 {
+    before_own(many);
+    ciztarmo_layout_of(bytes, len, out, room, own);
+    memcpy(own_out, out, CIZTARMO_MAX_INPUT);
     dirty(many);
     ciztarmo_build_set(words, many, bytes, len, out, room, answer);
     CHECK(all(out, room, CIZTARMO_MAX_INPUT, DIRTY_BYTE));
+    check_own(many, __LINE__);
+    CHECK(many < CIZTARMO_WORDS || memcmp(own_out, out, CIZTARMO_MAX_INPUT) == 0);
+}
+
+static void validate(size_t many, const uint8_t *l, size_t l_len, const uint8_t *n, size_t n_len, const uint8_t *v, size_t v_len,
+                     uint64_t len)
+{
+    before_own(many);
+    ciztarmo_length_of(l, l_len, n, n_len, v, v_len, len, own);
+    ciztarmo_validate(words, many, l, l_len, n, n_len, v, v_len, len, answer);
+    check_own(many, __LINE__);
+}
+
+static void validate_run(size_t many, const uint8_t *l, size_t l_len, const uint8_t *run, size_t run_len)
+{
+    before_own(many);
+    ciztarmo_length_of_run(l, l_len, run, run_len, own);
+    ciztarmo_validate_run(words, many, l, l_len, run, run_len, answer);
+    check_own(many, __LINE__);
 }
 
 static void test_build(void)
@@ -186,13 +226,11 @@ static void test_runs(void)
     const uint64_t lens[RUNS] = {13, 8, 12, 13};
     for (int i = 0; i < RUNS; i++) {
         const uint64_t *want = run_answers[i];
-        dirty(CIZTARMO_WORDS);
-        ciztarmo_validate_run(words, CIZTARMO_WORDS, layout, LAYOUT_LEN, runs[i], run_lens[i], answer);
+        validate_run(CIZTARMO_WORDS, layout, LAYOUT_LEN, runs[i], run_lens[i]);
         ANSWER(CIZTARMO_WORDS, want[0], want[1], want[2], want[3]);
         /* A run is: length, kind, name with its length, buffer length, values. */
         const uint8_t *values = runs[i] + 4 + 2 + 2 + sizeof name + 8;
-        dirty(CIZTARMO_WORDS);
-        ciztarmo_validate(words, CIZTARMO_WORDS, layout, LAYOUT_LEN, name, sizeof name, values, block_len(values), lens[i], answer);
+        validate(CIZTARMO_WORDS, layout, LAYOUT_LEN, name, sizeof name, values, block_len(values), lens[i]);
         ANSWER(CIZTARMO_WORDS, want[0], want[1], want[2], want[3]);
     }
 }
@@ -241,7 +279,7 @@ static size_t as_alone(int line, const struct question *q)
     size_t run = 0;
     for (size_t at = 0, len; at < q->runs_len; at += len, run++) {
         len = piece_len(q->runs + at, q->runs_len - at);
-        ciztarmo_validate_run(words, q->many, q->layout, q->layout_len, q->runs + at, len, answer);
+        validate_run(q->many, q->layout, q->layout_len, q->runs + at, len);
         if (run < given)
             check_four(line, answer_of(run), answer);
     }
@@ -439,7 +477,7 @@ static void test_refused_readings(void)
     changed(ciztarmo_read_values, twice, sizeof twice, 21, 'a', CIZTARMO_NAMES_OUT_OF_ORDER, 0, __LINE__);
 }
 
-/* All eight calls on the same inputs, where the one refusal stands before any reading. */
+/* All calls on the same inputs, where the one refusal stands before any reading. */
 static void every_call(size_t many, const uint8_t *a, size_t a_len, const uint8_t *b, size_t b_len, uint64_t number, int line)
 {
     for (size_t i = 0; i < READINGS; i++) {
@@ -452,11 +490,9 @@ static void every_call(size_t many, const uint8_t *a, size_t a_len, const uint8_
     for (int swapped = 0; swapped < 2; swapped++) {
         const uint8_t *first = swapped ? b : a, *second = swapped ? a : b;
         const size_t first_len = swapped ? b_len : a_len, second_len = swapped ? a_len : b_len;
-        dirty(many);
-        ciztarmo_validate(words, many, first, first_len, name, sizeof name, second, second_len, 13, answer);
+        validate(many, first, first_len, name, sizeof name, second, second_len, 13);
         check_answer(line, many, number, CIZTARMO_NO_PLACE, 0, 0);
-        dirty(many);
-        ciztarmo_validate_run(words, many, first, first_len, second, second_len, answer);
+        validate_run(many, first, first_len, second, second_len);
         check_answer(line, many, number, CIZTARMO_NO_PLACE, 0, 0);
         const struct question q = {many, first, first_len, second, second_len};
         const uint64_t want[] = {number, CIZTARMO_NO_PLACE, 0, 0};
@@ -488,9 +524,7 @@ static void test_asked_names(void)
         size_t len;
     } unknown[] = {{name, 3}, {name, 0}, {NULL, 0}, {too_long, CIZTARMO_MAX_INPUT + 1}, {(const uint8_t *)"trip", 4}};
     for (size_t i = 0; i < sizeof unknown / sizeof unknown[0]; i++) {
-        dirty(CIZTARMO_WORDS);
-        ciztarmo_validate(words, CIZTARMO_WORDS, layout, LAYOUT_LEN, unknown[i].name, unknown[i].len, values, block_len(values), 13,
-                          answer);
+        validate(CIZTARMO_WORDS, layout, LAYOUT_LEN, unknown[i].name, unknown[i].len, values, block_len(values), 13);
         REFUSED(CIZTARMO_WORDS, CIZTARMO_UNKNOWN_TYPE, 0);
     }
 }
@@ -504,6 +538,8 @@ static void test_no_buffers(void)
     dirty(0);
     ciztarmo_build_set(NULL, 0, set, set_len, NULL, 0, answer);
     REFUSED(0, CIZTARMO_TOO_FEW_WORDS, 0);
+    ciztarmo_layout_of(set, set_len, NULL, 0, answer);
+    REFUSED(0, CIZTARMO_LAYOUT_DOES_NOT_FIT, 0);
     dirty(CIZTARMO_WORDS);
     CHECK(ciztarmo_validate_runs(words, CIZTARMO_WORDS, layout, LAYOUT_LEN, runs[0], runs_len, NULL, 0) == 0);
     check_words(__LINE__, CIZTARMO_WORDS);
@@ -536,9 +572,10 @@ int main(int argc, char **argv)
 {
     words = malloc((2 * CIZTARMO_WORDS + SPARE_WORDS) * sizeof *words);
     out = malloc(CIZTARMO_MAX_INPUT);
+    own_out = malloc(CIZTARMO_MAX_INPUT);
     too_long = calloc(CIZTARMO_MAX_INPUT + 1, 1);
     answers = malloc((ROOM + SPARE_WORDS) * sizeof *answers);
-    if (argc != 2 || words == NULL || out == NULL || too_long == NULL || answers == NULL) {
+    if (argc != 2 || words == NULL || out == NULL || own_out == NULL || too_long == NULL || answers == NULL) {
         fprintf(stderr, "usage: test examples/trip\n");
         return 2;
     }
@@ -563,6 +600,7 @@ int main(int argc, char **argv)
     test_texts();
     free(words);
     free(out);
+    free(own_out);
     free(too_long);
     free(answers);
     if (failures != 0) {

@@ -21,6 +21,13 @@ extern "C" {
         out_len: usize,
         answer: *mut Answer,
     );
+    fn ciztarmo_layout_of(
+        set: *const u8,
+        set_len: usize,
+        out: *mut u8,
+        out_len: usize,
+        answer: *mut Answer,
+    );
     fn ciztarmo_validate(
         words: *mut u64,
         words_len: usize,
@@ -36,6 +43,23 @@ extern "C" {
     fn ciztarmo_validate_run(
         words: *mut u64,
         words_len: usize,
+        layout: *const u8,
+        layout_len: usize,
+        run: *const u8,
+        run_len: usize,
+        answer: *mut Answer,
+    );
+    fn ciztarmo_length_of(
+        layout: *const u8,
+        layout_len: usize,
+        name: *const u8,
+        name_len: usize,
+        values: *const u8,
+        values_len: usize,
+        len: u64,
+        answer: *mut Answer,
+    );
+    fn ciztarmo_length_of_run(
         layout: *const u8,
         layout_len: usize,
         run: *const u8,
@@ -99,6 +123,14 @@ pub fn build_set(words: &mut [u64], set: &[u8], out: &mut [u8]) -> Answer {
     a
 }
 
+pub fn layout_of(set: &[u8], out: &mut [u8]) -> Answer {
+    let mut a = UNANSWERED;
+    let (o, on) = (out.as_mut_ptr(), out.len());
+    // SAFETY: as in `build_set`.
+    unsafe { ciztarmo_layout_of(set.as_ptr(), set.len(), o, on, &mut a) };
+    a
+}
+
 pub fn validate(words: &mut [u64], layout: &[u8], name: &[u8], values: &[u8], len: u64) -> Answer {
     let mut a = UNANSWERED;
     let (w, wn) = (words.as_mut_ptr(), words.len());
@@ -116,6 +148,24 @@ pub fn validate_run(words: &mut [u64], layout: &[u8], run: &[u8]) -> Answer {
     let (l, ln) = (layout.as_ptr(), layout.len());
     // SAFETY: as in `validate`.
     unsafe { ciztarmo_validate_run(w, wn, l, ln, run.as_ptr(), run.len(), &mut a) };
+    a
+}
+
+pub fn length_of(layout: &[u8], name: &[u8], values: &[u8], len: u64) -> Answer {
+    let mut a = UNANSWERED;
+    let (l, ln) = (layout.as_ptr(), layout.len());
+    let (n, nn) = (name.as_ptr(), name.len());
+    let (v, vn) = (values.as_ptr(), values.len());
+    // SAFETY: as in `validate`.
+    unsafe { ciztarmo_length_of(l, ln, n, nn, v, vn, len, &mut a) };
+    a
+}
+
+pub fn length_of_run(layout: &[u8], run: &[u8]) -> Answer {
+    let mut a = UNANSWERED;
+    let (l, ln) = (layout.as_ptr(), layout.len());
+    // SAFETY: as in `validate`.
+    unsafe { ciztarmo_length_of_run(l, ln, run.as_ptr(), run.len(), &mut a) };
     a
 }
 

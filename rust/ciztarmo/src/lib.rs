@@ -52,9 +52,12 @@
 //! # Bytes
 //!
 //! Who has the bytes of a set, a layout, values or a run already calls the functions
-//! [`build_set`], [`validate`] and so on. Each makes the working words that it needs; where there
-//! are many calls, a [`Work`] keeps them. [`Layout::read`] takes the bytes of a stored layout.
+//! [`build_set`], [`validate`] and so on. [`Layout::read`] takes the bytes of a stored layout.
 //! [`validate_runs`] takes many runs that stand one behind the other.
+//!
+//! [`build_set`], [`validate`] and [`validate_run`] have the working words that they need. The
+//! other functions make them for each call; where there are many calls, a [`Work`] keeps them. A
+//! [`Work`] has every call, with words that are counted and zero afterwards, as the rules have it.
 //!
 //! # Linking
 //!

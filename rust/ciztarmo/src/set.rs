@@ -6,7 +6,7 @@ use crate::names::type_names;
 use crate::refusal::Refusal;
 use crate::types::Type;
 use crate::values::{Run, Values};
-use crate::work::Work;
+use crate::work::{build_set, validate, validate_run, Work};
 
 const SET: u16 = 36;
 
@@ -38,14 +38,16 @@ impl Set {
 
     /// Builds the layout of every type.
     pub fn build(&self) -> Result<Layout, Error> {
-        self.build_with(&mut Work::new())
+        self.built(build_set(&self.to_bytes()?))
     }
 
     /// [`build`](Set::build) with the caller's working words.
     pub fn build_with(&self, work: &mut Work) -> Result<Layout, Error> {
-        let bytes = work
-            .build_set(&self.to_bytes()?)
-            .map_err(|refusal| self.refused(refusal))?;
+        self.built(work.build_set(&self.to_bytes()?))
+    }
+
+    fn built(&self, answer: Result<Vec<u8>, Refusal>) -> Result<Layout, Error> {
+        let bytes = answer.map_err(|refusal| self.refused(refusal))?;
         Ok(Layout { bytes })
     }
 
@@ -97,10 +99,11 @@ impl Layout {
         values: &Values,
         buffer_length: u64,
     ) -> Result<u64, Refusal> {
-        self.length_of_with(&mut Work::new(), name, values, buffer_length)
+        validate(&self.bytes, name, &values.to_bytes(), buffer_length)
     }
 
-    /// [`length_of`](Layout::length_of) with the caller's working words, for many records.
+    /// [`length_of`](Layout::length_of) with the caller's working words. With fewer than
+    /// [`WORDS`](crate::WORDS) it is refused with 19.
     pub fn length_of_with(
         &self,
         work: &mut Work,
@@ -113,10 +116,10 @@ impl Layout {
 
     /// Counts the bytes of the record that a run asks for.
     pub fn length_of_run(&self, run: &Run) -> Result<u64, Refusal> {
-        self.length_of_run_with(&mut Work::new(), run)
+        validate_run(&self.bytes, run.as_bytes())
     }
 
-    /// [`length_of_run`](Layout::length_of_run) with the caller's working words, for many runs.
+    /// [`length_of_run`](Layout::length_of_run) with the caller's working words.
     pub fn length_of_run_with(&self, work: &mut Work, run: &Run) -> Result<u64, Refusal> {
         work.validate_run(&self.bytes, run.as_bytes())
     }

@@ -133,29 +133,34 @@ pub fn read_run(run: &[u8]) -> Result<(), Refusal> {
     Work::new().read_run(run)
 }
 
-/// [`Work::build_set`] with working words for this call alone.
+/// [`Work::build_set`] by a call that has its own working words.
 pub fn build_set(set: &[u8]) -> Result<Vec<u8>, Refusal> {
-    Work::new().build_set(set)
+    let mut out = vec![0; LIMIT];
+    let length = build_set_into(set, &mut out)?;
+    out.truncate(length);
+    out.shrink_to_fit();
+    Ok(out)
 }
 
-/// [`Work::build_set_into`] with working words for this call alone.
+/// [`Work::build_set_into`] by a call that has its own working words.
 pub fn build_set_into(set: &[u8], out: &mut [u8]) -> Result<usize, Refusal> {
-    Work::new().build_set_into(set, out)
+    let length = accepted(ffi::layout_of(set, out))?;
+    Ok(usize::try_from(length).expect("a built layout lies in the output"))
 }
 
-/// [`Work::validate`] with working words for this call alone.
+/// [`Work::validate`] by a call that has its own working words: for one record the fastest.
 pub fn validate(
     layout: &[u8],
     name: impl AsRef<[u8]>,
     values: &[u8],
     length: u64,
 ) -> Result<u64, Refusal> {
-    Work::new().validate(layout, name, values, length)
+    accepted(ffi::length_of(layout, name.as_ref(), values, length))
 }
 
-/// [`Work::validate_run`] with working words for this call alone.
+/// [`Work::validate_run`] by a call that has its own working words: for one run the fastest.
 pub fn validate_run(layout: &[u8], run: &[u8]) -> Result<u64, Refusal> {
-    Work::new().validate_run(layout, run)
+    accepted(ffi::length_of_run(layout, run))
 }
 
 /// [`Work::validate_runs`] with working words for this call alone.

@@ -2,7 +2,7 @@
 
 mod stored;
 
-use ciztarmo::{Refusal, Work};
+use ciztarmo::{Refusal, Work, WORDS};
 use std::cmp::Ordering;
 use std::collections::BTreeMap;
 use stored::{counted, records, Answer, Call, Record};
@@ -41,6 +41,11 @@ fn answered(call: &Call) -> Option<Answer> {
 fn built(words: usize, room: usize, set: &[u8], layout: &[u8]) -> Answer {
     let mut out = vec![BEFORE; room];
     let result = Work::with_words(words).build_set_into(set, &mut out);
+    left(result, &out, layout)
+}
+
+/// The answer of a build whose output is as it should be.
+fn left(result: Result<usize, Refusal>, out: &[u8], layout: &[u8]) -> Answer {
     match result {
         Ok(length) => {
             assert_eq!(length, layout.len(), "the layout's length");
@@ -78,6 +83,45 @@ fn every_record_has_its_answer() {
     let (total, mut counts) = counted();
     counts.retain(|(call, _), _| call != "lengths");
     assert_eq!((all, met), (total, counts), "the counts of counts.txt");
+}
+
+/// The same by the calls that have working words of their own, where the record has enough.
+#[test]
+fn no_words_are_lent() {
+    let mut met: BTreeMap<&str, usize> = BTreeMap::new();
+    for record in records() {
+        let answer = match &record.call {
+            Call::Build { words, .. } | Call::Validate { words, .. } | Call::Run { words, .. }
+                if *words < WORDS =>
+            {
+                continue
+            }
+            Call::Build {
+                room, set, layout, ..
+            } => {
+                let mut out = vec![BEFORE; *room];
+                left(ciztarmo::build_set_into(set, &mut out), &out, layout)
+            }
+            Call::Validate {
+                length,
+                layout,
+                name,
+                values,
+                ..
+            } => Answer::of(ciztarmo::validate(layout, name, values, *length)),
+            Call::Run { layout, run, .. } => Answer::of(ciztarmo::validate_run(layout, run)),
+            Call::Lengths => continue,
+        };
+        assert_eq!(answer, record.answer, "answers.bin, byte {}", record.at);
+        *met.entry(name_of(&record.call)).or_default() += 1;
+    }
+    // All records but those that are refused with 19.
+    let expected = [
+        ("build", 2226 - 110),
+        ("run", 1829 - 110),
+        ("validate", 1870 - 110),
+    ];
+    assert_eq!(met, BTreeMap::from(expected));
 }
 
 /// The list is neither cut nor empty: so many records of each call stand in it.
