@@ -142,10 +142,10 @@ pub fn layout_of(set: &[u8], out: &mut [u8]) -> Answer
     let mut entries = [0u64; 512];
     let a = built(set, out, &mut entries);
     match a {
-        Answer::Length(n) => Answer::Length(n),
-        Answer::Refused(q, place, offset, value) => {
+        Answer::Length(count) => Answer::Length(count),
+        Answer::Refused(number, place, offset, value) => {
             put::clear_bytes(out);
-            Answer::Refused(q, place, offset, value)
+            Answer::Refused(number, place, offset, value)
         }
     }
 }
