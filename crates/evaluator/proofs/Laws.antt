@@ -9,7 +9,7 @@ use native.Mathlib.Omega.{arith}
 use lib.Dec.{eqb}
 use lib.ListN.{length, getD, set, drop, length-set}
 use lib.Seq.{getD-set-same, getD-set-other}
-use borrow.Author.Tests.{eq-eqb, ne-eqb, le-leb, not-true, not-false}
+use borrow.Author.Tests.{eq-eqb, ne-eqb, le-leb}
 use Rattle.errors.specs.Refusal.{Outcome, done, refused, _>>=_, Refusal, plain, UnknownType, MissingIrParameter, InvalidTagValue}
 use Rattle.blocks.specs.Bytes.{le2, le4, le8}
 use Rattle.blocks.specs.Name.{Name}
@@ -40,8 +40,9 @@ use Rattle.leaves.specs.declared.Choice.{Choice}
 use Rattle.leaves.specs.declared.Choice.the-variants.{Node, Nothing}
 use Rattle.leaves.specs.declared.Arguments.{Arguments}
 use Rattle.leaves.specs.declared.Arguments.the-variants.{All, Lacking}
-use Rattle.leaves.specs.Outcome.{outcomeIn}
+use Rattle.leaves.specs.Outcome.{Tells}
 use Rattle.leaves.specs.Steps.{Rooted, pick, casesOf, defaultOf, Picked, Bound}
+use Rattle.leaves.proofs.Told.{told-as, then-stops, then-goes}
 use Rattle.leaves.proofs.Nodes.{held-is, absent-is}
 use Rattle.evaluator.specs.Evaluates.{Ready, Evaluates}
 
@@ -84,17 +85,12 @@ module _ {s : List ℕ} {at p q : ℕ} (st : Standing s at 2 p) (su : Standing s
       ∙ ap (λ (m : ℕ). eval-node call pl γ (nodeOf (tree (align-child su a k .0))) >>= (λ v. lift pl at (align-up v m))) (align-number st a k .1)
       ∙ ap (λ (o : Outcome ℕ). o >>= (λ v. lift pl at (align-up v (le8 s p)))) (sym (within-is left types pl γ (nodeOf (tree (align-child su a k .0)))))
 
-  module _ (r : Bool) (out : List ℕ) (e : (c : Accepted s 128 144 q) → outcomeIn r out ≡ eval-within left types pl γ (nodeOf (tree c))) where
-    then-align : {b : Bool} → r ≡ b → eval-within left types pl γ (nodeOf (tree a)) ≡ (outcomeIn b out >>= (λ v. lift pl at (align-up v (le8 s p))))
-    then-align f = align-is ∙ ap (λ (o : Outcome ℕ). o >>= (λ v. lift pl at (align-up v (le8 s p)))) (sym (e (align-child su a k .0)) ∙ ap (λ (b : Bool). outcomeIn b out) f)
+  module _ {r : Bool} {ws us : List ℕ} (e : (c : Accepted s 128 144 q) → Tells r ws us (eval-within left types pl γ (nodeOf (tree c)))) where
+    pub align-stops : not r ≡ true → Tells false ws us (eval-within left types pl γ (nodeOf (tree a)))
+    align-stops f = told-as (then-stops _ _ (e (align-child su a k .0)) f) (sym align-is)
 
-    pub align-stops : not r ≡ true → outcomeIn false out ≡ eval-within left types pl γ (nodeOf (tree a))
-    unfolding _>>=_
-    align-stops f = sym (then-align (not-true r f))
-
-    pub align-goes : {m : ℕ} {z : Num} {o : Outcome ℕ} → not r ≡ false → m ≡ le8 s p → z ≡ numOf (align-up (getD out 0 0) m) → ((x : Result) → z ≡ numOf x → o ≡ lift pl at x) → o ≡ eval-within left types pl γ (nodeOf (tree a))
-    unfolding _>>=_
-    align-goes {m} f em ez eo = eo (align-up (getD out 0 0) m) ez ∙ ap (λ (m : ℕ). lift pl at (align-up (getD out 0 0) m)) em ∙ sym (then-align (not-false r f))
+    pub align-goes : {m : ℕ} {z : Num} {b : Bool} {vs : List ℕ} → not r ≡ false → m ≡ le8 s p → z ≡ numOf (align-up (getD us 0 0) m) → ((x : Result) → z ≡ numOf x → Tells b us vs (lift pl at x)) → Tells b ws vs (eval-within left types pl γ (nodeOf (tree a)))
+    align-goes f em ez eo = told-as (then-goes _ _ (e (align-child su a k .0)) f (eo (align-up (getD us 0 0) (le8 s p)) (ez ∙ ap (λ (m : ℕ). numOf (align-up (getD us 0 0) m)) em))) (sym align-is)
 
 -- ---- two operands
 
@@ -141,26 +137,18 @@ module _ {s : List ℕ} {at : ℕ} (a : Accepted s 128 144 at) (lo : 134 ≤ le2
         ∙ ap (λ (o : Outcome ℕ). o >>= (λ x. eval-node call pl γ (nodeOf (tree (right-child su .0))) >>= (λ y. lift pl at (operate op x y)))) (sym (within-is left types pl γ (nodeOf (tree (left-child st .0)))))
         ∙ ap (λ (o : Outcome ℕ). run (left-child st .0) >>= (λ x. o >>= (λ y. lift pl at (operate op x y)))) (sym (within-is left types pl γ (nodeOf (tree (right-child su .0)))))
 
-    module _ (r : Bool) (out : List ℕ) (e : (c : Accepted s 128 144 p) → outcomeIn r out ≡ run c) where
-      left-is : {b : Bool} → r ≡ b → run a ≡ (outcomeIn b out >>= (λ x. run (right-child su .0) >>= (λ y. lift pl at (operate (opOf (le2 s (at + 4))) x y))))
-      left-is f = binary-is ∙ ap (λ (o : Outcome ℕ). o >>= (λ x. run (right-child su .0) >>= (λ y. lift pl at (operate (opOf (le2 s (at + 4))) x y)))) (sym (e (left-child st .0)) ∙ ap (λ (b : Bool). outcomeIn b out) f)
+    module _ {r : Bool} {ws us : List ℕ} (e : (c : Accepted s 128 144 p) → Tells r ws us (run c)) where
+      pub left-stops : not r ≡ true → Tells false ws us (run a)
+      left-stops f = told-as (then-stops _ _ (e (left-child st .0)) f) (sym binary-is)
 
-      pub left-stops : not r ≡ true → outcomeIn false out ≡ run a
-      unfolding _>>=_
-      left-stops f = sym (left-is (not-true r f))
+      module _ {b : Bool} {vs : List ℕ} (g : (c : Accepted s 128 144 q) → Tells b us vs (run c)) (f : not r ≡ false) where
+        pub right-stops : not b ≡ true → Tells false ws vs (run a)
+        right-stops h = told-as (then-goes _ _ (e (left-child st .0)) f (then-stops _ _ (g (right-child su .0)) h)) (sym binary-is)
 
-      module _ (r₂ : Bool) (out₂ : List ℕ) (e₂ : (c : Accepted s 128 144 q) → outcomeIn r₂ out₂ ≡ run c) (f : not r ≡ false) where
-        both-are : {b : Bool} → r₂ ≡ b → run a ≡ (outcomeIn b out₂ >>= (λ y. lift pl at (operate (opOf (le2 s (at + 4))) (getD out 0 0) y)))
-        unfolding _>>=_
-        both-are g = left-is (not-false r f) ∙ ap (λ (o : Outcome ℕ). o >>= (λ y. lift pl at (operate (opOf (le2 s (at + 4))) (getD out 0 0) y))) (sym (e₂ (right-child su .0)) ∙ ap (λ (b : Bool). outcomeIn b out₂) g)
-
-        pub right-stops : not r₂ ≡ true → outcomeIn false out₂ ≡ run a
-        unfolding _>>=_
-        right-stops g = sym (both-are (not-true r₂ g))
-
-        pub both-go : {k : ℕ} {z : Num} {o : Outcome ℕ} → not r₂ ≡ false → k ≡ le2 s (at + 4) → z ≡ numOf (operate (opOf k) (getD out 0 0) (getD out₂ 0 0)) → ((x : Result) → z ≡ numOf x → o ≡ lift pl at x) → o ≡ run a
-        unfolding _>>=_
-        both-go {k} g ek ez eo = eo (operate (opOf k) (getD out 0 0) (getD out₂ 0 0)) ez ∙ ap (λ (k : ℕ). lift pl at (operate (opOf k) (getD out 0 0) (getD out₂ 0 0))) ek ∙ sym (both-are (not-false r₂ g))
+        pub both-go : {k : ℕ} {z : Num} {d : Bool} {xs : List ℕ} → not b ≡ false → k ≡ le2 s (at + 4) → z ≡ numOf (operate (opOf k) (getD us 0 0) (getD vs 0 0)) → ((x : Result) → z ≡ numOf x → Tells d vs xs (lift pl at x)) → Tells d ws xs (run a)
+        both-go h ek ez eo =
+            let x = eo (operate (opOf (le2 s (at + 4))) (getD us 0 0) (getD vs 0 0)) (ez ∙ ap (λ (k : ℕ). numOf (operate (opOf k) (getD us 0 0) (getD vs 0 0))) ek) in
+            told-as (then-goes _ _ (e (left-child st .0)) f (then-goes _ _ (g (right-child su .0)) h x)) (sym binary-is)
 
 -- ---- Switch
 
@@ -214,9 +202,9 @@ module _ {s : List ℕ} {at : ℕ} (k : le2 s (at + 4) ≡ 132) (left : ℕ) (ty
       unfolding picking
       switch-ends g p = sym (switch-picks ∙ ap (picking (callsAt left types) pl γ at v) (picked-none g p))
 
-      pub switch-goes : {c : Choice} {q : ℕ} {o : Outcome ℕ} → c ≡ Node q → Picked a v c → ((x : Accepted s 128 144 q) → o ≡ eval-within left types pl γ (nodeOf (tree x))) → o ≡ eval-within left types pl γ (nodeOf (tree a))
+      pub switch-goes : {c : Choice} {q : ℕ} {b : Bool} {ws us : List ℕ} → c ≡ Node q → Picked a v c → ((x : Accepted s 128 144 q) → Tells b ws us (eval-within left types pl γ (nodeOf (tree x)))) → Tells b ws us (eval-within left types pl γ (nodeOf (tree a)))
       unfolding picking
-      switch-goes g p e = let x = picked-node g p in e (x .0) ∙ within-is left types pl γ (nodeOf (tree (x .0))) ∙ sym (switch-picks ∙ ap (picking (callsAt left types) pl γ at v) (x .2))
+      switch-goes g p e = let x = picked-node g p in told-as (e (x .0)) (within-is left types pl γ (nodeOf (tree (x .0))) ∙ sym (switch-picks ∙ ap (picking (callsAt left types) pl γ at v) (x .2)))
 
 -- ---- CallNested
 
@@ -269,8 +257,8 @@ module _ {s : List ℕ} {at : ℕ} (k : le2 s (at + 4) ≡ 133) (left : ℕ) (ty
       pub call-stops : left ≡ 0 → refused (refusal pl at 27 0) ≡ eval-within left types pl γ (nodeOf (tree a))
       call-stops z = sym (call-enters ∙ ap (λ (l : ℕ). entering l types pl γ at i (δ ++ inherited γ (t .parameters)) (t .root)) z)
 
-      call-goes : {o : Outcome ℕ} → (left ≡ 0 → ⊥) → o ≡ eval-within (left - 1) types i (δ ++ inherited γ (t .parameters)) (t .root) → o ≡ eval-within left types pl γ (nodeOf (tree a))
-      call-goes n e = e ∙ sym (call-enters ∙ opens left n types pl γ at i (δ ++ inherited γ (t .parameters)) (t .root))
+      call-goes : (left ≡ 0 → ⊥) → eval-within (left - 1) types i (δ ++ inherited γ (t .parameters)) (t .root) ≡ eval-within left types pl γ (nodeOf (tree a))
+      call-goes n = sym (call-enters ∙ opens left n types pl γ at i (δ ++ inherited γ (t .parameters)) (t .root))
 
 -- ---- words
 
@@ -335,15 +323,14 @@ module _ {s values : List ℕ} {block len : ℕ} {ws : List ℕ} {left depth at 
       room : Ready s values block len ws left depth at → depth + 1 + (left - 1) ≤ length ws
       room x = omega (arith, x .room)
 
-  pub call-answers : (pl : ℕ) (o : Bool) (out : List ℕ) → Evaluates s values block len (set ws depth w) (left - 1) (depth + 1) i q o out → Evaluates s values block len ws left depth pl at o out
-  call-answers pl o out ev γ x t rd a =
+  pub call-answers : {o : Bool} {us vs : List ℕ} (pl : ℕ) → Evaluates s values block len (set ws depth w) (left - 1) (depth + 1) i q o us vs → Evaluates s values block len ws left depth pl at o us vs
+  call-answers pl ev γ x t rd a =
       let c = found-at ef (d t rd a) in
       let y = bound-all er (b pl γ x a) in
       let z = e (c .0) in
-      call-goes k left (layoutOf t) pl γ a (y .1) (c .1) n
-      (ev (y .0 ++ inherited γ (parametersOf (tree (c .0)))) (opened-call pl h l ew x a k (c .0) (y .1)) t rd (z .root)
-      ∙ ap (eval-within (left - 1) (layoutOf t) i (y .0 ++ inherited γ (parametersOf (tree (c .0))))) (sym (z .is)))
+      told-as (ev (y .0 ++ inherited γ (parametersOf (tree (c .0)))) (opened-call pl h l ew x a k (c .0) (y .1)) t rd (z .root))
+      (ap (eval-within (left - 1) (layoutOf t) i (y .0 ++ inherited γ (parametersOf (tree (c .0))))) (sym (z .is)) ∙ call-goes k left (layoutOf t) pl γ a (y .1) (c .1) n)
 
 -- a node that holds none
-pub leaf-answers : {o : Outcome ℕ} {s : List ℕ} {at : ℕ} (left : ℕ) (types : List TypeIr) (pl : ℕ) (γ : ParamMap) (a : Accepted s 128 144 at) → ((call : Calls) → o ≡ eval-node call pl γ (nodeOf (tree a))) → o ≡ eval-within left types pl γ (nodeOf (tree a))
-leaf-answers left types pl γ a e = e (callsAt left types) ∙ sym (within-is left types pl γ (nodeOf (tree a)))
+pub leaf-answers : {b : Bool} {ws us : List ℕ} {s : List ℕ} {at : ℕ} (left : ℕ) (types : List TypeIr) (pl : ℕ) (γ : ParamMap) (a : Accepted s 128 144 at) → ((call : Calls) → Tells b ws us (eval-node call pl γ (nodeOf (tree a)))) → Tells b ws us (eval-within left types pl γ (nodeOf (tree a)))
+leaf-answers left types pl γ a e = told-as (e (callsAt left types)) (sym (within-is left types pl γ (nodeOf (tree a))))

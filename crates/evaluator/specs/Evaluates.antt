@@ -11,7 +11,7 @@ use Rattle.ir.specs.Layout.{nodeOf, layoutOf}
 use Rattle.walk.specs.Accepted.{Accepted, tree}
 use Rattle.interpreter.specs.Eval.{ParamMap, eval-within}
 use Rattle.context.specs.Context.{Context}
-use Rattle.leaves.specs.Outcome.{outcomeIn}
+use Rattle.leaves.specs.Outcome.{Tells}
 
 -- the bytes of a layout that was read and those of the values, the words with `depth` open calls, `left` calls that may still
 -- open, a node at an offset of the layout
@@ -22,6 +22,7 @@ pub record Ready (s values : List ℕ) (block len : ℕ) (words : List ℕ) (lef
   pub room : depth + left ≤ length words
   pub small : length s ≤ 65536
 
-abbrev pub Evaluates : List ℕ → List ℕ → ℕ → ℕ → List ℕ → ℕ → ℕ → ℕ → ℕ → Bool → List ℕ → Type 0
-Evaluates s values block len words left depth place at r out =
-    (γ : ParamMap) → Context s values block len words depth γ → (t : Tree) → readLayout s ≡ done t → (a : Accepted s 128 144 at) → outcomeIn r out ≡ eval-within left (layoutOf t) place γ (nodeOf (tree a))
+-- whether the node at an offset comes to a count, and the four words after it
+abbrev pub Evaluates : List ℕ → List ℕ → ℕ → ℕ → List ℕ → ℕ → ℕ → ℕ → ℕ → Bool → List ℕ → List ℕ → Type 0
+Evaluates s values block len words left depth place at r before after =
+    (γ : ParamMap) → Context s values block len words depth γ → (t : Tree) → readLayout s ≡ done t → (a : Accepted s 128 144 at) → Tells r before after (eval-within left (layoutOf t) place γ (nodeOf (tree a)))

@@ -26,7 +26,7 @@ pub fn eval_node(
 ) -> bool
     requires { ⌜ Ready (now s) (now values) block len (now words) left depth at ⌝ }
     ensures { λ r. ⌜ Same depth (now (words .entry)) (now (words .exit)) ⌝ }
-    ensures { λ r. ⌜ Evaluates (now (s .entry)) (now (values .entry)) block len (now (words .entry)) left depth place at r (now (out .exit)) ⌝ }
+    ensures { λ r. ⌜ Evaluates (now (s .entry)) (now (values .entry)) block len (now (words .entry)) left depth place at r (now (out .entry)) (now (out .exit)) ⌝ }
 {
     let kind = get::read2(s, at + 4);
     match kind {
@@ -56,7 +56,7 @@ fn eval_align(
 ) -> bool
     requires { ⌜ Ready (now s) (now values) block len (now words) left depth at × (le2 (now s) (at + 4) ≡ 131) ⌝ }
     ensures { λ r. ⌜ Same depth (now (words .entry)) (now (words .exit)) ⌝ }
-    ensures { λ r. ⌜ Evaluates (now (s .entry)) (now (values .entry)) block len (now (words .entry)) left depth place at r (now (out .exit)) ⌝ }
+    ensures { λ r. ⌜ Evaluates (now (s .entry)) (now (values .entry)) block len (now (words .entry)) left depth place at r (now (out .entry)) (now (out .exit)) ⌝ }
 {
     let p = nodes::part_at(s, at, 2);
     let q = nodes::part_at(s, at, 3);
@@ -87,7 +87,7 @@ fn eval_binary(
 ) -> bool
     requires { ⌜ Ready (now s) (now values) block len (now words) left depth at × ((134 ≤ le2 (now s) (at + 4)) × (le2 (now s) (at + 4) ≤ 143)) ⌝ }
     ensures { λ r. ⌜ Same depth (now (words .entry)) (now (words .exit)) ⌝ }
-    ensures { λ r. ⌜ Evaluates (now (s .entry)) (now (values .entry)) block len (now (words .entry)) left depth place at r (now (out .exit)) ⌝ }
+    ensures { λ r. ⌜ Evaluates (now (s .entry)) (now (values .entry)) block len (now (words .entry)) left depth place at r (now (out .entry)) (now (out .exit)) ⌝ }
 {
     let kind = get::read2(s, at + 4);
     let p = nodes::part_at(s, at, 2);
@@ -118,7 +118,7 @@ fn eval_switch(
 ) -> bool
     requires { ⌜ Ready (now s) (now values) block len (now words) left depth at × (le2 (now s) (at + 4) ≡ 132) ⌝ }
     ensures { λ r. ⌜ Same depth (now (words .entry)) (now (words .exit)) ⌝ }
-    ensures { λ r. ⌜ Evaluates (now (s .entry)) (now (values .entry)) block len (now (words .entry)) left depth place at r (now (out .exit)) ⌝ }
+    ensures { λ r. ⌜ Evaluates (now (s .entry)) (now (values .entry)) block len (now (words .entry)) left depth place at r (now (out .entry)) (now (out .exit)) ⌝ }
 {
     match leaves::tag(s, values, block, len, words, depth, at) {
         Held::Absent => leaves::refused(21, place, at, 0, out),
@@ -144,7 +144,7 @@ fn eval_call(
 ) -> bool
     requires { ⌜ Ready (now s) (now values) block len (now words) left depth at × (le2 (now s) (at + 4) ≡ 133) ⌝ }
     ensures { λ r. ⌜ Same depth (now (words .entry)) (now (words .exit)) ⌝ }
-    ensures { λ r. ⌜ Evaluates (now (s .entry)) (now (values .entry)) block len (now (words .entry)) left depth place at r (now (out .exit)) ⌝ }
+    ensures { λ r. ⌜ Evaluates (now (s .entry)) (now (values .entry)) block len (now (words .entry)) left depth place at r (now (out .entry)) (now (out .exit)) ⌝ }
 {
     match leaves::collect_arguments(s, values, block, len, words, depth, at) {
         Arguments::Lacking(q) => leaves::refused(21, place, q, 0, out),

@@ -1,3 +1,4 @@
 pub mod Nodes
 pub mod Cases
 pub mod Binding
+pub mod Told

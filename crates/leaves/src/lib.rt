@@ -20,7 +20,7 @@ ghost use Rattle.arithmetic.specs.Num.{numOf};
 ghost use Rattle.lookup.specs.Found.{TreeFound};
 ghost use Rattle.context.specs.Names.{heldOf};
 ghost use Rattle.context.specs.Context.{Context, argumentsOf};
-ghost use Rattle.leaves.specs.Outcome.{outcomeIn};
+ghost use Rattle.leaves.specs.Outcome.{Tells};
 ghost use Rattle.leaves.specs.Steps.{Rooted, Picked, Bound, FieldName};
 
 // A count, or a refusal.
@@ -48,7 +48,7 @@ pub enum Arguments {
 
 // A count, left in the caller's words. They are written as a whole, so that the proof needs no length; one store is compiled.
 pub fn counted(n: u64, out: &mut [u64; 4]) -> bool
-    ensures { λ r. ⌜ outcomeIn r (now (out .exit)) ≡ done n ⌝ }
+    ensures { λ r. ⌜ Tells r (now (out .entry)) (now (out .exit)) (done n) ⌝ }
 {
     *out = [n, out[1], out[2], out[3]];
     true
@@ -56,7 +56,7 @@ pub fn counted(n: u64, out: &mut [u64; 4]) -> bool
 
 // A refusal, left in the caller's words.
 pub fn refused(number: u64, place: usize, offset: usize, value: u64, out: &mut [u64; 4]) -> bool
-    ensures { λ r. ⌜ outcomeIn r (now (out .exit)) ≡ stop (at place offset number value) ⌝ }
+    ensures { λ r. ⌜ Tells r (now (out .entry)) (now (out .exit)) (stop (at place offset number value)) ⌝ }
 {
     *out = [number, place as u64, offset as u64, value];
     false
@@ -64,7 +64,7 @@ pub fn refused(number: u64, place: usize, offset: usize, value: u64, out: &mut [
 
 // A result of arithmetic, at a node.
 pub fn lifted(place: usize, at: usize, n: Num, out: &mut [u64; 4]) -> bool
-    ensures { λ r. ⌜ ((x : Result) → n ≡ numOf x → outcomeIn r (now (out .exit)) ≡ lift place at x) ⌝ }
+    ensures { λ r. ⌜ ((x : Result) → n ≡ numOf x → Tells r (now (out .entry)) (now (out .exit)) (lift place at x)) ⌝ }
 {
     match n {
         Num::Value(v) => counted(v, out),
@@ -75,7 +75,7 @@ pub fn lifted(place: usize, at: usize, n: Num, out: &mut [u64; 4]) -> bool
 // A Const node.
 pub fn constant(s: &[u8], at: usize, out: &mut [u64; 4]) -> bool
     requires { ⌜ Accepted (now s) 128 144 at × (le2 (now s) (at + 4) ≡ 129) ⌝ }
-    ensures { λ r. ⌜ ((call : Calls) (p : ℕ) (γ : ParamMap) (a : Accepted (now (s .entry)) 128 144 at) → outcomeIn r (now (out .exit)) ≡ eval-node call p γ (nodeOf (tree a))) ⌝ }
+    ensures { λ r. ⌜ ((call : Calls) (p : ℕ) (γ : ParamMap) (a : Accepted (now (s .entry)) 128 144 at) → Tells r (now (out .entry)) (now (out .exit)) (eval-node call p γ (nodeOf (tree a)))) ⌝ }
 {
     let p = nodes::part_at(s, at, 2);
     counted(get::read8(s, p) as u64, out)
@@ -108,7 +108,7 @@ pub fn field(
     out: &mut [u64; 4],
 ) -> bool
     requires { ⌜ Accepted (now s) 128 144 at × (le2 (now s) (at + 4) ≡ 130) × ((γ : ParamMap) × Context (now s) (now values) block len (now words) depth γ) ⌝ }
-    ensures { λ r. ⌜ ((call : Calls) (γ : ParamMap) → Context (now (s .entry)) (now (values .entry)) block len (now (words .entry)) depth γ → (a : Accepted (now (s .entry)) 128 144 at) → outcomeIn r (now (out .exit)) ≡ eval-node call place γ (nodeOf (tree a))) ⌝ }
+    ensures { λ r. ⌜ ((call : Calls) (γ : ParamMap) → Context (now (s .entry)) (now (values .entry)) block len (now (words .entry)) depth γ → (a : Accepted (now (s .entry)) 128 144 at) → Tells r (now (out .entry)) (now (out .exit)) (eval-node call place γ (nodeOf (tree a)))) ⌝ }
 {
     match context::find(s, field_name(s, at), values, block, len, words, depth) {
         Held::Value(v) => counted(v, out),

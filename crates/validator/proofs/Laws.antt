@@ -33,13 +33,13 @@ use Rattle.context.specs.Context.{Context}
 use Rattle.context.proofs.Names.{slice-is}
 use Rattle.leaves.specs.declared.Answer.{Answer}
 use Rattle.leaves.specs.declared.Answer.the-variants as answer
-use Rattle.leaves.specs.Outcome.{outcomeOf, outcomeIn}
+use Rattle.leaves.specs.Outcome.{outcomeOf, Tells}
 use Rattle.leaves.specs.Steps.{Rooted}
 use Rattle.evaluator.specs.Evaluates.{Ready, Evaluates}
 use Rattle.evaluator.proofs.Laws.{found-at}
 use Rattle.validator.specs.declared.Judgement.{Judgement}
 use Rattle.validator.specs.declared.Judgement.the-variants as judgement
-use Rattle.validator.specs.Validator.{judge, judgementOf, fitted, Given, GivenRun}
+use Rattle.validator.specs.Validator.{judge, judgementOf, outcomeIn, fitted, Given, GivenRun}
 
 -- ---- the questions before evaluating
 
@@ -203,6 +203,11 @@ given n s v h r =
 
 -- ---- a type of an accepted layout
 
+-- the words tell no other outcome
+tells-one : {ok : Bool} {ws us : List ℕ} (o : Outcome ℕ) → Tells ok ws us o → outcomeIn ok us ≡ o
+tells-one (done n) t = rw (t .which, t .left)
+tells-one (refused r) t = rw (t .which, t .left)
+
 found-none : {s : List ℕ} {n : Name} {ts : List TypeIr} {r : Place} → r ≡ PlaceNone → TreeFound s n ts r → lookup-type 0 n ts ≡ refused (plain UnknownType)
 found-none e (TreeFound.at a h) = let z : _≡_ {A = ℕ} 0 1 = cc in absurd (omega arith)
 found-none e (TreeFound.missing h) = h
@@ -220,15 +225,15 @@ module _ {s : List ℕ} {name : Name} {r : Place} (f : (t : Tree) → readLayout
       pub root-ready : {v ws : List ℕ} {block left : ℕ} (len : ℕ) → Given s v block ws → left ≤ 16 → Ready s v block len ws left 0 q
       root-ready len g few = record { node = rooted (type-tree g) .root; layout = g .layout; context = (_, Context.root (g .values-read)); room = omega (arith, g .room, few); small = g .small }
 
-      pub type-goes : {v ws : List ℕ} {block len : ℕ} (ok : Bool) (out : List ℕ) (w z : Answer) → Evaluates s v block len ws 16 0 i q ok out → outcomeOf w ≡ outcomeIn ok out → outcomeOf z ≡ fitted i len (outcomeOf w) →
+      pub type-goes : {v ws : List ℕ} {block len : ℕ} {ok : Bool} {before out : List ℕ} (w z : Answer) → Evaluates s v block len ws 16 0 i q ok before out → outcomeOf w ≡ outcomeIn ok out → outcomeOf z ≡ fitted i len (outcomeOf w) →
           (t : Tree) → readLayout s ≡ done t → (a : Accepted v 192 192 block) → outcomeOf z ≡ validate-type (layoutOf t) name len (valuesOf (tree a))
       unfolding validate-type fitted
-      type-goes {len} ok out w z ev is fit t rd a =
+      type-goes {len} w z ev is fit t rd a =
           let c = found-at e (f t rd) in
           let k = rooted (c .0) in
           let γ : ParamMap = with-buffer-size len (valuesOf (tree a)) in
           fit
-          ∙ ap (fitted i len) (is ∙ ev γ (Context.root a) t rd (k .root) ∙ ap (eval-within 16 (layoutOf t) i γ) (sym (k .is)))
+          ∙ ap (fitted i len) (is ∙ tells-one _ (ev γ (Context.root a) t rd (k .root)) ∙ ap (eval-within 16 (layoutOf t) i γ) (sym (k .is)))
           ∙ sym (bound-done _ (c .1))
 
 -- ---- a run

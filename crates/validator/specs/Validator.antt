@@ -1,12 +1,14 @@
 -- The questions before evaluating and what the code answers of them; what evaluating a type asks for; 25, at the end.
 use Prim.Native.Nat.{ℕ, _≤_}
 use mathlib.Core.Path.{_≡_}
+use mathlib.Core.Bool.{Bool, true, false}
 use mathlib.Core.List.{List}
-use lib.ListN.{length}
+use lib.ListN.{length, getD}
 use Rattle.errors.specs.Refusal.{Outcome, done, refused, _>>=_, enough}
 use Rattle.blocks.specs.Tree.{Tree}
 use Rattle.blocks.specs.Read.{small, readInput, readLayout, readRun}
 use Rattle.walk.specs.Accepted.{Accepted}
+use Rattle.interpreter.specs.Eval.{at}
 use Rattle.interpreter.specs.Validate.{fits-buffer}
 use Rattle.validator.specs.declared.Judgement.{Judgement}
 use Rattle.validator.specs.declared.Judgement.the-variants.{Read, Unread}
@@ -24,6 +26,11 @@ judge words layout input kind = do
 unfoldable pub judgementOf : Outcome (Tree × Tree) → Judgement
 judgementOf (done x) = Read
 judgementOf (refused r) = Unread (r .number) (r .offset)
+
+-- what evaluating left: whether it is a count, then the first word, or a refusal's number, place, offset and value
+abbrev pub outcomeIn : Bool → List ℕ → Outcome ℕ
+outcomeIn true out = done (getD out 0 0)
+outcomeIn false out = refused (at (getD out 1 0) (getD out 2 0) (getD out 0 0) (getD out 3 0))
 
 -- an outcome, and 25 of its count
 unfoldable pub fitted : ℕ → ℕ → Outcome ℕ → Outcome ℕ

@@ -11,8 +11,8 @@ ghost use Rattle.blocks.specs.Read.{readLayout, readRun};
 ghost use Rattle.ir.specs.Layout.{layoutOf};
 ghost use Rattle.walk.specs.Accepted.{Accepted, tree};
 ghost use Rattle.interpreter.specs.Validate.{valuesOf, validate-type, validate, validate-run, runOf};
-ghost use Rattle.leaves.specs.Outcome.{outcomeOf, outcomeIn};
-ghost use Rattle.validator.specs.Validator.{judge, judgementOf, fitted, Given, GivenRun};
+ghost use Rattle.leaves.specs.Outcome.{outcomeOf};
+ghost use Rattle.validator.specs.Validator.{judge, judgementOf, outcomeIn, fitted, Given, GivenRun};
 
 // Whether the inputs are read; if not, the number and the offset of the refusal.
 pub enum Judgement {

@@ -7,6 +7,7 @@ use Rattle.ir.specs.Layout.{layoutOf}
 use Rattle.context.proofs.Lists.{ends}
 use Rattle.context.proofs.Calls.{context-same}
 use Rattle.nodes.proofs.Laws.{kinds}
+use Rattle.leaves.proofs.Told.{told-as}
 use Rattle.leaves.proofs.Nodes.{enough, zero-is, sum-is}
 use Rattle.evaluator.proofs.Laws.{align-number, align-child, align-stops, align-goes, left-child, right-child, left-stops, right-stops, both-go, picked-node, switch-misses, switch-ends, switch-goes, found-at, bound-all, call-lacks, call-unknown, call-stops, call-ready, call-answers, still-ready, child-ready, leaf-answers}
 use borrow.Author.Needs.{needs}
@@ -133,7 +134,7 @@ eval-align-same-length : (t : ℕ) → eval-align-lts.Need-same-length (eval-ali
 eval-align-same-length t c = search needs
 
 eval-align-returns : (t : ℕ) → eval-align-lts.Need-returns (eval-align-with t) (eval-align-at t) eval-align.Post
-eval-align-returns t c = (c .before .before .before .eval-node .ensures .0, λ γ x t rd a. align-stops (c .before .before .before .before .before .before .before .part-at .ensures) (c .before .before .before .before .before .before .part-at2 .ensures) (c .before .before .before .before .before .before .before .before .before .before .before .pre .1 .1) _ (layoutOf t) _ γ a (c .before .before .before .eval-node .result) _ (c .before .before .before .eval-node .ensures .1 γ x t rd) (c .if1 .taken))
+eval-align-returns t c = (c .before .before .before .eval-node .ensures .0, λ γ x t rd a. align-stops (c .before .before .before .before .before .before .before .part-at .ensures) (c .before .before .before .before .before .before .part-at2 .ensures) (c .before .before .before .before .before .before .before .before .before .before .before .pre .1 .1) _ (layoutOf t) _ γ a (c .before .before .before .eval-node .ensures .1 γ x t rd) (c .if1 .taken))
 
 eval-align-element-copy-out-x : (t : ℕ) → eval-align-lts.Need-element-copy-out-x (eval-align-with t) (eval-align-at t) eval-align.Post
 eval-align-element-copy-out-x t c = search needs
@@ -151,7 +152,7 @@ eval-align-same-length-2 : (t : ℕ) → eval-align-lts.Need-same-length-2 (eval
 eval-align-same-length-2 t c = search needs
 
 eval-align-returns-2 : (t : ℕ) → eval-align-lts.Need-returns-2 (eval-align-with t) (eval-align-at t) eval-align.Post
-eval-align-returns-2 t c = (c .before .before .before .before .before .before .before .before .eval-node .ensures .0, λ γ x t rd a. align-goes (c .before .before .before .before .before .before .before .before .before .before .before .before .part-at .ensures) (c .before .before .before .before .before .before .before .before .before .before .before .part-at2 .ensures) (c .before .before .before .before .before .before .before .before .before .before .before .before .before .before .before .before .pre .1 .1) _ (layoutOf t) _ γ a (c .before .before .before .before .before .before .before .before .eval-node .result) _ (c .before .before .before .before .before .before .before .before .eval-node .ensures .1 γ x t rd) (c .before .before .before .before .before .if1 .left) (c .before .before .before .read8 .ensures) (c .before .before .align-up .ensures) (c .lifted .ensures))
+eval-align-returns-2 t c = (c .before .before .before .before .before .before .before .before .eval-node .ensures .0, λ γ x t rd a. align-goes (c .before .before .before .before .before .before .before .before .before .before .before .before .part-at .ensures) (c .before .before .before .before .before .before .before .before .before .before .before .part-at2 .ensures) (c .before .before .before .before .before .before .before .before .before .before .before .before .before .before .before .before .pre .1 .1) _ (layoutOf t) _ γ a (c .before .before .before .before .before .before .before .before .eval-node .ensures .1 γ x t rd) (c .before .before .before .before .before .if1 .left) (c .before .before .before .read8 .ensures) (c .before .before .align-up .ensures) (c .lifted .ensures))
 
 eval-binary-add-read2 : (t : ℕ) → eval-binary-lts.Need-add-read2 (eval-binary-with t) (eval-binary-at t) eval-binary.Post
 eval-binary-add-read2 t c = omega (arith, kinds (c .before .before .before .pre .1 .0 .node) .2, kinds (c .before .before .before .pre .1 .0 .node) .3)
@@ -172,7 +173,7 @@ eval-binary-same-length : (t : ℕ) → eval-binary-lts.Need-same-length (eval-b
 eval-binary-same-length t c = search needs
 
 eval-binary-returns : (t : ℕ) → eval-binary-lts.Need-returns (eval-binary-with t) (eval-binary-at t) eval-binary.Post
-eval-binary-returns t c = (c .before .before .before .eval-node .ensures .0, λ γ x t rd a. left-stops a (c .before .before .before .before .before .before .before .before .before .before .before .before .pre .1 .1 .0) (c .before .before .before .before .before .before .before .before .before .before .before .before .pre .1 .1 .1) (c .before .before .before .before .before .before .before .part-at .ensures) (c .before .before .before .before .before .before .part-at2 .ensures) _ (layoutOf t) _ γ (c .before .before .before .eval-node .result) _ (c .before .before .before .eval-node .ensures .1 γ x t rd) (c .if1 .taken))
+eval-binary-returns t c = (c .before .before .before .eval-node .ensures .0, λ γ x t rd a. left-stops a (c .before .before .before .before .before .before .before .before .before .before .before .before .pre .1 .1 .0) (c .before .before .before .before .before .before .before .before .before .before .before .before .pre .1 .1 .1) (c .before .before .before .before .before .before .before .part-at .ensures) (c .before .before .before .before .before .before .part-at2 .ensures) _ (layoutOf t) _ γ (c .before .before .before .eval-node .ensures .1 γ x t rd) (c .if1 .taken))
 
 eval-binary-element-copy-out-x : (t : ℕ) → eval-binary-lts.Need-element-copy-out-x (eval-binary-with t) (eval-binary-at t) eval-binary.Post
 eval-binary-element-copy-out-x t c = search needs
@@ -184,7 +185,7 @@ eval-binary-same-length-2 : (t : ℕ) → eval-binary-lts.Need-same-length-2 (ev
 eval-binary-same-length-2 t c = search needs
 
 eval-binary-returns-2 : (t : ℕ) → eval-binary-lts.Need-returns-2 (eval-binary-with t) (eval-binary-at t) eval-binary.Post
-eval-binary-returns-2 t c = ((λ i h. c .before .before .before .eval-node2 .ensures .0 i h ∙ c .before .before .before .before .before .before .before .before .before .before .eval-node .ensures .0 i h), λ γ x t rd a. right-stops a (c .before .before .before .before .before .before .before .before .before .before .before .before .before .before .before .before .before .before .before .pre .1 .1 .0) (c .before .before .before .before .before .before .before .before .before .before .before .before .before .before .before .before .before .before .before .pre .1 .1 .1) (c .before .before .before .before .before .before .before .before .before .before .before .before .before .before .part-at .ensures) (c .before .before .before .before .before .before .before .before .before .before .before .before .before .part-at2 .ensures) _ (layoutOf t) _ γ (c .before .before .before .before .before .before .before .before .before .before .eval-node .result) _ (c .before .before .before .before .before .before .before .before .before .before .eval-node .ensures .1 γ x t rd) (c .before .before .before .eval-node2 .result) _ (c .before .before .before .eval-node2 .ensures .1 γ (context-same _ (omega arith) (omega arith) (c .before .before .before .before .before .before .before .before .before .before .eval-node .ensures .0) x) t rd) (c .before .before .before .before .before .before .before .if1 .left) (c .if2 .taken))
+eval-binary-returns-2 t c = ((λ i h. c .before .before .before .eval-node2 .ensures .0 i h ∙ c .before .before .before .before .before .before .before .before .before .before .eval-node .ensures .0 i h), λ γ x t rd a. right-stops a (c .before .before .before .before .before .before .before .before .before .before .before .before .before .before .before .before .before .before .before .pre .1 .1 .0) (c .before .before .before .before .before .before .before .before .before .before .before .before .before .before .before .before .before .before .before .pre .1 .1 .1) (c .before .before .before .before .before .before .before .before .before .before .before .before .before .before .part-at .ensures) (c .before .before .before .before .before .before .before .before .before .before .before .before .before .part-at2 .ensures) _ (layoutOf t) _ γ (c .before .before .before .before .before .before .before .before .before .before .eval-node .ensures .1 γ x t rd) (c .before .before .before .eval-node2 .ensures .1 γ (context-same _ (omega arith) (omega arith) (c .before .before .before .before .before .before .before .before .before .before .eval-node .ensures .0) x) t rd) (c .before .before .before .before .before .before .before .if1 .left) (c .if2 .taken))
 
 eval-binary-element-copy-out-y : (t : ℕ) → eval-binary-lts.Need-element-copy-out-y (eval-binary-with t) (eval-binary-at t) eval-binary.Post
 eval-binary-element-copy-out-y t c = search needs
@@ -199,7 +200,7 @@ eval-binary-same-length-3 : (t : ℕ) → eval-binary-lts.Need-same-length-3 (ev
 eval-binary-same-length-3 t c = search needs
 
 eval-binary-returns-3 : (t : ℕ) → eval-binary-lts.Need-returns-3 (eval-binary-with t) (eval-binary-at t) eval-binary.Post
-eval-binary-returns-3 t c = ((λ i h. c .before .before .before .before .before .before .before .eval-node2 .ensures .0 i h ∙ c .before .before .before .before .before .before .before .before .before .before .before .before .before .before .eval-node .ensures .0 i h), λ γ x t rd a. both-go a (c .before .before .before .before .before .before .before .before .before .before .before .before .before .before .before .before .before .before .before .before .before .before .before .pre .1 .1 .0) (c .before .before .before .before .before .before .before .before .before .before .before .before .before .before .before .before .before .before .before .before .before .before .before .pre .1 .1 .1) (c .before .before .before .before .before .before .before .before .before .before .before .before .before .before .before .before .before .before .part-at .ensures) (c .before .before .before .before .before .before .before .before .before .before .before .before .before .before .before .before .before .part-at2 .ensures) _ (layoutOf t) _ γ (c .before .before .before .before .before .before .before .before .before .before .before .before .before .before .eval-node .result) _ (c .before .before .before .before .before .before .before .before .before .before .before .before .before .before .eval-node .ensures .1 γ x t rd) (c .before .before .before .before .before .before .before .eval-node2 .result) _ (c .before .before .before .before .before .before .before .eval-node2 .ensures .1 γ (context-same _ (omega arith) (omega arith) (c .before .before .before .before .before .before .before .before .before .before .before .before .before .before .eval-node .ensures .0) x) t rd) (c .before .before .before .before .before .before .before .before .before .before .before .if1 .left) (c .before .before .before .before .if2 .left) (c .before .before .before .before .before .before .before .before .before .before .before .before .before .before .before .before .before .before .before .read2 .ensures .0) (c .before .before .operate .ensures) (c .lifted .ensures))
+eval-binary-returns-3 t c = ((λ i h. c .before .before .before .before .before .before .before .eval-node2 .ensures .0 i h ∙ c .before .before .before .before .before .before .before .before .before .before .before .before .before .before .eval-node .ensures .0 i h), λ γ x t rd a. both-go a (c .before .before .before .before .before .before .before .before .before .before .before .before .before .before .before .before .before .before .before .before .before .before .before .pre .1 .1 .0) (c .before .before .before .before .before .before .before .before .before .before .before .before .before .before .before .before .before .before .before .before .before .before .before .pre .1 .1 .1) (c .before .before .before .before .before .before .before .before .before .before .before .before .before .before .before .before .before .before .part-at .ensures) (c .before .before .before .before .before .before .before .before .before .before .before .before .before .before .before .before .before .part-at2 .ensures) _ (layoutOf t) _ γ (c .before .before .before .before .before .before .before .before .before .before .before .before .before .before .eval-node .ensures .1 γ x t rd) (c .before .before .before .before .before .before .before .eval-node2 .ensures .1 γ (context-same _ (omega arith) (omega arith) (c .before .before .before .before .before .before .before .before .before .before .before .before .before .before .eval-node .ensures .0) x) t rd) (c .before .before .before .before .before .before .before .before .before .before .before .if1 .left) (c .before .before .before .before .if2 .left) (c .before .before .before .before .before .before .before .before .before .before .before .before .before .before .before .before .before .before .before .read2 .ensures .0) (c .before .before .operate .ensures) (c .lifted .ensures))
 
 eval-call-collect-arguments-requires : (t : ℕ) → eval-call-lts.Need-collect-arguments-requires (eval-call-with t) (eval-call-at t) eval-call.Post
 eval-call-collect-arguments-requires t c κs = (c .before .before .before .before .pre .1 .0 .node, (c .before .before .before .before .pre .1 .1), c .before .before .before .before .pre .1 .0 .context)
@@ -232,7 +233,7 @@ eval-call-same-length : (t : ℕ) → eval-call-lts.Need-same-length (eval-call-
 eval-call-same-length t c = search needs
 
 eval-call-returns : (t : ℕ) → eval-call-lts.Need-returns (eval-call-with t) (eval-call-at t) eval-call.Post
-eval-call-returns t c = ((λ i h. refl), λ γ x t rd a. c .refused3 .ensures ∙ call-stops (c .before .before .before .before .before .before .before .before .before .before .before .before .before .before .pre .1 .1) _ (layoutOf t) _ γ a (bound-all (c .before .before .before .before .before .before .before .enum-told .given .1) (c .before .before .before .before .before .before .before .before .before .collect-arguments .ensures _ γ x a) .1) (found-at (c .before .before .before .before .i .given .1) (c .before .before .before .before .before .before .called .ensures t rd a) .1) (c .before .before .if1 .taken))
+eval-call-returns t c = ((λ i h. refl), λ γ x t rd a. told-as (c .refused3 .ensures) (call-stops (c .before .before .before .before .before .before .before .before .before .before .before .before .before .before .pre .1 .1) _ (layoutOf t) _ γ a (bound-all (c .before .before .before .before .before .before .before .enum-told .given .1) (c .before .before .before .before .before .before .before .before .before .collect-arguments .ensures _ γ x a) .1) (found-at (c .before .before .before .before .i .given .1) (c .before .before .before .before .before .before .called .ensures t rd a) .1) (c .before .before .if1 .taken)))
 
 eval-call-root-requires : (t : ℕ) → eval-call-lts.Need-root-requires (eval-call-with t) (eval-call-at t) eval-call.Post
 eval-call-root-requires t c κs = found-at (c .before .before .i .given .1) (c .before .before .before .before .called .ensures (c .before .before .before .before .before .before .before .before .before .before .before .before .pre .1 .0 .layout .0) (c .before .before .before .before .before .before .before .before .before .before .before .before .pre .1 .0 .layout .1) (c .before .before .before .before .before .before .before .before .before .before .before .before .pre .1 .0 .node)) .0
@@ -262,19 +263,19 @@ eval-call-same-length-2 : (t : ℕ) → eval-call-lts.Need-same-length-2 (eval-c
 eval-call-same-length-2 t c = search needs
 
 eval-call-returns-2 : (t : ℕ) → eval-call-lts.Need-returns-2 (eval-call-with t) (eval-call-at t) eval-call.Post
-eval-call-returns-2 t c = ((λ i h. refl), λ γ x t rd a. c .refused .ensures ∙ call-lacks (c .before .before .before .before .before .before .before .before .before .before .pre .1 .1) _ (layoutOf t) _ γ a (c .before .before .before .q .given .1) (c .before .before .before .before .before .collect-arguments .ensures _ γ x a))
+eval-call-returns-2 t c = ((λ i h. refl), λ γ x t rd a. told-as (c .refused .ensures) (call-lacks (c .before .before .before .before .before .before .before .before .before .before .pre .1 .1) _ (layoutOf t) _ γ a (c .before .before .before .q .given .1) (c .before .before .before .before .before .collect-arguments .ensures _ γ x a)))
 
 eval-call-same-length-3 : (t : ℕ) → eval-call-lts.Need-same-length-3 (eval-call-with t) (eval-call-at t) eval-call.Post
 eval-call-same-length-3 t c = search needs
 
 eval-call-returns-3 : (t : ℕ) → eval-call-lts.Need-returns-3 (eval-call-with t) (eval-call-at t) eval-call.Post
-eval-call-returns-3 t c = ((λ i h. refl), λ γ x t rd a. c .refused2 .ensures ∙ call-unknown (c .before .before .before .before .before .before .before .before .before .before .before .before .pre .1 .1) _ (layoutOf t) _ γ a (bound-all (c .before .before .before .before .before .enum-told .given .1) (c .before .before .before .before .before .before .before .collect-arguments .ensures _ γ x a) .1) (c .before .before .enum-told2 .given .1) (c .before .before .before .before .called .ensures t rd a))
+eval-call-returns-3 t c = ((λ i h. refl), λ γ x t rd a. told-as (c .refused2 .ensures) (call-unknown (c .before .before .before .before .before .before .before .before .before .before .before .before .pre .1 .1) _ (layoutOf t) _ γ a (bound-all (c .before .before .before .before .before .enum-told .given .1) (c .before .before .before .before .before .before .before .collect-arguments .ensures _ γ x a) .1) (c .before .before .enum-told2 .given .1) (c .before .before .before .before .called .ensures t rd a)))
 
 eval-call-same-length-4 : (t : ℕ) → eval-call-lts.Need-same-length-4 (eval-call-with t) (eval-call-at t) eval-call.Post
 eval-call-same-length-4 t c = c .before .words .given ∙ length-set (c .before .before .before .before .before .before .before .before .before .before .before .before .before .before .before .before .before .before .args .words .now) (c .before .before .before .before .before .before .before .before .before .before .before .before .before .before .before .before .before .before .args .depth) _
 
 eval-call-returns-4 : (t : ℕ) → eval-call-lts.Need-returns-4 (eval-call-with t) (eval-call-at t) eval-call.Post
-eval-call-returns-4 t c = ((λ i h. c .before .before .eval-node .ensures .0 i (omega arith) ∙ getD-set-other (c .before .before .before .before .before .before .before .before .before .before .before .before .before .before .before .before .before .before .args .words .now) (c .before .before .before .before .before .before .before .before .before .before .before .before .before .before .before .before .before .before .args .depth) i _ 0 (λ f. absurd (omega arith))), call-answers (omega (arith, ends (c .before .before .before .before .before .before .before .before .before .before .before .before .before .before .before .before .before .before .pre .1 .0 .node) .1, ends (found-at (c .before .before .before .before .before .before .before .before .i .given .1) (c .before .before .before .before .before .before .before .before .before .before .called .ensures (c .before .before .before .before .before .before .before .before .before .before .before .before .before .before .before .before .before .before .pre .1 .0 .layout .0) (c .before .before .before .before .before .before .before .before .before .before .before .before .before .before .before .before .before .before .pre .1 .0 .layout .1) (c .before .before .before .before .before .before .before .before .before .before .before .before .before .before .before .before .before .before .pre .1 .0 .node)) .0) .1, c .before .before .before .before .before .before .before .before .before .before .before .before .before .before .before .before .before .before .pre .1 .0 .small, c .before .before .before .before .before .before .before .before .before .before .before .before .before .before .before .before .before .before .pre .1 .0 .room, c .before .before .before .before .before .before .if1 .left)) (omega (arith, ends (c .before .before .before .before .before .before .before .before .before .before .before .before .before .before .before .before .before .before .pre .1 .0 .node) .1, ends (found-at (c .before .before .before .before .before .before .before .before .i .given .1) (c .before .before .before .before .before .before .before .before .before .before .called .ensures (c .before .before .before .before .before .before .before .before .before .before .before .before .before .before .before .before .before .before .pre .1 .0 .layout .0) (c .before .before .before .before .before .before .before .before .before .before .before .before .before .before .before .before .before .before .pre .1 .0 .layout .1) (c .before .before .before .before .before .before .before .before .before .before .before .before .before .before .before .before .before .before .pre .1 .0 .node)) .0) .1, c .before .before .before .before .before .before .before .before .before .before .before .before .before .before .before .before .before .before .pre .1 .0 .small, c .before .before .before .before .before .before .before .before .before .before .before .before .before .before .before .before .before .before .pre .1 .0 .room, c .before .before .before .before .before .before .if1 .left)) refl (c .before .before .before .before .before .before .before .before .before .before .before .before .before .before .before .before .before .before .pre .1 .1) (c .before .before .before .before .before .before .before .before .before .before .before .enum-told .given .1) (c .before .before .before .before .before .before .before .before .i .given .1) (c .before .before .before .before .before .before .before .before .before .before .before .before .before .collect-arguments .ensures) (c .before .before .before .before .before .before .before .before .before .before .called .ensures) (c .before .before .before .before .before .root .ensures) (c .before .before .before .before .before .before .if1 .left) _ (c .before .before .eval-node .result) _ (c .before .before .eval-node .ensures .1))
+eval-call-returns-4 t c = ((λ i h. c .before .before .eval-node .ensures .0 i (omega arith) ∙ getD-set-other (c .before .before .before .before .before .before .before .before .before .before .before .before .before .before .before .before .before .before .args .words .now) (c .before .before .before .before .before .before .before .before .before .before .before .before .before .before .before .before .before .before .args .depth) i _ 0 (λ f. absurd (omega arith))), call-answers (omega (arith, ends (c .before .before .before .before .before .before .before .before .before .before .before .before .before .before .before .before .before .before .pre .1 .0 .node) .1, ends (found-at (c .before .before .before .before .before .before .before .before .i .given .1) (c .before .before .before .before .before .before .before .before .before .before .called .ensures (c .before .before .before .before .before .before .before .before .before .before .before .before .before .before .before .before .before .before .pre .1 .0 .layout .0) (c .before .before .before .before .before .before .before .before .before .before .before .before .before .before .before .before .before .before .pre .1 .0 .layout .1) (c .before .before .before .before .before .before .before .before .before .before .before .before .before .before .before .before .before .before .pre .1 .0 .node)) .0) .1, c .before .before .before .before .before .before .before .before .before .before .before .before .before .before .before .before .before .before .pre .1 .0 .small, c .before .before .before .before .before .before .before .before .before .before .before .before .before .before .before .before .before .before .pre .1 .0 .room, c .before .before .before .before .before .before .if1 .left)) (omega (arith, ends (c .before .before .before .before .before .before .before .before .before .before .before .before .before .before .before .before .before .before .pre .1 .0 .node) .1, ends (found-at (c .before .before .before .before .before .before .before .before .i .given .1) (c .before .before .before .before .before .before .before .before .before .before .called .ensures (c .before .before .before .before .before .before .before .before .before .before .before .before .before .before .before .before .before .before .pre .1 .0 .layout .0) (c .before .before .before .before .before .before .before .before .before .before .before .before .before .before .before .before .before .before .pre .1 .0 .layout .1) (c .before .before .before .before .before .before .before .before .before .before .before .before .before .before .before .before .before .before .pre .1 .0 .node)) .0) .1, c .before .before .before .before .before .before .before .before .before .before .before .before .before .before .before .before .before .before .pre .1 .0 .small, c .before .before .before .before .before .before .before .before .before .before .before .before .before .before .before .before .before .before .pre .1 .0 .room, c .before .before .before .before .before .before .if1 .left)) refl (c .before .before .before .before .before .before .before .before .before .before .before .before .before .before .before .before .before .before .pre .1 .1) (c .before .before .before .before .before .before .before .before .before .before .before .enum-told .given .1) (c .before .before .before .before .before .before .before .before .i .given .1) (c .before .before .before .before .before .before .before .before .before .before .before .before .before .collect-arguments .ensures) (c .before .before .before .before .before .before .before .before .before .before .called .ensures) (c .before .before .before .before .before .root .ensures) (c .before .before .before .before .before .before .if1 .left) _ (c .before .before .eval-node .ensures .1))
 
 eval-node-add-read2 : (t : ℕ) → eval-node-lts.Need-add-read2 (eval-node-with t) (eval-node-at t) eval-node.Post
 eval-node-add-read2 t c = omega (arith, kinds (c .before .before .before .pre .1 .node) .2, kinds (c .before .before .before .pre .1 .node) .3)
@@ -307,7 +308,7 @@ eval-node-eval-binary-requires : (t : ℕ) → eval-node-lts.Need-eval-binary-re
 eval-node-eval-binary-requires t c κs = (omega (arith, c .before .before .before .before .before .before .before .pre .0), (c .before .before .before .before .before .before .before .pre .1, (omega (arith, kinds (c .before .before .before .before .before .before .before .pre .1 .node) .0, c .before .before .before .read2 .ensures .0, c .before .before .match .rest .0 .0 .0 .0 .0 .0 .1, c .before .before .match .rest .0 .0 .0 .0 .0 .1, c .before .before .match .rest .0 .0 .0 .0 .1, c .before .before .match .rest .0 .0 .0 .1, c .before .before .match .rest .0 .0 .1, c .before .before .match .rest .0 .1), omega (arith, kinds (c .before .before .before .before .before .before .before .pre .1 .node) .1, c .before .before .before .read2 .ensures .0, c .before .before .match .rest .1))))
 
 eval-node-returns : (t : ℕ) → eval-node-lts.Need-returns (eval-node-with t) (eval-node-at t) eval-node.Post
-eval-node-returns t c = ((λ i h. refl), λ γ x t rd a. leaf-answers _ (layoutOf t) _ γ a (λ k. c .counted .ensures ∙ zero-is (c .before .before .before .read2 .ensures .0) (c .before .before .match .keys1) k _ γ a))
+eval-node-returns t c = ((λ i h. refl), λ γ x t rd a. leaf-answers _ (layoutOf t) _ γ a (λ k. told-as (c .counted .ensures) (zero-is (c .before .before .before .read2 .ensures .0) (c .before .before .match .keys1) k _ γ a)))
 
 eval-node-returns-2 : (t : ℕ) → eval-node-lts.Need-returns-2 (eval-node-with t) (eval-node-at t) eval-node.Post
 eval-node-returns-2 t c = ((λ i h. refl), λ γ x t rd a. leaf-answers _ (layoutOf t) _ γ a (λ k. c .constant .ensures k _ γ a))
@@ -337,7 +338,7 @@ eval-node-returns-6 : (t : ℕ) → eval-node-lts.Need-returns-6 (eval-node-with
 eval-node-returns-6 t c = (c .before .before .eval-call .ensures .0, c .before .before .eval-call .ensures .1)
 
 eval-node-returns-7 : (t : ℕ) → eval-node-lts.Need-returns-7 (eval-node-with t) (eval-node-at t) eval-node.Post
-eval-node-returns-7 t c = ((λ i h. refl), λ γ x t rd a. leaf-answers _ (layoutOf t) _ γ a (λ k. c .refused .ensures ∙ sum-is (c .before .before .before .read2 .ensures .0) (c .before .before .match .keys7) k _ γ a))
+eval-node-returns-7 t c = ((λ i h. refl), λ γ x t rd a. leaf-answers _ (layoutOf t) _ γ a (λ k. told-as (c .refused .ensures) (sum-is (c .before .before .before .read2 .ensures .0) (c .before .before .match .keys7) k _ γ a)))
 
 eval-node-same-length-5 : (t : ℕ) → eval-node-lts.Need-same-length-5 (eval-node-with t) (eval-node-at t) eval-node.Post
 eval-node-same-length-5 t c = search needs
@@ -376,7 +377,7 @@ eval-switch-same-length : (t : ℕ) → eval-switch-lts.Need-same-length (eval-s
 eval-switch-same-length t c = search needs
 
 eval-switch-returns : (t : ℕ) → eval-switch-lts.Need-returns (eval-switch-with t) (eval-switch-at t) eval-switch.Post
-eval-switch-returns t c = ((λ i h. refl), λ γ x t rd a. c .refused .ensures ∙ switch-misses (c .before .before .before .before .before .before .before .before .before .pre .1 .1) _ (layoutOf t) _ γ a (c .before .before .before .before .tag .ensures γ x a) (c .before .before .enum-told .given .1))
+eval-switch-returns t c = ((λ i h. refl), λ γ x t rd a. told-as (c .refused .ensures) (switch-misses (c .before .before .before .before .before .before .before .before .before .pre .1 .1) _ (layoutOf t) _ γ a (c .before .before .before .before .tag .ensures γ x a) (c .before .before .enum-told .given .1)))
 
 eval-switch-same-length-2 : (t : ℕ) → eval-switch-lts.Need-same-length-2 (eval-switch-with t) (eval-switch-at t) eval-switch.Post
 eval-switch-same-length-2 t c = search needs
@@ -388,7 +389,7 @@ eval-switch-same-length-3 : (t : ℕ) → eval-switch-lts.Need-same-length-3 (ev
 eval-switch-same-length-3 t c = search needs
 
 eval-switch-returns-3 : (t : ℕ) → eval-switch-lts.Need-returns-3 (eval-switch-with t) (eval-switch-at t) eval-switch.Post
-eval-switch-returns-3 t c = ((λ i h. refl), λ γ x t rd a. c .refused2 .ensures ∙ switch-ends (c .before .before .before .before .before .before .before .before .before .before .before .before .before .pre .1 .1) _ (layoutOf t) _ γ a (c .before .before .before .before .before .before .before .before .tag .ensures γ x a) (c .before .before .before .before .before .before .v .given .1) (c .before .before .enum-told2 .given .1) (c .before .before .before .before .selected .ensures a))
+eval-switch-returns-3 t c = ((λ i h. refl), λ γ x t rd a. told-as (c .refused2 .ensures) (switch-ends (c .before .before .before .before .before .before .before .before .before .before .before .before .before .pre .1 .1) _ (layoutOf t) _ γ a (c .before .before .before .before .before .before .before .before .tag .ensures γ x a) (c .before .before .before .before .before .before .v .given .1) (c .before .before .enum-told2 .given .1) (c .before .before .before .before .selected .ensures a)))
 
 pub +eval-align+eval-binary+eval-call+eval-node+eval-switch-spec : {M : Type 1} → statement M
 +eval-align+eval-binary+eval-call+eval-node+eval-switch-spec =

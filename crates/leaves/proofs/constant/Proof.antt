@@ -6,6 +6,7 @@ use native.Mathlib.Omega.{arith}
 use lib.ListN.{length}
 use Rattle.blocks.specs.Bytes.{le2, le4}
 use Rattle.walk.specs.Accepted.{nameAt}
+use Rattle.leaves.proofs.Told.{told-as}
 use Rattle.leaves.proofs.Nodes.{enough}
 use Rattle.leaves.proofs.Nodes.{const-at, const-is}
 use borrow.Author.Needs.{needs}
@@ -27,7 +28,7 @@ counted-requires : tie.Need-counted-requires
 counted-requires c κs = search needs
 
 returns : tie.Need-returns
-returns c = λ k pl γ a. c .counted .ensures ∙ const-is (c .before .before .before .part-at .ensures) (c .before .before .before .before .before .pre .1) (c .before .before .read8 .ensures) k pl γ a
+returns c = λ k pl γ a. told-as (c .counted .ensures) (const-is (c .before .before .before .part-at .ensures) (c .before .before .before .before .before .pre .1) (c .before .before .read8 .ensures) k pl γ a)
 
 pub constant-spec : {M : Type 1} → statement M
 constant-spec = tie.close (tie.spec part-at-requires read8-requires counted-requires returns)

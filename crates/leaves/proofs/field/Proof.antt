@@ -6,6 +6,7 @@ use native.Mathlib.Omega.{arith}
 use lib.ListN.{length}
 use Rattle.blocks.specs.Bytes.{le2, le4}
 use Rattle.walk.specs.Accepted.{nameAt}
+use Rattle.leaves.proofs.Told.{told-as}
 use Rattle.leaves.proofs.Nodes.{enough}
 use Rattle.leaves.proofs.Nodes.{ref-found, ref-absent}
 use borrow.Author.Needs.{needs}
@@ -35,10 +36,10 @@ refused-requires : tie.Need-refused-requires
 refused-requires c κs = search needs
 
 returns : tie.Need-returns
-returns c = λ k γ x a. c .counted .ensures ∙ ref-found _ (c .before .before .before .before .before .before .field-name .ensures) (c .before .before .before .before .before .before .before .before .before .before .pre .1) (c .before .before .before .before .before .find .ensures) k γ x a (c .before .before .before .v .given .1)
+returns c = λ k γ x a. told-as (c .counted .ensures) (ref-found _ (c .before .before .before .before .before .before .field-name .ensures) (c .before .before .before .before .before .before .before .before .before .before .pre .1) (c .before .before .before .before .before .find .ensures) k γ x a (c .before .before .before .v .given .1))
 
 returns-2 : tie.Need-returns-2
-returns-2 c = λ k γ x a. c .refused .ensures ∙ ref-absent _ (c .before .before .before .before .before .field-name .ensures) (c .before .before .before .before .before .before .before .before .before .pre .1) (c .before .before .before .before .find .ensures) k γ x a (c .before .before .enum-told .given .1)
+returns-2 c = λ k γ x a. told-as (c .refused .ensures) (ref-absent _ (c .before .before .before .before .before .field-name .ensures) (c .before .before .before .before .before .before .before .before .before .pre .1) (c .before .before .before .before .find .ensures) k γ x a (c .before .before .enum-told .given .1))
 
 pub field-spec : {M : Type 1} → statement M
 field-spec =

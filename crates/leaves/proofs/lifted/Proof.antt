@@ -1,5 +1,5 @@
 -- `leaves::lifted` meets its contract. Assumes nothing.
-use mathlib.Core.Path.{_∙_}
+use Rattle.leaves.proofs.Told.{told-as}
 use Rattle.leaves.proofs.Nodes.{lifted-value, lifted-fault}
 use borrow.Author.Needs.{needs}
 use Rattle.leaves.proofs.lifted.Statement.{statement}
@@ -22,10 +22,10 @@ refused-requires : tie.Need-refused-requires
 refused-requires c κs = search needs
 
 returns : tie.Need-returns
-returns c = λ x e. c .counted .ensures ∙ lifted-value _ _ _ _ (c .before .before .before .n .given .1) x e
+returns c = λ x e. told-as (c .counted .ensures) (lifted-value _ _ _ _ (c .before .before .before .n .given .1) x e)
 
 returns-2 : tie.Need-returns-2
-returns-2 c = λ x e. c .refused .ensures ∙ lifted-fault _ _ _ _ (c .before .before .before .n2 .given .1) x e
+returns-2 c = λ x e. told-as (c .refused .ensures) (lifted-fault _ _ _ _ (c .before .before .before .n2 .given .1) x e)
 
 pub lifted-spec : {M : Type 1} → statement M
 lifted-spec =

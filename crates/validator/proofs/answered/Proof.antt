@@ -1,7 +1,7 @@
 -- `validator::answered` meets its contract. Assumes nothing.
 use mathlib.Core.Path.{sym, ap}
 use mathlib.Core.Bool.{Bool}
-use Rattle.leaves.specs.Outcome.{outcomeIn}
+use Rattle.validator.specs.Validator.{outcomeIn}
 use borrow.Author.Needs.{needs}
 use Rattle.validator.proofs.answered.Statement.{statement}
 use Rattle.validator.proofs.answered.Tie as tie

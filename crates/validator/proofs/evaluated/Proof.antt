@@ -33,7 +33,7 @@ same-length : tie.Need-same-length
 same-length c = search needs
 
 returns-2 : tie.Need-returns-2
-returns-2 c = (omega arith, type-goes (c .before .before .before .before .before .before .before .before .before .before .before .before .lookup-type .ensures) (c .before .before .before .before .before .before .before .before .before .before .i .given .1) (c .before .before .before .before .before .before .before .before .root .ensures) (c .before .before .before .before .before .eval-node .result) _ (c .before .answered .result) (c .fitting .result) (c .before .before .before .before .before .eval-node .ensures .1) (c .before .answered .ensures) (c .fitting .ensures))
+returns-2 c = (omega arith, type-goes (c .before .before .before .before .before .before .before .before .before .before .before .before .lookup-type .ensures) (c .before .before .before .before .before .before .before .before .before .before .i .given .1) (c .before .before .before .before .before .before .before .before .root .ensures) (c .before .answered .result) (c .fitting .result) (c .before .before .before .before .before .eval-node .ensures .1) (c .before .answered .ensures) (c .fitting .ensures))
 
 pub evaluated-spec : {M : Type 1} → statement M
 evaluated-spec =
