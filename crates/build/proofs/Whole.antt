@@ -28,6 +28,7 @@ use Rattle.registry.proofs.Laws.{standing}
 use Rattle.small_nodes.specs.declared.Built.{Built}
 use Rattle.small_nodes.specs.Built.{Builds}
 use Rattle.parameters.specs.Ready.{Ready as ListReady}
+use Rattle.build.specs.declared.TypeTree.{TypeTree}
 use Rattle.build.specs.Built.{Ready, BuildsType}
 use Rattle.build.proofs.Root.{Root}
 
@@ -99,7 +100,7 @@ joined {ys₃} {end} x o n a r l c =
     closed 0 161 (cons (name (x .type-name)) a′)
     (both o (parts (name (x .type-name)) a′ n (parts (num 8 (x .alignment)) r′ a (parts (nodeTree (x .root)) l′ r (parts (listTree parameterTree (x .parameters)) nil l (no-parts ys₃ end)))))) c
 
-abbrev TreeBuilt : (s : List ℕ) (kind : ℕ) (xs : List ℕ) (at : ℕ) (ys : List ℕ) (r : Built) → Type 0
+abbrev TreeBuilt : (s : List ℕ) (kind : ℕ) (xs : List ℕ) (at : ℕ) (ys : List ℕ) (r : TypeTree) → Type 0
 TreeBuilt s kind xs at ys r = (t : Tree) (a : Accepted s 1 7 kind) → readSet s ≡ done t → BuildsType xs at ys r (build-type (typesOf t) (typeOf (tree a)))
 
 -- the references of the type
@@ -109,18 +110,18 @@ owned {s} {us} ws {held} a o k =
     subst (λ (g : Registry). Kept s us held (extend-with (head (typeOf (tree a)) .dynamic-params) g)) (none-held s ws)
     (subst (λ (l : List Owner). Kept s us held (extend-with l (entriesOf s ws 0))) (sym (o .owners)) (k (o .references)))
 
-module _ {s xs ys : List ℕ} {kind at : ℕ} {r : Built} where
+module _ {s xs ys : List ℕ} {kind at : ℕ} {r : TypeTree} where
   module _ {h : TypeHead} (w : (a : Accepted s 1 7 kind) → HeadAt a h) {us : List ℕ} (ws : List ℕ) {held : Held} (k : (b : Accepted s 32 32 (h .references)) → Kept s us held (extend-with (ownersOf (tree b)) (entriesOf s ws 0))) where
-    pub not-entered : (held .no ≡ 0 → ⊥) → r .no ≡ held .no → TreeBuilt s kind xs at ys r
-    not-entered z e t a d =
+    pub not-entered : (held .no ≡ 0 → ⊥) → r .no ≡ held .no → r .at ≡ at → TreeBuilt s kind xs at ys r
+    not-entered z e f t a d =
         let n = not-kept (owned ws a (w a) k) z in
-        subst (BuildsType xs at ys r) (sym (entry-refused (typesOf t) (typeOf (tree a)) (n .1))) (BuildsType.not _ e (n .0))
+        subst (BuildsType xs at ys r) (sym (entry-refused (typesOf t) (typeOf (tree a)) (n .1))) (BuildsType.not _ e (n .0) f)
 
     module _ (z : held .no ≡ 0) {vs ys₁ ys₂ : List ℕ} {p : ℕ} {root : Built} (b : Root s kind ys₁ p vs ys₂ root (entriesOf s us (held .count))) where
-      pub no-root : (root .no ≡ 0 → ⊥) → r .no ≡ root .no → TreeBuilt s kind xs at ys r
-      no-root f e t a d =
+      pub no-root : (root .no ≡ 0 → ⊥) → r .no ≡ root .no → r .at ≡ at → TreeBuilt s kind xs at ys r
+      no-root f e g t a d =
           let n = not-built (b t a d) f in
-          subst (BuildsType xs at ys r) (sym (root-refused (typesOf t) (typeOf (tree a)) (was-kept (owned ws a (w a) k) z) (n .1))) (BuildsType.not _ e (n .0))
+          subst (BuildsType xs at ys r) (sym (root-refused (typesOf t) (typeOf (tree a)) (was-kept (owned ws a (w a) k) z) (n .1))) (BuildsType.not _ e (n .0) g)
 
       pub tree-built : {x₁ x₂ ys₃ n : List ℕ} {p₁ p₂ end q : ℕ} → root .no ≡ 0 → r .no ≡ 0 → r .at ≡ end → n ≡ nameAt s (kind + 6) →
           Wrote xs at (opened 161) x₁ p₁ → Wrote x₁ p₁ (write (name n)) x₂ p₂ → Wrote x₂ p₂ (bytes 8 (h .alignment)) ys₁ p →

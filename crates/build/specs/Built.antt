@@ -10,8 +10,8 @@ use Rattle.walk.specs.Accepted.{Accepted}
 use Rattle.ir.specs.Ir.{TypeIr}
 use Rattle.ir.specs.Layout.{typeIrTree}
 use Rattle.put.specs.Poke.{Wrote}
-use Rattle.small_nodes.specs.declared.Built.{Built}
 use Rattle.registry.specs.Words.{Standing}
+use Rattle.build.specs.declared.TypeTree.{TypeTree}
 
 -- the registry, an accepted set, a type in it, and a cursor
 pub record Ready (s ws : List ℕ) (n type at : ℕ) : Type 0 where
@@ -20,7 +20,7 @@ pub record Ready (s ws : List ℕ) (n type at : ℕ) : Type 0 where
   pub type-at : Accepted s 1 7 type
   pub cursor : at < 2 ^ 55
 
--- a type tree's bytes and the next cursor, or the refusal's number
-pub data BuildsType (xs : List ℕ) (at : ℕ) (ys : List ℕ) (r : Built) : Outcome TypeIr → Type 0 where
+-- a type tree's bytes and the next cursor, or the refusal's number and the old cursor; then nothing is said of the output
+pub data BuildsType (xs : List ℕ) (at : ℕ) (ys : List ℕ) (r : TypeTree) : Outcome TypeIr → Type 0 where
   made : (x : TypeIr) → r .no ≡ 0 → Wrote xs at (write (typeIrTree x)) ys (r .at) → BuildsType xs at ys r (done x)
-  not : (k : ℕ) → r .no ≡ k → 0 < k → BuildsType xs at ys r (refused (plain k))
+  not : (k : ℕ) → r .no ≡ k → 0 < k → r .at ≡ at → BuildsType xs at ys r (refused (plain k))

@@ -1,7 +1,7 @@
 // builder.rs, `node_from_resolved` and `build_type`.
 use small_nodes::Built;
 ghost use mathlib.Core.Path.{_≡_};
-ghost use Prim.Native.Nat.{_+_, _^_};
+ghost use Prim.Native.Nat.{_+_, _^_, _≤_};
 ghost use Rattle.errors.specs.Refusal.{done};
 ghost use Rattle.blocks.specs.Tree.{Tree};
 ghost use Rattle.blocks.specs.Read.{readSet};
@@ -12,6 +12,12 @@ ghost use Rattle.builder.specs.Build.{build-type};
 ghost use Rattle.registry.specs.Words.{entriesOf};
 ghost use Rattle.small_nodes.specs.Built.{Builds, Within};
 ghost use Rattle.build.specs.Built.{Ready, BuildsType};
+
+// The cursor behind a type tree, or where it was refused the old one; the number of the refusal or 0.
+pub struct TypeTree {
+    pub at: usize,
+    pub no: u64,
+}
 
 // The root node of the type at `kind`.
 pub fn node_from_resolved(
@@ -54,10 +60,11 @@ pub fn node_from_resolved(
     }
 }
 
-// The type tree of the type at `kind`, from an empty registry. Its root stands behind a name and a number.
-pub fn build_type(s: &[u8], words: &mut [u64], kind: usize, out: &mut [u8], at: usize) -> Built
+// The type tree of the type at `kind`, from an empty registry. Its root stands behind a name and a number. Nothing is said of the
+// words after: no other type has to do with them.
+pub fn build_type(s: &[u8], words: &mut [u64], kind: usize, out: &mut [u8], at: usize) -> TypeTree
     requires { ⌜ Ready (now s) (now words) 0 kind (at + 512) ⌝ }
-    ensures { λ r. ⌜ Within at (2 ^ 42) r ⌝ }
+    ensures { λ r. ⌜ (at ≤ r .at) × (r .at ≤ at + 2 ^ 42) ⌝ }
     ensures { λ r. ⌜ ((t : Tree) (a : Accepted (now (s .entry)) 1 7 kind) → readSet (now (s .entry)) ≡ done t → BuildsType (now (out .entry)) at (now (out .exit)) r (build-type (typesOf t) (typeOf (tree a)))) ⌝ }
 {
     let head = types::type_head(s, kind);
@@ -65,11 +72,7 @@ pub fn build_type(s: &[u8], words: &mut [u64], kind: usize, out: &mut [u8], at: 
     let held = registry::extend_with(s, words, 0, references);
     let entered = held.count;
     if held.no != 0 {
-        return Built {
-            at,
-            count: 0,
-            no: held.no,
-        };
+        return TypeTree { at, no: held.no };
     }
     let name = types::name_at(s, kind + 6);
     let body = put::open_block(out, at, 161);
@@ -77,18 +80,10 @@ pub fn build_type(s: &[u8], words: &mut [u64], kind: usize, out: &mut [u8], at: 
     let start = put::put_le(out, aligned, 8, head.alignment);
     let root = node_from_resolved(s, words, entered, kind, out, start);
     if root.no != 0 {
-        return Built {
-            at,
-            count: 0,
-            no: root.no,
-        };
+        return TypeTree { at, no: root.no };
     }
     let count = root.count;
     let end = parameters::put_parameters(s, words, count, kind, out, root.at);
     put::close_block(out, at, end);
-    Built {
-        at: end,
-        count,
-        no: 0,
-    }
+    TypeTree { at: end, no: 0 }
 }

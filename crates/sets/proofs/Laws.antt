@@ -31,7 +31,7 @@ use Rattle.leaf.specs.declared.Read.{Read}
 use Rattle.leaf.specs.declared.Read.the-variants.{Ok, Refused}
 use Rattle.reader.specs.Input.{inputOf}
 use Rattle.lookup.proofs.Types.{set-list}
-use Rattle.small_nodes.specs.declared.Built.{Built}
+use Rattle.build.specs.declared.TypeTree.{TypeTree}
 use Rattle.build.specs.Built.{BuildsType, Ready as TypeReady}
 use Rattle.sets.specs.declared.Types.{Types}
 use Rattle.sets.specs.declared.Answer.{Answer}
@@ -95,7 +95,7 @@ module _ (types : List ResolvedType) (i : ℕ) (T : ResolvedType) (rest : List R
 -- ---- in the code's form: b is what building the type at `from` left
 
 -- what is asked of it
-abbrev pub Makes : (s ys : List ℕ) (from p : ℕ) (zs : List ℕ) (b : Built) → Type 0
+abbrev pub Makes : (s ys : List ℕ) (from p : ℕ) (zs : List ℕ) (b : TypeTree) → Type 0
 Makes s ys from p zs b = (t : Tree) (a : Accepted s 1 7 from) → readSet s ≡ done t → BuildsType ys p zs b (build-type (typesOf t) (typeOf (tree a)))
 
 module _ {s xs ys : List ℕ} {at left from place p : ℕ} {t : Tree} (q : Reached s xs at ys left from place p t) (e : Enter (q .list)) where
@@ -104,7 +104,7 @@ module _ {s xs ys : List ℕ} {at left from place p : ℕ} {t : Tree} (q : Reach
   unfolding entries
   next-is = ap (λ (u : Tree). prepend (q .built) (build-types (typesOf t) place (entries typeOf u))) (e .after .tree)
 
-  reach-more : {zs : List ℕ} {b : Built} (o : Outcome TypeIr) → build-type (typesOf t) (typeOf (tree (e .child))) ≡ o → BuildsType ys p zs b o → b .no ≡ 0 →
+  reach-more : {zs : List ℕ} {b : TypeTree} (o : Outcome TypeIr) → build-type (typesOf t) (typeOf (tree (e .child))) ≡ o → BuildsType ys p zs b o → b .no ≡ 0 →
       Reached s xs at zs (left - 1) (from + 4 + le4 s from) (place + 1) (b .at) t
   reach-more _ d (BuildsType.made x n w) z = record {
     list = e .after .rest;
@@ -112,12 +112,12 @@ module _ {s xs ys : List ℕ} {at left from place p : ℕ} {t : Tree} (q : Reach
     wrote = rw (entries-more (q .built) x) (both (q .wrote) w);
     whole = q .whole ∙ next-is ∙ one-built (typesOf t) place (typeOf (tree (e .child))) (entries typeOf (e .after .rest .got .0)) (q .built) d;
   }
-  reach-more _ d (BuildsType.not k n h) z = absurd (omega arith)
+  reach-more _ d (BuildsType.not k n h f) z = absurd (omega arith)
 
-  reach-none : {zs : List ℕ} {b : Built} (r : Types) (o : Outcome TypeIr) → build-type (typesOf t) (typeOf (tree (e .child))) ≡ o → BuildsType ys p zs b o → (b .no ≡ 0 → ⊥) → r .no ≡ b .no → r .place ≡ place →
+  reach-none : {zs : List ℕ} {b : TypeTree} (r : Types) (o : Outcome TypeIr) → build-type (typesOf t) (typeOf (tree (e .child))) ≡ o → BuildsType ys p zs b o → (b .no ≡ 0 → ⊥) → r .no ≡ b .no → r .place ≡ place →
       BuildsTypes xs at zs r (build-types (typesOf t) 0 (typesOf t))
   reach-none r _ d (BuildsType.made x n w) z g k = absurd (z n)
-  reach-none {zs} r _ d (BuildsType.not m n h) z g k =
+  reach-none {zs} r _ d (BuildsType.not m n h f) z g k =
       subst (BuildsTypes xs at zs r) (sym (q .whole ∙ next-is ∙ one-refused (typesOf t) place (typeOf (tree (e .child))) (entries typeOf (e .after .rest .got .0)) (q .built) d))
       (BuildsTypes.not m place (g ∙ n) h k)
 
@@ -130,14 +130,14 @@ module _ {s xs ys : List ℕ} {at left from place p : ℕ} where
       (e .child, omega (arith, o .high, e .child .fits))
 
   -- it is built
-  pub go-on : {zs : List ℕ} {b : Built} {u : ℕ} → 0 < left → Makes s ys from p zs b → b .no ≡ 0 → u ≡ le4 s from → Loop s xs at ys left from place p → Loop s xs at zs (left - 1) (from + 4 + u) (place + 1) (b .at)
+  pub go-on : {zs : List ℕ} {b : TypeTree} {u : ℕ} → 0 < left → Makes s ys from p zs b → b .no ≡ 0 → u ≡ le4 s from → Loop s xs at ys left from place p → Loop s xs at zs (left - 1) (from + 4 + u) (place + 1) (b .at)
   go-on {zs} {b} h f z g c =
       subst (λ (k : ℕ). Loop s xs at zs (left - 1) (from + 4 + k) (place + 1) (b .at)) (sym g) (record {
         on = λ t r. let e = block-entry (c .on t r .list) h in reach-more (c .on t r) e _ refl (f t (e .child) r) z;
       })
 
   -- it is refused
-  pub stopped : {zs : List ℕ} {b : Built} {r : Types} → 0 < left → Makes s ys from p zs b → (b .no ≡ 0 → ⊥) → r .no ≡ b .no → r .place ≡ place → Loop s xs at ys left from place p →
+  pub stopped : {zs : List ℕ} {b : TypeTree} {r : Types} → 0 < left → Makes s ys from p zs b → (b .no ≡ 0 → ⊥) → r .no ≡ b .no → r .place ≡ place → Loop s xs at ys left from place p →
       (t : Tree) → readSet s ≡ done t → BuildsTypes xs at zs r (build-types (typesOf t) 0 (typesOf t))
   stopped {r} h f z g k c t d = let e = block-entry (c .on t d .list) h in reach-none (c .on t d) e r _ refl (f t (e .child) d) z g k
 

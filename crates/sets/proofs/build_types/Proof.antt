@@ -56,7 +56,7 @@ loop-less : tie.Need-loop-less Inv-loop μ-loop
 loop-less c = omega arith
 
 loop-again : tie.Need-loop-again Inv-loop μ-loop
-loop-again c = (omega arith, omega (arith, c .before .before .before .before .before .before .before .build-type .ensures .0 .low), omega (arith, c .before .before .before .before .before .before .before .build-type .ensures .0 .high), omega (arith, next-end (c .before .before .before .before .before .before .before .before .before .before .before .loop .inv .4) (c .before .before .before .before .before .before .before .before .before .before .loop-test .taken) (c .before .before .before .before .before .before .before .before .before .before .before .loop .inv .5), c .read4 .ensures .0), ready-again (c .before .before .before .before .before .before .before .before .before .before .before .loop .inv .4) (omega arith), go-on (c .before .before .before .before .before .before .before .before .before .before .loop-test .taken) (c .before .before .before .before .before .before .before .build-type .ensures .1) (c .before .if1 .left) (c .read4 .ensures .0) (c .before .before .before .before .before .before .before .before .before .before .before .loop .inv .5), omega (arith, c .before .before .before .before .before .before .before .before .before .before .before .loop .inv .6), omega (arith, c .before .before .before .before .before .before .before .before .before .before .before .loop .inv .7))
+loop-again c = (omega arith, omega (arith, c .before .before .before .before .before .before .before .build-type .ensures .0 .0), omega (arith, c .before .before .before .before .before .before .before .build-type .ensures .0 .1), omega (arith, next-end (c .before .before .before .before .before .before .before .before .before .before .before .loop .inv .4) (c .before .before .before .before .before .before .before .before .before .before .loop-test .taken) (c .before .before .before .before .before .before .before .before .before .before .before .loop .inv .5), c .read4 .ensures .0), ready-again (c .before .before .before .before .before .before .before .before .before .before .before .loop .inv .4) (omega arith), go-on (c .before .before .before .before .before .before .before .before .before .before .loop-test .taken) (c .before .before .before .before .before .before .before .build-type .ensures .1) (c .before .if1 .left) (c .read4 .ensures .0) (c .before .before .before .before .before .before .before .before .before .before .before .loop .inv .5), omega (arith, c .before .before .before .before .before .before .before .before .before .before .before .loop .inv .6), omega (arith, c .before .before .before .before .before .before .before .before .before .before .before .loop .inv .7))
 
 same-length-3 : tie.Need-same-length-3 Inv-loop μ-loop
 same-length-3 c = search needs
