@@ -5,10 +5,7 @@ use native.Mathlib.Omega.{arith}
 use Rattle.blocks.specs.declared.Part.{Part}
 use Rattle.blocks.specs.declared.Part.the-variants.{Text, Key, Number, Flag, Size, OptNumber, OptText, Literal, Block, OptBlock, Blocks, Ascending, Distinct, Names, Paths, Values}
 use Rattle.ir.specs.Codes.{codeOf}
-use Rattle.grammar.specs.Parts.{Coded, made}
-
-abbrev pub decoded : ℕ → Part
-decoded c = made (c % 32) (c / 32 % 256) (c / 8192 % 256) (c / 2097152)
+use Rattle.grammar.specs.Parts.{Coded, made, decoded}
 
 split : (tag lo hi limit : ℕ) → tag < 32 → lo < 256 → hi < 256 → decoded (tag + 32 * lo + 8192 * hi + 2097152 * limit) ≡ made tag lo hi limit
 split tag lo hi limit t l h =

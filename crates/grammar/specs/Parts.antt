@@ -1,5 +1,5 @@
 -- The parts that a code tells apart, the lists of keyed blocks among them, and the part that a code stands for.
-use Prim.Native.Nat.{ℕ, _<_}
+use Prim.Native.Nat.{ℕ, _<_, _/_, _%_}
 use mathlib.Core.Path.{_≡_}
 use mathlib.Core.Bool.{cond}
 use mathlib.Core.Logic.{_⊎_}
@@ -38,3 +38,7 @@ made tag lo hi limit =
     (cond (eqb tag 15) (Paths limit)
     (cond (eqb tag 16) (Values limit)
     Text))))))))))))))
+
+-- the part of the fields that a number has, as the code of a part has them
+abbrev pub decoded : ℕ → Part
+decoded c = made (c % 32) (c / 32 % 256) (c / 8192 % 256) (c / 2097152)

@@ -10,7 +10,7 @@ ghost use Prim.Native.Nat.{_≤_, _<_};
 ghost use lib.ListN.{getD};
 ghost use Rattle.blocks.specs.Grammar.{head, grammar, findRow};
 ghost use Rattle.ir.specs.Codes.{codeOf, codeAt};
-ghost use Rattle.grammar.specs.Parts.{Coded, made};
+ghost use Rattle.grammar.specs.Parts.{Coded, made, decoded};
 
 // The codes of the parts that nodes do not have: the part's place in `Part`, from 1, then lo, hi and the limit of a count.
 const KEY: u32 = 2;
@@ -207,9 +207,10 @@ fn made_part(tag: u32, lo: u64, hi: u64, limit: u64) -> Part
     }
 }
 
-// The part that a code stands for.
+// The part that a code stands for; of a number that is no part's code, the part of its fields.
 pub fn part_of(code: u32) -> Part
     ensures { λ r. ⌜ ((p : Part) → Coded p → code ≡ codeOf p → r ≡ p) ⌝ }
+    ensures { λ r. ⌜ r ≡ decoded code ⌝ }
 {
     made_part(
         code % 32,

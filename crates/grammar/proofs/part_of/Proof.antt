@@ -19,7 +19,7 @@ made-part-requires : tie.Need-made-part-requires
 made-part-requires c κs = search needs
 
 returns : tie.Need-returns
-returns c p h e = c .made-part .ensures ∙ rw e (again p h)
+returns c = (λ p h e. c .made-part .ensures ∙ rw e (again p h), c .made-part .ensures)
 
 pub part-of-spec : {M : Type 1} → statement M
 part-of-spec = tie.close (tie.spec cast-made-part cast-made-part-2 cast-made-part-3 made-part-requires returns)
