@@ -70,6 +70,8 @@ module _ {s : List ℕ} {at : ℕ} {a : Accepted s 1 7 at} where
     size = d .size;
     room = omega (arith, h .low, h .end, d .inside);
     is = array-kind h d ∙ ap (λ (b : Bool). ResolvedTypeKind.Array (typeOf (d .element .got .0)) (exprOf (d .size .got .0)) b) (sym ej);
+    element-at = refl;
+    size-at = refl;
   }
 
 pub array-at : {s : List ℕ} {at q z : ℕ} {j : Bool} → le2 s (at + 4) ≡ 5 → q ≡ headEnd s at → j ≡ eqb (getD s q 0) 1 → z ≡ le4 s (q + 1) → (a : Accepted s 1 7 at) →
@@ -120,7 +122,7 @@ module _ {s : List ℕ} {at : ℕ} {a : Accepted s 1 7 at} where
 
   enum-found : (h : Headed 4 (Block 64 91 ∷ Blocks 34 34 64 ∷ []) a) → Enum (h .rest) →
       EnumAt a (record { tag = headEnd s at; count = le2 s (headEnd s at + 4 + le4 s (headEnd s at)); first = headEnd s at + 4 + le4 s (headEnd s at) + 2 })
-  enum-found h d = record { tag = d .tag; few = d .few; list = d .list; is = enum-kind h d }
+  enum-found h d = record { tag = d .tag; few = d .few; list = d .list; is = enum-kind h d; tag-at = refl; first-at = refl }
 
 pub enum-at : {s : List ℕ} {at q u c : ℕ} → le2 s (at + 4) ≡ 4 → q ≡ headEnd s at → u ≡ le4 s q → c ≡ le2 s (q + 4 + u) → (a : Accepted s 1 7 at) →
     EnumAt a (record { tag = q; count = c; first = q + 4 + u + 2 })
@@ -174,6 +176,7 @@ module _ {s : List ℕ} {at q c : ℕ} (eq : q ≡ headEnd s at) (ec : c ≡ le2
         list = h .list;
         struct = λ e. h .is ∙ ap (λ (k : ℕ). kindOf (typeOf (block at k T))) e;
         union = λ e. h .is ∙ ap (λ (k : ℕ). kindOf (typeOf (block at k T))) e;
+        first-at = refl;
       }))
 
   pub sized-at : le2 s (at + 4) ≡ 6 → (a : Accepted s 1 7 at) → SizedAt a (record { count = c; first = q + 2 })
@@ -186,6 +189,7 @@ module _ {s : List ℕ} {at q c : ℕ} (eq : q ≡ headEnd s at) (ec : c ≡ le2
         few = h .few;
         list = h .list;
         is = h .is ∙ ap (λ (k : ℕ). kindOf (typeOf (block at k T))) ek;
+        first-at = refl;
       }))
 
 -- ---- 7 type reference
@@ -195,4 +199,4 @@ unfolding partsOf findRow grammar nodeTable typeOf view thingOf makeThing formOf
 target-at {s} {at} eq ek a =
     let h : Headed 7 (Text ∷ []) a = headed a ek refl in
     let t = text-part (h .rest) in
-    subst (TargetAt a) (sym eq) (record { named = named (omega (arith, t .1 .inside, h .rest .fits)) (t .0); is = kind-is h (t .1 .tree) })
+    subst (TargetAt a) (sym eq) (record { named = named (omega (arith, t .1 .inside, h .rest .fits)) (t .0); is = kind-is h (t .1 .tree); name-at = refl })

@@ -49,7 +49,7 @@ pub owner-at : {s : List ℕ} {at q : ℕ} → q ≡ nameEnd s at → (a : Accep
 unfolding part
 owner-at eq a =
     let o = owned a in
-    subst (OwnerAt a) (sym eq) (record { named = o .named; paths = o .paths; is = ap ownerOf (o .is) })
+    subst (OwnerAt a) (sym eq) (record { named = o .named; paths = o .paths; is = ap ownerOf (o .is); paths-at = refl })
 
 -- ---- 34, 35 variant
 
@@ -95,6 +95,7 @@ module _ {s : List ℕ} {k at : ℕ} (lo : 34 ≤ k) (hi : k ≤ 35) where
       (subst (λ (n : ℕ). VariantAt a (record { number = le8 s n; kind = n + 8 })) (sym ep) (record {
         named = d .named;
         type = d .type;
+        type-at = refl;
         is = λ u. ap (λ (t : Tree). variants (variantsIn (view thingOf (cons t u)))) (d .is) ∙
             variant-is at (name (nameAt s (at + 6))) (num 8 (le8 s (nameEnd s at))) (d .type .got .0) (d .last) u k lo hi;
       }))
@@ -164,6 +165,7 @@ module _ {s : List ℕ} {at p : ℕ} (ep : p ≡ nameEnd s at) where
         named = d .named;
         unplaced = λ e. false-true (sym e);
         type = d .type;
+        type-at = refl;
         is = field-is a d (some-offset _ _ f);
       }))
 
@@ -175,5 +177,6 @@ module _ {s : List ℕ} {at p : ℕ} (ep : p ≡ nameEnd s at) where
         named = d .named;
         unplaced = λ e. refl;
         type = d .type;
+        type-at = omega arith;
         is = field-is a d (no-offset _ _ f);
       })

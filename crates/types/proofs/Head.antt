@@ -184,6 +184,7 @@ module _ {s : List ℕ} {at : ℕ} where
         alignment = ap (λ (z : Head). z .alignment) g ∙ ap (le8 s) (sym eq) ∙ sym ea;
         references = h .references;
         owners = ap (λ (z : Head). z .dynamic-params) g;
+        references-at = refl;
       })
 
 const-size : (b w : ℕ) → b ≡ 0 → sizeOf (cons (num 1 b) (cond (eqb b 0) (num 8 w) nil)) ≡ ResolvedSize.Const w

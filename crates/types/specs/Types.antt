@@ -2,7 +2,7 @@
 -- owner.
 use Prim.Native.Nat.{ℕ, _+_, _≤_}
 use mathlib.Core.Path.{_≡_}
-use mathlib.Core.Bool.{Bool, true, false}
+use mathlib.Core.Bool.{Bool, true, false, cond}
 use mathlib.Core.List.{List, [], _∷_}
 use mathlib.Core.Option.{Option, some, none}
 use lib.ListN.{length}
@@ -13,6 +13,7 @@ use Rattle.walk.specs.Accepted.{Accepted, tree, nameAt, Item, Entries, Listed}
 use Rattle.expr.specs.Expr.{exprOf}
 use Rattle.resolved.specs.Resolved.{Owner, Size, ResolvedTypeKind, ResolvedField, ResolvedVariant, head, kindOf, fields, variants, get}
 use Rattle.resolved.specs.Set.{ownerOf, thingOf, fieldsIn, variantsIn, typeOf}
+use Rattle.types.specs.Places.{nameEnd, alignmentAt, headEnd}
 use Rattle.types.specs.declared.TypeHead.{TypeHead}
 use Rattle.types.specs.declared.ArrayParts.{ArrayParts}
 use Rattle.types.specs.declared.EnumParts.{EnumParts}
@@ -54,6 +55,7 @@ pub record HeadAt {s : List ℕ} {at : ℕ} (a : Accepted s 1 7 at) (r : TypeHea
   pub alignment : head (typeOf (tree a)) .alignment ≡ r .alignment
   pub references : Accepted s 32 32 (r .references)
   pub owners : head (typeOf (tree a)) .dynamic-params ≡ ownersOf (tree references)
+  pub references-at : r .references ≡ alignmentAt s at + 8
 
 -- an array's element and its size expression
 pub record ArrayAt {s : List ℕ} {at : ℕ} (a : Accepted s 1 7 at) (r : ArrayParts) : Type 0 where
@@ -61,6 +63,8 @@ pub record ArrayAt {s : List ℕ} {at : ℕ} (a : Accepted s 1 7 at) (r : ArrayP
   pub size : Accepted s 64 91 (r .size)
   pub room : 20 + le4 s (r .element) + le4 s (r .size) ≤ le4 s at
   pub is : kindOf (typeOf (tree a)) ≡ ResolvedTypeKind.Array (typeOf (tree element)) (exprOf (tree size)) (r .jagged)
+  pub element-at : r .element ≡ headEnd s at + 1
+  pub size-at : r .size ≡ r .element + 4 + le4 s (r .element)
 
 -- an enum's tag expression and its variants
 pub record EnumAt {s : List ℕ} {at : ℕ} (a : Accepted s 1 7 at) (r : EnumParts) : Type 0 where
@@ -68,6 +72,8 @@ pub record EnumAt {s : List ℕ} {at : ℕ} (a : Accepted s 1 7 at) (r : EnumPar
   pub few : r .count ≤ 64
   pub list : Listed s 34 34 (r .count) (r .first)
   pub is : kindOf (typeOf (tree a)) ≡ ResolvedTypeKind.Enum (exprOf (tree tag)) (variantsIn (view thingOf (list .got .0)))
+  pub tag-at : r .tag ≡ headEnd s at
+  pub first-at : r .first ≡ r .tag + 4 + le4 s (r .tag) + 2
 
 -- the fields of a struct, the variants of a union, those of a size-discriminated union
 pub record FieldsAt {s : List ℕ} {at : ℕ} (a : Accepted s 1 7 at) (r : ListParts) : Type 0 where
@@ -75,22 +81,26 @@ pub record FieldsAt {s : List ℕ} {at : ℕ} (a : Accepted s 1 7 at) (r : ListP
   pub list : Listed s 33 33 (r .count) (r .first)
   pub struct : le2 s (at + 4) ≡ 2 → kindOf (typeOf (tree a)) ≡ ResolvedTypeKind.Struct (fieldsIn (view thingOf (list .got .0)))
   pub union : le2 s (at + 4) ≡ 3 → kindOf (typeOf (tree a)) ≡ ResolvedTypeKind.Union (fieldsIn (view thingOf (list .got .0)))
+  pub first-at : r .first ≡ headEnd s at + 2
 
 pub record SizedAt {s : List ℕ} {at : ℕ} (a : Accepted s 1 7 at) (r : ListParts) : Type 0 where
   pub few : r .count ≤ 64
   pub list : Listed s 35 35 (r .count) (r .first)
   pub is : kindOf (typeOf (tree a)) ≡ ResolvedTypeKind.SizeDiscriminatedUnion (variantsIn (view thingOf (list .got .0)))
+  pub first-at : r .first ≡ headEnd s at + 2
 
 -- a type reference's target name
 pub record TargetAt {s : List ℕ} {at : ℕ} (a : Accepted s 1 7 at) (q : ℕ) : Type 0 where
   pub named : Named s q
   pub is : kindOf (typeOf (tree a)) ≡ ResolvedTypeKind.TypeRef (nameAt s q)
+  pub name-at : q ≡ headEnd s at
 
 -- a field, before other fields u
 pub record FieldAt {s : List ℕ} {at : ℕ} (a : Accepted s 33 33 at) (r : FieldParts) : Type 0 where
   pub named : Named s (at + 6)
   pub unplaced : r .placed ≡ false → r .offset ≡ 0
   pub type : Accepted s 1 7 (r .kind)
+  pub type-at : r .kind ≡ nameEnd s at + 1 + cond (r .placed) 8 0
   pub is : (u : Tree) → fields (fieldsIn (view thingOf (cons (tree a) u))) ≡
       record { name = nameAt s (at + 6); offset = offsetOf (r .placed) (r .offset); field-type = typeOf (tree type) } ∷ fields (fieldsIn (view thingOf u))
 
@@ -98,6 +108,7 @@ pub record FieldAt {s : List ℕ} {at : ℕ} (a : Accepted s 33 33 at) (r : Fiel
 pub record VariantAt {s : List ℕ} {k at : ℕ} (a : Accepted s k k at) (r : VariantParts) : Type 0 where
   pub named : Named s (at + 6)
   pub type : Accepted s 1 7 (r .kind)
+  pub type-at : r .kind ≡ nameEnd s at + 8
   pub is : (u : Tree) → variants (variantsIn (view thingOf (cons (tree a) u))) ≡
       record { name = nameAt s (at + 6); number = r .number; variant-type = typeOf (tree type) } ∷ variants (variantsIn (view thingOf u))
 
@@ -112,6 +123,7 @@ pub record OwnerAt {s : List ℕ} {at : ℕ} (a : Accepted s 37 37 at) (q : ℕ)
   pub named : Named s (at + 6)
   pub paths : PathsAt s q
   pub is : ownerOf (tree a) ≡ record { name = nameAt s (at + 6); paths = textsOf (paths .list .got .0) }
+  pub paths-at : q ≡ nameEnd s at
 
 -- the paths of an owner, by its name
 pub data PathsFound (s : List ℕ) (n : Name) (os : List Owner) : Paths → Type 0 where
