@@ -61,7 +61,7 @@ pub fn node_from_resolved(
 }
 
 // The type tree of the type at `kind`, from an empty registry. Its root stands behind a name and a number. Nothing is said of the
-// words after: no other type has to do with them.
+// words after: the next type begins with an empty registry again.
 pub fn build_type(s: &[u8], words: &mut [u64], kind: usize, out: &mut [u8], at: usize) -> TypeTree
     requires { ⌜ Ready (now s) (now words) 0 kind (at + 512) ⌝ }
     ensures { λ r. ⌜ (at ≤ r .at) × (r .at ≤ at + 2 ^ 42) ⌝ }

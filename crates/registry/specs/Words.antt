@@ -77,7 +77,8 @@ pub record Standing (s ws : List ℕ) (n : ℕ) : Type 0 where
   pub words : 512 ≤ length ws
   pub count : n ≤ 512
 
--- what a change of the registry leaves: the entries in the words us, or the refusal
+-- What a change of the registry leaves: the entries in the words us, or the refusal, of which nothing is said but its number.
+-- Nothing is said of the words behind the entries.
 pub data Kept (s us : List ℕ) (r : Held) : Outcome (Unit × Registry) → Type 0 where
   kept : (g : Registry) → r .no ≡ 0 → entriesOf s us (r .count) ≡ g → Kept s us r (done (tt, g))
   not : (k : ℕ) → r .no ≡ k → 0 < k → Kept s us r (refused (plain k))

@@ -20,7 +20,7 @@ ghost use Rattle.registry.specs.Words.{Standing, Kept, Tags, Looked, hel
 ghost use Rattle.registry.specs.Texts.{describing};
 ghost use Rattle.registry.specs.Place.{wanted, anyKey, hasKey, placeOf, owned};
 
-// How many entries the registry has, and the number of a refusal or 0.
+// How many entries the registry has, and the number of a refusal or 0. Of a refusal, a count of at most 512.
 pub struct Held {
     pub count: usize,
     pub no: u64,
@@ -313,7 +313,7 @@ pub fn add_synthetic(s: &[u8], words: &mut [u64], n: usize, owner: usize, made: 
     }
 }
 
-// The entry that has the path's key becomes a derived one.
+// The entry that has the path's key becomes a derived one. Nothing is said of the words behind the entries.
 pub fn mark_derived(s: &[u8], words: &mut [u64], n: usize, owner: &[u8], path: &[u8])
     requires { ⌜ Standing (now s) (now words) n ⌝ }
     ensures { λ _. ⌜ entriesOf (now (s .entry)) (now (words .exit)) n ≡ mark-derived (now (owner .entry)) (now (path .entry)) (entriesOf (now (s .entry)) (now (words .entry)) n) ⌝ }
