@@ -21,7 +21,7 @@ use Rattle.nodes.specs.Located.{Simple, Next, rests, Located}
 -- ---- one part
 
 nextOf : {s : List ℕ} {p : Part} {ps : List Part} {at q : ℕ} {t : Tree} {c : Parts s (p ∷ ps) at} → at ≤ q → Behind c t q → Next c q
-nextOf {t} l b = record { rest = b .rest; low = l; inside = b .inside; first = t; tree = b .tree; room = b .room; end = b .end }
+nextOf {t} l b = record { rest = b .rest; low = l; inside = b .inside; first = t; tree = b .tree; stop = b .stop; room = b .room; end = b .end }
 
 -- a part behind its flag
 through : {s : List ℕ} {p inner : Part} {ps : List Part} {at q : ℕ} {c : Parts s (p ∷ ps) at} (h : There c inner) → at ≤ q → (t : Tree) → Behind (h .parts) t q → Next c q
@@ -31,6 +31,7 @@ through {s} {at} {q} h l t b = record {
   inside = subst (λ (n : ℕ). q ≤ n) (h .end) (b .inside);
   first = cons (num 1 (getD s at 0)) t;
   tree = h .tree ∙ ap (λ (z : Tree). cons (cons (num 1 (getD s at 0)) (first z)) (rest z)) (b .tree);
+  stop = h .stop ∙ b .stop;
   room = b .room ∙ h .room;
   end = b .end ∙ h .end;
 }
@@ -194,6 +195,7 @@ begins s at a ps e = let o = opened a refl e in record {
   inside = omega (arith, o .end, o .long);
   room = o .room;
   end = o .end;
+  ended = o .ended;
 }
 
 -- the next part, which the step needs
@@ -218,6 +220,7 @@ stands-next {s} {at} {i} ek ec h l st f a ps e =
       inside = omega (arith, n .inside, n .end);
       room = m .room ∙ ap suc (sym (n .room));
       end = n .end ∙ m .end;
+      ended = sym (n .stop) ∙ m .ended;
     }
 
 -- all i parts were passed

@@ -22,6 +22,7 @@ pub record Next {s : List ℕ} {p : Part} {ps : List Part} {at : ℕ} (c : Parts
   pub inside : q ≤ c .end
   pub first : Tree
   pub tree : c .got .0 ≡ cons first (rest .got .0)
+  pub stop : c .got .1 ≡ rest .got .1
   pub room : rest .room ≡ c .room
   pub end : rest .end ≡ c .end
 
@@ -30,7 +31,7 @@ unfoldable pub rests : ℕ → Tree → Tree
 rests zero t = t
 rests (suc i) t = rests i (rest t)
 
--- from part i on, the parts of a node are ps, and begin at q
+-- from part i on, the parts of a node are ps, begin at q, and end where the node ends
 pub record Located {s : List ℕ} {at : ℕ} (a : Accepted s 128 144 at) (ps : List Part) (i q : ℕ) : Type 0 where
   pub parts : Parts s ps q
   pub tree : rests i (body (tree a)) ≡ parts .got .0
@@ -38,3 +39,4 @@ pub record Located {s : List ℕ} {at : ℕ} (a : Accepted s 128 144 at) (ps : L
   pub inside : q ≤ parts .end
   pub room : a .room ≡ suc (parts .room)
   pub end : parts .end ≡ at + 4 + le4 s at
+  pub ended : parts .got .1 ≡ at + 4 + le4 s at
