@@ -21,8 +21,8 @@ use Rattle.lines.specs.Lines.{from-header, Within, blockOf, Inside, Answ
 
 -- ---- the next block
 
-pub header-within : {h : Header} {n : ℕ} → Within h → h ≡ header.Fits n → (4 ≤ n) × (n ≤ 65536)
-header-within {n} (Within.fits {n = m} a b) e = let z : m ≡ n = cc in (omega arith, omega arith)
+pub header-within : {s : List ℕ} {h : Header} {n : ℕ} → Within s h → h ≡ header.Fits n → (4 ≤ n) × (n ≤ 65536)
+header-within {n} (Within.fits {n = m} f a b) e = let z : m ≡ n = cc in (omega arith, omega arith)
 header-within Within.stops e = let z : _≡_ {A = ℕ} 0 1 = cc in absurd (omega arith)
 
 module _ (s : List ℕ) {h : Header} (f : (t : List ℕ) → take 4 t ≡ take 4 s → next-block t ≡ from-header h t) where

@@ -20,10 +20,10 @@ from-header (header.Fits n) s = do
   _ ← ask (leb n (length s)) (plain 2)
   done (take n s, drop n s)
 
--- a block has its 4 bytes of length, and has room where an input block is kept
-pub data Within : Header → Type 0 where
-  fits : {n : ℕ} → 4 ≤ n → n ≤ 65536 → Within (header.Fits n)
-  stops : {q : ℕ} → Within (header.Refused q)
+-- a block has its 4 bytes of length, which were there, and has room where an input block is kept
+pub data Within (head : List ℕ) : Header → Type 0 where
+  fits : {n : ℕ} → 4 ≤ length head → 4 ≤ n → n ≤ 65536 → Within head (header.Fits n)
+  stops : {q : ℕ} → Within head (header.Refused q)
 
 -- the outcome of `next-block`, by the code's answer: the block and what follows it
 unfoldable pub blockOf : Header → List ℕ → Outcome (List ℕ × List ℕ)

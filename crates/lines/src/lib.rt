@@ -113,7 +113,7 @@ pub fn put_stopped(out: &mut [u8], at: usize, number: u64) -> usize
 // What an input block's first four bytes, or as many as there are, say of it.
 pub fn block_length(head: &[u8]) -> Header
     ensures { λ r. ⌜ ((s : List ℕ) → take 4 s ≡ take 4 (now (head .entry)) → next-block s ≡ from-header r s) ⌝ }
-    ensures { λ r. ⌜ Within r ⌝ }
+    ensures { λ r. ⌜ Within (now (head .entry)) r ⌝ }
 {
     if head.len() < 4 {
         return Header::Refused(2);

@@ -17,7 +17,7 @@ add-n : tie.Need-add-n
 add-n c = search needs
 
 returns-2 : tie.Need-returns-2
-returns-2 c = (header-fits (c .before .before .before .before .args .head .now) (c .before .before .if1 .left) (c .before .read4 .ensures .0) (c .if2 .taken), Within.fits {n = 4 + c .before .read4 .result} (omega arith) (c .if2 .taken))
+returns-2 c = (header-fits (c .before .before .before .before .args .head .now) (c .before .before .if1 .left) (c .before .read4 .ensures .0) (c .if2 .taken), Within.fits {n = 4 + c .before .read4 .result} (c .before .before .if1 .left) (omega arith) (c .if2 .taken))
 
 returns-3 : tie.Need-returns-3
 returns-3 c = (header-large (c .before .before .before .before .args .head .now) (c .before .before .if1 .left) (c .before .read4 .ensures .0) (c .if2 .left), Within.stops)
