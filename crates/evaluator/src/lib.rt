@@ -11,7 +11,8 @@ ghost use Rattle.blocks.specs.Bytes.{le2};
 ghost use Rattle.context.specs.Context.{Same};
 ghost use Rattle.evaluator.specs.Evaluates.{Ready, Evaluates};
 
-// What the node at an offset evaluates to, left in out; `place` is the place of the type whose tree holds it.
+// What the node at an offset evaluates to, left in out; `place` is the place of the type whose tree holds it. Of the words from
+// `depth` on nothing is said: there the calls stand that were open.
 pub fn eval_node(
     s: &[u8],
     at: usize,

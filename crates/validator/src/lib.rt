@@ -1,5 +1,5 @@
-// From the bytes of a layout, a type's name, the bytes of values and a buffer length to a byte count. Whatever is answered, the
-// working words are zero after.
+// From the bytes of a layout, a type's name, the bytes of values and a buffer length to a byte count. Whatever `validate` and
+// `validate_run` answer, the working words are zero after.
 use leaf::Read;
 use leaves::Answer;
 use lookup::Place;
@@ -170,7 +170,8 @@ pub fn length_of(layout: &[u8], name: &[u8], values: &[u8], len: u64) -> Answer
     }
 }
 
-// The count of a run: its name, its buffer length and its values stand one behind the other.
+// The count of a run: its name, its buffer length and its values stand one behind the other. Of the words nothing is said but
+// their number: who lends them clears them.
 pub fn evaluated_run(layout: &[u8], run: &[u8], words: &mut [u64]) -> Answer
     requires { ⌜ GivenRun (now layout) (now run) (now words) ⌝ }
     ensures { λ _. ⌜ length (now (words .exit)) ≡ length (now (words .entry)) ⌝ }
