@@ -1,6 +1,7 @@
 //! Building: from a set's bytes to a layout's.
 
 use super::measure::{medians, work};
+use super::ours::Words;
 use super::table::{Group, Parts, Row};
 use super::{accepted, inputs, ours, Head};
 use crate::data::*;
@@ -49,7 +50,7 @@ pub fn by_parameters() -> Vec<Source> {
     [64, 128, 256, 512].map(source).into()
 }
 
-pub fn building(words: &mut [u64], head: Head, sets: &[Source]) -> Result<Group, String> {
+pub fn building(words: &mut Words, head: Head, sets: &[Source]) -> Result<Group, String> {
     let mut rows = Vec::new();
     for source in sets {
         rows.push(building_row(words, source)?);
@@ -65,9 +66,9 @@ fn rust_builds(set: &[u8]) -> Option<Vec<u8>> {
 }
 
 /// Both must give the layout, byte for byte.
-fn same_layouts(words: &mut [u64], out: &mut [u8], source: &Source) -> Result<(), String> {
+fn same_layouts(words: &mut Words, out: &mut [u8], source: &Source) -> Result<(), String> {
     let n = source.layout.len();
-    let answer = ours::build_set(words, &source.bytes, out);
+    let answer = ours::build(words, &source.bytes, out);
     if answer != accepted(n as u64) || out[..n] != source.layout {
         return Err(format!("{}: ours {answer:?}", source.what));
     }
@@ -77,12 +78,12 @@ fn same_layouts(words: &mut [u64], out: &mut [u8], source: &Source) -> Result<()
     }
 }
 
-fn building_row(words: &mut [u64], source: &Source) -> Result<Row, String> {
+fn building_row(words: &mut Words, source: &Source) -> Result<Row, String> {
     let out = &mut vec![0; LIMIT];
     same_layouts(words, out, source)?;
     let types = rust::Types::new(&source.set);
     let [ours, whole, alone] = medians([
-        work(|| ours::build_set(words, black_box(&source.bytes), out)),
+        work(|| ours::build(words, black_box(&source.bytes), out)),
         work(|| rust_builds(black_box(&source.bytes))),
         work(|| black_box(&types).build(usize::MAX)),
     ]);
@@ -95,7 +96,7 @@ fn building_row(words: &mut [u64], source: &Source) -> Result<Row, String> {
     })
 }
 
-pub fn build_parts(words: &mut [u64], source: &Source) -> Result<Parts, String> {
+pub fn build_parts(words: &mut Words, name: &str, source: &Source) -> Result<Parts, String> {
     let out = &mut vec![0; LIMIT];
     same_layouts(words, out, source)?;
     let types = rust::Types::new(&source.set);
@@ -103,7 +104,7 @@ pub fn build_parts(words: &mut [u64], source: &Source) -> Result<Parts, String> 
     let built = built.map_err(|e| format!("{}: {e:?}", source.what))?;
     let trees = rust::trees(&built);
     let [ours, decode, convert, call, convert_back, encode] = medians([
-        work(|| ours::build_set(words, black_box(&source.bytes), out)),
+        work(|| ours::build(words, black_box(&source.bytes), out)),
         work(|| read::set(black_box(&source.bytes))),
         work(|| rust::Types::new(black_box(&source.set))),
         work(|| black_box(&types).build(usize::MAX)),
@@ -111,7 +112,7 @@ pub fn build_parts(words: &mut [u64], source: &Source) -> Result<Parts, String> 
         work(|| write::layout(black_box(&trees))),
     ]);
     Ok(Parts {
-        what: format!("build, {}", source.what),
+        what: format!("{name}, {}", source.what),
         ours,
         decode,
         convert,

@@ -13,9 +13,10 @@ use crate::data::*;
 use crate::rules::read;
 use building::{build_parts, building, by_bytes, by_parameters};
 use measure::{medians, work};
+use ours::Words;
 use std::hint::black_box;
 use table::{Aim, Group, Parts, Row};
-use validating::{validate_parts, validating, validating_runs, Call};
+use validating::{validate_parts, validating, validating_runs};
 
 /// What ours answers where it accepts, with this last word.
 fn accepted(value: u64) -> ours::Answer {
@@ -23,45 +24,43 @@ fn accepted(value: u64) -> ours::Answer {
 }
 
 pub fn bench(markdown: bool) -> Result<(), String> {
-    let words = &mut vec![0; WORDS as usize];
+    let lent = &mut vec![0; WORDS as usize];
     let sets = by_bytes();
-    let mut groups = vec![
-        reading(words)?,
-        building(words, BUILD, &sets)?,
-        building(words, BUILD_PARAMETERS, &by_parameters())?,
-    ];
-    for (call, heads) in [
-        (Call::LengthOf, LENGTH_OF),
-        (Call::Validate, VALIDATE),
-    ] {
-        let [values, calls, types] = heads;
-        let (many, nested, among) = (inputs::with_values, inputs::nested, inputs::among);
-        groups.push(validating(words, call, values, [1, 16, 128, 512], many)?);
-        groups.push(validating(words, call, calls, [1, 4, 8, 15], nested)?);
-        groups.push(validating(words, call, types, [1, 16, 64, 256], among)?);
-    }
     let (trip, nested) = (inputs::trip(), inputs::nested(15));
-    groups.push(validating_runs(
-        words,
-        VALIDATE_RUNS,
-        &[1, 16, 256, 1024],
-        &trip,
-    )?);
-    groups.push(validating_runs(
-        words,
-        VALIDATE_RUNS_CALLS,
-        &[1, 16, 256],
-        &nested,
-    )?);
-    groups.push(words::looking(words, &groups[6].rows[0]));
-    let parts = [
-        build_parts(words, &sets[0])?,
-        build_parts(words, &sets[4])?,
-        validate_parts(words, Call::Validate, "validate, 1 value", &trip)?,
-        validate_parts(words, Call::Validate, "validate, 15 calls", &nested)?,
-        validate_parts(words, Call::LengthOf, "length_of, 1 value", &trip)?,
-        validate_parts(words, Call::LengthOf, "length_of, 15 calls", &nested)?,
-    ];
+    let mut groups = vec![reading(lent)?];
+    let mut parts = Vec::new();
+    for own in [true, false] {
+        let (words, heads) = match own {
+            true => (&mut Words::Own, OWN),
+            false => (&mut Words::Lent(lent), LENT),
+        };
+        let [build, parameters, values, calls, types] = heads;
+        groups.push(building(words, build, &sets)?);
+        groups.push(building(words, parameters, &by_parameters())?);
+        groups.push(validating(
+            words,
+            values,
+            [1, 16, 128, 512],
+            inputs::with_values,
+        )?);
+        groups.push(validating(words, calls, [1, 4, 8, 15], inputs::nested)?);
+        groups.push(validating(words, types, [1, 16, 64, 256], inputs::among)?);
+        let (build, count) = match own {
+            true => ("layout_of", "length_of"),
+            false => ("build_set", "validate"),
+        };
+        parts.push(build_parts(words, build, &sets[0])?);
+        parts.push(build_parts(words, build, &sets[4])?);
+        parts.push(validate_parts(words, &format!("{count}, 1 value"), &trip)?);
+        parts.push(validate_parts(
+            words,
+            &format!("{count}, 15 calls"),
+            &nested,
+        )?);
+    }
+    groups.push(validating_runs(lent, RUNS, &[1, 16, 256, 1024], &trip)?);
+    groups.push(validating_runs(lent, RUNS_CALLS, &[1, 16, 256], &nested)?);
+    groups.push(words::looking(lent, &groups[8].rows[0]));
     let aims = aims(&groups, &parts);
     table::print(&groups, &parts, &aims, markdown);
     Ok(())
@@ -71,108 +70,91 @@ pub fn bench(markdown: bool) -> Result<(), String> {
 type Head = (&'static str, &'static str);
 
 const READ: Head = ("read a layout", "byte");
-const BUILD: Head = ("build a set", "byte of the set");
-const BUILD_PARAMETERS: Head = ("build, by parameters of a type", "parameter");
-const LENGTH_OF: [Head; 3] = [
+/// The calls with working words of their own, and those that are lent them.
+const OWN: [Head; 5] = [
+    ("layout_of, by bytes", "byte of the set"),
+    ("layout_of, by parameters of a type", "parameter"),
     ("length_of, by values", "value"),
     ("length_of, by calls", "call"),
     ("length_of, by types", "type"),
 ];
-const VALIDATE: [Head; 3] = [
+const LENT: [Head; 5] = [
+    ("build_set, by bytes", "byte of the set"),
+    ("build_set, by parameters of a type", "parameter"),
     ("validate, by values", "value"),
     ("validate, by calls", "call"),
     ("validate, by types", "type"),
 ];
-const VALIDATE_RUNS: Head = (
-    "validate runs of the worked example, one call, times per run",
-    "run",
-);
-const VALIDATE_RUNS_CALLS: Head = ("validate runs of 15 calls, one call, times per run", "run");
+const RUNS: Head = ("validate_runs, the worked example, times per run", "run");
+const RUNS_CALLS: Head = ("validate_runs, 15 calls, times per run", "run");
 
 /// What is aimed at, beside what was measured.
-fn aims(groups: &[Group], parts: &[Parts; 6]) -> Vec<Aim> {
-    let whole = |what, wanted, row: &Row, parts: Option<&Parts>| Aim {
-        what,
-        wanted,
-        got: row.whole / row.ours,
-        bare: parts.map(|p| p.bare() / p.ours),
-    };
-    let alone = |what, row: &Row| Aim {
-        what,
-        wanted: 1.0,
-        got: row.alone.unwrap_or(0.0) / row.ours,
-        bare: None,
-    };
+fn aims(groups: &[Group], parts: &[Parts]) -> Vec<Aim> {
     let row = |group: usize, row: usize| &groups[group].rows[row];
-    let (trip, nested) = (row(6, 0), row(7, 3));
-    let (trip_own, nested_own) = (row(3, 0), row(4, 3));
-    let (trip_runs, nested_runs) = (row(9, 2), row(10, 2));
-    let [built_trip, built_all, trip_parts, nested_parts, own_parts, nested_own_parts] =
-        parts.each_ref();
-    vec![
-        whole(
-            "read a layout of 48 KB, beside decode",
-            8.0,
-            row(0, 3),
-            None,
-        ),
-        whole(
-            "build Trip, beside decode + build_type + encode",
-            5.0,
-            row(1, 0),
-            Some(built_trip),
-        ),
-        whole(
-            "build 48 types, beside decode + build_type + encode",
-            5.0,
-            row(1, 4),
-            Some(built_all),
-        ),
-        whole(
-            "length_of Trip, beside decode + validate",
-            5.0,
-            trip_own,
-            Some(own_parts),
-        ),
-        whole(
-            "length_of 15 calls, beside decode + validate",
-            5.0,
-            nested_own,
-            Some(nested_own_parts),
-        ),
-        alone("length_of Trip, beside validate alone", trip_own),
-        alone("length_of 15 calls, beside validate alone", nested_own),
-        whole(
-            "validate Trip, beside decode + validate",
+    let mut out = vec![Aim::whole(
+        "read_layout, 48 KB, beside decode",
+        8.0,
+        row(0, 3),
+        None,
+    )];
+    for (own, build, count) in [
+        (true, "layout_of", "length_of"),
+        (false, "build_set", "validate"),
+    ] {
+        let (group, part) = match own {
+            true => (1, 0),
+            false => (6, 4),
+        };
+        let rust = "beside decode + build_type + encode";
+        let [trip, all] = [row(group, 0), row(group, 4)];
+        out.push(Aim::whole(
+            &format!("{build}, Trip, {rust}"),
             5.0,
             trip,
-            Some(trip_parts),
-        ),
-        whole(
-            "validate 15 calls, beside decode + validate",
+            Some(&parts[part]),
+        ));
+        out.push(Aim::whole(
+            &format!("{build}, 48 types, {rust}"),
+            5.0,
+            all,
+            Some(&parts[part + 1]),
+        ));
+        let rust = "beside decode + validate";
+        let [trip, nested] = [row(group + 2, 0), row(group + 3, 3)];
+        out.push(Aim::whole(
+            &format!("{count}, Trip, {rust}"),
+            5.0,
+            trip,
+            Some(&parts[part + 2]),
+        ));
+        out.push(Aim::whole(
+            &format!("{count}, 15 calls, {rust}"),
             5.0,
             nested,
-            Some(nested_parts),
-        ),
-        alone("validate Trip, beside validate alone", trip),
-        alone("validate 15 calls, beside validate alone", nested),
-        alone(
-            "validate Trip, 256 runs a call, beside validate alone",
-            trip_runs,
-        ),
-        alone(
-            "validate 15 calls, 256 runs a call, beside validate alone",
-            nested_runs,
-        ),
-        // Beside the Rust of one validation, as in the row of 1 value, where
-        // the layout too is decoded each time.
-        Aim {
-            what: "validate Trip, 256 runs a call, beside decode + validate each time",
-            wanted: 5.0,
-            got: trip.whole / trip_runs.ours,
-            bare: Some(trip_parts.bare() / trip_runs.ours),
-        },
-    ]
+            Some(&parts[part + 3]),
+        ));
+        let rust = "beside validate alone";
+        out.push(Aim::alone(&format!("{count}, Trip, {rust}"), trip));
+        out.push(Aim::alone(&format!("{count}, 15 calls, {rust}"), nested));
+    }
+    let (trip_runs, nested_runs) = (row(11, 2), row(12, 2));
+    out.push(Aim::alone(
+        "validate_runs, 256 Trips, beside validate alone",
+        trip_runs,
+    ));
+    out.push(Aim::alone(
+        "validate_runs, 256 of 15 calls, beside validate alone",
+        nested_runs,
+    ));
+    // Beside the Rust of one validation, as in the row of 1 value, where the
+    // layout too is decoded each time.
+    out.push(Aim {
+        what: "validate_runs, 256 Trips, beside decode + validate each time".to_string(),
+        wanted: 5.0,
+        got: row(8, 0).whole / trip_runs.ours,
+        bare: Some(parts[6].bare() / trip_runs.ours),
+    });
+    out
 }
 
 fn reading(words: &mut [u64]) -> Result<Group, String> {

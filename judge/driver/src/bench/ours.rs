@@ -4,6 +4,13 @@
 
 pub type Answer = [u64; 4];
 
+/// Which of two calls is measured: the one that is lent working words, or the
+/// one that has its own.
+pub enum Words<'a> {
+    Lent(&'a mut [u64]),
+    Own,
+}
+
 extern "C" {
     fn ciztarmo_read_layout(
         words: *mut u64,
@@ -15,6 +22,13 @@ extern "C" {
     fn ciztarmo_build_set(
         words: *mut u64,
         words_len: usize,
+        set: *const u8,
+        set_len: usize,
+        out: *mut u8,
+        out_len: usize,
+        answer: *mut Answer,
+    );
+    fn ciztarmo_layout_of(
         set: *const u8,
         set_len: usize,
         out: *mut u8,
@@ -70,7 +84,21 @@ pub fn read_layout(words: &mut [u64], layout: &[u8]) -> Answer {
     answer
 }
 
-pub fn build_set(words: &mut [u64], set: &[u8], out: &mut [u8]) -> Answer {
+pub fn build(words: &mut Words, set: &[u8], out: &mut [u8]) -> Answer {
+    match words {
+        Words::Lent(words) => build_set(words, set, out),
+        Words::Own => layout_of(set, out),
+    }
+}
+
+pub fn count(words: &mut Words, layout: &[u8], name: &[u8], values: &[u8], len: u64) -> Answer {
+    match words {
+        Words::Lent(words) => validate(words, layout, name, values, len),
+        Words::Own => length_of(layout, name, values, len),
+    }
+}
+
+fn build_set(words: &mut [u64], set: &[u8], out: &mut [u8]) -> Answer {
     let mut answer = [0; 4];
     // SAFETY: as above.
     unsafe {
@@ -87,7 +115,22 @@ pub fn build_set(words: &mut [u64], set: &[u8], out: &mut [u8]) -> Answer {
     answer
 }
 
-pub fn validate(words: &mut [u64], layout: &[u8], name: &[u8], values: &[u8], len: u64) -> Answer {
+fn layout_of(set: &[u8], out: &mut [u8]) -> Answer {
+    let mut answer = [0; 4];
+    // SAFETY: as above.
+    unsafe {
+        ciztarmo_layout_of(
+            set.as_ptr(),
+            set.len(),
+            out.as_mut_ptr(),
+            out.len(),
+            &mut answer,
+        );
+    }
+    answer
+}
+
+fn validate(words: &mut [u64], layout: &[u8], name: &[u8], values: &[u8], len: u64) -> Answer {
     let mut answer = [0; 4];
     // SAFETY: as above.
     unsafe {
@@ -107,8 +150,7 @@ pub fn validate(words: &mut [u64], layout: &[u8], name: &[u8], values: &[u8], le
     answer
 }
 
-/// The same with no words lent.
-pub fn length_of(layout: &[u8], name: &[u8], values: &[u8], len: u64) -> Answer {
+fn length_of(layout: &[u8], name: &[u8], values: &[u8], len: u64) -> Answer {
     let mut answer = [0; 4];
     // SAFETY: as above.
     unsafe {

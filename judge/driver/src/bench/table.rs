@@ -42,10 +42,32 @@ impl Parts {
 /// A ratio of the Rust's time to ours: wanted, measured, and measured without
 /// the conversions.
 pub struct Aim {
-    pub what: &'static str,
+    pub what: String,
     pub wanted: f64,
     pub got: f64,
     pub bare: Option<f64>,
+}
+
+impl Aim {
+    /// Beside the Rust from bytes to the answer.
+    pub fn whole(what: &str, wanted: f64, row: &Row, parts: Option<&Parts>) -> Aim {
+        Aim {
+            what: what.to_string(),
+            wanted,
+            got: row.whole / row.ours,
+            bare: parts.map(|p| p.bare() / p.ours),
+        }
+    }
+
+    /// No slower than the Rust's own call on values that it has.
+    pub fn alone(what: &str, row: &Row) -> Aim {
+        Aim {
+            what: what.to_string(),
+            wanted: 1.0,
+            got: row.alone.unwrap_or(0.0) / row.ours,
+            bare: None,
+        }
+    }
 }
 
 /// A part that a call does not have took no time.
@@ -140,7 +162,7 @@ fn aim_lines(aims: &[Aim]) -> Vec<Vec<String>> {
     for aim in aims {
         let bare = |told: &dyn Fn(f64) -> String| aim.bare.map_or("-".to_string(), told);
         out.push(vec![
-            aim.what.to_string(),
+            aim.what.clone(),
             format!("{}", aim.wanted),
             ratio(aim.got),
             met(aim.got, aim),

@@ -2,6 +2,7 @@
 
 use super::inputs::Asked;
 use super::measure::{medians, work};
+use super::ours::Words;
 use super::table::{Group, Parts, Row};
 use super::{accepted, ours, Head};
 use crate::data::*;
@@ -10,18 +11,8 @@ use crate::{rust, write};
 use abi_reflect::ir::interpreter::ParamMap;
 use std::hint::black_box;
 
-/// The two calls that validate one record.
-#[derive(Clone, Copy)]
-pub enum Call {
-    /// `ciztarmo_validate`, which is lent working words.
-    Validate,
-    /// `ciztarmo_length_of`, which is lent none.
-    LengthOf,
-}
-
 pub fn validating(
-    words: &mut [u64],
-    call: Call,
+    words: &mut Words,
     head: Head,
     sizes: [usize; 4],
     asked: fn(usize) -> Asked,
@@ -30,7 +21,7 @@ pub fn validating(
     for size in sizes {
         let asked = asked(size);
         let what = label(size, head, &asked);
-        rows.push(validating_row(words, call, what, size, &asked)?);
+        rows.push(validating_row(words, what, size, &asked)?);
     }
     Ok(Group { head, rows })
 }
@@ -73,14 +64,10 @@ impl<'a> Question<'a> {
         Ok(question)
     }
 
-    fn ours(&self, call: Call, words: &mut [u64]) -> ours::Answer {
+    fn ours(&self, words: &mut Words) -> ours::Answer {
         let Asked { layout, name, .. } = self.asked;
         let (layout, values) = (black_box(layout), black_box(&self.values));
-        let (name, length) = (name.as_bytes(), self.asked.length);
-        match call {
-            Call::Validate => ours::validate(words, layout, name, values, length),
-            Call::LengthOf => ours::length_of(layout, name, values, length),
-        }
+        ours::count(words, layout, name.as_bytes(), values, self.asked.length)
     }
 
     /// The Rust, from bytes: decoding layout and values, then `validate`.
@@ -97,8 +84,8 @@ impl<'a> Question<'a> {
         judge.count(self.place, self.asked.length, black_box(&self.params))
     }
 
-    fn same(&self, call: Call, words: &mut [u64]) -> Result<(), String> {
-        let answer = self.ours(call, words);
+    fn same(&self, words: &mut Words) -> Result<(), String> {
+        let answer = self.ours(words);
         match answer == accepted(self.count) {
             true => Ok(()),
             false => Err(format!("ours {answer:?}, Rust {}", self.count)),
@@ -112,17 +99,15 @@ fn params(values: &Values) -> ParamMap {
 }
 
 fn validating_row(
-    words: &mut [u64],
-    call: Call,
+    words: &mut Words,
     what: String,
     size: usize,
     asked: &Asked,
 ) -> Result<Row, String> {
     let question = Question::new(asked).map_err(|e| format!("{what}: {e}"))?;
-    let same = question.same(call, words);
-    same.map_err(|e| format!("{what}: {e}"))?;
+    question.same(words).map_err(|e| format!("{what}: {e}"))?;
     let [ours, whole, alone] = medians([
-        work(|| question.ours(call, words)),
+        work(|| question.ours(words)),
         work(|| question.whole()),
         work(|| question.alone()),
     ]);
@@ -240,18 +225,12 @@ fn runs_row(words: &mut [u64], what: String, many: usize, asked: &Asked) -> Resu
     })
 }
 
-pub fn validate_parts(
-    words: &mut [u64],
-    call: Call,
-    what: &str,
-    asked: &Asked,
-) -> Result<Parts, String> {
+pub fn validate_parts(words: &mut Words, what: &str, asked: &Asked) -> Result<Parts, String> {
     let question = Question::new(asked).map_err(|e| format!("{what}: {e}"))?;
-    let same = question.same(call, words);
-    same.map_err(|e| format!("{what}: {e}"))?;
+    question.same(words).map_err(|e| format!("{what}: {e}"))?;
     let trees = read::layout(&asked.layout).map_err(|no| format!("{no:?}"))?;
     let [ours, decode, convert, alone] = medians([
-        work(|| question.ours(call, words)),
+        work(|| question.ours(words)),
         work(|| {
             let layout = read::layout(black_box(&asked.layout));
             (layout, read::values(black_box(&question.values)))
