@@ -19,7 +19,7 @@
  * - The answer is four words, see enum ciztarmo_answer; ciztarmo_validate_runs gives four for each run.
  * - Reading, building and evaluating recurse over nested blocks, of which at most 32 are open in a set and 256 in a layout;
  *   evaluating also over calls of types, of which at most 16 are open. So the stack is bounded, but not small. Measured (stack.c) on
- *   hostile inputs: reading 124 KB, building 63 KB, and validating 1.25 MB, where a type of 254 nested nodes calls itself. On the
+ *   hostile inputs: reading 124 KB, building 67 KB, and validating 1.25 MB, where a type of 254 nested nodes calls itself. On the
  *   type Trip of document 01 no call takes more than 12 KB. A thread that validates with sets or layouts from somebody whom it
  *   does not trust should have CIZTARMO_STACK_BYTES left. The proofs say nothing of the stack.
  *

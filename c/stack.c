@@ -202,6 +202,21 @@ static void validate_run(void)
     ciztarmo_validate_run(words, CIZTARMO_WORDS, layout.at, layout.len, run.at, run.len, answer);
 }
 
+static void layout_of(void)
+{
+    ciztarmo_layout_of(set.at, set.len, out, sizeof out, answer);
+}
+
+static void length_of(void)
+{
+    ciztarmo_length_of(layout.at, layout.len, name, 1, values.at, values.len, 100, answer);
+}
+
+static void length_of_run(void)
+{
+    ciztarmo_length_of_run(layout.at, layout.len, run.at, run.len, answer);
+}
+
 static void validate_runs(void)
 {
     ciztarmo_validate_runs(words, CIZTARMO_WORDS, layout.at, layout.len, run.at, run.len, answer, CIZTARMO_ANSWER_WORDS);
@@ -255,6 +270,10 @@ static void within_the_limits(void)
     CHECK(answer[CIZTARMO_NUMBER] == CIZTARMO_TOO_MANY_CALLS);
     CHECK(measure("validate_run, 16 calls of 254 nodes", validate_run) <= CIZTARMO_STACK_BYTES);
     CHECK(answer[CIZTARMO_NUMBER] == CIZTARMO_TOO_MANY_CALLS);
+    CHECK(measure("length_of, 16 calls of 254 nodes", length_of) <= CIZTARMO_STACK_BYTES);
+    CHECK(answer[CIZTARMO_NUMBER] == CIZTARMO_TOO_MANY_CALLS);
+    CHECK(measure("length_of_run, 16 calls of 254 nodes", length_of_run) <= CIZTARMO_STACK_BYTES);
+    CHECK(answer[CIZTARMO_NUMBER] == CIZTARMO_TOO_MANY_CALLS);
     CHECK(measure("validate_runs, 16 calls of 254 nodes", validate_runs) <= CIZTARMO_STACK_BYTES);
     CHECK(answer[CIZTARMO_NUMBER] == CIZTARMO_TOO_MANY_CALLS);
     for (int sums = 0; sums < 2; sums++) {
@@ -262,6 +281,8 @@ static void within_the_limits(void)
         CHECK(measure("read_set, 32 blocks open", read_set) <= CIZTARMO_STACK_BYTES_READING);
         CHECK(answer[CIZTARMO_NUMBER] == CIZTARMO_ACCEPTED);
         CHECK(measure("build_set, 32 blocks open", build) <= CIZTARMO_STACK_BYTES_READING);
+        CHECK(answer[CIZTARMO_NUMBER] == CIZTARMO_ACCEPTED);
+        CHECK(measure("layout_of, 32 blocks open", layout_of) <= CIZTARMO_STACK_BYTES_READING);
         CHECK(answer[CIZTARMO_NUMBER] == CIZTARMO_ACCEPTED);
     }
 }
