@@ -39,6 +39,14 @@ static void change(size_t at, uint64_t value, size_t size)
     emit();
 }
 
+/* A flag or code that may not stand there, with what must follow it and without: the one is asked before the other. */
+static void forbid(const struct spot *spot, uint8_t value)
+{
+    change(spot->at, value, 1);
+    bytes[spot->at] = value;
+    cut(spot->block, spot->at + 1);
+}
+
 /* Names: a byte below and above what may stand there, and 255 and 256 bytes. */
 static void damage_name(int block, size_t at)
 {
@@ -89,7 +97,7 @@ static void damage_part(const struct spot *spot)
         cut(spot->block, spot->end - 1);
     }
     if (strchr("fsopD", spot->is) != NULL) {
-        change(spot->at, 2, 1);
+        forbid(spot, 2);
         change(spot->at, bytes[spot->at] ^ 1, 1);
     }
     if (spot->is == SPOT_OPT_NAME && bytes[spot->at] == 1)
@@ -98,8 +106,10 @@ static void damage_part(const struct spot *spot)
         damage_name(spot->block, spot->at);
     if (strchr("LNV", spot->is) != NULL)
         damage_count(spot->at);
-    if (spot->is == SPOT_CODE)
+    if (spot->is == SPOT_CODE) {
+        forbid(spot, 8);
         damage_literal(spot->at);
+    }
 }
 
 static void damage_block(const struct spot *spot, int i)
