@@ -1,6 +1,6 @@
 /*
  * The fuzz target: makes a call from an input, asks the Rust driver what it must answer, calls the archive with each buffer at the
- * start and at the end of memory between two pages that trap, and holds answer, output and words against what they must be.
+ * start and at the end of memory between two pages that trap, and holds answers, output and words against what they must be.
  */
 #include "attack.h"
 
@@ -12,6 +12,7 @@
 #include <string.h>
 
 #define MOST_WORDS 10000
+#define MOST_ANSWERS (ATTACK_RUNS * CIZTARMO_ANSWER_WORDS)
 #define SLACK 64
 #define MOST_KEPT 20
 
@@ -20,6 +21,9 @@ typedef void building(uint64_t *, size_t, const uint8_t *, size_t, uint8_t *, si
 typedef void validating(uint64_t *, size_t, const uint8_t *, size_t, const uint8_t *, size_t, const uint8_t *, size_t, uint64_t,
                         uint64_t[4]);
 typedef void validating_run(uint64_t *, size_t, const uint8_t *, size_t, const uint8_t *, size_t, uint64_t[4]);
+typedef size_t validating_runs(uint64_t *, size_t, const uint8_t *, size_t, const uint8_t *, size_t, uint64_t *, size_t);
+typedef void measuring(const uint8_t *, size_t, const uint8_t *, size_t, const uint8_t *, size_t, uint64_t, uint64_t[4]);
+typedef void measuring_run(const uint8_t *, size_t, const uint8_t *, size_t, uint64_t[4]);
 
 /* The archive as it is shipped, and the same code compiled with counters for edges and checks of addresses. */
 struct code {
@@ -28,6 +32,9 @@ struct code {
     building *build;
     validating *validate;
     validating_run *validate_run;
+    validating_runs *validate_runs;
+    measuring *length_of;
+    measuring_run *length_of_run;
 };
 
 #ifdef ATTACK_WATCHED
@@ -35,6 +42,9 @@ reading watched_ciztarmo_read_set, watched_ciztarmo_read_layout, watched_ciztarm
 building watched_ciztarmo_build_set;
 validating watched_ciztarmo_validate;
 validating_run watched_ciztarmo_validate_run;
+validating_runs watched_ciztarmo_validate_runs;
+measuring watched_ciztarmo_length_of;
+measuring_run watched_ciztarmo_length_of_run;
 #endif
 
 static const struct code codes[] = {
@@ -42,17 +52,23 @@ static const struct code codes[] = {
      {ciztarmo_read_set, ciztarmo_read_layout, ciztarmo_read_values, ciztarmo_read_run},
      ciztarmo_build_set,
      ciztarmo_validate,
-     ciztarmo_validate_run},
+     ciztarmo_validate_run,
+     ciztarmo_validate_runs,
+     ciztarmo_length_of,
+     ciztarmo_length_of_run},
 #ifdef ATTACK_WATCHED
     {"the watched code",
      {watched_ciztarmo_read_set, watched_ciztarmo_read_layout, watched_ciztarmo_read_values, watched_ciztarmo_read_run},
      watched_ciztarmo_build_set,
      watched_ciztarmo_validate,
-     watched_ciztarmo_validate_run},
+     watched_ciztarmo_validate_run,
+     watched_ciztarmo_validate_runs,
+     watched_ciztarmo_length_of,
+     watched_ciztarmo_length_of_run},
 #endif
 };
 
-static struct attack_lent words, out, answer, first, name, second;
+static struct attack_lent words, out, answers, first, name, second;
 
 /* What words and output hold before a call; as long as the longest of them. */
 static uint8_t pattern[ATTACK_PART + 2 * SLACK + MOST_WORDS * 8];
@@ -131,40 +147,62 @@ static int slack_stayed(const struct attack_lent *lent, size_t len, int at_end)
            memcmp(lent->write + at + len, pattern + (at + len - from), to - at - len) == 0;
 }
 
+/* Whether lent memory has these bytes first, and behind them what stood there. */
+static int begins(const struct attack_lent *lent, size_t room, int at_end, const void *bytes, size_t len)
+{
+    const size_t at = place(lent, room, at_end);
+    const size_t before = at < SLACK ? at : SLACK;
+    return len <= room && memcmp(lent->write + at, bytes, len) == 0 &&
+           memcmp(lent->write + at + len, pattern + before + len, room - len) == 0;
+}
+
 /* The output after the call: the layout and then what stood there, or zeros. */
 static int output_as_expected(size_t room, int at_end, const struct attack_expected *want)
 {
-    const size_t at = place(&out, room, at_end);
-    const size_t before = at < SLACK ? at : SLACK;
-    const uint8_t *bytes = out.write + at;
-    if (want->answer[CIZTARMO_NUMBER] != 0)
-        return memcmp(bytes, zeros, room) == 0;
-    const size_t len = want->layout_len;
-    return len <= room && memcmp(bytes, want->layout, len) == 0 &&
-           memcmp(bytes + len, pattern + before + len, room - len) == 0;
+    if (want->answers[CIZTARMO_NUMBER] != 0)
+        return memcmp(out.write + place(&out, room, at_end), zeros, room) == 0;
+    return begins(&out, room, at_end, want->layout, want->layout_len);
 }
 
-static void tell_answers(const uint64_t *got, const uint64_t *want)
+static void tell_answer(const uint64_t *got, const uint64_t *want, size_t i)
 {
     fprintf(stderr, "attack: answered");
-    for (int i = 0; i < 4; i++)
-        fprintf(stderr, " %" PRIu64, got[i]);
+    for (int k = 0; k < 4; k++)
+        fprintf(stderr, " %" PRIu64, got[k]);
     fprintf(stderr, ", expected");
-    for (int i = 0; i < 4; i++)
-        fprintf(stderr, " %" PRIu64, want[i]);
-    fprintf(stderr, " (number, place, offset, value)\n");
+    for (int k = 0; k < 4; k++)
+        fprintf(stderr, " %" PRIu64, want[k]);
+    fprintf(stderr, " (number, place, offset, value), answer %lu\n", (unsigned long)i);
 }
 
-/* Calls one code with the buffers at one end of their memory. */
-static uint64_t *called(const struct code *code, const struct attack_call *call, int at_end)
+/* The first answer that differs, counted from 0. Where none does, a word behind them changed. */
+static void tell_answers(const uint64_t *got, const struct attack_expected *want)
+{
+    for (size_t i = 0; i < want->many; i++) {
+        if (memcmp(got + 4 * i, want->answers + 4 * i, 32) == 0)
+            continue;
+        tell_answer(got + 4 * i, want->answers + 4 * i, i);
+        return;
+    }
+}
+
+/* The bytes that are lent for answers. */
+static size_t answer_bytes(const struct attack_call *call)
+{
+    return 8 * (call->what == ATTACK_VALIDATE_RUNS ? (size_t)call->room : CIZTARMO_ANSWER_WORDS);
+}
+
+/* Calls one code with the buffers at one end of their memory. How many answers it says that there are. */
+static size_t called(const struct code *code, const struct attack_call *call, int at_end)
 {
     const size_t many = (size_t)call->words, room = (size_t)call->room;
     uint64_t *w = (uint64_t *)(void *)lend_dirty(&words, many * 8, at_end);
-    uint64_t *a = (uint64_t *)(void *)lend_dirty(&answer, 32, at_end);
+    uint64_t *a = (uint64_t *)(void *)lend_dirty(&answers, answer_bytes(call), at_end);
     const uint8_t *one = lend_bytes(&first, call->first, at_end);
     const uint8_t *asked = lend_bytes(&name, call->name, at_end);
     const uint8_t *two = lend_bytes(&second, call->second, at_end);
     const size_t len = call->first.len;
+    size_t told = 1;
     switch (call->what) {
     case ATTACK_BUILD_SET:
         code->build(w, many, one, len, lend_dirty(&out, room, at_end), room, a);
@@ -175,30 +213,42 @@ static uint64_t *called(const struct code *code, const struct attack_call *call,
     case ATTACK_VALIDATE_RUN:
         code->validate_run(w, many, one, len, two, call->second.len, a);
         break;
+    case ATTACK_VALIDATE_RUNS:
+        told = code->validate_runs(w, many, one, len, two, call->second.len, a, room);
+        break;
+    case ATTACK_LENGTH_OF:
+        code->length_of(one, len, asked, call->name.len, two, call->second.len, call->length, a);
+        break;
+    case ATTACK_LENGTH_OF_RUN:
+        code->length_of_run(one, len, two, call->second.len, a);
+        break;
     default:
         code->reading[call->what](w, many, one, len, a);
     }
 #ifdef ATTACK_FAULT
     /* To try the attack's power: a wrong answer for a rare input. */
-    if (ATTACK_FAULT)
-        a[CIZTARMO_OFFSET] ^= 1;
+    for (const uint64_t *end = a + 4 * told; a < end; a += 4)
+        if (ATTACK_FAULT)
+            a[CIZTARMO_OFFSET] ^= 1;
 #endif
-    return a;
+    return told;
 }
 
 static void hold(const struct code *code, const struct attack_call *call, int at_end, const struct attack_expected *want)
 {
-    const size_t many = (size_t)call->words, room = (size_t)call->room;
-    const uint64_t *a = called(code, call, at_end);
-    if (memcmp(a, want->answer, 32) != 0) {
-        differs(call, code->name, at_end, "the answer");
+    const size_t many = (size_t)call->words, room = (size_t)call->room, told = answer_bytes(call);
+    const int runs = call->what == ATTACK_VALIDATE_RUNS;
+    if (called(code, call, at_end) != want->many)
+        differs(call, code->name, at_end, "the number of answers");
+    if (!begins(&answers, told, at_end, want->answers, want->many * 32)) {
+        differs(call, code->name, at_end, runs ? "the answers or the words behind them" : "the answer");
         if (attack_counts.differences <= MOST_KEPT)
-            tell_answers(a, want->answer);
+            tell_answers((uint64_t *)(void *)(answers.write + place(&answers, told, at_end)), want);
     }
     if (memcmp(words.write + place(&words, many * 8, at_end), zeros, many * 8) != 0)
         differs(call, code->name, at_end, "the words are not zero");
-    if (!slack_stayed(&words, many * 8, at_end) || !slack_stayed(&answer, 32, at_end))
-        differs(call, code->name, at_end, "bytes around the words or the answer changed");
+    if (!slack_stayed(&words, many * 8, at_end) || !slack_stayed(&answers, told, at_end))
+        differs(call, code->name, at_end, "bytes around the words or the answers changed");
     if (call->what != ATTACK_BUILD_SET)
         return;
     if (!output_as_expected(room, at_end, want))
@@ -207,7 +257,19 @@ static void hold(const struct code *code, const struct attack_call *call, int at
         differs(call, code->name, at_end, "bytes around the output changed");
 }
 
-/* One call, by each code and at each end of its memory. Whether it was compared and accepted. */
+static void count(const struct attack_call *call, const struct attack_expected *want)
+{
+    attack_counts.calls++;
+    attack_counts.confirmed += want->verdict == ATTACK_CONFIRMED;
+    attack_counts.rules_only += want->verdict == ATTACK_RULES_ONLY;
+    attack_counts.by_call[call->what]++;
+    if (call->what == ATTACK_VALIDATE_RUNS)
+        attack_counts.runs += want->many;
+    for (size_t i = 0; i < want->many; i++)
+        attack_counts.by_number[want->answers[4 * i + CIZTARMO_NUMBER] & 31]++;
+}
+
+/* One call, by each code and at each end of its memory. Whether it was compared and a layout came out. */
 static int compare(const struct attack_call *call, struct attack_expected *want)
 {
     static uint8_t layout[CIZTARMO_MAX_INPUT];
@@ -220,33 +282,31 @@ static int compare(const struct attack_call *call, struct attack_expected *want)
         want->layout = memcpy(layout, want->layout, want->layout_len);
     if (want->verdict == ATTACK_DIFFERS)
         differs(call, "the Rust", 0, "the rules and the unchanged Rust differ");
-    attack_counts.calls++;
-    attack_counts.confirmed += want->verdict == ATTACK_CONFIRMED;
-    attack_counts.rules_only += want->verdict == ATTACK_RULES_ONLY;
-    attack_counts.by_call[call->what]++;
-    attack_counts.by_number[want->answer[CIZTARMO_NUMBER] & 31]++;
+    count(call, want);
     for (size_t i = 0; i < sizeof codes / sizeof codes[0]; i++)
         for (int at_end = 0; at_end < 2; at_end++)
             hold(&codes[i], call, at_end, want);
-    return want->answer[CIZTARMO_NUMBER] == 0;
+    return want->layout_len > 0;
 }
 
 static uint64_t words_of(uint8_t choice)
 {
-    static const uint64_t few_or_many[] = {8191, 0, 8193, MOST_WORDS};
-    return choice < 252 ? CIZTARMO_WORDS : few_or_many[choice - 252];
+    static const uint64_t few_or_many[] = {1, 15, 16, 17, 8191, 0, 8193, MOST_WORDS};
+    return choice < 248 ? CIZTARMO_WORDS : few_or_many[choice - 248];
 }
 
-/* The output's room: all that a layout can need, or a length near that of the layout which the set builds to. */
+/* The room of output or answers: all that a layout can need or MOST_ANSWERS, or near what this layout or these runs need. */
 static uint64_t room_of(uint8_t choice, struct attack_call *call)
 {
-    struct attack_expected built;
-    call->room = CIZTARMO_MAX_INPUT;
+    struct attack_expected all;
+    const int runs = call->what == ATTACK_VALIDATE_RUNS;
+    const uint64_t most = runs ? MOST_ANSWERS : CIZTARMO_MAX_INPUT;
+    call->room = most;
     if (choice < 240)
-        return call->room;
-    attack_expect(call, &built);
-    const uint64_t len = built.layout_len;
-    const uint64_t rooms[] = {len, len - (len > 0), len + 1, 0, 1, len / 2, CIZTARMO_MAX_INPUT - 1, len + 7};
+        return most;
+    attack_expect(call, &all);
+    const uint64_t len = runs ? all.many * CIZTARMO_ANSWER_WORDS : all.layout_len;
+    const uint64_t rooms[] = {len, len - (len > 0), len + 1, 0, 1, len / 2, most - 1, len + 7};
     return rooms[choice % 8];
 }
 
@@ -283,21 +343,29 @@ static void lengthen(struct attack_input *in)
     part->len = lens[choice];
 }
 
-/* The call of an input; where a set is built first, then the validation over its layout. */
-static void try_input(struct attack_input *in)
+/* A call with the words and the room that the input chooses. */
+static int try_call(const struct attack_input *in, struct attack_call *call, struct attack_expected *want)
 {
+    const int lent = call->what != ATTACK_LENGTH_OF && call->what != ATTACK_LENGTH_OF_RUN;
+    call->words = lent ? words_of(in->words) : 0;
+    if (call->what == ATTACK_BUILD_SET || call->what == ATTACK_VALIDATE_RUNS)
+        call->room = room_of(in->room, call);
+    return compare(call, want);
+}
+
+/* The call of an input; where a set is built first, then the validation over its layout. */
+static void try_input(const struct attack_input *in)
+{
+    static const uint32_t behind[] = {ATTACK_VALIDATE, ATTACK_VALIDATE_RUN, ATTACK_VALIDATE_RUNS};
+    const int builds = in->what >= ATTACK_CALLS;
     struct attack_expected want;
-    struct attack_call call = {in->what, words_of(in->words), 0, in->length, in->first, in->name, in->second};
-    if (in->what >= ATTACK_CALLS)
-        call.what = ATTACK_BUILD_SET;
-    if (call.what == ATTACK_BUILD_SET)
-        call.room = room_of(in->room, &call);
-    if (!compare(&call, &want) || in->what < ATTACK_CALLS)
+    struct attack_call call = {builds ? ATTACK_BUILD_SET : in->what, 0, 0, in->length, in->first, in->name, in->second};
+    if (!try_call(in, &call, &want) || !builds)
         return;
     call.first.at = want.layout;
     call.first.len = want.layout_len;
-    call.what = in->what == ATTACK_BUILD_VALIDATE ? ATTACK_VALIDATE : ATTACK_VALIDATE_RUN;
-    compare(&call, &want);
+    call.what = behind[in->what - ATTACK_CALLS];
+    try_call(in, &call, &want);
 }
 
 int LLVMFuzzerInitialize(int *argc, char ***argv)
@@ -306,7 +374,7 @@ int LLVMFuzzerInitialize(int *argc, char ***argv)
     (void)argv;
     attack_lend(&words, MOST_WORDS * 8, 0);
     attack_lend(&out, ATTACK_PART, 0);
-    attack_lend(&answer, 32, 0);
+    attack_lend(&answers, (MOST_ANSWERS + 7) * 8, 0);
     attack_lend(&first, ATTACK_PART, 1);
     attack_lend(&name, ATTACK_PART, 1);
     attack_lend(&second, ATTACK_PART, 1);

@@ -5,7 +5,7 @@
 #include <stddef.h>
 #include <stdint.h>
 
-/* The exported calls, and the two ways to build a set and validate over the layout that came out. As in driver/src/lib.rs. */
+/* The exported calls, and the three ways to build a set and validate over the layout that came out. As in driver/src/lib.rs. */
 enum attack_what {
     ATTACK_READ_SET = 0,
     ATTACK_READ_LAYOUT = 1,
@@ -14,10 +14,14 @@ enum attack_what {
     ATTACK_BUILD_SET = 4,
     ATTACK_VALIDATE = 5,
     ATTACK_VALIDATE_RUN = 6,
-    ATTACK_CALLS = 7,
-    ATTACK_BUILD_VALIDATE = 7,
-    ATTACK_BUILD_RUN = 8,
-    ATTACK_WHATS = 9
+    ATTACK_VALIDATE_RUNS = 7,
+    ATTACK_LENGTH_OF = 8,
+    ATTACK_LENGTH_OF_RUN = 9,
+    ATTACK_CALLS = 10,
+    ATTACK_BUILD_VALIDATE = 10,
+    ATTACK_BUILD_RUN = 11,
+    ATTACK_BUILD_RUNS = 12,
+    ATTACK_WHATS = 13
 };
 
 struct attack_bytes {
@@ -27,11 +31,13 @@ struct attack_bytes {
 
 /*
  * An input of the fuzzer: a header of 20 bytes, then the parts. The first part is a set, layout, values or run, the second (for
- * validations) values or a run.
+ * validations) values, a run or runs.
  *
  *     0       what, modulo ATTACK_WHATS
- *     1       words: 0 to 251: 8,192; 252: 8,191; 253: 0; 254: 8,193; 255: 10,000
- *     2       room of the output: 0 to 239: 65,536; 240 to 247: near the layout's length L, see room_of in attack.c
+ *     1       words: 0 to 247: 8,192; 248: 1; 249: 15; 250: 16; 251: 17; 252: 8,191; 253: 0; 254: 8,193; 255: 10,000;
+ *             length_of and length_of_run take none
+ *     2       room of the output: 0 to 239: 65,536 bytes; 240 to 255: near the layout's length, see room_of in attack.c;
+ *             of the answers of validate_runs: 0 to 239: 256 words; 240 to 255: near what the runs need
  *     3       what words and output hold before the call: the low two bits choose a pattern
  *     4       lengthening: 0 to 249: none; 250 to 255: a part is filled with zeros up to or past 65,536, see lengthen in attack.c
  *     5       not used
@@ -43,6 +49,9 @@ struct attack_bytes {
 
 /* Longer parts are cut to this; it is above 65,536, so that question 1 is reached. */
 #define ATTACK_PART 69632
+
+/* The most runs that are answered in one call, because each is asked of the driver by itself. More may stand there. */
+#define ATTACK_RUNS 64
 
 struct attack_input {
     uint8_t what, words, room, dirty, pad;
@@ -56,7 +65,14 @@ size_t attack_write(const struct attack_input *in, uint8_t *out, size_t cap);
 uint64_t attack_get(const uint8_t *at, size_t bytes);
 void attack_put(uint8_t *at, uint64_t value, size_t bytes);
 
-/* One call, and what it must answer by the rules of document 01. Laid out as in driver/src/lib.rs. */
+/* Whether the second part is a run or runs, and whether it is runs. */
+int attack_takes_run(uint8_t what);
+int attack_takes_runs(uint8_t what);
+
+/*
+ * One call, and what it must answer by the rules of document 01. Laid out as in driver/src/lib.rs. The room is that of the output
+ * in bytes, or of the answers in words.
+ */
 struct attack_call {
     uint32_t what;
     uint64_t words, room, length;
@@ -70,9 +86,11 @@ enum attack_verdict {
     ATTACK_DIFFERS = 3     /* the rules and the Rust differ where they should not */
 };
 
+/* What is pointed to stays until the next call. */
 struct attack_expected {
-    uint64_t answer[4];
-    const uint8_t *layout; /* of a build that is accepted; stays until the next call */
+    const uint64_t *answers; /* four words each */
+    size_t many;             /* 1, or in validate_runs as many as there are runs and room for */
+    const uint8_t *layout;   /* of a build that is accepted */
     size_t layout_len;
     uint32_t verdict;
 };
@@ -93,7 +111,7 @@ void attack_lend(struct attack_lent *lent, size_t size, int read_only);
 
 /* counts.c: what was done, and how much of the code was reached. */
 extern struct attack_counts {
-    uint64_t inputs, calls, confirmed, rules_only, stopped, differences;
+    uint64_t inputs, calls, runs, confirmed, rules_only, stopped, differences;
     uint64_t by_call[ATTACK_CALLS], by_number[32];
 } attack_counts;
 

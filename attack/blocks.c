@@ -161,11 +161,22 @@ static int look_block(struct look *look, int list)
     return 1;
 }
 
+/* Where the next of the blocks that stand one behind the other begins. */
+static size_t behind(const struct part_view *part, size_t at)
+{
+    const size_t left = part->len - at;
+    const uint64_t len = left < 4 ? left : 4 + attack_get(part->bytes + at, 4);
+    return len < left ? at + (size_t)len : part->len;
+}
+
+/* Of a part with one block, or with runs one behind the other. */
 void find_spots(struct part_view *part)
 {
-    struct look look = {part, 0, part->len, NO_SPOT, 0};
     part->spots = 0;
-    look_block(&look, NO_SPOT);
+    for (size_t at = 0; at < part->len; at = behind(part, at)) {
+        struct look look = {part, at, part->len, NO_SPOT, 0};
+        look_block(&look, NO_SPOT);
+    }
 }
 
 int splice(struct part_view *part, int block, size_t at, size_t end, const uint8_t *bytes, size_t len)

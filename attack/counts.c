@@ -9,7 +9,8 @@
 struct attack_counts attack_counts;
 
 const char *const attack_call_names[ATTACK_CALLS] = {"read_set", "read_layout", "read_values", "read_run",
-                                                     "build_set", "validate", "validate_run"};
+                                                     "build_set", "validate", "validate_run", "validate_runs",
+                                                     "length_of", "length_of_run"};
 
 /* The counters and the table of their places, which the compilers lay into these sections; the one goes with the other. */
 extern uint8_t __start___sancov_cntrs[], __stop___sancov_cntrs[];
@@ -90,6 +91,7 @@ static void print_counts(void)
     printf(")\nattack: of these the unchanged Rust confirms %" PRIu64 ", and of %" PRIu64 " the rules alone decide\n",
            attack_counts.confirmed, attack_counts.rules_only);
     printf("attack: not compared, because the evaluation takes more than 200,000 steps: %" PRIu64 "\n", attack_counts.stopped);
+    printf("attack: answers in the calls of validate_runs: %" PRIu64 "\n", attack_counts.runs);
     printf("attack: answers by number (0: accepted):");
     for (int i = 0; i < 32; i++)
         if (attack_counts.by_number[i] > 0)

@@ -45,6 +45,16 @@ int attack_parse(const uint8_t *data, size_t size, struct attack_input *in)
     return 1;
 }
 
+int attack_takes_runs(uint8_t what)
+{
+    return what == ATTACK_VALIDATE_RUNS || what == ATTACK_BUILD_RUNS;
+}
+
+int attack_takes_run(uint8_t what)
+{
+    return what == ATTACK_VALIDATE_RUN || what == ATTACK_LENGTH_OF_RUN || what == ATTACK_BUILD_RUN || attack_takes_runs(what);
+}
+
 static uint8_t *append(uint8_t *at, struct attack_bytes bytes)
 {
     if (bytes.len > 0)

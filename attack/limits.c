@@ -377,14 +377,36 @@ void limit_operation(struct limit_bytes *b, uint64_t kind, uint64_t left, uint64
     close_block(b, layout);
 }
 
-void limit_values(struct limit_bytes *b, int values)
+/* Values whose names are stretched, the first `longer` of them by one more. */
+static void put_values(struct limit_bytes *b, int values, size_t more, int longer)
 {
-    b->len = 0;
     const size_t at = open_block(b, 192);
     put(b, (uint64_t)values, 2);
     for (int i = 0; i < values; i++) {
-        put_name(b, "v", i, 0);
+        put_name(b, "v", i, more + (i < longer));
         put(b, (uint64_t)i, 8);
     }
     close_block(b, at);
+}
+
+void limit_values(struct limit_bytes *b, int values)
+{
+    b->len = 0;
+    put_values(b, values, 0, 0);
+}
+
+/* A run behind what is there. It has 30 bytes, and for each value 16 and by how much its name is stretched. */
+void limit_add_run(struct limit_bytes *b, int values, size_t more, int longer)
+{
+    const size_t run = open_block(b, 193);
+    put_name(b, "T", 0, 0);
+    put(b, 100, 8);
+    put_values(b, values, more, longer);
+    close_block(b, run);
+}
+
+/* Bytes behind what is there, such as the length of a run that is cut off. */
+void limit_add_bytes(struct limit_bytes *b, uint64_t value, size_t bytes)
+{
+    put(b, value, bytes);
 }

@@ -26,5 +26,7 @@ void limit_depth_layout(struct limit_bytes *b, int open);
 void limit_calls(struct limit_bytes *b, int types, int arguments, int parameters);
 void limit_operation(struct limit_bytes *b, uint64_t kind, uint64_t left, uint64_t right);
 void limit_values(struct limit_bytes *b, int values);
+void limit_add_run(struct limit_bytes *b, int values, size_t more, int longer);
+void limit_add_bytes(struct limit_bytes *b, uint64_t value, size_t bytes);
 
 #endif

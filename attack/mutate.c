@@ -391,6 +391,56 @@ static void damage(struct part_view *part, const struct names *names)
     }
 }
 
+/* A block with none around it: the only one, or one of the runs that stand one behind the other. And how many there are. */
+static int pick_root(const struct part_view *part, uint64_t *many)
+{
+    int found = NO_SPOT;
+    *many = 0;
+    for (int i = 0; i < part->spots; i++)
+        if (part->spot[i].is == SPOT_BLOCK && part->spot[i].block == NO_SPOT && draw(++*many) == 0)
+            found = i;
+    return found;
+}
+
+/* A run once more, or some times more, behind itself. */
+static void repeat(struct part_view *part, size_t at, size_t end)
+{
+    uint64_t times = draw(4) == 0 ? 1 + draw(70) : 1;
+    memcpy(scratch, part->bytes + at, end - at);
+    while (times-- > 0 && splice(part, NO_SPOT, end, end, scratch, end - at))
+        ;
+}
+
+/* One run more or less; a length by which a run ends elsewhere than the next begins; an end that is cut, or is no run. */
+static void change_runs(struct part_view *part, const struct names *names)
+{
+    uint64_t many;
+    const int i = pick_root(part, &many);
+    const size_t at = i == NO_SPOT ? 0 : part->spot[i].at, end = i == NO_SPOT ? part->len : part->spot[i].end;
+    const size_t left = part->len - at;
+    switch (draw(6)) {
+    case 0:
+        splice(part, NO_SPOT, end, end, scratch, fresh_block(193, names, 0, scratch));
+        break;
+    case 1:
+        repeat(part, at, end);
+        break;
+    case 2:
+        splice(part, NO_SPOT, at, end, NULL, 0);
+        break;
+    case 3:
+        if (left >= 4)
+            attack_put(part->bytes + at, draw(2) == 0 ? draw(left + 2) : left - 5 + draw(3), 4);
+        break;
+    case 4:
+        part->len -= 1 + draw(left < 9 ? left : 9);
+        break;
+    default:
+        attack_put(scratch, draw_number(), 8);
+        splice(part, NO_SPOT, part->len, part->len, scratch, 1 + draw(8));
+    }
+}
+
 typedef void mutation(struct part_view *, const struct names *);
 
 /* Listed as often as they are wanted. */
@@ -425,20 +475,29 @@ static void all_names(struct names *names)
     }
 }
 
+/* A validation by the kind of the second part: over a layout, or over that which a set builds to. */
+static uint8_t validation_for(int builds)
+{
+    uint64_t many;
+    pick_root(&second_view, &many);
+    if (second_view.len < 6 || attack_get(second_view.bytes + 4, 2) != 193)
+        return builds ? ATTACK_BUILD_VALIDATE : draw(2) == 0 ? ATTACK_LENGTH_OF : ATTACK_VALIDATE;
+    if (draw(many > 1 ? 8 : 3) > 1)
+        return builds ? ATTACK_BUILD_RUNS : ATTACK_VALIDATE_RUNS;
+    return builds ? ATTACK_BUILD_RUN : draw(2) == 0 ? ATTACK_LENGTH_OF_RUN : ATTACK_VALIDATE_RUN;
+}
+
 /* What the call may be, by the kinds of the parts that are there. */
 static uint8_t what_for(void)
 {
     const uint64_t kind = first_view.len >= 6 ? attack_get(first_view.bytes + 4, 2) : 0;
-    const int run = second_view.len >= 6 && attack_get(second_view.bytes + 4, 2) == 193;
     switch (draw(20) == 0 ? 0 : kind) {
     case 36:
         if (draw(2) == 0)
             return draw(4) == 0 ? ATTACK_READ_SET : ATTACK_BUILD_SET;
-        return run ? ATTACK_BUILD_RUN : ATTACK_BUILD_VALIDATE;
+        return validation_for(1);
     case 160:
-        if (draw(8) == 0)
-            return ATTACK_READ_LAYOUT;
-        return run ? ATTACK_VALIDATE_RUN : ATTACK_VALIDATE;
+        return draw(8) == 0 ? ATTACK_READ_LAYOUT : validation_for(0);
     case 192:
         return ATTACK_READ_VALUES;
     case 193:
@@ -452,7 +511,7 @@ static void change_header(struct attack_input *in)
 {
     switch (draw(8)) {
     case 0:
-        in->words = (uint8_t)(draw(4) == 0 ? 252 + draw(4) : 0);
+        in->words = (uint8_t)(draw(4) == 0 ? 248 + draw(8) : 0);
         break;
     case 1:
         in->room = (uint8_t)(draw(2) == 0 ? 240 + draw(8) : 0);
@@ -475,9 +534,8 @@ static void change_header(struct attack_input *in)
 /* A new root where a part is empty, so that a damaged input comes back to blocks. */
 static void fill(const struct attack_input *in, struct part_view *part, const struct names *names)
 {
-    static const uint16_t firsts[ATTACK_WHATS] = {36, 160, 192, 193, 36, 160, 160, 36, 36};
-    const int run = in->what == ATTACK_VALIDATE_RUN || in->what == ATTACK_BUILD_RUN;
-    const uint16_t kind = part == &first_view ? firsts[in->what] : run ? 193 : 192;
+    static const uint16_t firsts[ATTACK_WHATS] = {36, 160, 192, 193, 36, 160, 160, 160, 160, 160, 36, 36, 36};
+    const uint16_t kind = part == &first_view ? firsts[in->what] : attack_takes_run(in->what) ? 193 : 192;
     part->len = fresh_block(kind, names, 0, scratch);
     memcpy(part->bytes, scratch, part->len);
 }
@@ -486,6 +544,8 @@ static void mutate_part(const struct attack_input *in, struct part_view *part, c
 {
     if (part->len == 0 || draw(300) == 0)
         fill(in, part, names);
+    else if (part == &second_view && attack_takes_runs(in->what) && draw(3) == 0)
+        change_runs(part, names);
     else
         mutations[draw(sizeof mutations / sizeof mutations[0])](part, names);
     find_spots(part);
@@ -516,6 +576,7 @@ size_t LLVMFuzzerCustomMutator(uint8_t *data, size_t size, size_t most, unsigned
     load(&second_view, in.second);
     for (uint64_t times = 1 + (draw(2) == 0 ? draw(4) : 0); times > 0; times--) {
         const int two = in.what >= ATTACK_VALIDATE;
+        const uint64_t one_in = attack_takes_runs(in.what) ? 2 : 4;
         all_names(&names);
         if (draw(10) == 0) {
             change_header(&in);
@@ -523,10 +584,17 @@ size_t LLVMFuzzerCustomMutator(uint8_t *data, size_t size, size_t most, unsigned
             in.name.len = fresh_name(&names, asked) - 2;
             in.name.at = asked + 2;
         } else {
-            mutate_part(&in, two && draw(4) == 0 ? &second_view : &first_view, &names);
+            mutate_part(&in, two && draw(one_in) == 0 ? &second_view : &first_view, &names);
         }
     }
     return write_back(&in, data, size, most);
+}
+
+/* The runs of another input behind those that are there. */
+static void join_runs(struct part_view *part, struct attack_bytes runs)
+{
+    if (splice(part, NO_SPOT, part->len, part->len, runs.at, runs.len))
+        find_spots(part);
 }
 
 /* Puts a block of the second input into the first, or takes over its second part. */
@@ -541,6 +609,8 @@ size_t LLVMFuzzerCustomCrossOver(const uint8_t *data1, size_t size1, const uint8
     load(&first_view, in.first);
     load(&second_view, draw(4) == 0 ? from.second : in.second);
     load(&other_view, from.first);
+    if (attack_takes_runs(in.what) && draw(2) == 0)
+        join_runs(&second_view, from.second);
     all_names(&names);
     if (draw(4) == 0)
         in.name = from.name;

@@ -85,21 +85,53 @@ static uint8_t words_choice(uint64_t words)
 /* The kinds of sets and layouts, of runs and of values that were damaged already. */
 static uint8_t blocks_done[256], runs_done[256], values_done[256];
 
+/* Runs one behind the other, the layout that they are put to, and the length of the first. */
+struct runs {
+    struct attack_bytes layout;
+    size_t first, len;
+    uint8_t at[ATTACK_PART];
+};
+
+static void add_run(struct runs *runs, struct attack_bytes run)
+{
+    if (run.len == 0 || run.len > sizeof runs->at - runs->len)
+        return;
+    memcpy(runs->at + runs->len, run.at, run.len);
+    runs->len += run.len;
+}
+
 /* The calls to which a damaged input is put. */
 static struct attack_input damaged;
 static uint8_t damaged_calls[2];
 static int damaged_second;
 
+/* A damaged run, before a good one and behind it: by its length it may take some of the next one's bytes. */
+static void damaged_runs(struct attack_bytes run)
+{
+    static struct runs runs;
+    struct attack_input in = damaged;
+    runs.len = 0;
+    add_run(&runs, damaged.second);
+    add_run(&runs, run);
+    add_run(&runs, damaged.second);
+    in.what = ATTACK_VALIDATE_RUNS;
+    in.second = (struct attack_bytes){runs.at, runs.len};
+    write_seed(&in);
+}
+
 static void take_damaged(const uint8_t *bytes, size_t len)
 {
     struct attack_input in = damaged;
+    const struct attack_bytes part = {bytes, len};
     for (int i = 0; i < 2; i++) {
         const int reads = damaged_calls[i] <= ATTACK_READ_RUN;
         in.what = damaged_calls[i];
-        *(damaged_second && !reads ? &in.second : &in.first) = (struct attack_bytes){bytes, len};
+        *(damaged_second && !reads ? &in.second : &in.first) = part;
         write_seed(&in);
         in = damaged;
     }
+    if (damaged_calls[0] == ATTACK_READ_RUN)
+        damaged_runs(part);
 }
 
 /* A good part of an input, damaged and put to two calls: the one that reads it, and another. */
@@ -130,6 +162,40 @@ static void build_record(struct rest *rest)
         damage(&in, 0, ATTACK_READ_SET, ATTACK_BUILD_SET, blocks_done);
 }
 
+/* The runs that are stored one behind the other for one layout. */
+static struct runs stored;
+
+/* All of them in one call, and the first once more. */
+static void end_stored(void)
+{
+    if (stored.len == 0)
+        return;
+    add_run(&stored, (struct attack_bytes){stored.at, stored.first});
+    const struct attack_bytes all = {stored.at, stored.len};
+    const struct attack_input in = {ATTACK_VALIDATE_RUNS, 0, 0, 0x5A, 0, 0, stored.layout, {NULL, 0}, all};
+    write_seed(&in);
+    stored.len = 0;
+}
+
+static void add_stored(const struct attack_input *in)
+{
+    const struct attack_bytes old = stored.layout;
+    if (stored.len > 0 && (in->first.len != old.len || memcmp(in->first.at, old.at, old.len) != 0))
+        end_stored();
+    if (stored.len == 0)
+        stored.first = in->second.len;
+    stored.layout = in->first;
+    add_run(&stored, in->second);
+}
+
+/* Every third of them as a call without words. */
+static void without_words(struct attack_input in)
+{
+    in.what = in.what == ATTACK_VALIDATE ? ATTACK_LENGTH_OF : ATTACK_LENGTH_OF_RUN;
+    if (written % 3 == 0)
+        write_seed(&in);
+}
+
 static void validate_record(struct rest *rest, int run)
 {
     struct attack_input in = {ATTACK_VALIDATE, 0, 0, 0x5A, 0, 0, {NULL, 0}, {NULL, 0}, {NULL, 0}};
@@ -144,8 +210,12 @@ static void validate_record(struct rest *rest, int run)
     in.second = part(rest);
     const uint64_t refused = number(rest, 1);
     take(rest, 14);
-    if (in.name.len <= 65535)
+    if (in.name.len <= 65535) {
         write_seed(&in);
+        without_words(in);
+    }
+    if (run)
+        add_stored(&in);
     if (refused == 0 || refused >= 20) {
         damage(&in, 0, ATTACK_READ_LAYOUT, in.what, blocks_done);
         if (run)
@@ -163,7 +233,15 @@ static void validate_record(struct rest *rest, int run)
     write_seed(&in);
 }
 
-/* Standard input of `lengths`: a set and runs, each put to the set's layout. */
+/* A set and what stands behind it, put to the set's layout in one call. */
+static void together(struct attack_bytes set, struct attack_bytes runs)
+{
+    struct attack_input in = {ATTACK_BUILD_RUNS, 0, 0, 0x5A, 0, 0, set, {NULL, 0}, runs};
+    if (runs.len <= ATTACK_PART)
+        write_seed(&in);
+}
+
+/* Standard input of `lengths`: a set and runs, each put to the set's layout, and all together. */
 static void blocks_of(struct attack_bytes input)
 {
     struct attack_input in = {ATTACK_READ_SET, 0, 0, 0x5A, 0, 0, {NULL, 0}, {NULL, 0}, {NULL, 0}};
@@ -172,14 +250,16 @@ static void blocks_of(struct attack_bytes input)
         if (len > input.len || len > ATTACK_PART)
             return;
         const struct attack_bytes block = {input.at, (size_t)len};
-        if (in.first.at == NULL)
-            in.first = block;
-        else
-            in.second = block;
-        write_seed(&in);
-        in.what = ATTACK_BUILD_RUN;
         input.at += len;
         input.len -= (size_t)len;
+        if (in.first.at == NULL) {
+            in.first = block;
+            together(block, input);
+        } else {
+            in.second = block;
+        }
+        write_seed(&in);
+        in.what = ATTACK_BUILD_RUN;
     }
 }
 
@@ -200,9 +280,10 @@ static void list(const char *file)
         else
             stop(file, "no record", (size_t)(record.bytes.at - rest.start));
     }
+    end_stored();
 }
 
-static struct limit_bytes limit, values;
+static struct limit_bytes limit, values, runs;
 
 static void limit_seed_of_length(enum attack_what what, uint64_t length)
 {
@@ -235,6 +316,7 @@ static void limits(void)
         limit_seed(ATTACK_VALIDATE);
         limit_calls(&limit, 17 + more, 0, 0);
         limit_seed(ATTACK_VALIDATE);
+        limit_seed(ATTACK_LENGTH_OF);
         limit_calls(&limit, 3, 512 + more, 512);
         limit_seed(ATTACK_VALIDATE);
         limit_calls(&limit, 3, 512, 512 + more);
@@ -294,6 +376,75 @@ static void operations(void)
         }
 }
 
+static void runs_seed(int words, int room, int pad)
+{
+    struct attack_input in = {ATTACK_VALIDATE_RUNS, 0, 0, 0x5A, 0, 0, {limit.at, limit.len}, {NULL, 0}, {runs.at, runs.len}};
+    in.words = (uint8_t)words;
+    in.room = (uint8_t)room;
+    in.pad = (uint8_t)pad;
+    write_seed(&in);
+}
+
+static void put_runs(int many)
+{
+    runs.len = 0;
+    for (int i = 0; i < many; i++)
+        limit_add_run(&runs, i % 3, 0, 0);
+}
+
+/* Runs without an end: a length that is cut off, is too small for a block, or reaches too far; the last two as long as may be. */
+static void run_ends(void)
+{
+    static const uint64_t lens[] = {0, 1, 2, 3, 26, 27, UINT32_MAX, 65532, 65533};
+    for (size_t i = 0; i < sizeof lens / sizeof lens[0]; i++) {
+        put_runs(1);
+        limit_add_bytes(&runs, lens[i], 4);
+        runs_seed(0, 0, 0);
+        limit_add_run(&runs, 1, 0, 0);
+        runs_seed(0, 0, 0);
+        put_runs(0);
+        limit_add_bytes(&runs, lens[i], 4);
+        runs_seed(0, 0, 252);
+    }
+    for (size_t cut = 1; cut < 8; cut++) {
+        put_runs(2);
+        runs.len -= cut;
+        runs_seed(0, 0, 0);
+        put_runs(2);
+        limit_add_bytes(&runs, 193, cut);
+        runs_seed(0, 0, 0);
+    }
+}
+
+/*
+ * Many runs in one call: no, one or some runs with every room, every number of words and parts of every length; as many as are
+ * compared, and one more; one of 65,536 bytes, and one byte longer, before another; calls open in each, as many as may be and one
+ * more.
+ */
+static void many_runs(void)
+{
+    limit_calls(&limit, 3, 0, 0);
+    for (int many = 0; many < 4; many++) {
+        put_runs(many);
+        for (int choice = 240; choice < 248; choice++)
+            runs_seed(0, choice, 0);
+        for (int choice = 248; choice < 256; choice++)
+            runs_seed(choice, 0, 0);
+        for (int choice = 250; choice < 256; choice++)
+            runs_seed(0, 0, choice);
+    }
+    for (int more = 0; more < 2; more++) {
+        limit_calls(&limit, 17 + more, 0, 0);
+        put_runs(ATTACK_RUNS + more);
+        runs_seed(0, 0, 0);
+        put_runs(1);
+        limit_add_run(&runs, 512, 111, 482 + more);
+        limit_add_run(&runs, 1, 0, 0);
+        runs_seed(0, 0, 0);
+    }
+    run_ends();
+}
+
 int main(int argc, char **argv)
 {
     if (argc != 4) {
@@ -307,6 +458,7 @@ int main(int argc, char **argv)
     registries();
     long_names();
     operations();
+    many_runs();
     printf("%lu\n", written);
     return 0;
 }

@@ -1,4 +1,4 @@
-//! The judge for a program in C: the answer that a call must give, by the
+//! The judge for a program in C: the answers that a call must give, by the
 //! rules of document 01, held against the unchanged Rust by the judge's own
 //! function. A panic here ends the process, which the attack tells as a crash.
 
@@ -55,7 +55,8 @@ impl Bytes {
 /// As `struct attack_expected` in attack.h.
 #[repr(C)]
 pub struct AttackExpected {
-    answer: [u64; 4],
+    answers: *const u64,
+    many: usize,
     layout: *const u8,
     layout_len: usize,
     verdict: u32,
@@ -73,10 +74,21 @@ const READ_RUN: u32 = 3;
 const BUILD_SET: u32 = 4;
 const VALIDATE: u32 = 5;
 const VALIDATE_RUN: u32 = 6;
+const VALIDATE_RUNS: u32 = 7;
+const LENGTH_OF: u32 = 8;
+const LENGTH_OF_RUN: u32 = 9;
+
+/// What is expected of a call: four words for each answer, a layout where one
+/// is built, and how the rules came to it.
+struct Expected {
+    answers: Vec<[u64; 4]>,
+    layout: Vec<u8>,
+    verdict: u32,
+}
 
 thread_local! {
-    /// The layout that was last expected; it stays until the next call.
-    static LAYOUT: RefCell<Vec<u8>> = const { RefCell::new(Vec::new()) };
+    /// What was last expected; it stays until the next call.
+    static KEPT: RefCell<Option<Expected>> = const { RefCell::new(None) };
 }
 
 /// # Safety
@@ -84,11 +96,21 @@ thread_local! {
 #[no_mangle]
 pub unsafe extern "C" fn attack_expect(call: *const AttackCall, out: *mut AttackExpected) {
     let call = &*call;
-    *out = match call.what {
+    let expected = match call.what {
         READ_SET..=READ_RUN => reading(call),
-        BUILD_SET | VALIDATE | VALIDATE_RUN => judged(call),
-        other => panic!("no call has the number {other}"),
+        VALIDATE_RUNS => runs(call),
+        _ => judged(&as_call(call)),
     };
+    KEPT.with_borrow_mut(|kept| {
+        let kept = kept.insert(expected);
+        *out = AttackExpected {
+            answers: kept.answers.as_ptr().cast(),
+            many: kept.answers.len(),
+            layout: kept.layout.as_ptr(),
+            layout_len: kept.layout.len(),
+            verdict: kept.verdict,
+        };
+    });
 }
 
 fn words_of(no: &No) -> [u64; 4] {
@@ -102,7 +124,7 @@ fn accepted(value: u64) -> [u64; 4] {
 }
 
 /// The rules alone: 19, 1, and the reading.
-fn reading(call: &AttackCall) -> AttackExpected {
+fn reading(call: &AttackCall) -> Expected {
     let bytes = call.first.slice();
     let answer = match call.words < WORDS {
         true => Err(No::plain(19)),
@@ -113,15 +135,64 @@ fn reading(call: &AttackCall) -> AttackExpected {
             _ => read::run(bytes).map(drop),
         }),
     };
-    expected(
-        answer.map_or_else(|no| words_of(&no), |()| accepted(0)),
-        RULES_ONLY,
-        Vec::new(),
-    )
+    let answer = answer.map_or_else(|no| words_of(&no), |()| accepted(0));
+    one(answer, RULES_ONLY, Vec::new())
 }
 
-fn judged(call: &AttackCall) -> AttackExpected {
-    let verdict = judge(&as_call(call));
+/// The runs that stand one behind the other: each is as long as its length
+/// field says, or as much of it as is there.
+fn split(mut rest: &[u8]) -> Vec<&[u8]> {
+    let mut runs = Vec::new();
+    while !rest.is_empty() {
+        let long = match rest.first_chunk() {
+            Some(field) => 4 + u32::from_le_bytes(*field) as usize,
+            None => rest.len(),
+        };
+        let (run, behind) = rest.split_at(long.min(rest.len()));
+        runs.push(run);
+        rest = behind;
+    }
+    runs
+}
+
+/// Each run alone, from the first on, as far as there is room for answers.
+/// Confirmed if each answer is.
+fn runs(call: &AttackCall) -> Expected {
+    let room = (call.room / 4) as usize;
+    let mut answers = Vec::new();
+    let mut verdicts = Vec::new();
+    for run in split(call.second.slice()).into_iter().take(room) {
+        let alone = judged(&Call::Run {
+            words: call.words,
+            layout: call.first.slice().to_vec(),
+            run: run.to_vec(),
+        });
+        answers.extend(alone.answers);
+        verdicts.push(alone.verdict);
+        if alone.verdict == STOPPED {
+            break;
+        }
+    }
+    Expected {
+        answers,
+        layout: Vec::new(),
+        verdict: together(&verdicts),
+    }
+}
+
+/// One that was stopped or differs decides; with no run the rules alone do.
+fn together(verdicts: &[u32]) -> u32 {
+    match verdicts {
+        [] => RULES_ONLY,
+        _ if verdicts.contains(&STOPPED) => STOPPED,
+        _ if verdicts.contains(&DIFFERS) => DIFFERS,
+        _ if verdicts.contains(&RULES_ONLY) => RULES_ONLY,
+        _ => CONFIRMED,
+    }
+}
+
+fn judged(call: &Call) -> Expected {
+    let verdict = judge(call);
     let stopped = verdict.stopped();
     let code = match &verdict.differs {
         _ if stopped => STOPPED,
@@ -133,45 +204,46 @@ fn judged(call: &AttackCall) -> AttackExpected {
         None => RULES_ONLY,
     };
     match verdict.answer {
-        Answer::Layout(bytes) => expected(accepted(bytes.len() as u64), code, bytes),
-        Answer::Count(count) => expected(accepted(count), code, Vec::new()),
-        Answer::No(no) => expected(words_of(&no), code, Vec::new()),
+        Answer::Layout(bytes) => one(accepted(bytes.len() as u64), code, bytes),
+        Answer::Count(count) => one(accepted(count), code, Vec::new()),
+        Answer::No(no) => one(words_of(&no), code, Vec::new()),
         Answer::Lines(_) => unreachable!("only `lengths` answers lines"),
     }
 }
 
 fn as_call(call: &AttackCall) -> Call {
-    let (words, first) = (call.words, call.first.slice().to_vec());
+    let first = call.first.slice().to_vec();
     let second = call.second.slice().to_vec();
+    let words = match call.what {
+        LENGTH_OF | LENGTH_OF_RUN => WORDS,
+        _ => call.words,
+    };
     match call.what {
         BUILD_SET => Call::Build {
             words,
             room: call.room,
             set: first,
         },
-        VALIDATE => Call::Validate {
+        VALIDATE | LENGTH_OF => Call::Validate {
             words,
             length: call.length,
             layout: first,
             name: call.name.slice().to_vec(),
             values: second,
         },
-        _ => Call::Run {
+        VALIDATE_RUN | LENGTH_OF_RUN => Call::Run {
             words,
             layout: first,
             run: second,
         },
+        other => panic!("no call has the number {other}"),
     }
 }
 
-fn expected(answer: [u64; 4], verdict: u32, layout: Vec<u8>) -> AttackExpected {
-    LAYOUT.with_borrow_mut(|kept| {
-        *kept = layout;
-        AttackExpected {
-            answer,
-            layout: kept.as_ptr(),
-            layout_len: kept.len(),
-            verdict,
-        }
-    })
+fn one(answer: [u64; 4], verdict: u32, layout: Vec<u8>) -> Expected {
+    Expected {
+        answers: vec![answer],
+        layout,
+        verdict,
+    }
 }
