@@ -12,7 +12,6 @@
 #include <string.h>
 
 #define MOST_WORDS 10000
-#define MOST_ANSWERS (ATTACK_RUNS * CIZTARMO_ANSWER_WORDS)
 #define SLACK 64
 #define MOST_KEPT 20
 
@@ -295,12 +294,19 @@ static uint64_t words_of(uint8_t choice)
     return choice < 248 ? CIZTARMO_WORDS : few_or_many[choice - 248];
 }
 
-/* The room of output or answers: all that a layout can need or MOST_ANSWERS, or near what this layout or these runs need. */
+/* The words of the answers to as many runs as are tried. Fewer over a long layout, which may have more arguments to look up. */
+static uint64_t most_answers(size_t layout_len)
+{
+    const uint64_t runs = 16384 / (layout_len + 1);
+    return CIZTARMO_ANSWER_WORDS * (runs < 2 ? 2 : runs < ATTACK_RUNS ? runs : ATTACK_RUNS);
+}
+
+/* The room of output or answers: as much as may be, or near what this layout or these runs need. */
 static uint64_t room_of(uint8_t choice, struct attack_call *call)
 {
     struct attack_expected all;
     const int runs = call->what == ATTACK_VALIDATE_RUNS;
-    const uint64_t most = runs ? MOST_ANSWERS : CIZTARMO_MAX_INPUT;
+    const uint64_t most = runs ? most_answers(call->first.len) : CIZTARMO_MAX_INPUT;
     call->room = most;
     if (choice < 240)
         return most;
@@ -374,7 +380,7 @@ int LLVMFuzzerInitialize(int *argc, char ***argv)
     (void)argv;
     attack_lend(&words, MOST_WORDS * 8, 0);
     attack_lend(&out, ATTACK_PART, 0);
-    attack_lend(&answers, (MOST_ANSWERS + 7) * 8, 0);
+    attack_lend(&answers, (most_answers(0) + 7) * 8, 0);
     attack_lend(&first, ATTACK_PART, 1);
     attack_lend(&name, ATTACK_PART, 1);
     attack_lend(&second, ATTACK_PART, 1);

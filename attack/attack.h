@@ -37,7 +37,7 @@ struct attack_bytes {
  *     1       words: 0 to 247: 8,192; 248: 1; 249: 15; 250: 16; 251: 17; 252: 8,191; 253: 0; 254: 8,193; 255: 10,000;
  *             length_of and length_of_run take none
  *     2       room of the output: 0 to 239: 65,536 bytes; 240 to 255: near the layout's length, see room_of in attack.c;
- *             of the answers of validate_runs: 0 to 239: 256 words; 240 to 255: near what the runs need
+ *             of the answers of validate_runs: 0 to 239: for 2 to 64 runs; 240 to 255: near what the runs need
  *     3       what words and output hold before the call: the low two bits choose a pattern
  *     4       lengthening: 0 to 249: none; 250 to 255: a part is filled with zeros up to or past 65,536, see lengthen in attack.c
  *     5       not used

@@ -434,7 +434,6 @@ static void many_runs(void)
             runs_seed(0, 0, choice);
     }
     for (int more = 0; more < 2; more++) {
-        limit_calls(&limit, 17 + more, 0, 0);
         put_runs(ATTACK_RUNS + more);
         runs_seed(0, 0, 0);
         put_runs(1);
@@ -443,6 +442,11 @@ static void many_runs(void)
         runs_seed(0, 0, 0);
     }
     run_ends();
+    for (int more = 0; more < 2; more++) {
+        limit_calls(&limit, 17 + more, 0, 0);
+        put_runs(4);
+        runs_seed(0, 0, 0);
+    }
 }
 
 int main(int argc, char **argv)
