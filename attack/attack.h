@@ -50,7 +50,7 @@ struct attack_bytes {
 /* Longer parts are cut to this; it is above 65,536, so that question 1 is reached. */
 #define ATTACK_PART 69632
 
-/* The most runs that are answered in one call, because each is asked of the driver by itself. More may stand there. */
+/* There is room for the answers to about so many runs, because each is asked of the driver by itself. More may stand there. */
 #define ATTACK_RUNS 64
 
 struct attack_input {
