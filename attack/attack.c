@@ -21,6 +21,7 @@ typedef void validating(uint64_t *, size_t, const uint8_t *, size_t, const uint8
                         uint64_t[4]);
 typedef void validating_run(uint64_t *, size_t, const uint8_t *, size_t, const uint8_t *, size_t, uint64_t[4]);
 typedef size_t validating_runs(uint64_t *, size_t, const uint8_t *, size_t, const uint8_t *, size_t, uint64_t *, size_t);
+typedef void building_alone(const uint8_t *, size_t, uint8_t *, size_t, uint64_t[4]);
 typedef void measuring(const uint8_t *, size_t, const uint8_t *, size_t, const uint8_t *, size_t, uint64_t, uint64_t[4]);
 typedef void measuring_run(const uint8_t *, size_t, const uint8_t *, size_t, uint64_t[4]);
 
@@ -32,6 +33,7 @@ struct code {
     validating *validate;
     validating_run *validate_run;
     validating_runs *validate_runs;
+    building_alone *layout_of;
     measuring *length_of;
     measuring_run *length_of_run;
 };
@@ -42,6 +44,7 @@ building watched_ciztarmo_build_set;
 validating watched_ciztarmo_validate;
 validating_run watched_ciztarmo_validate_run;
 validating_runs watched_ciztarmo_validate_runs;
+building_alone watched_ciztarmo_layout_of;
 measuring watched_ciztarmo_length_of;
 measuring_run watched_ciztarmo_length_of_run;
 #endif
@@ -53,6 +56,7 @@ static const struct code codes[] = {
      ciztarmo_validate,
      ciztarmo_validate_run,
      ciztarmo_validate_runs,
+     ciztarmo_layout_of,
      ciztarmo_length_of,
      ciztarmo_length_of_run},
 #ifdef ATTACK_WATCHED
@@ -62,6 +66,7 @@ static const struct code codes[] = {
      watched_ciztarmo_validate,
      watched_ciztarmo_validate_run,
      watched_ciztarmo_validate_runs,
+     watched_ciztarmo_layout_of,
      watched_ciztarmo_length_of,
      watched_ciztarmo_length_of_run},
 #endif
@@ -233,9 +238,18 @@ static size_t called(const struct code *code, const struct attack_call *call, in
     return told;
 }
 
+static void hold_output(const struct code *code, const struct attack_call *call, int at_end, const struct attack_expected *want)
+{
+    const size_t room = (size_t)call->room;
+    if (!output_as_expected(room, at_end, want))
+        differs(call, code->name, at_end, "the output");
+    if (!slack_stayed(&out, room, at_end))
+        differs(call, code->name, at_end, "bytes around the output changed");
+}
+
 static void hold(const struct code *code, const struct attack_call *call, int at_end, const struct attack_expected *want)
 {
-    const size_t many = (size_t)call->words, room = (size_t)call->room, told = answer_bytes(call);
+    const size_t many = (size_t)call->words, told = answer_bytes(call);
     const int runs = call->what == ATTACK_VALIDATE_RUNS;
     if (called(code, call, at_end) != want->many)
         differs(call, code->name, at_end, "the number of answers");
@@ -248,12 +262,22 @@ static void hold(const struct code *code, const struct attack_call *call, int at
         differs(call, code->name, at_end, "the words are not zero");
     if (!slack_stayed(&words, many * 8, at_end) || !slack_stayed(&answers, told, at_end))
         differs(call, code->name, at_end, "bytes around the words or the answers changed");
-    if (call->what != ATTACK_BUILD_SET)
-        return;
-    if (!output_as_expected(room, at_end, want))
-        differs(call, code->name, at_end, "the output");
-    if (!slack_stayed(&out, room, at_end))
-        differs(call, code->name, at_end, "bytes around the output changed");
+    if (call->what == ATTACK_BUILD_SET)
+        hold_output(code, call, at_end, want);
+}
+
+/* A build with enough words, once more with none lent: ciztarmo_layout_of must leave the same. */
+static void hold_alone(const struct code *code, const struct attack_call *call, int at_end, const struct attack_expected *want)
+{
+    const size_t room = (size_t)call->room, told = answer_bytes(call);
+    uint64_t *a = (uint64_t *)(void *)lend_dirty(&answers, told, at_end);
+    const uint8_t *set = lend_bytes(&first, call->first, at_end);
+    code->layout_of(set, call->first.len, lend_dirty(&out, room, at_end), room, a);
+    if (!begins(&answers, told, at_end, want->answers, 32))
+        differs(call, code->name, at_end, "the answer of layout_of");
+    if (!slack_stayed(&answers, told, at_end))
+        differs(call, code->name, at_end, "bytes around the answer of layout_of changed");
+    hold_output(code, call, at_end, want);
 }
 
 static void count(const struct attack_call *call, const struct attack_expected *want)
@@ -281,10 +305,15 @@ static int compare(const struct attack_call *call, struct attack_expected *want)
         want->layout = memcpy(layout, want->layout, want->layout_len);
     if (want->verdict == ATTACK_DIFFERS)
         differs(call, "the Rust", 0, "the rules and the unchanged Rust differ");
+    const int alone = call->what == ATTACK_BUILD_SET && call->words >= CIZTARMO_WORDS;
     count(call, want);
+    attack_counts.layout_of += (uint64_t)alone;
     for (size_t i = 0; i < sizeof codes / sizeof codes[0]; i++)
-        for (int at_end = 0; at_end < 2; at_end++)
+        for (int at_end = 0; at_end < 2; at_end++) {
             hold(&codes[i], call, at_end, want);
+            if (alone)
+                hold_alone(&codes[i], call, at_end, want);
+        }
     return want->layout_len > 0;
 }
 

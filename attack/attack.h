@@ -111,7 +111,7 @@ void attack_lend(struct attack_lent *lent, size_t size, int read_only);
 
 /* counts.c: what was done, and how much of the code was reached. */
 extern struct attack_counts {
-    uint64_t inputs, calls, runs, confirmed, rules_only, stopped, differences;
+    uint64_t inputs, calls, runs, layout_of, confirmed, rules_only, stopped, differences;
     uint64_t by_call[ATTACK_CALLS], by_number[32];
 } attack_counts;
 

@@ -92,6 +92,7 @@ static void print_counts(void)
            attack_counts.confirmed, attack_counts.rules_only);
     printf("attack: not compared, because the evaluation takes more than 200,000 steps: %" PRIu64 "\n", attack_counts.stopped);
     printf("attack: answers in the calls of validate_runs: %" PRIu64 "\n", attack_counts.runs);
+    printf("attack: builds that were also done by layout_of: %" PRIu64 "\n", attack_counts.layout_of);
     printf("attack: answers by number (0: accepted):");
     for (int i = 0; i < 32; i++)
         if (attack_counts.by_number[i] > 0)
