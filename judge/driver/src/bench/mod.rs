@@ -16,7 +16,7 @@ use measure::{medians, work};
 use ours::Words;
 use std::hint::black_box;
 use table::{Aim, Group, Parts, Row};
-use validating::{validate_parts, validating, validating_runs};
+use validating::{looking, validate_parts, validating, validating_runs};
 
 /// What ours answers where it accepts, with this last word.
 fn accepted(value: u64) -> ours::Answer {
@@ -60,7 +60,7 @@ pub fn bench(markdown: bool) -> Result<(), String> {
     }
     groups.push(validating_runs(lent, RUNS, &[1, 16, 256, 1024], &trip)?);
     groups.push(validating_runs(lent, RUNS_CALLS, &[1, 16, 256], &nested)?);
-    groups.push(words::looking(lent, &groups[8].rows[0]));
+    groups.push(looking(lent, WORDS_ALONE, &trip)?);
     let aims = aims(&groups, &parts);
     table::print(&groups, &parts, &aims, markdown);
     Ok(())
@@ -86,6 +86,7 @@ const LENT: [Head; 5] = [
     ("validate, by types", "type"),
 ];
 const RUNS: Head = ("validate_runs, the worked example, times per run", "run");
+const WORDS_ALONE: Head = ("the working words alone, beside the worked example", "word");
 const RUNS_CALLS: Head = ("validate_runs, 15 calls, times per run", "run");
 
 /// What is aimed at, beside what was measured.

@@ -4,6 +4,7 @@ use super::inputs::Asked;
 use super::measure::{medians, work};
 use super::ours::Words;
 use super::table::{Group, Parts, Row};
+use super::words::widest;
 use super::{accepted, ours, Head};
 use crate::data::*;
 use crate::rules::read;
@@ -118,6 +119,34 @@ fn validating_row(
         whole,
         alone: Some(alone),
     })
+}
+
+/// Only to look at the working words, or to write zeros into them, beside the
+/// Rust on one question: a call that is lent them has no better ratio.
+pub fn looking(words: &mut [u64], head: Head, asked: &Asked) -> Result<Group, String> {
+    let question = Question::new(asked)?;
+    words.fill(0);
+    let (wide, any) = widest();
+    let mut written = words.to_vec();
+    let [read, write, whole, alone] = medians([
+        work(|| any(black_box(words))),
+        work(|| black_box(&mut written).fill(0)),
+        work(|| question.whole()),
+        work(|| question.alone()),
+    ]);
+    let row = |what: String, ours| Row {
+        what,
+        size: None,
+        ours,
+        whole,
+        alone: Some(alone),
+    };
+    let many = words.len();
+    let rows = vec![
+        row(format!("{many} words read, {wide}"), read),
+        row(format!("{many} words written"), write),
+    ];
+    Ok(Group { head, rows })
 }
 
 /// A question as so many runs, one behind the other, and what the Rust is

@@ -1,41 +1,8 @@
 //! The least that a call which owes zeros in its working words has to do: to
-//! look at all of them, or to write zeros. Beside the Rust's times on the
-//! worked example: no program that is lent the words has a better ratio.
-
-use super::measure::{medians, work};
-use super::table::{Group, Row};
-use super::Head;
-use std::hint::black_box;
-
-const LOOKING: Head = (
-    "the working words alone, beside validate on the worked example",
-    "word",
-);
-
-pub fn looking(words: &mut [u64], trip: &Row) -> Group {
-    words.fill(0);
-    let (what, any): (&str, fn(&[u64]) -> bool) = widest();
-    let [read] = medians([work(|| any(black_box(words)))]);
-    let [written] = medians([work(|| black_box(&mut *words).fill(0))]);
-    let row = |what: String, ours| Row {
-        what,
-        size: None,
-        ours,
-        whole: trip.whole,
-        alone: trip.alone,
-    };
-    let many = words.len();
-    Group {
-        head: LOOKING,
-        rows: vec![
-            row(format!("{many} words read, {what}"), read),
-            row(format!("{many} words written"), written),
-        ],
-    }
-}
+//! look at all of them.
 
 /// The fastest way that this machine has to see whether a word is not zero.
-fn widest() -> (&'static str, fn(&[u64]) -> bool) {
+pub fn widest() -> (&'static str, fn(&[u64]) -> bool) {
     #[cfg(target_arch = "x86_64")]
     {
         if is_x86_feature_detected!("avx512f") {
