@@ -60,21 +60,28 @@ const PASSED: u16 = 6;
 
 const OPT_CHILD: u16 = 7;
 
+// The rows of three kinds that a layout has many of.
+pub const CONST_ROW: u16 = VALUE;
+
+pub const FIELD_ROW: u16 = NAME + 8 * OPT_NAME;
+
+pub const CALL_ROW: u16 = NAME + 8 * PASSED;
+
 // The parts of the node of kind 128 plus the place, behind the metadata, front to back: a digit of base 8 each, the first
 // lowest. The entries are small because the compiled code makes the whole table anew wherever it is indexed.
 const NODE_TABLE: [u16; 17] = [
     // ZeroSize
     0,
     // Const: value
-    VALUE,
+    CONST_ROW,
     // FieldRef: path, parameter
-    NAME + 8 * OPT_NAME,
+    FIELD_ROW,
     // AlignUp: alignment, node
     VALUE + 8 * CHILD,
     // Switch: tag, cases, default
     NAME + 8 * SWITCHED + 64 * OPT_CHILD,
     // CallNested: type_name, arguments
-    NAME + 8 * PASSED,
+    CALL_ROW,
     // AddChecked: left, right
     CHILD + 8 * CHILD,
     // SubChecked

@@ -1,28 +1,28 @@
 -- What the quick reader finds, as the definition reads it. Assumes nothing.
 use mathlib.Core.Path.{_≡_, refl, sym, _∙_, ap}
-use mathlib.Core.Bool.{Bool, true, false}
+use mathlib.Core.Bool.{Bool, true}
 use mathlib.Core.List.{List, [], _∷_, _++_}
-use Prim.Native.Nat.{ℕ, zero, suc, _+_, _-_, _/_, _%_, _<_, _≤_}
+use Prim.Native.Nat.{ℕ, _+_, _-_, _/_, _%_, _<_, _≤_}
 use native.Mathlib.Omega.{arith}
-use lib.ListN.{length, getD, take, drop}
+use lib.ListN.{getD, take, drop}
 use borrow.Author.Tests.{le-leb}
-use Rattle.errors.specs.Refusal.{done, _>>=_, ask}
+use Rattle.errors.specs.Refusal.{_>>=_, ask}
 use Rattle.blocks.specs.declared.Part.{Part}
-use Rattle.blocks.specs.declared.Part.the-variants.{Text, Key, Number, Flag, OptText, Block, Blocks, Values}
+use Rattle.blocks.specs.declared.Part.the-variants.{Text, Number, Flag, OptText, Block, Blocks, Values}
 use Rattle.blocks.specs.Bytes.{le2, le4}
 use Rattle.blocks.specs.Name.{isText}
-use Rattle.blocks.specs.Grammar.{partsOf, within, findRow, grammar, node, metadata}
+use Rattle.blocks.specs.Grammar.{partsOf, findRow, grammar, node, metadata}
 use Rattle.blocks.specs.Read.{Step, Earlier, Reader, readText, readNumber, readFlag, readOptional, readCount, readEntries, readList, readPart, readParts, readHeader, readBlock}
 use Rattle.leaf.specs.declared.Read.{Read}
 use Rattle.leaf.specs.declared.Read.the-variants.{Ok}
 use Rattle.leaf.specs.declared.Head.the-variants.{Found}
 use Rattle.leaf.specs.declared.Count.the-variants.{Of}
 use Rattle.leaf.specs.Answer.{forget, readEntry, headOf, countOf}
-use Rattle.leaf.proofs.Laws.{text-is, optional-on, optional-off, flag-done}
-use Rattle.leaf.proofs.Lists.{list-of, any-go}
+use Rattle.leaf.proofs.Laws.{text-is, optional-on, optional-off}
+use Rattle.leaf.proofs.Lists.{list-of}
 use Rattle.reader.proofs.Blocks.{parts-none, parts-go, block-ok}
 use Rattle.ir.specs.Rows.{partOf, Row}
-use Rattle.quick.specs.Quick.{Reads, Sized}
+use Rattle.quick.specs.Quick.{Reads, Sized, Begun, Body}
 
 -- ---- parts
 
@@ -72,6 +72,10 @@ module _ (s : List ℕ) (at end stop : ℕ) (z : 0 < stop) (g : Sized s at end s
 -- where such a block ends
 pub ends : (s : List ℕ) (at end stop : ℕ) → Sized s at end stop → (stop ≡ 0 → ⊥) → (at + 6 ≤ stop) × (stop ≤ end)
 ends s at end stop g h = let w = g (omega arith) in (omega (arith, w .1, w .2), w .3)
+
+-- a length that ends a block at `stop`
+pub fills-yes : (s : List ℕ) (at stop : ℕ) {n : ℕ} → at + 15 ≤ stop → n ≡ le4 s at → at + 4 + n ≡ stop → Sized s at stop stop
+fills-yes s at stop h q e z = (omega arith, omega arith, omega arith, omega arith)
 
 -- ---- lists
 
@@ -163,51 +167,6 @@ module _ (room : ℕ) (s : List ℕ) (at end stop : ℕ) (g : Sized s at end sto
       let all = part-then rb s e at stop Number (node ∷ Blocks 162 162 512 ∷ []) (at + 6) (number-first s at stop at h) behind in
       rw (q .0) (block-yes s at end stop (omega arith) g room e 163 163 k w (omega arith) (omega arith) (omega arith) (rw (x, case-parts) all) (q .1))
 
--- ---- nodes
-
--- what is left of a node's parts
-pub record Left (room : ℕ) (s : List ℕ) (at stop k row i : ℕ) : Type 0 where
-  pub parts : List Part
-  pub digits : Row row parts
-  pub same : (e : Earlier) → 0 < i → forget (readParts (readBlock room s) s e at stop (partsOf k) (at + 6)) ≡ forget (readParts (readBlock room s) s e at stop parts i)
-
-step : (row : ℕ) (qs : List Part) → Row row qs → (row ≡ 0 → ⊥) → (ps : List Part) × (qs ≡ partOf (row % 8) ∷ ps) × Row (row / 8) ps
-step row qs Row.none h = absurd (h refl)
-step row qs (Row.more c ps l r) h = (ps, refl, r)
-
-last : (row : ℕ) (qs : List Part) → Row row qs → row ≡ 0 → qs ≡ []
-last row qs Row.none h = refl
-last row qs (Row.more c ps l r) h = let z : row % 8 ≡ 0 = rw h in absurd (omega (arith, l, z))
-
-module _ (room : ℕ) (s : List ℕ) (at stop k : ℕ) where
-  pub node-first : {row i : ℕ} → at + 14 ≤ stop → ((ps : List Part) × (partsOf k ≡ metadata ++ ps) × Row row ps) → ((start : ℕ) → Reads i (readOptional (readText s start stop) 1 s start stop (at + 14))) → Left room s at stop k row i
-  unfolding readPart
-  node-first h w d = record {
-    parts = w .0;
-    digits = w .2;
-    same = λ e z. rw (w .1) (parts-go (readBlock room s) s e at stop refl (at + 6) (number-first s at stop at h) ∙ parts-go (readBlock room s) s e at stop refl (at + 14) (d at z));
-  }
-
-  module _ {row i : ℕ} (l : Left room s at stop k row i) where
-    pub node-next : {j : ℕ} → (row ≡ 0 → ⊥) → 0 < i → ((e : Earlier) (start : ℕ) → Reads j (readPart (readBlock room s) s e start stop (partOf (row % 8)) i)) → Left room s at stop k (row / 8) j
-    node-next h z d =
-        let w = step row (l .parts) (l .digits) h in
-        record {
-          parts = w .0;
-          digits = w .2;
-          same = λ e y. l .same e z ∙ parts-go (readBlock room s) s e at stop (w .1) i (d e at y);
-        }
-
-    pub node-last : row ≡ 0 → (e : Earlier) → 0 < i → forget (readParts (readBlock room s) s e at stop (partsOf k) (at + 6)) ≡ Ok i
-    node-last h e z = l .same e z ∙ parts-none (readBlock room s) s e at stop i (last row (l .parts) (l .digits) h)
-
-module _ (room : ℕ) (s : List ℕ) (at end stop : ℕ) (g : Sized s at end stop) where
-  pub node-yes : {k row i r : ℕ} → at + 14 ≤ stop → k ≡ le2 s (at + 4) → 128 ≤ k → k ≤ 144 → 0 < room → Left (room - 1) s at stop k row i → row ≡ 0 → (0 < r → (r ≡ stop) × (i ≡ stop))
-      → (e : Earlier) → Reads r (readBlock room s e 128 144 at end)
-  node-yes {k} h w x y u l v c e z =
-      let q = c z in
-      rw (q .0) (block-yes s at end stop (omega arith) g room e 128 144 k w x y u (node-last (room - 1) s at stop k l v e (omega arith)) (q .1))
-
 -- ---- the part of a digit
 
 module _ (room : ℕ) (s : List ℕ) (digit at end : ℕ) where
@@ -246,3 +205,52 @@ module _ (room : ℕ) (s : List ℕ) (digit at end : ℕ) where
     pub default-on : (getD s at 0 ≡ 0 → ⊥) → {r : ℕ} → ((e : Earlier) → Reads r (readBlock room s e 128 144 i end)) → Piece r
     unfolding readPart
     default-on g {r} d e start z = rw k (on-yes s end at (λ t a. readBlock room s Earlier.any 128 144 a end) (omega arith) g (q .1) r (λ t y. rw (q .0) at (d Earlier.any y)) start z)
+
+-- ---- rows
+
+step : (row : ℕ) (qs : List Part) → Row row qs → (row ≡ 0 → ⊥) → (ps : List Part) × (qs ≡ partOf (row % 8) ∷ ps) × Row (row / 8) ps
+step row qs Row.none h = absurd (h refl)
+step row qs (Row.more c ps l r) h = (ps, refl, r)
+
+last : (row : ℕ) (qs : List Part) → Row row qs → row ≡ 0 → qs ≡ []
+last row qs Row.none h = refl
+last row qs (Row.more c ps l r) h = let z : row % 8 ≡ 0 = rw h in absurd (omega (arith, l, z))
+
+module _ (room : ℕ) (s : List ℕ) (stop : ℕ) where
+  pub row-none : {row at : ℕ} → row ≡ 0 → at ≡ stop → Body room s row at stop
+  row-none {row} {at} h q ps r e start = parts-none (readBlock room s) s e start stop at (last row ps r h) ∙ ap Ok q
+
+  module _ (at : ℕ) {row i : ℕ} (h : row ≡ 0 → ⊥) (z : 0 < i) (d : Piece room s (row % 8) at stop i) where
+    pub row-go : Body room s (row / 8) i stop → Body room s row at stop
+    row-go b ps r e start = let w = step row ps r h in parts-go (readBlock room s) s e start stop (w .1) at (d e start z) ∙ b (w .0) (w .2) e start
+
+    row-last : row / 8 ≡ 0 → i ≡ stop → Body room s row at stop
+    row-last k q = row-go (row-none k q)
+
+  -- two parts, the last of them a node
+  pub row-child : (at : ℕ) {row i : ℕ} → row / 8 ≡ 4 → 0 < i → 0 < stop → Piece room s (row % 8) at stop i → ((e : Earlier) → forget (readBlock room s e 128 144 i stop) ≡ Ok stop) → Body room s row at stop
+  row-child at {row} {i} k z y d n = row-go at (λ h. omega arith) z d (row-last i (λ h. omega arith) y (node-part room s (row / 8 % 8) i stop (rw k) (λ e x. n e)) (rw k) refl)
+
+  -- the rows that are met most
+  module _ (at : ℕ) {row j r : ℕ} (c : 0 < r → (r ≡ stop) × (j ≡ stop)) where
+    pub const-row : row ≡ 1 → j ≡ at + 8 → 0 < r → (r ≡ stop) × Body room s row at stop
+    const-row k h z = let q = c z in (q .0, row-last at (λ y. omega arith) (omega arith) (number-part room s (row % 8) at stop (rw k) (omega arith)) (rw k) (sym h ∙ q .1))
+
+    module _ {i : ℕ} (x : 0 < i) (d : (start : ℕ) → Reads i (readText s start stop at)) where
+      pub call-row : row ≡ 50 → 0 < room → ((most start : ℕ) → 0 < most → Reads j (readList (λ f a. readBlock most s f 164 164 a stop) Earlier.any 512 s start stop i)) → 0 < r → (r ≡ stop) × Body room s row at stop
+      call-row k h f z = let q = c z in (q .0, row-go at (λ y. omega arith) x (text-part room s (row % 8) at stop (rw k) d) (row-last i (λ y. omega arith) (omega arith) (arguments-part room s (row / 8 % 8) i stop (rw k) h f) (rw k) (q .1)))
+
+      pub field-row : row ≡ 26 → ((start : ℕ) → Reads j (readOptional (readText s start stop) 1 s start stop i)) → 0 < r → (r ≡ stop) × Body room s row at stop
+      field-row k f z = let q = c z in (q .0, row-go at (λ y. omega arith) x (text-part room s (row % 8) at stop (rw k) d) (row-last i (λ y. omega arith) (omega arith) (optional-part room s (row / 8 % 8) i stop (rw k) f) (rw k) (q .1)))
+
+-- ---- nodes
+
+module _ (s : List ℕ) (at end stop : ℕ) (y : 0 < stop) (g : Sized s at end stop) where
+  pub node-yes : {room k row i : ℕ} → 0 < i → Begun s room at stop i → k ≡ le2 s (at + 4) → ((ps : List Part) × (partsOf k ≡ metadata ++ ps) × Row row ps) → Body (room - 1) s row i stop
+      → (e : Earlier) → forget (readBlock room s e 128 144 at end) ≡ Ok stop
+  unfolding readPart
+  node-yes {room} {k} z h q w b e =
+      let rb = readBlock (room - 1) s in
+      let behind = part-then rb s e at stop OptText (w .0) (at + 14) (h .read at z) (b (w .0) (w .2) e at) in
+      let all = part-then rb s e at stop Number (OptText ∷ w .0) (at + 6) (number-first s at stop at (h .inside)) behind in
+      block-yes s at end stop y g room e 128 144 k q (omega (arith, h .least)) (omega (arith, h .most)) (h .allowed) (rw (w .1) all) refl

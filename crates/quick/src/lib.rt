@@ -14,7 +14,7 @@ ghost use Rattle.leaf.specs.Answer.{forget};
 ghost use Rattle.leaf.specs.Seen.{nameAt, NameIn, namesBefore, Stand};
 ghost use Rattle.ir.specs.Rows.{partOf};
 ghost use Rattle.reader.specs.Input.{inputOf};
-ghost use Rattle.quick.specs.Quick.{Reads, Sized, Counted, placeOf, Marked};
+ghost use Rattle.quick.specs.Quick.{Reads, Sized, Begun, Body, Counted, placeOf, Marked};
 
 // A name or a text.
 fn text(s: &[u8], at: usize, end: usize) -> usize
@@ -142,6 +142,9 @@ fn entries(s: &[u8], kind: usize, at: usize, end: usize) -> usize
         return 0;
     }
     let n = get::read2(s, at);
+    if n == 0 {
+        return at + 2;
+    }
     if 512 < n {
         return 0;
     }
@@ -239,13 +242,12 @@ fn piece(s: &[u8], room: usize, digit: u16, at: usize, end: usize) -> usize
     }
 }
 
-// A node: its metadata, and the parts of its row.
-fn node(s: &[u8], room: usize, at: usize, end: usize) -> usize
-    requires { ⌜ (at ≤ end) × (end ≤ length (now s)) ⌝ }
-    ensures { λ r. ⌜ ((e : Earlier) → Reads r (readBlock room (now (s .entry)) e 128 144 at end)) × (r ≤ end) ⌝ }
+// The offset behind a node's metadata, where the node ends at `stop`.
+fn begun(s: &[u8], room: usize, at: usize, stop: usize) -> usize
+    requires { ⌜ (at ≤ stop) × (stop ≤ length (now s)) ⌝ }
+    ensures { λ r. ⌜ (0 < r → Begun (now (s .entry)) room at stop r) × (r ≤ stop) ⌝ }
 {
-    let stop = sized(s, at, end);
-    if stop < at + 14 {
+    if stop < at + 15 {
         return 0;
     }
     let k = get::read2(s, at + 4);
@@ -258,16 +260,114 @@ fn node(s: &[u8], room: usize, at: usize, end: usize) -> usize
     if room == 0 {
         return 0;
     }
-    let mut i = optional(s, at + 14, stop);
-    let mut row = ir::node_row(k);
-    while row != 0 {
+    optional(s, at + 14, stop)
+}
+
+// Whether a node at `at` would end at `stop`.
+fn fills(s: &[u8], at: usize, stop: usize) -> bool
+    requires { ⌜ (at ≤ stop) × (stop ≤ length (now s)) ⌝ }
+    ensures { λ r. ⌜ (r ≡ true → Sized (now (s .entry)) at stop stop) ⌝ }
+{
+    if stop < at + 15 {
+        return false;
+    }
+    at + 4 + get::read4(s, at) == stop
+}
+
+// The part of a digit before a node's last part: mostly it is a number or a node.
+fn leading(s: &[u8], room: usize, digit: u16, at: usize, end: usize) -> usize
+    requires { ⌜ (at ≤ end) × (end ≤ length (now s)) ⌝ }
+    ensures { λ r. ⌜ ((e : Earlier) (start : ℕ) → Reads r (readPart (readBlock room (now (s .entry))) (now (s .entry)) e start end (partOf digit) at)) × (r ≤ end) ⌝ }
+{
+    if digit == 1 {
+        if end < at + 8 {
+            return 0;
+        }
+        return at + 8;
+    }
+    if digit == 4 {
+        return node(s, room, at, end);
+    }
+    piece(s, room, digit, at, end)
+}
+
+// The parts of a row, up to the end of their node.
+fn pieces(s: &[u8], room: usize, row: u16, at: usize, stop: usize) -> usize
+    requires { ⌜ (at ≤ stop) × (stop ≤ length (now s)) ⌝ }
+    ensures { λ r. ⌜ (0 < r → (r ≡ stop) × Body room (now (s .entry)) row at stop) × (r ≤ stop) ⌝ }
+{
+    let mut i = at;
+    let mut digits = row;
+    while digits != 0 {
+        i = piece(s, room, digits % 8, i, stop);
         if i == 0 {
             return 0;
         }
-        i = piece(s, room - 1, row % 8, i, stop);
-        row = row / 8;
+        digits = digits / 8;
     }
     closed(i, stop)
+}
+
+// The same; the rows that are met most are not taken apart.
+fn body(s: &[u8], room: usize, row: u16, at: usize, stop: usize) -> usize
+    requires { ⌜ (at ≤ stop) × (stop ≤ length (now s)) ⌝ }
+    ensures { λ r. ⌜ (0 < r → (r ≡ stop) × Body room (now (s .entry)) row at stop) × (r ≤ stop) ⌝ }
+{
+    if row == ir::CONST_ROW {
+        return closed(at + 8, stop);
+    }
+    if row == ir::CALL_ROW {
+        let i = text(s, at, stop);
+        if i == 0 {
+            return 0;
+        }
+        if room == 0 {
+            return 0;
+        }
+        return closed(entries(s, 164, i, stop), stop);
+    }
+    if row == ir::FIELD_ROW {
+        let i = text(s, at, stop);
+        if i == 0 {
+            return 0;
+        }
+        return closed(optional(s, i, stop), stop);
+    }
+    pieces(s, room, row, at, stop)
+}
+
+// A node: its metadata, and the parts of its row. A node that is the last of two parts ends where this one does: the loop goes
+// on with it, so that only what stands before it is a call deeper.
+fn node(s: &[u8], room: usize, at: usize, end: usize) -> usize
+    requires { ⌜ (at ≤ end) × (end ≤ length (now s)) ⌝ }
+    ensures { λ r. ⌜ ((e : Earlier) → Reads r (readBlock room (now (s .entry)) e 128 144 at end)) × (r ≤ end) ⌝ }
+{
+    let stop = sized(s, at, end);
+    if stop == 0 {
+        return 0;
+    }
+    let mut i = begun(s, room, at, stop);
+    if i == 0 {
+        return 0;
+    }
+    let mut left = room - 1;
+    let mut row = ir::node_row(get::read2(s, at + 4));
+    while row / 8 == 4 {
+        let q = leading(s, left, row % 8, i, stop);
+        if q == 0 {
+            return 0;
+        }
+        if !fills(s, q, stop) {
+            return 0;
+        }
+        i = begun(s, left, q, stop);
+        if i == 0 {
+            return 0;
+        }
+        left -= 1;
+        row = ir::node_row(get::read2(s, q + 4));
+    }
+    body(s, left, row, i, stop)
 }
 
 // The place of a name among the marks. Names that differ in a few digits seldom share one.

@@ -24,20 +24,26 @@ returns c = (λ room start h z. absurd (omega arith), omega arith)
 read2-requires : tie.Need-read2-requires Inv-loop μ-loop
 read2-requires c κs = omega arith
 
+add-result : tie.Need-add-result Inv-loop μ-loop
+add-result c = omega arith
+
 returns-2 : tie.Need-returns-2 Inv-loop μ-loop
-returns-2 c = (λ room start h z. absurd (omega arith), omega arith)
+returns-2 c = (λ room start h z. list-yes _ _ _ _ _ _ start _ (c .before .before .if1 .left) (c .before .read2 .ensures .0) (omega (arith, c .if2 .taken)) ∙ entries-none _ _ _ _ (omega (arith, c .if2 .taken)), c .before .before .if1 .left)
+
+returns-3 : tie.Need-returns-3 Inv-loop μ-loop
+returns-3 c = (λ room start h z. absurd (omega arith), omega arith)
 
 add-i : tie.Need-add-i Inv-loop μ-loop
 add-i c = omega arith
 
 loop-holds : tie.Need-loop-holds Inv-loop μ-loop
-loop-holds c = (omega arith, λ room start h. list-yes _ _ _ _ _ _ start _ (c .before .before .if1 .left) (c .before .read2 .ensures .0) (c .if2 .left))
+loop-holds c = (omega arith, λ room start h. list-yes _ _ _ _ _ _ start _ (c .before .before .before .if1 .left) (c .before .before .read2 .ensures .0) (c .if3 .left))
 
 entry-requires : tie.Need-entry-requires Inv-loop μ-loop
 entry-requires c κs = (c .before .loop .inv .0, omega arith)
 
-returns-3 : tie.Need-returns-3 Inv-loop μ-loop
-returns-3 c = (λ room start h z. absurd (omega arith), omega arith)
+returns-4 : tie.Need-returns-4 Inv-loop μ-loop
+returns-4 c = (λ room start h z. absurd (omega arith), omega arith)
 
 sub-left : tie.Need-sub-left Inv-loop μ-loop
 sub-left c = omega arith
@@ -46,10 +52,10 @@ loop-less : tie.Need-loop-less Inv-loop μ-loop
 loop-less c = omega arith
 
 loop-again : tie.Need-loop-again Inv-loop μ-loop
-loop-again c = (c .before .entry .ensures .1, λ room start h. c .before .before .before .loop .inv .1 room start h ∙ any-go _ _ _ (c .before .before .loop-test .taken) (c .before .entry .ensures .0 room Earlier.any h (omega (arith, c .if3 .left))))
+loop-again c = (c .before .entry .ensures .1, λ room start h. c .before .before .before .loop .inv .1 room start h ∙ any-go _ _ _ (c .before .before .loop-test .taken) (c .before .entry .ensures .0 room Earlier.any h (omega (arith, c .if4 .left))))
 
-returns-4 : tie.Need-returns-4 Inv-loop μ-loop
-returns-4 c = (λ room start h z. c .before .loop .inv .1 room start h ∙ entries-none _ _ _ _ (c .loop-test .left), c .before .loop .inv .0)
+returns-5 : tie.Need-returns-5 Inv-loop μ-loop
+returns-5 c = (λ room start h z. c .before .loop .inv .1 room start h ∙ entries-none _ _ _ _ (c .loop-test .left), c .before .loop .inv .0)
 
 pub entries-spec : {M : Type 1} → statement M
 entries-spec =
@@ -60,12 +66,14 @@ entries-spec =
     add-if1
     returns
     read2-requires
+    add-result
     returns-2
+    returns-3
     add-i
     loop-holds
     entry-requires
-    returns-3
+    returns-4
     sub-left
     loop-less
     loop-again
-    returns-4)
+    returns-5)
