@@ -1,8 +1,8 @@
 -- The context of an open call, in working words: a word for each open call holds the offsets of the call's node and of
 -- the called type's tree in the layout. Values stay where they were read.
-use Prim.Native.Nat.{ℕ, zero, suc, _+_, _*_, _/_, _%_, _≤_, _<_}
+use Prim.Native.Nat.{ℕ, suc, _+_, _/_, _%_, _<_}
 use mathlib.Core.Path.{_≡_}
-use mathlib.Core.List.{List, [], _∷_, _++_}
+use mathlib.Core.List.{List, [], _++_}
 use lib.ListN.{length, getD}
 use Rattle.errors.specs.Refusal.{done}
 use Rattle.blocks.specs.Bytes.{le2}
@@ -10,6 +10,7 @@ use Rattle.blocks.specs.Tree.{Tree, body, part, listed}
 use Rattle.ir.specs.Ir.{IrArgument, IrParameter}
 use Rattle.ir.specs.Layout.{argumentOf, parameterOf}
 use Rattle.walk.specs.Accepted.{Accepted, tree}
+use Rattle.lookup.specs.Named.{Placed}
 use Rattle.interpreter.specs.Eval.{ParamMap, collect-arguments, inherited}
 use Rattle.interpreter.specs.Validate.{with-buffer-size, valuesOf}
 
@@ -43,6 +44,10 @@ pub record Open (s : List ℕ) (w : ℕ) (γ δ : ParamMap) : Type 0 where
 pub data Context (s values : List ℕ) (block len : ℕ) (words : List ℕ) : ℕ → ParamMap → Type 0 where
   root : (a : Accepted values 192 192 block) → Context s values block len words 0 (with-buffer-size len (valuesOf (tree a)))
   call : {d : ℕ} {γ δ : ParamMap} → Context s values block len words d γ → d < length words → Open s (getD words d 0) γ δ → Context s values block len words (suc d) δ
+
+-- the type that the innermost open call calls stands at this place of the layout
+abbrev pub Here : List ℕ → List ℕ → ℕ → ℕ → Type 0
+Here s words depth place = (d : ℕ) → depth ≡ suc d → (d < length words) × Placed s place (treeAt (getD words d 0))
 
 -- the first m words are the same
 abbrev pub Same : ℕ → List ℕ → List ℕ → Type 0

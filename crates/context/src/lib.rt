@@ -53,7 +53,7 @@ fn last_argument(s: &[u8], call: usize, name: usize) -> Found
     requires { ⌜ Accepted (now s) 128 144 call × (le2 (now s) (call + 4) ≡ 133) × (name + 2 + le2 (now s) name ≤ length (now s)) ⌝ }
     ensures { λ r. ⌜ ((a : Accepted (now (s .entry)) 128 144 call) → Named (now (s .entry)) (lastArgument (nameAt (now (s .entry)) name) (argumentsOf (tree a)) none) r) ⌝ }
 {
-    let list = nodes::part_at(s, call, 3);
+    let list = nodes::second_part(s, call);
     let mut left = get::read2(s, list);
     let mut at = list + 2;
     let mut last = Found::Missing;

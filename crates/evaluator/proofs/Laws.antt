@@ -3,33 +3,34 @@ use mathlib.Core.Path.{_≡_, refl, sym, _∙_, ap, subst, fun-ext}
 use mathlib.Core.Bool.{Bool, true, false, not, cond}
 use mathlib.Core.List.{List, [], _∷_, _++_}
 use mathlib.Core.Option.{Option, some, none}
-use Prim.Native.Nat.{ℕ, zero, suc, _+_, _-_, _*_, _/_, _%_, _≤_, _<_}
+use Prim.Native.Nat.{ℕ, zero, suc, _+_, _-_, _*_, _≤_, _<_}
 use native.Mathlib.Numerals.{add-one, sub-one}
 use native.Mathlib.Omega.{arith}
 use lib.Dec.{eqb}
 use lib.ListN.{length, getD, set, drop, length-set}
 use lib.Seq.{getD-set-same, getD-set-other}
-use borrow.Author.Tests.{eq-eqb, ne-eqb, le-leb}
+use borrow.Author.Tests.{ne-eqb, le-leb}
 use Rattle.errors.specs.Refusal.{Outcome, done, refused, _>>=_, Refusal, plain, UnknownType, MissingIrParameter, InvalidTagValue}
 use Rattle.blocks.specs.Bytes.{le2, le4, le8}
 use Rattle.blocks.specs.Name.{Name}
 use Rattle.blocks.specs.Grammar.{partsOf, nodeTable}
-use Rattle.blocks.specs.Tree.{Tree, text, number, body, part, rest, first, view, partView, listed}
+use Rattle.blocks.specs.Tree.{Tree, text, body, part, view, partView}
 use Rattle.blocks.specs.Read.{readLayout}
 use Rattle.blocks.specs.declared.Part.{Part}
-use Rattle.blocks.specs.declared.Part.the-variants.{Text, Number, Block, Blocks}
+use Rattle.blocks.specs.declared.Part.the-variants.{Block}
 use Rattle.ir.specs.Ir.{BinaryOp, IrNode, IrArgument, SwitchCases, DefaultNode, TypeIr}
-use Rattle.ir.specs.Layout.{Form, formOf, makeThing, thingOf, nodeIn, defaultIn, nodeOf, layoutOf, typeIrOf, operations, argumentOf}
-use Rattle.walk.specs.Accepted.{Accepted, tree, nameAt}
-use Rattle.walk.proofs.Laws.{opened, each}
+use Rattle.ir.specs.Layout.{Form, formOf, makeThing, thingOf, nodeIn, defaultIn, nodeOf, layoutOf, typeIrOf, operations}
+use Rattle.walk.specs.Accepted.{Accepted, tree}
+use Rattle.walk.proofs.Laws.{each}
 use Rattle.interpreter.specs.Arithmetic.{Result, operate, align-up}
 use Rattle.interpreter.specs.Eval.{Calls, ParamMap, find, at as refusal, valueOr, lift, eval-node, eval-cases, eval-default, collect-arguments, inherited, lookup-type, eval-call, eval-within}
-use Rattle.nodes.proofs.Laws.{Standing, kinds}
-use Rattle.nodes.proofs.Shape.{bodyOf, number-at, child-at, node-is, node-in, cases-in, default-in, located}
+use Rattle.nodes.proofs.Laws.{Standing}
+use Rattle.nodes.proofs.Shape.{bodyOf, child-at, node-is, node-in, cases-in, default-in, located}
 use Rattle.arithmetic.specs.declared.Num.{Num}
 use Rattle.arithmetic.specs.Num.{numOf}
 use Rattle.lookup.specs.declared.Place.{Place}
 use Rattle.lookup.specs.declared.Place.the-variants.{At as PlaceAt, Missing as PlaceNone}
+use Rattle.lookup.specs.Named.{Placed}
 use Rattle.lookup.specs.Found.{TreeFound}
 use Rattle.context.specs.declared.Held.{Held}
 use Rattle.context.specs.declared.Held.the-variants.{Value, Absent}
@@ -41,7 +42,8 @@ use Rattle.leaves.specs.declared.Choice.the-variants.{Node, Nothing}
 use Rattle.leaves.specs.declared.Arguments.{Arguments}
 use Rattle.leaves.specs.declared.Arguments.the-variants.{All, Lacking}
 use Rattle.leaves.specs.Outcome.{Tells}
-use Rattle.leaves.specs.Steps.{Rooted, pick, casesOf, defaultOf, Picked, Bound}
+use Rattle.leaves.specs.Steps.{Rooted, pick, casesOf, defaultOf, Picked, Bound, Unwrapped}
+use Rattle.leaves.proofs.Align.{align-child, align-node}
 use Rattle.leaves.proofs.Told.{told-as, then-stops, then-goes}
 use Rattle.leaves.proofs.Nodes.{held-is, absent-is}
 use Rattle.evaluator.specs.Evaluates.{Ready, Evaluates}
@@ -67,22 +69,17 @@ opens (suc left) h types p γ a i δ n = ap (λ (l : ℕ). eval-within l types i
 
 -- ---- AlignUp
 
-pub align-number : {s : List ℕ} {at p : ℕ} → Standing s at 2 p → (a : Accepted s 128 144 at) → le2 s (at + 4) ≡ 131 → (p + 8 ≤ length s) × (number (part 2 (bodyOf a)) ≡ le8 s p)
-unfolding partsOf nodeTable
-align-number st a k = number-at (located 2 st a k refl)
-
-pub align-child : {s : List ℕ} {at q : ℕ} → Standing s at 3 q → (a : Accepted s 128 144 at) → le2 s (at + 4) ≡ 131 → (c : Accepted s 128 144 q) × (nodeOf (part 3 (bodyOf a)) ≡ nodeOf (tree c)) × (le4 s q < le4 s at) × (q + 4 + le4 s q ≤ length s)
-unfolding partsOf nodeTable
-align-child st a k = child-at (located 3 st a k refl)
+-- without those that change nothing
+pub unwrapped-is : {s : List ℕ} {at q : ℕ} → ((a : Accepted s 128 144 at) → Unwrapped a q) → (left : ℕ) (types : List TypeIr) (pl : ℕ) (γ : ParamMap) {r : Bool} {ws us : List ℕ} → ((c : Accepted s 128 144 q) → Tells r ws us (eval-within left types pl γ (nodeOf (tree c))))
+    → (a : Accepted s 128 144 at) → Tells r ws us (eval-within left types pl γ (nodeOf (tree a)))
+unwrapped-is f left types pl γ e a =
+    let u = f a in
+    told-as (e (u .node)) (within-is left types pl γ (nodeOf (tree (u .node))) ∙ sym (u .same (callsAt left types) pl γ) ∙ sym (within-is left types pl γ (nodeOf (tree a))))
 
 module _ {s : List ℕ} {at p q : ℕ} (st : Standing s at 2 p) (su : Standing s at 3 q) (k : le2 s (at + 4) ≡ 131) (left : ℕ) (types : List TypeIr) (pl : ℕ) (γ : ParamMap) (a : Accepted s 128 144 at) where
   align-is : eval-within left types pl γ (nodeOf (tree a)) ≡ (eval-within left types pl γ (nodeOf (tree (align-child su a k .0))) >>= (λ v. lift pl at (align-up v (le8 s p))))
-  unfolding formOf makeThing eval-node
   align-is =
-      let call = callsAt left types in
-      within-is left types pl γ (nodeOf (tree a)) ∙ ap (eval-node call pl γ) (node-is a k refl)
-      ∙ ap (λ (n : IrNode). eval-node call pl γ n >>= (λ v. lift pl at (align-up v (number (part 2 (bodyOf a)))))) (node-in 3 (bodyOf a) ∙ align-child su a k .1)
-      ∙ ap (λ (m : ℕ). eval-node call pl γ (nodeOf (tree (align-child su a k .0))) >>= (λ v. lift pl at (align-up v m))) (align-number st a k .1)
+      within-is left types pl γ (nodeOf (tree a)) ∙ align-node st su k (callsAt left types) pl γ a
       ∙ ap (λ (o : Outcome ℕ). o >>= (λ v. lift pl at (align-up v (le8 s p)))) (sym (within-is left types pl γ (nodeOf (tree (align-child su a k .0)))))
 
   module _ {r : Bool} {ws us : List ℕ} (e : (c : Accepted s 128 144 q) → Tells r ws us (eval-within left types pl γ (nodeOf (tree c)))) where
@@ -209,18 +206,18 @@ module _ {s : List ℕ} {at : ℕ} (k : le2 s (at + 4) ≡ 132) (left : ℕ) (ty
 -- ---- CallNested
 
 -- a type that was found, or not
-pub found-at : {s : List ℕ} {n : Name} {ts : List TypeIr} {r : Place} {i o : ℕ} → r ≡ PlaceAt i o → TreeFound s n ts r → (c : Accepted s 161 161 o) × (lookup-type 0 n ts ≡ done (i, typeIrOf (tree c)))
-found-at {s} {n} {ts} {i} {o} e (TreeFound.at {i = j} {o = q} a h) =
+pub found-at : {s : List ℕ} {n : Name} {ts : List TypeIr} {r : Place} {i o : ℕ} → r ≡ PlaceAt i o → TreeFound s n ts r → (c : Accepted s 161 161 o) × (lookup-type 0 n ts ≡ done (i, typeIrOf (tree c))) × Placed s i o
+found-at {s} {n} {ts} {i} {o} e (TreeFound.at {i = j} {o = q} a l h) =
     let ej : j ≡ i = cc in
     let eq : q ≡ o = cc in
-    move eq (a, h ∙ ap (λ (j : ℕ). done (j, typeIrOf (tree a))) ej)
+    move eq (a, h ∙ ap (λ (j : ℕ). done (j, typeIrOf (tree a))) ej, subst (λ (j : ℕ). Placed s j q) ej l)
   where
-    move : {q : ℕ} → q ≡ o → ((c : Accepted s 161 161 q) × (lookup-type 0 n ts ≡ done (i, typeIrOf (tree c)))) → (c : Accepted s 161 161 o) × (lookup-type 0 n ts ≡ done (i, typeIrOf (tree c)))
-    move e x = subst (λ (q : ℕ). (c : Accepted s 161 161 q) × (lookup-type 0 n ts ≡ done (i, typeIrOf (tree c)))) e x
+    move : {q : ℕ} → q ≡ o → ((c : Accepted s 161 161 q) × (lookup-type 0 n ts ≡ done (i, typeIrOf (tree c))) × Placed s i q) → (c : Accepted s 161 161 o) × (lookup-type 0 n ts ≡ done (i, typeIrOf (tree c))) × Placed s i o
+    move e x = subst (λ (q : ℕ). (c : Accepted s 161 161 q) × (lookup-type 0 n ts ≡ done (i, typeIrOf (tree c))) × Placed s i q) e x
 found-at e (TreeFound.missing h) = let z : _≡_ {A = ℕ} 0 1 = cc in absurd (omega arith)
 
-found-none : {s : List ℕ} {n : Name} {ts : List TypeIr} {r : Place} → r ≡ PlaceNone → TreeFound s n ts r → lookup-type 0 n ts ≡ refused (plain UnknownType)
-found-none e (TreeFound.at a h) = let z : _≡_ {A = ℕ} 0 1 = cc in absurd (omega arith)
+pub found-none : {s : List ℕ} {n : Name} {ts : List TypeIr} {r : Place} → r ≡ PlaceNone → TreeFound s n ts r → lookup-type 0 n ts ≡ refused (plain UnknownType)
+found-none e (TreeFound.at a l h) = let z : _≡_ {A = ℕ} 0 1 = cc in absurd (omega arith)
 found-none e (TreeFound.missing h) = h
 
 bound-lacks : {p : ℕ} {γ : ParamMap} {xs : List IrArgument} {r : Arguments} {q : ℕ} → r ≡ Lacking q → Bound p γ xs r → collect-arguments p γ xs [] ≡ refused (refusal p q MissingIrParameter 0)
@@ -263,17 +260,18 @@ module _ {s : List ℕ} {at : ℕ} (k : le2 s (at + 4) ≡ 133) (left : ℕ) (ty
 -- ---- words
 
 -- what is ready stays ready where the words of the open calls are kept
-pub still-ready : {s values : List ℕ} {block len : ℕ} {ws us : List ℕ} {left depth at q : ℕ} → Ready s values block len ws left depth at → Accepted s 128 144 q → length us ≡ length ws → Same depth ws us → Ready s values block len us left depth q
-still-ready {depth} r c l e = record {
+pub still-ready : {s values : List ℕ} {block len : ℕ} {ws us : List ℕ} {left depth place at q : ℕ} → Ready s values block len ws left depth place at → Accepted s 128 144 q → length us ≡ length ws → Same depth ws us → Ready s values block len us left depth place q
+still-ready {s} {us = us} {depth = depth} {place = place} r c l e = record {
   node = c;
   layout = r .layout;
   context = (r .context .0, context-same depth (omega arith) l e (r .context .1));
+  here = λ d f. let w = r .here d f in (omega (arith, w .0), subst (λ (v : ℕ). Placed s place (treeAt v)) (sym (e d (omega arith))) (w .1));
   room = omega (arith, r .room);
   small = r .small;
 }
 
-pub child-ready : {s values : List ℕ} {block len : ℕ} {ws : List ℕ} {left depth at q : ℕ} → Ready s values block len ws left depth at → Accepted s 128 144 q → Ready s values block len ws left depth q
-child-ready r c = record { node = c; layout = r .layout; context = r .context; room = r .room; small = r .small }
+pub child-ready : {s values : List ℕ} {block len : ℕ} {ws : List ℕ} {left depth place at q : ℕ} → Ready s values block len ws left depth place at → Accepted s 128 144 q → Ready s values block len ws left depth place q
+child-ready r c = record { node = c; layout = r .layout; context = r .context; here = r .here; room = r .room; small = r .small }
 
 -- the word of a call
 pub packed : (call callee : ℕ) → call < 4294967296 → (callAt (call + callee * 4294967296) ≡ call) × (treeAt (call + callee * 4294967296) ≡ callee)
@@ -308,20 +306,27 @@ module _ {s values : List ℕ} {block len : ℕ} {ws : List ℕ} {left depth at 
     (b : (p : ℕ) (γ : ParamMap) → Context s values block len ws depth γ → (a : Accepted s 128 144 at) → Bound p γ (argumentsOf (tree a)) r)
     (d : (t : Tree) → readLayout s ≡ done t → (a : Accepted s 128 144 at) → TreeFound s (text (part 2 (body (tree a)))) (layoutOf t) f)
     (e : (t : Accepted s 161 161 callee) → Rooted t q) (n : left ≡ 0 → ⊥) where
-  pub call-ready : Ready s values block len ws left depth at → Ready s values block len (set ws depth w) (left - 1) (depth + 1) q
-  call-ready x =
+  pub call-ready : {pl : ℕ} → Ready s values block len ws left depth pl at → Ready s values block len (set ws depth w) (left - 1) (depth + 1) i q
+  call-ready {pl} x =
       let t = found-at ef (d (x .layout .0) (x .layout .1) (x .node)) in
       let y = bound-all er (b 0 (x .context .0) (x .context .1) (x .node)) in
       record {
         node = e (t .0) .root;
         layout = x .layout;
         context = (_, opened-call 0 h l ew (x .context .1) (x .node) k (t .0) (y .1));
+        here = λ d f. here (t .2) d (omega arith);
         room = subst (λ (z : ℕ). depth + 1 + (left - 1) ≤ z) (sym (length-set ws depth w)) (room x);
         small = x .small;
       }
     where
-      room : Ready s values block len ws left depth at → depth + 1 + (left - 1) ≤ length ws
+      room : Ready s values block len ws left depth pl at → depth + 1 + (left - 1) ≤ length ws
       room x = omega (arith, x .room)
+
+      here : Placed s i callee → (d : ℕ) → d ≡ depth → (d < length (set ws depth w)) × Placed s i (treeAt (getD (set ws depth w) d 0))
+      here p d f =
+          let v : getD (set ws depth w) d 0 ≡ w = ap (λ (d : ℕ). getD (set ws depth w) d 0) f ∙ getD-set-same ws depth w 0 h in
+          let t : treeAt (getD (set ws depth w) d 0) ≡ callee = ap treeAt (v ∙ ew) ∙ packed at callee l .1 in
+          (omega (arith, length-set ws depth w), subst (λ (o : ℕ). Placed s i o) (sym t) p)
 
   pub call-answers : {o : Bool} {us vs : List ℕ} (pl : ℕ) → Evaluates s values block len (set ws depth w) (left - 1) (depth + 1) i q o us vs → Evaluates s values block len ws left depth pl at o us vs
   call-answers pl ev γ x t rd a =

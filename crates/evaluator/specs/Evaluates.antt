@@ -10,15 +10,16 @@ use Rattle.blocks.specs.Read.{readLayout}
 use Rattle.ir.specs.Layout.{nodeOf, layoutOf}
 use Rattle.walk.specs.Accepted.{Accepted, tree}
 use Rattle.interpreter.specs.Eval.{ParamMap, eval-within}
-use Rattle.context.specs.Context.{Context}
+use Rattle.context.specs.Context.{Context, Here}
 use Rattle.leaves.specs.Outcome.{Tells}
 
 -- the bytes of a layout that was read and those of the values, the words with `depth` open calls, `left` calls that may still
--- open, a node at an offset of the layout
-pub record Ready (s values : List ℕ) (block len : ℕ) (words : List ℕ) (left depth at : ℕ) : Type 0 where
+-- open, a node at an offset of the layout, in the tree of the type at a place
+pub record Ready (s values : List ℕ) (block len : ℕ) (words : List ℕ) (left depth place at : ℕ) : Type 0 where
   pub node : Accepted s 128 144 at
   pub layout : (t : Tree) × (readLayout s ≡ done t)
   pub context : (γ : ParamMap) × Context s values block len words depth γ
+  pub here : Here s words depth place
   pub room : depth + left ≤ length words
   pub small : length s ≤ 65536
 

@@ -6,7 +6,6 @@ use leaves::Choice;
 use lookup::Place;
 ghost use mathlib.Core.Path.{_≡_};
 ghost use Prim.Native.Nat.{_+_, _≤_};
-ghost use lib.ListN.{length};
 ghost use Rattle.blocks.specs.Bytes.{le2};
 ghost use Rattle.context.specs.Context.{Same};
 ghost use Rattle.evaluator.specs.Evaluates.{Ready, Evaluates};
@@ -25,7 +24,28 @@ pub fn eval_node(
     place: usize,
     out: &mut [u64; 4],
 ) -> bool
-    requires { ⌜ Ready (now s) (now values) block len (now words) left depth at ⌝ }
+    requires { ⌜ Ready (now s) (now values) block len (now words) left depth place at ⌝ }
+    ensures { λ r. ⌜ Same depth (now (words .entry)) (now (words .exit)) ⌝ }
+    ensures { λ r. ⌜ Evaluates (now (s .entry)) (now (values .entry)) block len (now (words .entry)) left depth place at r (now (out .entry)) (now (out .exit)) ⌝ }
+{
+    let inner = leaves::unwrapped(s, at);
+    eval_kind(s, inner, left, values, block, len, words, depth, place, out)
+}
+
+// The same, by the node's kind.
+fn eval_kind(
+    s: &[u8],
+    at: usize,
+    left: usize,
+    values: &[u8],
+    block: usize,
+    len: u64,
+    words: &mut [u64],
+    depth: usize,
+    place: usize,
+    out: &mut [u64; 4],
+) -> bool
+    requires { ⌜ Ready (now s) (now values) block len (now words) left depth place at ⌝ }
     ensures { λ r. ⌜ Same depth (now (words .entry)) (now (words .exit)) ⌝ }
     ensures { λ r. ⌜ Evaluates (now (s .entry)) (now (values .entry)) block len (now (words .entry)) left depth place at r (now (out .entry)) (now (out .exit)) ⌝ }
 {
@@ -55,12 +75,12 @@ fn eval_align(
     place: usize,
     out: &mut [u64; 4],
 ) -> bool
-    requires { ⌜ Ready (now s) (now values) block len (now words) left depth at × (le2 (now s) (at + 4) ≡ 131) ⌝ }
+    requires { ⌜ Ready (now s) (now values) block len (now words) left depth place at × (le2 (now s) (at + 4) ≡ 131) ⌝ }
     ensures { λ r. ⌜ Same depth (now (words .entry)) (now (words .exit)) ⌝ }
     ensures { λ r. ⌜ Evaluates (now (s .entry)) (now (values .entry)) block len (now (words .entry)) left depth place at r (now (out .entry)) (now (out .exit)) ⌝ }
 {
-    let p = nodes::part_at(s, at, 2);
-    let q = nodes::part_at(s, at, 3);
+    let p = nodes::first_part(s, at);
+    let q = nodes::second_part(s, at);
     if !eval_node(s, q, left, values, block, len, words, depth, place, out) {
         return false;
     }
@@ -71,6 +91,30 @@ fn eval_align(
         arithmetic::align_up(x, get::read8(s, p) as u64),
         out,
     )
+}
+
+// A node that another is the operand of: a constant is met so often that it is asked for first.
+fn eval_operand(
+    s: &[u8],
+    at: usize,
+    left: usize,
+    values: &[u8],
+    block: usize,
+    len: u64,
+    words: &mut [u64],
+    depth: usize,
+    place: usize,
+    out: &mut [u64; 4],
+) -> bool
+    requires { ⌜ Ready (now s) (now values) block len (now words) left depth place at ⌝ }
+    ensures { λ r. ⌜ Same depth (now (words .entry)) (now (words .exit)) ⌝ }
+    ensures { λ r. ⌜ Evaluates (now (s .entry)) (now (values .entry)) block len (now (words .entry)) left depth place at r (now (out .entry)) (now (out .exit)) ⌝ }
+{
+    let inner = leaves::unwrapped(s, at);
+    if get::read2(s, inner + 4) == 129 {
+        return leaves::constant(s, inner, out);
+    }
+    eval_node(s, inner, left, values, block, len, words, depth, place, out)
 }
 
 // A node of two operands, left before right.
@@ -86,14 +130,14 @@ fn eval_binary(
     place: usize,
     out: &mut [u64; 4],
 ) -> bool
-    requires { ⌜ Ready (now s) (now values) block len (now words) left depth at × ((134 ≤ le2 (now s) (at + 4)) × (le2 (now s) (at + 4) ≤ 143)) ⌝ }
+    requires { ⌜ Ready (now s) (now values) block len (now words) left depth place at × ((134 ≤ le2 (now s) (at + 4)) × (le2 (now s) (at + 4) ≤ 143)) ⌝ }
     ensures { λ r. ⌜ Same depth (now (words .entry)) (now (words .exit)) ⌝ }
     ensures { λ r. ⌜ Evaluates (now (s .entry)) (now (values .entry)) block len (now (words .entry)) left depth place at r (now (out .entry)) (now (out .exit)) ⌝ }
 {
     let kind = get::read2(s, at + 4);
-    let p = nodes::part_at(s, at, 2);
-    let q = nodes::part_at(s, at, 3);
-    if !eval_node(s, p, left, values, block, len, words, depth, place, out) {
+    let p = nodes::first_part(s, at);
+    let q = nodes::second_part(s, at);
+    if !eval_operand(s, p, left, values, block, len, words, depth, place, out) {
         return false;
     }
     let x = out[0];
@@ -117,7 +161,7 @@ fn eval_switch(
     place: usize,
     out: &mut [u64; 4],
 ) -> bool
-    requires { ⌜ Ready (now s) (now values) block len (now words) left depth at × (le2 (now s) (at + 4) ≡ 132) ⌝ }
+    requires { ⌜ Ready (now s) (now values) block len (now words) left depth place at × (le2 (now s) (at + 4) ≡ 132) ⌝ }
     ensures { λ r. ⌜ Same depth (now (words .entry)) (now (words .exit)) ⌝ }
     ensures { λ r. ⌜ Evaluates (now (s .entry)) (now (values .entry)) block len (now (words .entry)) left depth place at r (now (out .entry)) (now (out .exit)) ⌝ }
 {
@@ -143,13 +187,13 @@ fn eval_call(
     place: usize,
     out: &mut [u64; 4],
 ) -> bool
-    requires { ⌜ Ready (now s) (now values) block len (now words) left depth at × (le2 (now s) (at + 4) ≡ 133) ⌝ }
+    requires { ⌜ Ready (now s) (now values) block len (now words) left depth place at × (le2 (now s) (at + 4) ≡ 133) ⌝ }
     ensures { λ r. ⌜ Same depth (now (words .entry)) (now (words .exit)) ⌝ }
     ensures { λ r. ⌜ Evaluates (now (s .entry)) (now (values .entry)) block len (now (words .entry)) left depth place at r (now (out .entry)) (now (out .exit)) ⌝ }
 {
     match leaves::collect_arguments(s, values, block, len, words, depth, at) {
         Arguments::Lacking(q) => leaves::refused(21, place, q, 0, out),
-        Arguments::All => match leaves::called(s, at) {
+        Arguments::All => match leaves::called(s, words, depth, place, at) {
             Place::Missing => leaves::refused(20, 65535, 0, 0, out),
             Place::At(i, callee) => {
                 if left == 0 {

@@ -2,3 +2,4 @@ pub mod Nodes
 pub mod Cases
 pub mod Binding
 pub mod Told
+pub mod Align

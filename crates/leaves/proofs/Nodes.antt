@@ -1,7 +1,7 @@
 -- The nodes that hold no node, the tag of a switch, and the root of a type.
 use mathlib.Core.Path.{_≡_, refl, sym, _∙_, ap, subst}
-use mathlib.Core.Bool.{Bool, true, false}
-use mathlib.Core.List.{List, [], _∷_}
+use mathlib.Core.Bool.{true}
+use mathlib.Core.List.{List}
 use mathlib.Core.Option.{Option, some, none}
 use Prim.Native.Nat.{ℕ, _+_, _-_, _≤_, _<_}
 use native.Mathlib.Omega.{arith}
@@ -9,32 +9,30 @@ use lib.Dec.{leb}
 use lib.ListN.{length, getD, take, drop, getD-replicate}
 use borrow.Author.Tests.{leb-true}
 use Rattle.ir.proofs.Table.{entry}
-use Rattle.errors.specs.Refusal.{Outcome, done, refused, MissingIrParameter}
-use Rattle.blocks.specs.Bytes.{le2, le4, le8}
+use Rattle.errors.specs.Refusal.{done, refused, MissingIrParameter}
+use Rattle.blocks.specs.Bytes.{le2, le8}
 use Rattle.blocks.specs.Name.{Name}
 use Rattle.blocks.specs.Grammar.{partsOf, nodeTable}
-use Rattle.blocks.specs.Tree.{Tree, text, number, body, part, optional, view}
+use Rattle.blocks.specs.Tree.{Tree, text, number, body, part}
 use Rattle.blocks.specs.declared.Part.{Part}
-use Rattle.blocks.specs.declared.Part.the-variants.{Text, Number, OptText, Block, Blocks}
-use Rattle.ir.specs.Ir.{IrNode, TypeIr}
 use Rattle.ir.specs.Layout.{formOf, makeThing, nodeOf, layoutOf}
 use Rattle.walk.specs.Accepted.{Accepted, tree, nameAt}
 use Rattle.interpreter.specs.Arithmetic.{Result, value, fault}
-use Rattle.interpreter.specs.Eval.{Calls, ParamMap, find, at as refusal, valueOr, lift, chosen, eval-node, lookup-type}
-use Rattle.nodes.specs.Located.{Located}
+use Rattle.interpreter.specs.Eval.{Calls, ParamMap, find, at as refusal, valueOr, lift, chosen, eval-node}
 use Rattle.nodes.proofs.Laws.{Standing}
 use Rattle.nodes.proofs.Shape.{bodyOf, text-at, number-at, MaybeText, maybe-text, node-is, located}
 use Rattle.arithmetic.specs.declared.Num.{Num}
 use Rattle.arithmetic.specs.declared.Num.the-variants.{Value as NumValue, Fault}
 use Rattle.arithmetic.specs.Num.{numOf}
 use Rattle.lookup.specs.declared.Place.{Place}
+use Rattle.lookup.specs.Named.{Placed}
 use Rattle.lookup.specs.Found.{TreeFound}
 use Rattle.context.specs.declared.Held.{Held}
 use Rattle.context.specs.declared.Held.the-variants.{Value, Absent}
 use Rattle.context.specs.Names.{heldOf}
-use Rattle.context.specs.Context.{Context}
+use Rattle.context.specs.Context.{Context, Here, treeAt}
 use Rattle.context.proofs.Names.{slice-is}
-use Rattle.leaves.specs.Steps.{Rooted, FieldName}
+use Rattle.leaves.specs.Steps.{FieldName}
 
 -- ---- arithmetic
 
@@ -134,6 +132,10 @@ tag-is st k e γ c a = e γ c ∙ ap (λ (n : Name). heldOf (find n γ)) (sym (s
 
 pub type-is : {s : List ℕ} {at p u : ℕ} {r : Place} → Standing s at 2 p → le2 s (at + 4) ≡ 133 → u ≡ le2 s p → (t : Tree) → TreeFound s (take (p + 2 + u - (p + 2)) (drop (p + 2) s)) (layoutOf t) r → (a : Accepted s 128 144 at) → TreeFound s (text (part 2 (body (tree a)))) (layoutOf t) r
 type-is {s} {p} {u} {r} st k eu t f a = subst (λ (n : Name). TreeFound s n (layoutOf t) r) (slice-is s p u eu ∙ sym (call-type st a k .1)) f
+
+-- the type that holds a node, where a call has opened it
+pub held-here : (s words : List ℕ) (depth place : ℕ) → Here s words depth place → (depth ≡ 0 → ⊥) → (depth - 1 < length words) × Placed s place (treeAt (getD words (depth - 1) 0))
+held-here s words depth place f h = f (depth - 1) (omega arith)
 
 -- ---- how many parts a kind has
 

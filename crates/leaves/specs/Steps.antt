@@ -1,18 +1,18 @@
 -- What a switch selects, what a call's arguments come to, and where a type's root stands.
 use Prim.Native.Nat.{ℕ, _+_, _≤_, _<_}
 use mathlib.Core.Path.{_≡_}
-use mathlib.Core.Bool.{Bool, true, false, cond}
+use mathlib.Core.Bool.{cond}
 use mathlib.Core.List.{List, []}
 use mathlib.Core.Option.{Option, some, none}
 use lib.Dec.{eqb}
 use lib.ListN.{length}
-use Rattle.errors.specs.Refusal.{Outcome, done, refused, MissingIrParameter}
+use Rattle.errors.specs.Refusal.{done, refused, MissingIrParameter}
 use Rattle.blocks.specs.Bytes.{le2, le4}
 use Rattle.blocks.specs.Tree.{Tree, first, rest, body, part, number, text, optional, view}
-use Rattle.ir.specs.Ir.{IrArgument, IrNode, SwitchCases, DefaultNode, TypeIr}
+use Rattle.ir.specs.Ir.{IrArgument, IrNode, SwitchCases, DefaultNode}
 use Rattle.ir.specs.Layout.{nodeOf, typeIrOf, casesIn, thingOf}
 use Rattle.walk.specs.Accepted.{Accepted, tree, nameAt}
-use Rattle.interpreter.specs.Eval.{ParamMap, at, chosen, collect-arguments}
+use Rattle.interpreter.specs.Eval.{Calls, ParamMap, at, chosen, collect-arguments, eval-node}
 use Rattle.leaves.specs.declared.Choice.{Choice}
 use Rattle.leaves.specs.declared.Choice.the-variants.{Node, Nothing}
 use Rattle.leaves.specs.declared.Arguments.{Arguments}
@@ -50,3 +50,9 @@ pub data Picked {s : List ℕ} {at : ℕ} (a : Accepted s 128 144 at) (v : ℕ) 
 pub data Bound (p : ℕ) (γ : ParamMap) (xs : List IrArgument) : Arguments → Type 0 where
   all : (δ : ParamMap) → collect-arguments p γ xs [] ≡ done δ → Bound p γ xs All
   lacking : {q : ℕ} → collect-arguments p γ xs [] ≡ refused (at p q MissingIrParameter 0) → Bound p γ xs (Lacking q)
+
+-- the node at r evaluates to what the one around it does, whatever the context; it is no longer
+pub record Unwrapped {s : List ℕ} {at : ℕ} (a : Accepted s 128 144 at) (r : ℕ) : Type 0 where
+  pub node : Accepted s 128 144 r
+  pub short : le4 s r ≤ le4 s at
+  pub same : (call : Calls) (p : ℕ) (γ : ParamMap) → eval-node call p γ (nodeOf (tree a)) ≡ eval-node call p γ (nodeOf (tree node))

@@ -4,9 +4,7 @@ use arithmetic::Num;
 use context::Held;
 use lookup::Place;
 ghost use mathlib.Core.Path.{_≡_};
-ghost use mathlib.Core.List.{List};
-ghost use mathlib.Core.Option.{Option};
-ghost use Prim.Native.Nat.{ℕ, _+_, _≤_};
+ghost use Prim.Native.Nat.{ℕ, _+_};
 ghost use lib.ListN.{length};
 ghost use Rattle.errors.specs.Refusal.{done, refused as stop};
 ghost use Rattle.blocks.specs.Bytes.{le2};
@@ -19,9 +17,9 @@ ghost use Rattle.interpreter.specs.Eval.{Calls, ParamMap, find, at, lift, eval-
 ghost use Rattle.arithmetic.specs.Num.{numOf};
 ghost use Rattle.lookup.specs.Found.{TreeFound};
 ghost use Rattle.context.specs.Names.{heldOf};
-ghost use Rattle.context.specs.Context.{Context, argumentsOf};
+ghost use Rattle.context.specs.Context.{Context, argumentsOf, Here};
 ghost use Rattle.leaves.specs.Outcome.{Tells};
-ghost use Rattle.leaves.specs.Steps.{Rooted, Picked, Bound, FieldName};
+ghost use Rattle.leaves.specs.Steps.{Rooted, Picked, Bound, FieldName, Unwrapped};
 
 // A count, or a refusal.
 pub enum Answer {
@@ -77,7 +75,7 @@ pub fn constant(s: &[u8], at: usize, out: &mut [u64; 4]) -> bool
     requires { ⌜ Accepted (now s) 128 144 at × (le2 (now s) (at + 4) ≡ 129) ⌝ }
     ensures { λ r. ⌜ ((call : Calls) (p : ℕ) (γ : ParamMap) (a : Accepted (now (s .entry)) 128 144 at) → Tells r (now (out .entry)) (now (out .exit)) (eval-node call p γ (nodeOf (tree a)))) ⌝ }
 {
-    let p = nodes::part_at(s, at, 2);
+    let p = nodes::first_part(s, at);
     counted(get::read8(s, p) as u64, out)
 }
 
@@ -86,8 +84,8 @@ fn field_name(s: &[u8], at: usize) -> usize
     requires { ⌜ Accepted (now s) 128 144 at × (le2 (now s) (at + 4) ≡ 130) ⌝ }
     ensures { λ r. ⌜ FieldName (now (s .entry)) at r ⌝ }
 {
-    let p = nodes::part_at(s, at, 2);
-    let q = nodes::part_at(s, at, 3);
+    let p = nodes::first_part(s, at);
+    let q = nodes::second_part(s, at);
     let b = s[q];
     if b == 1 {
         return q + 1;
@@ -129,7 +127,7 @@ pub fn tag(
     requires { ⌜ Accepted (now s) 128 144 at × (le2 (now s) (at + 4) ≡ 132) × ((γ : ParamMap) × Context (now s) (now values) block len (now words) depth γ) ⌝ }
     ensures { λ r. ⌜ ((γ : ParamMap) → Context (now (s .entry)) (now (values .entry)) block len (now (words .entry)) depth γ → (a : Accepted (now (s .entry)) 128 144 at) → r ≡ heldOf (find (text (part 2 (body (tree a)))) γ)) ⌝ }
 {
-    let p = nodes::part_at(s, at, 2);
+    let p = nodes::first_part(s, at);
     context::find(s, p, values, block, len, words, depth)
 }
 
@@ -138,7 +136,7 @@ pub fn selected(s: &[u8], at: usize, tag: u64) -> Choice
     requires { ⌜ Accepted (now s) 128 144 at × (le2 (now s) (at + 4) ≡ 132) ⌝ }
     ensures { λ r. ⌜ ((a : Accepted (now (s .entry)) 128 144 at) → Picked a tag r) ⌝ }
 {
-    let list = nodes::part_at(s, at, 3);
+    let list = nodes::second_part(s, at);
     let mut left = get::read2(s, list);
     let mut p = list + 2;
     while 0 < left {
@@ -168,7 +166,7 @@ pub fn collect_arguments(
     requires { ⌜ Accepted (now s) 128 144 at × (le2 (now s) (at + 4) ≡ 133) × ((γ : ParamMap) × Context (now s) (now values) block len (now words) depth γ) ⌝ }
     ensures { λ r. ⌜ ((p : ℕ) (γ : ParamMap) → Context (now (s .entry)) (now (values .entry)) block len (now (words .entry)) depth γ → (a : Accepted (now (s .entry)) 128 144 at) → Bound p γ (argumentsOf (tree a)) r) ⌝ }
 {
-    let list = nodes::part_at(s, at, 3);
+    let list = nodes::second_part(s, at);
     let mut left = get::read2(s, list);
     let mut p = list + 2;
     while 0 < left {
@@ -186,15 +184,20 @@ pub fn collect_arguments(
     Arguments::All
 }
 
-// The tree of the type that a CallNested node calls.
-pub fn called(s: &[u8], at: usize) -> Place
-    requires { ⌜ Accepted (now s) 128 144 at × (le2 (now s) (at + 4) ≡ 133) × ((t : Tree) × (readLayout (now s) ≡ done t)) ⌝ }
+// The tree of the type that a CallNested node calls. Where a call has opened the type that holds the node, the search begins there.
+pub fn called(s: &[u8], words: &[u64], depth: usize, place: usize, at: usize) -> Place
+    requires { ⌜ Accepted (now s) 128 144 at × (le2 (now s) (at + 4) ≡ 133) × ((t : Tree) × (readLayout (now s) ≡ done t)) × Here (now s) (now words) depth place ⌝ }
     ensures { λ r. ⌜ ((t : Tree) → readLayout (now (s .entry)) ≡ done t → (a : Accepted (now (s .entry)) 128 144 at) → TreeFound (now (s .entry)) (text (part 2 (body (tree a)))) (layoutOf t) r) ⌝ }
 {
-    let p = nodes::part_at(s, at, 2);
+    let p = nodes::first_part(s, at);
     let from = p + 2;
     let to = from + get::read2(s, p);
-    lookup::lookup_type(s, &s[from..to])
+    if depth == 0 {
+        return lookup::lookup_type(s, &s[from..to]);
+    }
+    let d = depth - 1;
+    let here = (words[d] / 4294967296) as usize;
+    lookup::lookup_near(s, &s[from..to], place, here)
 }
 
 // The root of a type tree.
@@ -203,4 +206,19 @@ pub fn root(s: &[u8], callee: usize) -> usize
     ensures { λ r. ⌜ ((t : Accepted (now (s .entry)) 161 161 callee) → Rooted t r) ⌝ }
 {
     callee + 16 + get::read2(s, callee + 6)
+}
+
+// The node at an offset, without the AlignUp nodes around it that change nothing: an alignment of 0 or 1 hands the count on.
+pub fn unwrapped(s: &[u8], at: usize) -> usize
+    requires { ⌜ Accepted (now s) 128 144 at ⌝ }
+    ensures { λ r. ⌜ ((a : Accepted (now (s .entry)) 128 144 at) → Unwrapped a r) ⌝ }
+{
+    let mut p = at;
+    while get::read2(s, p + 4) == 131 {
+        if 1 < get::read8(s, nodes::first_part(s, p)) {
+            return p;
+        }
+        p = nodes::second_part(s, p);
+    }
+    p
 }

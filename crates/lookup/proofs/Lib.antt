@@ -1,3 +1,5 @@
 pub mod Search
 pub mod Types
 pub mod Values
+pub mod Distinct
+pub mod Near

@@ -4,6 +4,7 @@ use mathlib.Core.Bool.{Bool, true, false}
 use mathlib.Core.List.{List, _∷_}
 use mathlib.Core.Option.{some, none}
 use Prim.Native.Nat.{ℕ, _+_, _-_, _≤_, _<_}
+use native.Mathlib.Numerals.{add-one}
 use native.Mathlib.Omega.{arith}
 use lib.ListN.{length}
 use Rattle.blocks.specs.declared.Part.{Part}
@@ -16,7 +17,7 @@ use Rattle.walk.specs.Accepted.{Accepted, tree, Item, nameAt}
 use Rattle.walk.proofs.Laws.{opened, key-part, block-entry}
 use Rattle.walk.proofs.Lists.{Left, starts, steps, ended}
 use Rattle.lookup.specs.declared.Place.the-variants.{At, Missing}
-use Rattle.lookup.specs.Named.{firstNamed, Keyed, Entry}
+use Rattle.lookup.specs.Named.{firstNamed, blockAt, Keyed, Entry}
 
 -- ---- a block that begins with a name
 
@@ -44,20 +45,28 @@ headed {s} {at} a h =
 abbrev Unmet : Name → ℕ → Tree → Tree → Type 0
 Unmet n i w u = firstNamed n 0 w ≡ firstNamed n i u
 
-passed : (n m : Name) (i : ℕ) (a u : Tree) → text (part 0 (body a)) ≡ m → same n m ≡ false → firstNamed n i (cons a u) ≡ firstNamed n (i + 1) u
+pub passed : (n m : Name) (i : ℕ) (a u : Tree) → text (part 0 (body a)) ≡ m → same n m ≡ false → firstNamed n i (cons a u) ≡ firstNamed n (i + 1) u
 unfolding firstNamed
 passed n m i a u e h = rw (e, h)
 
-met : (n m : Name) (i : ℕ) (a u : Tree) → text (part 0 (body a)) ≡ m → same n m ≡ true → firstNamed n i (cons a u) ≡ some (i, a)
+pub met : (n m : Name) (i : ℕ) (a u : Tree) → text (part 0 (body a)) ≡ m → same n m ≡ true → firstNamed n i (cons a u) ≡ some (i, a)
 unfolding firstNamed
 met n m i a u e h = rw (e, h)
 
+-- where the next block stands
+pub next-at : (s : List ℕ) (p i at : ℕ) → at ≡ blockAt s p i → at + 4 + le4 s at ≡ blockAt s p (i + 1)
+unfolding blockAt
+next-at s p i at e = rw (add-one i) (ap (λ (q : ℕ). q + 4 + le4 s q) e)
+
 -- Of m blocks from p on, `left` are left, from `at` on.
 pub record Search (s : List ℕ) (n : Name) (m p left at i : ℕ) : Type 0 where
+  pub sum : i + left ≡ m
+  pub stands : at ≡ blockAt s p i
   pub on : (l : Keyed s m p) → Left (Unmet n i) s (Item.blocks (l .lo) (l .hi)) m p left at
 
 pub begin : {s : List ℕ} {n : Name} {m p left : ℕ} → left ≡ m → Search s n m p left p 0
-begin {s} {n} {m} {p} e = subst (λ (k : ℕ). Search s n m p k p 0) (sym e) (record { on = λ l. starts (λ t. refl) (l .list) })
+unfolding blockAt
+begin {s} {n} {m} {p} e = subst (λ (k : ℕ). Search s n m p k p 0) (sym e) (record { sum = omega arith; stands = refl; on = λ l. starts (λ t. refl) (l .list) })
 
 module _ {s : List ℕ} {n : Name} {m p left at i : ℕ} where
   -- the next block
@@ -68,6 +77,8 @@ module _ {s : List ℕ} {n : Name} {m p left at i : ℕ} where
   pub go-on : {u : ℕ} {r : Bool} → 0 < left → r ≡ same n (nameAt s (at + 6)) → r ≡ false → u ≡ le4 s at → Search s n m p left at i → Search s n m p (left - 1) (at + 4 + u) (i + 1)
   go-on h e f g c =
       subst (λ (k : ℕ). Search s n m p (left - 1) (at + 4 + k) (i + 1)) (sym g) (record {
+        sum = omega (arith, h, c .sum);
+        stands = next-at s p i at (c .stands);
         on = λ l. steps (λ r. block-entry r h .child .got .0) (λ r. block-entry r h .after)
             (λ r w u q. q ∙ passed n (nameAt s (at + 6)) i (block-entry r h .child .got .0) u (headed (block-entry r h .child) (l .keyed) .named) (sym e ∙ f)) (c .on l);
       })
@@ -77,7 +88,7 @@ module _ {s : List ℕ} {n : Name} {m p left at i : ℕ} where
   hit h e f c l =
       let w = c .on l .whole (l .list) in
       let b = block-entry (w .0) h in
-      Entry.at (b .child) (w .1 ∙ ap (firstNamed n i) (b .after .tree) ∙ met n (nameAt s (at + 6)) i (b .child .got .0) (b .after .rest .got .0) (headed (b .child) (l .keyed) .named) (sym e ∙ f))
+      Entry.at {i = i} {o = at} (b .child) (omega (arith, h, c .sum), c .stands) (w .1 ∙ ap (firstNamed n i) (b .after .tree) ∙ met n (nameAt s (at + 6)) i (b .child .got .0) (b .after .rest .got .0) (headed (b .child) (l .keyed) .named) (sym e ∙ f))
 
   -- none is left
   pub no-more : left ≤ 0 → Search s n m p left at i → (l : Keyed s m p) → Entry n l Missing

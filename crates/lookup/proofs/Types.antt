@@ -40,7 +40,7 @@ type-named : (at : ℕ) (t : Tree) (k : ℕ) → 1 ≤ k → k ≤ 7 → head (t
 unfolding typeOf view thingOf makeThing formOf
 type-named at t k a b = each (λ k. head (typeOf (block at k t)) .name ≡ text (part 0 t)) 7 1 (refl, (refl, (refl, (refl, (refl, (refl, (refl, tt))))))) k a (omega arith)
 
-tree-keyed : (k : ℕ) → 161 ≤ k → k ≤ 161 → (ps : List Part) × (partsOf k ≡ Key ∷ ps)
+pub tree-keyed : (k : ℕ) → 161 ≤ k → k ≤ 161 → (ps : List Part) × (partsOf k ≡ Key ∷ ps)
 unfolding partsOf findRow grammar nodeTable
 tree-keyed k a b = each (λ k. (ps : List Part) × (partsOf k ≡ Key ∷ ps)) 1 161 ((_, refl), tt) k a (omega arith)
 
@@ -89,11 +89,11 @@ types-same n i (All.more {a} {b} h g) = rw h (go (same n (text (part 0 (body a))
     go true e = refl
     go false e = e
 
-abbrev looked : Option (ℕ × Tree) → Outcome (ℕ × TypeIr)
+abbrev pub looked : Option (ℕ × Tree) → Outcome (ℕ × TypeIr)
 looked none = refused (plain UnknownType)
 looked (some x) = done (x .0, typeIrOf (x .1))
 
-trees-same : (n : Name) (i : ℕ) (u : Tree) → lookup-type i n (entries typeIrOf u) ≡ looked (firstNamed n i u)
+pub trees-same : (n : Name) (i : ℕ) (u : Tree) → lookup-type i n (entries typeIrOf u) ≡ looked (firstNamed n i u)
 unfolding lookup-type firstNamed entries
 trees-same n i (name m) = refl
 trees-same n i (num w v) = refl
@@ -125,7 +125,7 @@ module _ {s : List ℕ} {n : Name} {r : Place} (f : (l : Keyed s (le2 s 6) 8) �
       subst (λ (ts : List ResolvedType). TypeFound s n ts (found r)) (sym (l .2)) (go (l .0) (l .1) (f (keyed 1 7 (l .0) (l .1) type-keyed)))
     where
       go : {r : Place} (h : 8 ≤ length s) (l : Listed s 1 7 (le2 s 6) 8) → Entry n (keyed 1 7 h l type-keyed) r → TypeFound s n (entries typeOf (l .got .0)) (found r)
-      go h l (Entry.at a e) = TypeFound.at a (types-same n 0 (all-entries Titled titled l) ∙ ap typed e)
+      go h l (Entry.at a p e) = TypeFound.at a (types-same n 0 (all-entries Titled titled l) ∙ ap typed e)
       go h l (Entry.missing e) = TypeFound.missing (types-same n 0 (all-entries Titled titled l) ∙ ap typed e)
 
   pub type-there : {i o : ℕ} → r ≡ At i o → (t : Tree) → readSet s ≡ done t → TypeFound s n (typesOf t) (FoundAt o)
@@ -140,5 +140,5 @@ module _ {s : List ℕ} {n : Name} {r : Place} (f : (l : Keyed s (le2 s 6) 8) �
       subst (λ (ts : List TypeIr). TreeFound s n ts r) (sym (l .2)) (go (l .0) (l .1) (f (keyed 161 161 (l .0) (l .1) tree-keyed)))
     where
       go : {r : Place} (h : 8 ≤ length s) (l : Listed s 161 161 (le2 s 6) 8) → Entry n (keyed 161 161 h l tree-keyed) r → TreeFound s n (entries typeIrOf (l .got .0)) r
-      go h l (Entry.at a e) = TreeFound.at a (trees-same n 0 (l .got .0) ∙ ap looked e)
+      go h l (Entry.at a p e) = TreeFound.at a p (trees-same n 0 (l .got .0) ∙ ap looked e)
       go h l (Entry.missing e) = TreeFound.missing (trees-same n 0 (l .got .0) ∙ ap looked e)

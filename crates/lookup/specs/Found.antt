@@ -19,6 +19,7 @@ use Rattle.lookup.specs.declared.Place.{Place}
 use Rattle.lookup.specs.declared.Place.the-variants.{At as PlaceAt, Missing as PlaceNone}
 use Rattle.lookup.specs.declared.Value.{Value}
 use Rattle.lookup.specs.declared.Value.the-variants.{At as ValueAt, Missing as ValueNone}
+use Rattle.lookup.specs.Named.{Placed}
 
 -- a type in a set: the offset of its block
 pub data TypeFound (s : List ℕ) (n : Name) (ts : List ResolvedType) : Found → Type 0 where
@@ -27,7 +28,7 @@ pub data TypeFound (s : List ℕ) (n : Name) (ts : List ResolvedType) : Found �
 
 -- a type tree in a layout: its place, and the offset of its block
 pub data TreeFound (s : List ℕ) (n : Name) (ts : List TypeIr) : Place → Type 0 where
-  at : {i o : ℕ} (a : Accepted s 161 161 o) → lookup-type 0 n ts ≡ done (i, typeIrOf (tree a)) → TreeFound s n ts (PlaceAt i o)
+  at : {i o : ℕ} (a : Accepted s 161 161 o) → Placed s i o → lookup-type 0 n ts ≡ done (i, typeIrOf (tree a)) → TreeFound s n ts (PlaceAt i o)
   missing : lookup-type 0 n ts ≡ refused (plain UnknownType) → TreeFound s n ts PlaceNone
 
 -- a value: the offset of its number

@@ -11,7 +11,7 @@ ghost use Rattle.resolved.specs.Set.{typesOf};
 ghost use Rattle.ir.specs.Layout.{layoutOf};
 ghost use Rattle.interpreter.specs.Validate.{valuesOf};
 ghost use Rattle.walk.specs.Accepted.{Accepted, tree, nameAt};
-ghost use Rattle.lookup.specs.Named.{Keyed, Entry};
+ghost use Rattle.lookup.specs.Named.{Keyed, Entry, blockAt, Placed, Among};
 ghost use Rattle.lookup.specs.Found.{TypeFound, TreeFound, ValueFound};
 
 // The offset of a type's block.
@@ -79,6 +79,37 @@ pub fn lookup_type(layout: &[u8], name: &[u8]) -> Place
     ensures { λ r. ⌜ ((t : Tree) → readLayout (now (layout .entry)) ≡ done t → TreeFound (now (layout .entry)) (now (name .entry)) (layoutOf t) r) ⌝ }
 {
     entry(layout, name)
+}
+
+// Among so many blocks of the list, from an offset on, the first of a name; `first` is the place of the block there.
+fn entry_from(s: &[u8], name: &[u8], first: usize, from: usize, count: usize) -> Place
+    requires { ⌜ ((t : Tree) × (readLayout (now s) ≡ done t)) × (from ≡ blockAt (now s) 8 first) × (first + count ≤ le2 (now s) 6) ⌝ }
+    ensures { λ r. ⌜ Among (now (s .entry)) (now (name .entry)) first count r ⌝ }
+{
+    let mut left = count;
+    let mut at = from;
+    let mut i = first;
+    while 0 < left {
+        if is_named(s, at + 6, name) {
+            return Place::At(i, at);
+        }
+        at = at + 4 + get::read4(s, at);
+        i += 1;
+        left -= 1;
+    }
+    Place::Missing
+}
+
+// The same as `lookup_type`; the search begins at the type tree of a place and goes on from the first, because a type is mostly
+// called by one that stands shortly before it. The names are distinct, so that it does not matter where it begins.
+pub fn lookup_near(layout: &[u8], name: &[u8], place: usize, at: usize) -> Place
+    requires { ⌜ ((t : Tree) × (readLayout (now layout) ≡ done t)) × Placed (now layout) place at ⌝ }
+    ensures { λ r. ⌜ ((t : Tree) → readLayout (now (layout .entry)) ≡ done t → TreeFound (now (layout .entry)) (now (name .entry)) (layoutOf t) r) ⌝ }
+{
+    match entry_from(layout, name, place, at, get::read2(layout, 6) - place) {
+        Place::At(i, o) => Place::At(i, o),
+        Place::Missing => entry_from(layout, name, 0, 8, place),
+    }
 }
 
 // The value of a name in an accepted block of values at an offset, as in a run.

@@ -5,17 +5,18 @@ use mathlib.Core.List.{List, [], _∷_, map}
 use Prim.Native.Nat.{ℕ, zero, suc, _+_, _-_, _≤_, _<_}
 use native.Mathlib.Numerals.{add-one}
 use native.Mathlib.Omega.{arith}
-use lib.ListN.{length, getD, take, drop, getD-replicate}
+use lib.ListN.{length, getD, drop, getD-replicate}
 use Rattle.blocks.specs.declared.Part.{Part}
 use Rattle.blocks.specs.declared.Part.the-variants.{Text, Key, Number, Flag, Size, OptNumber, OptText, Literal, Block, OptBlock, Blocks, Ascending, Distinct, Names, Paths, Values}
 use Rattle.blocks.specs.Bytes.{le2, le4}
 use Rattle.blocks.specs.Grammar.{partsOf, nodeTable}
-use Rattle.blocks.specs.Tree.{Tree, cons, nil, num, first, rest, body}
+use Rattle.blocks.specs.Tree.{Tree, cons, num, first, rest, body}
 use Rattle.blocks.proofs.Name.{and-left, and-right}
 use Rattle.ir.specs.Codes.{codeOf, codeAt}
 use Rattle.ir.proofs.Table.{entry}
+use Rattle.ir.proofs.Rows.{rowed, part-0, part-1}
 use Rattle.walk.specs.Accepted.{Accepted, tree, Parts, Optional}
-use Rattle.walk.proofs.Laws.{Opened, opened, Behind, text-part, number-part, There, Announced, optional-part, block-part}
+use Rattle.walk.proofs.Laws.{opened, Behind, text-part, number-part, There, optional-part, block-part}
 use Rattle.nodes.specs.Located.{Simple, Next, rests, Located}
 
 -- ---- one part
@@ -223,6 +224,28 @@ stands-next {s} {at} {i} ek ec h l st f a ps e =
       ended = sym (n .stop) ∙ m .ended;
     }
 
--- all i parts were passed
-pub stands-all : {s : List ℕ} {at i j q : ℕ} → j ≤ i → i ≤ j → Standing s at j q → Standing s at i q
-stands-all {s} {at} {i} {j} {q} h g st = let e : j ≡ i = omega arith in subst (λ (n : ℕ). Standing s at n q) e st
+-- ---- the metadata: a number, and a text behind a flag
+
+two-parts : (k : ℕ) → 128 ≤ k → k ≤ 144 → 2 ≤ length (partsOf k)
+two-parts k h g = let w = rowed k h g in rw (w .1) (omega arith)
+
+-- the flag
+pub flagged : {s : List ℕ} {at : ℕ} → Accepted s 128 144 at → Standing s at 1 (at + 14)
+flagged {s} {at} a =
+    let b = kinds a in
+    let e : at + 6 + 8 ≡ at + 14 = omega arith in
+    rw e at (stands-next {i = 0} refl (part-0 (le2 s (at + 4)) 0 (b .0) (b .1) refl) (omega arith) (omega (arith, two-parts (le2 s (at + 4)) (b .0) (b .1))) (begins s at) (λ p ps c h g. step h g c .number refl))
+
+pub within : {s : List ℕ} {at : ℕ} → Accepted s 128 144 at → at + 14 ≤ length s
+within a = let l = flagged a a _ refl in omega (arith, l .inside, l .parts .fits)
+
+pub flagged-part : {s : List ℕ} {at : ℕ} → Accepted s 128 144 at → (p : Part) × (ps : List Part) × Simple p × (7 ≡ codeOf p) × Parts s (p ∷ ps) (at + 14)
+flagged-part {s} {at} a =
+    let b = kinds a in
+    stands a refl (part-1 (le2 s (at + 4)) 1 (b .0) (b .1) refl) (omega arith) (omega (arith, two-parts (le2 s (at + 4)) (b .0) (b .1))) (flagged a)
+
+-- what is behind it
+pub behind-metadata : {s : List ℕ} {at r : ℕ} → Accepted s 128 144 at → ((p : Part) (ps : List Part) (c : Parts s (p ∷ ps) (at + 14)) → Simple p → 7 ≡ codeOf p → Next c r) → Standing s at 2 r
+behind-metadata {s} {at} a f =
+    let b = kinds a in
+    stands-next {i = 1} refl (part-1 (le2 s (at + 4)) 1 (b .0) (b .1) refl) (omega arith) (omega (arith, two-parts (le2 s (at + 4)) (b .0) (b .1))) (flagged a) f

@@ -1,7 +1,7 @@
 // Where the parts of an accepted node stand.
 ghost use mathlib.Core.Path.{_≡_};
 ghost use mathlib.Core.List.{List, _∷_};
-ghost use Prim.Native.Nat.{ℕ, _+_, _≤_};
+ghost use Prim.Native.Nat.{_+_, _≤_};
 ghost use lib.ListN.{length, drop};
 ghost use Rattle.blocks.specs.declared.Part.{Part};
 ghost use Rattle.blocks.specs.Bytes.{le2};
@@ -31,17 +31,19 @@ fn behind(s: &[u8], at: usize, code: u32) -> usize
     at + 4 + get::read4(s, at)
 }
 
-// The offset of part i of a node, counted from 0, among its first four: the metadata's two, and two behind them.
-pub fn part_at(s: &[u8], at: usize, i: usize) -> usize
-    requires { ⌜ Accepted (now s) 128 144 at × (i ≤ 3) × (i ≤ length (partsOf (le2 (now s) (at + 4)))) ⌝ }
-    ensures { λ r. ⌜ ((a : Accepted (now (s .entry)) 128 144 at) (ps : List Part) → drop i (partsOf (le2 (now (s .entry)) (at + 4))) ≡ ps → Located a ps i r) ⌝ }
+// The offset of a node's first part behind its metadata.
+pub fn first_part(s: &[u8], at: usize) -> usize
+    requires { ⌜ Accepted (now s) 128 144 at ⌝ }
+    ensures { λ r. ⌜ ((a : Accepted (now (s .entry)) 128 144 at) (ps : List Part) → drop 2 (partsOf (le2 (now (s .entry)) (at + 4))) ≡ ps → Located a ps 2 r) ⌝ }
+{
+    behind(s, at + 14, ir::OPT_TEXT)
+}
+
+// The offset of the part behind that.
+pub fn second_part(s: &[u8], at: usize) -> usize
+    requires { ⌜ Accepted (now s) 128 144 at × (3 ≤ length (partsOf (le2 (now s) (at + 4)))) ⌝ }
+    ensures { λ r. ⌜ ((a : Accepted (now (s .entry)) 128 144 at) (ps : List Part) → drop 3 (partsOf (le2 (now (s .entry)) (at + 4))) ≡ ps → Located a ps 3 r) ⌝ }
 {
     let kind = get::read2(s, at + 4);
-    let mut p = at + 6;
-    let mut j = 0;
-    while j < i {
-        p = behind(s, p, ir::node_part(kind, j));
-        j += 1;
-    }
-    p
+    behind(s, first_part(s, at), ir::node_part(kind, 2))
 }

@@ -8,14 +8,13 @@ use lib.Dec.{leb}
 use lib.ListN.{length, take, drop, replicate, length-replicate}
 use lib.Seq.{length-take-le}
 use borrow.Author.Tests.{le-leb, lt-leb, leb-true}
-use Rattle.errors.specs.Refusal.{Outcome, done, refused, _>>=_, ask, enough, unread, plain, UnknownType}
-use Rattle.errors.proofs.Laws.{done-one, asked, bound, bound-done}
+use Rattle.errors.specs.Refusal.{Outcome, done, refused, _>>=_, ask, enough, unread}
+use Rattle.errors.proofs.Laws.{asked, bound, bound-done}
 use Rattle.blocks.specs.Name.{Name}
 use Rattle.blocks.specs.Tree.{Tree, name, num, block, cons, body, part}
 use Rattle.blocks.specs.Read.{small, readInput, readLayout, readRun}
 use Rattle.blocks.proofs.Refusals.{Unread, input-unread}
-use Rattle.ir.specs.Ir.{TypeIr}
-use Rattle.ir.specs.Layout.{nodeOf, typeIrOf, layoutOf}
+use Rattle.ir.specs.Layout.{layoutOf}
 use Rattle.blocks.specs.Bytes.{le2, le8}
 use Rattle.blocks.specs.Grammar.{partsOf, findRow, grammar}
 use Rattle.blocks.specs.declared.Part.the-variants.{Text, Number, Block}
@@ -27,8 +26,8 @@ use Rattle.reader.specs.Input.{inputOf}
 use Rattle.lookup.specs.declared.Place.{Place}
 use Rattle.lookup.specs.declared.Place.the-variants.{At as PlaceAt, Missing as PlaceNone}
 use Rattle.lookup.specs.Found.{TreeFound}
-use Rattle.interpreter.specs.Eval.{ParamMap, lookup-type, eval-within}
-use Rattle.interpreter.specs.Validate.{with-buffer-size, fits-buffer, valuesOf, validate-type, validate, validate-run, runOf}
+use Rattle.interpreter.specs.Eval.{ParamMap, eval-within}
+use Rattle.interpreter.specs.Validate.{with-buffer-size, valuesOf, validate-type, validate, validate-run, runOf}
 use Rattle.context.specs.Context.{Context}
 use Rattle.context.proofs.Names.{slice-is}
 use Rattle.leaves.specs.declared.Answer.{Answer}
@@ -36,7 +35,7 @@ use Rattle.leaves.specs.declared.Answer.the-variants as answer
 use Rattle.leaves.specs.Outcome.{outcomeOf, Tells}
 use Rattle.leaves.specs.Steps.{Rooted}
 use Rattle.evaluator.specs.Evaluates.{Ready, Evaluates}
-use Rattle.evaluator.proofs.Laws.{found-at}
+use Rattle.evaluator.proofs.Laws.{found-at, found-none}
 use Rattle.validator.specs.declared.Judgement.{Judgement}
 use Rattle.validator.specs.declared.Judgement.the-variants as judgement
 use Rattle.validator.specs.Validator.{judge, judgementOf, outcomeIn, fitted, Given, GivenRun}
@@ -208,10 +207,6 @@ tells-one : {ok : Bool} {ws us : List ℕ} (o : Outcome ℕ) → Tells ok ws us 
 tells-one (done n) t = rw (t .which, t .left)
 tells-one (refused r) t = rw (t .which, t .left)
 
-found-none : {s : List ℕ} {n : Name} {ts : List TypeIr} {r : Place} → r ≡ PlaceNone → TreeFound s n ts r → lookup-type 0 n ts ≡ refused (plain UnknownType)
-found-none e (TreeFound.at a h) = let z : _≡_ {A = ℕ} 0 1 = cc in absurd (omega arith)
-found-none e (TreeFound.missing h) = h
-
 module _ {s : List ℕ} {name : Name} {r : Place} (f : (t : Tree) → readLayout s ≡ done t → TreeFound s name (layoutOf t) r) where
   pub type-unknown : r ≡ PlaceNone → (t : Tree) → readLayout s ≡ done t → (len : ℕ) (γ : ParamMap) → outcomeOf (answer.Refused 20 65535 0 0) ≡ validate-type (layoutOf t) name len γ
   unfolding validate-type _>>=_
@@ -222,8 +217,8 @@ module _ {s : List ℕ} {name : Name} {r : Place} (f : (t : Tree) → readLayout
     type-tree g = found-at e (f (g .layout .0) (g .layout .1)) .0
 
     module _ {q : ℕ} (rooted : (c : Accepted s 161 161 o) → Rooted c q) where
-      pub root-ready : {v ws : List ℕ} {block left : ℕ} (len : ℕ) → Given s v block ws → left ≤ 16 → Ready s v block len ws left 0 q
-      root-ready len g few = record { node = rooted (type-tree g) .root; layout = g .layout; context = (_, Context.root (g .values-read)); room = omega (arith, g .room, few); small = g .small }
+      pub root-ready : {v ws : List ℕ} {block left : ℕ} (len : ℕ) → Given s v block ws → left ≤ 16 → Ready s v block len ws left 0 i q
+      root-ready len g few = record { node = rooted (type-tree g) .root; layout = g .layout; context = (_, Context.root (g .values-read)); here = λ d e. absurd (omega arith); room = omega (arith, g .room, few); small = g .small }
 
       pub type-goes : {v ws : List ℕ} {block len : ℕ} {ok : Bool} {before out : List ℕ} (w z : Answer) → Evaluates s v block len ws 16 0 i q ok before out → outcomeOf w ≡ outcomeIn ok out → outcomeOf z ≡ fitted i len (outcomeOf w) →
           (t : Tree) → readLayout s ≡ done t → (a : Accepted v 192 192 block) → outcomeOf z ≡ validate-type (layoutOf t) name len (valuesOf (tree a))

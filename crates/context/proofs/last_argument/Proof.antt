@@ -1,12 +1,7 @@
 -- `context::last_argument` meets its contract. Assumes nothing.
-use mathlib.Core.Path.{_≡_, refl, sym, _∙_, ap}
-use mathlib.Core.List.{List}
-use mathlib.Core.Bool.{Bool}
-use Prim.Native.Nat.{ℕ, _+_, _-_, _≤_}
+use Prim.Native.Nat.{_+_}
 use native.Mathlib.Omega.{arith}
-use lib.ListN.{length}
-use Rattle.blocks.specs.Bytes.{le2, le4}
-use Rattle.blocks.specs.Name.{Name, same}
+use Rattle.blocks.specs.Bytes.{le2}
 use Rattle.walk.specs.Accepted.{nameAt}
 use Rattle.context.proofs.Lists.{Passed, begin, next-one, go-on, arguments-at, has-three, last-of, ends}
 use Rattle.context.proofs.last_argument.Statement.{statement}
@@ -16,7 +11,7 @@ use Rattle.context.proofs.last_argument.Lts as lts
 use Rattle.context.proofs.later.Reads as later-reads
 use Rattle.get.proofs.read2.Reads as read2-reads
 use Rattle.get.proofs.read4.Reads as read4-reads
-use Rattle.nodes.proofs.part_at.Reads as part-at-reads
+use Rattle.nodes.proofs.second_part.Reads as second-part-reads
 
 abbrev Inv-loop : tie.InvT-loop
 Inv-loop s call name list left₀ at₀ last₀ left at last = Passed s (nameAt s name) (le2 s list) (list + 2) left at last
@@ -24,29 +19,29 @@ Inv-loop s call name list left₀ at₀ last₀ left at last = Passed s (nameAt 
 abbrev μ-loop : tie.MeasureT-loop
 μ-loop s call name list left₀ at₀ last₀ left at last = left
 
-part-at-requires : tie.Need-part-at-requires Inv-loop μ-loop
-part-at-requires c κs = (c .before .pre .0, omega arith, has-three _ (c .before .pre .1))
+second-part-requires : tie.Need-second-part-requires Inv-loop μ-loop
+second-part-requires c κs = (c .before .pre .0, has-three _ (c .before .pre .1))
 
 read2-requires : tie.Need-read2-requires Inv-loop μ-loop
-read2-requires c κs = arguments-at (c .part-at .ensures) (c .before .before .pre .0) (c .before .before .pre .1) .inside
+read2-requires c κs = arguments-at (c .second-part .ensures) (c .before .before .pre .0) (c .before .before .pre .1) .inside
 
 add-at : tie.Need-add-at Inv-loop μ-loop
-add-at c = omega (arith, arguments-at (c .before .part-at .ensures) (c .before .before .before .pre .0) (c .before .before .before .pre .1) .inside)
+add-at c = omega (arith, arguments-at (c .before .second-part .ensures) (c .before .before .before .pre .0) (c .before .before .before .pre .1) .inside)
 
 loop-holds : tie.Need-loop-holds Inv-loop μ-loop
 loop-holds c = begin (c .read2 .ensures .0)
 
 later-requires : tie.Need-later-requires Inv-loop μ-loop
-later-requires c κs = (next-one (c .loop-test .taken) (c .before .loop .inv) (arguments-at (c .before .before .before .part-at .ensures) (c .before .before .before .before .before .pre .0) (c .before .before .before .before .before .pre .1) .list), c .before .before .before .before .before .pre .2)
+later-requires c κs = (next-one (c .loop-test .taken) (c .before .loop .inv) (arguments-at (c .before .before .before .second-part .ensures) (c .before .before .before .before .before .pre .0) (c .before .before .before .before .before .pre .1) .list), c .before .before .before .before .before .pre .2)
 
 add-at-2 : tie.Need-add-at-2 Inv-loop μ-loop
-add-at-2 c = omega (arith, ends (next-one (c .before .loop-test .taken) (c .before .before .loop .inv) (arguments-at (c .before .before .before .before .part-at .ensures) (c .before .before .before .before .before .before .pre .0) (c .before .before .before .before .before .before .pre .1) .list)) .0)
+add-at-2 c = omega (arith, ends (next-one (c .before .loop-test .taken) (c .before .before .loop .inv) (arguments-at (c .before .before .before .before .second-part .ensures) (c .before .before .before .before .before .before .pre .0) (c .before .before .before .before .before .before .pre .1) .list)) .0)
 
 read4-requires : tie.Need-read4-requires Inv-loop μ-loop
-read4-requires c κs = omega (arith, ends (next-one (c .before .loop-test .taken) (c .before .before .loop .inv) (arguments-at (c .before .before .before .before .part-at .ensures) (c .before .before .before .before .before .before .pre .0) (c .before .before .before .before .before .before .pre .1) .list)) .0)
+read4-requires c κs = omega (arith, ends (next-one (c .before .loop-test .taken) (c .before .before .loop .inv) (arguments-at (c .before .before .before .before .second-part .ensures) (c .before .before .before .before .before .before .pre .0) (c .before .before .before .before .before .before .pre .1) .list)) .0)
 
 add-at-3 : tie.Need-add-at-3 Inv-loop μ-loop
-add-at-3 c = omega (arith, ends (next-one (c .before .before .loop-test .taken) (c .before .before .before .loop .inv) (arguments-at (c .before .before .before .before .before .part-at .ensures) (c .before .before .before .before .before .before .before .pre .0) (c .before .before .before .before .before .before .before .pre .1) .list)) .1, c .read4 .ensures .0)
+add-at-3 c = omega (arith, ends (next-one (c .before .before .loop-test .taken) (c .before .before .before .loop .inv) (arguments-at (c .before .before .before .before .before .second-part .ensures) (c .before .before .before .before .before .before .before .pre .0) (c .before .before .before .before .before .before .before .pre .1) .list)) .1, c .read4 .ensures .0)
 
 sub-left : tie.Need-sub-left Inv-loop μ-loop
 sub-left c = omega arith
@@ -58,7 +53,7 @@ loop-again : tie.Need-loop-again Inv-loop μ-loop
 loop-again c = go-on (c .before .before .loop-test .taken) (c .before .later .ensures) (c .read4 .ensures .0) (c .before .before .before .loop .inv)
 
 returns : tie.Need-returns Inv-loop μ-loop
-returns c = last-of (c .loop-test .left) (c .before .before .before .part-at .ensures) (c .before .before .before .before .before .pre .1) (c .before .loop .inv)
+returns c = last-of (c .loop-test .left) (c .before .before .before .second-part .ensures) (c .before .before .before .before .before .pre .1) (c .before .loop .inv)
 
 pub last-argument-spec : {M : Type 1} → statement M
 last-argument-spec =
@@ -66,7 +61,7 @@ last-argument-spec =
     (tie.spec
     Inv-loop
     μ-loop
-    part-at-requires
+    second-part-requires
     read2-requires
     add-at
     loop-holds

@@ -1,54 +1,89 @@
 -- `leaves::called` meets its contract. Assumes nothing.
-use mathlib.Core.Path.{_≡_, refl, sym, _∙_, ap}
-use mathlib.Core.List.{List}
-use Prim.Native.Nat.{ℕ, _+_, _-_, _≤_}
 use native.Mathlib.Omega.{arith}
-use lib.ListN.{length}
-use Rattle.blocks.specs.Bytes.{le2, le4}
-use Rattle.walk.specs.Accepted.{nameAt}
-use Rattle.leaves.proofs.Nodes.{enough}
-use Rattle.leaves.proofs.Nodes.{call-type, type-is}
+use Rattle.leaves.proofs.Nodes.{call-type, type-is, held-here}
 use borrow.Author.Needs.{needs}
 use Rattle.leaves.proofs.called.Statement.{statement}
 use Rattle.leaves.proofs.called.Tie as tie
 use Rattle.leaves.proofs.called.Reads as reads
 use Rattle.leaves.proofs.called.Lts as lts
 use Rattle.get.proofs.read2.Reads as read2-reads
+use Rattle.lookup.proofs.lookup_near.Reads as lookup-near-reads
 use Rattle.lookup.proofs.lookup_type.Reads as lookup-type-reads
-use Rattle.nodes.proofs.part_at.Reads as part-at-reads
+use Rattle.nodes.proofs.first_part.Reads as first-part-reads
 
-part-at-requires : tie.Need-part-at-requires
-part-at-requires c κs = (c .before .pre .0, omega arith, enough _ _ (omega (arith, c .before .pre .1)) (omega (arith, c .before .pre .1)) (omega arith))
+-- src/lib.rt:194:9
+first-part-requires : tie.Need-first-part-requires
+first-part-requires c κs = search needs
 
+-- src/lib.rt:195:16
 add-from : tie.Need-add-from
-add-from c = omega (arith, call-type (c .part-at .ensures) (c .before .before .pre .0) (c .before .before .pre .1) .0)
+add-from c = omega (arith, call-type (c .first-part .ensures) (c .before .before .before .pre .0) (c .before .before .before .pre .1) .0)
 
+-- src/lib.rt:196:21
 read2-requires : tie.Need-read2-requires
-read2-requires c κs = omega (arith, call-type (c .part-at .ensures) (c .before .before .pre .0) (c .before .before .pre .1) .0)
+read2-requires c κs = omega (arith, call-type (c .first-part .ensures) (c .before .before .before .pre .0) (c .before .before .before .pre .1) .0)
 
+-- src/lib.rt:196:14
 add-to : tie.Need-add-to
-add-to c = omega (arith, call-type (c .before .part-at .ensures) (c .before .before .before .pre .0) (c .before .before .before .pre .1) .0, c .read2 .ensures .0)
+add-to c = omega (arith, call-type (c .before .first-part .ensures) (c .before .before .before .before .pre .0) (c .before .before .before .before .pre .1) .0, c .read2 .ensures .0)
 
+-- src/lib.rt:198:39
 sub-lookup-type : tie.Need-sub-lookup-type
-sub-lookup-type c = omega arith
+sub-lookup-type c = search needs
 
+-- src/lib.rt:198:39
 part-lookup-type-start : tie.Need-part-lookup-type-start
-part-lookup-type-start c = omega arith
+part-lookup-type-start c = search needs
 
+-- src/lib.rt:198:39
 part-lookup-type-end : tie.Need-part-lookup-type-end
-part-lookup-type-end c = omega (arith, call-type (c .before .part-at .ensures) (c .before .before .before .pre .0) (c .before .before .before .pre .1) .0, c .read2 .ensures .0)
+part-lookup-type-end c = omega (arith, call-type (c .before .before .first-part .ensures) (c .before .before .before .before .before .pre .0) (c .before .before .before .before .before .pre .1) .0, c .before .read2 .ensures .0)
 
+-- src/lib.rt:198:9
 lookup-type-requires : tie.Need-lookup-type-requires
-lookup-type-requires c κs = c .before .before .before .before .pre .2
+lookup-type-requires c κs = search needs
 
+-- src/lib.rt:198:9
 returns : tie.Need-returns
-returns c = λ t e a. type-is (c .before .before .before .part-at .ensures) (c .before .before .before .before .before .pre .1) (c .before .before .read2 .ensures .0) t (c .lookup-type .ensures t e) a
+returns c = λ t e a. type-is (c .before .before .before .before .first-part .ensures) (c .before .before .before .before .before .before .before .pre .1) (c .before .before .before .read2 .ensures .0) t (c .lookup-type .ensures t e) a
+
+-- src/lib.rt:200:13
+sub-d : tie.Need-sub-d
+sub-d c = search needs
+
+-- src/lib.rt:201:17
+mul-here : tie.Need-mul-here
+mul-here c = omega (arith, held-here (c .before .before .before .before .before .args .s .now) (c .before .before .before .before .before .args .words .now) _ _ (c .before .before .before .before .before .pre .3) (c .if1 .left) .0)
+
+-- src/lib.rt:201:17
+shared-slice-read-here : tie.Need-shared-slice-read-here
+shared-slice-read-here c = held-here (c .before .before .before .before .before .before .args .s .now) (c .before .before .before .before .before .before .args .words .now) _ _ (c .before .before .before .before .before .before .pre .3) (c .before .if1 .left) .0
+
+-- src/lib.rt:202:28
+sub-lookup-near : tie.Need-sub-lookup-near
+sub-lookup-near c = search needs
+
+-- src/lib.rt:202:28
+part-lookup-near-start : tie.Need-part-lookup-near-start
+part-lookup-near-start c = search needs
+
+-- src/lib.rt:202:28
+part-lookup-near-end : tie.Need-part-lookup-near-end
+part-lookup-near-end c = omega (arith, call-type (c .before .before .before .first-part .ensures) (c .before .before .before .before .before .before .pre .0) (c .before .before .before .before .before .before .pre .1) .0, c .before .before .read2 .ensures .0)
+
+-- src/lib.rt:202:5
+lookup-near-requires : tie.Need-lookup-near-requires
+lookup-near-requires c κs = (c .before .before .before .before .before .before .before .pre .2, held-here (c .before .before .before .before .before .before .before .args .s .now) (c .before .before .before .before .before .before .before .args .words .now) _ _ (c .before .before .before .before .before .before .before .pre .3) (c .before .before .if1 .left) .1)
+
+-- src/lib.rt:190:1
+returns-2 : tie.Need-returns-2
+returns-2 c = λ t e a. type-is (c .before .before .before .before .before .first-part .ensures) (c .before .before .before .before .before .before .before .before .pre .1) (c .before .before .before .before .read2 .ensures .0) t (c .lookup-near .ensures t e) a
 
 pub called-spec : {M : Type 1} → statement M
 called-spec =
     tie.close
     (tie.spec
-    part-at-requires
+    first-part-requires
     add-from
     read2-requires
     add-to
@@ -56,4 +91,12 @@ called-spec =
     part-lookup-type-start
     part-lookup-type-end
     lookup-type-requires
-    returns)
+    returns
+    sub-d
+    mul-here
+    shared-slice-read-here
+    sub-lookup-near
+    part-lookup-near-start
+    part-lookup-near-end
+    lookup-near-requires
+    returns-2)

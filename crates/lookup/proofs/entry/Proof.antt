@@ -1,6 +1,6 @@
 -- `entry` meets its contract. The invariant: none of the i blocks that were passed has the name. The measure is the blocks
 -- that are left.
-use Prim.Native.Nat.{_+_, _<_}
+use Prim.Native.Nat.{_<_}
 use native.Mathlib.Omega.{arith}
 use Rattle.blocks.specs.Bytes.{le2}
 use Rattle.lookup.proofs.Search.{Search, begin, next-one, go-on, hit, no-more}
@@ -8,7 +8,7 @@ use Rattle.lookup.proofs.entry.Statement.{statement}
 use Rattle.lookup.proofs.entry.Tie as tie
 
 abbrev Inv-loop : tie.InvT-loop
-Inv-loop s name left₀ at₀ i₀ left at i = (i + left < 65536) × Search s name (le2 s 6) 8 left at i
+Inv-loop s name left₀ at₀ i₀ left at i = (le2 s 6 < 65536) × Search s name (le2 s 6) 8 left at i
 
 abbrev μ-loop : tie.MeasureT-loop
 μ-loop s name left₀ at₀ i₀ left at i = left

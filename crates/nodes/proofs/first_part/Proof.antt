@@ -1,0 +1,23 @@
+-- `nodes::first_part` meets its contract: it steps over the metadata. Assumes nothing.
+use native.Mathlib.Omega.{arith}
+use Rattle.nodes.proofs.Laws.{flagged-part, behind-metadata, within}
+use Rattle.nodes.proofs.first_part.Statement.{statement}
+use Rattle.nodes.proofs.first_part.Tie as tie
+use Rattle.nodes.proofs.first_part.Reads as reads
+use Rattle.nodes.proofs.first_part.Lts as lts
+use Rattle.nodes.proofs.behind.Reads as behind-reads
+
+-- src/lib.rt:39:15
+add-behind : tie.Need-add-behind
+add-behind c = omega (arith, within (c .before .pre))
+
+-- src/lib.rt:39:5
+behind-requires : tie.Need-behind-requires
+behind-requires c κs = flagged-part (c .before .pre)
+
+-- src/lib.rt:35:1
+returns : tie.Need-returns
+returns c = behind-metadata (c .before .before .pre) (c .behind .ensures)
+
+pub first-part-spec : {M : Type 1} → statement M
+first-part-spec = tie.close (tie.spec add-behind behind-requires returns)
