@@ -72,7 +72,7 @@ static void put_nodes(struct bytes *b, int more)
     put(b, 1, 8);
     put(b, 0, 1);
     if (more > 0) {
-        put(b, 1, 8);
+        put(b, 2, 8); /* by 2: one by 0 or 1 is passed over */
         put_nodes(b, more - 1);
     } else {
         put_name(b, "A");
