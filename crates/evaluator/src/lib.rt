@@ -93,7 +93,7 @@ fn eval_align(
     )
 }
 
-// A node that another is the operand of: a constant is met so often that it is asked for first.
+// A node that is the first operand of another: a constant is met so often that it is asked for at once.
 fn eval_operand(
     s: &[u8],
     at: usize,

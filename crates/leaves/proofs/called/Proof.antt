@@ -11,71 +11,54 @@ use Rattle.lookup.proofs.lookup_near.Reads as lookup-near-reads
 use Rattle.lookup.proofs.lookup_type.Reads as lookup-type-reads
 use Rattle.nodes.proofs.first_part.Reads as first-part-reads
 
--- src/lib.rt:194:9
 first-part-requires : tie.Need-first-part-requires
 first-part-requires c κs = search needs
 
--- src/lib.rt:195:16
 add-from : tie.Need-add-from
 add-from c = omega (arith, call-type (c .first-part .ensures) (c .before .before .before .pre .0) (c .before .before .before .pre .1) .0)
 
--- src/lib.rt:196:21
 read2-requires : tie.Need-read2-requires
 read2-requires c κs = omega (arith, call-type (c .first-part .ensures) (c .before .before .before .pre .0) (c .before .before .before .pre .1) .0)
 
--- src/lib.rt:196:14
 add-to : tie.Need-add-to
 add-to c = omega (arith, call-type (c .before .first-part .ensures) (c .before .before .before .before .pre .0) (c .before .before .before .before .pre .1) .0, c .read2 .ensures .0)
 
--- src/lib.rt:198:39
 sub-lookup-type : tie.Need-sub-lookup-type
 sub-lookup-type c = search needs
 
--- src/lib.rt:198:39
 part-lookup-type-start : tie.Need-part-lookup-type-start
 part-lookup-type-start c = search needs
 
--- src/lib.rt:198:39
 part-lookup-type-end : tie.Need-part-lookup-type-end
 part-lookup-type-end c = omega (arith, call-type (c .before .before .first-part .ensures) (c .before .before .before .before .before .pre .0) (c .before .before .before .before .before .pre .1) .0, c .before .read2 .ensures .0)
 
--- src/lib.rt:198:9
 lookup-type-requires : tie.Need-lookup-type-requires
 lookup-type-requires c κs = search needs
 
--- src/lib.rt:198:9
 returns : tie.Need-returns
 returns c = λ t e a. type-is (c .before .before .before .before .first-part .ensures) (c .before .before .before .before .before .before .before .pre .1) (c .before .before .before .read2 .ensures .0) t (c .lookup-type .ensures t e) a
 
--- src/lib.rt:200:13
 sub-d : tie.Need-sub-d
 sub-d c = search needs
 
--- src/lib.rt:201:17
 mul-here : tie.Need-mul-here
 mul-here c = omega (arith, held-here (c .before .before .before .before .before .args .s .now) (c .before .before .before .before .before .args .words .now) _ _ (c .before .before .before .before .before .pre .3) (c .if1 .left) .0)
 
--- src/lib.rt:201:17
 shared-slice-read-here : tie.Need-shared-slice-read-here
 shared-slice-read-here c = held-here (c .before .before .before .before .before .before .args .s .now) (c .before .before .before .before .before .before .args .words .now) _ _ (c .before .before .before .before .before .before .pre .3) (c .before .if1 .left) .0
 
--- src/lib.rt:202:28
 sub-lookup-near : tie.Need-sub-lookup-near
 sub-lookup-near c = search needs
 
--- src/lib.rt:202:28
 part-lookup-near-start : tie.Need-part-lookup-near-start
 part-lookup-near-start c = search needs
 
--- src/lib.rt:202:28
 part-lookup-near-end : tie.Need-part-lookup-near-end
 part-lookup-near-end c = omega (arith, call-type (c .before .before .before .first-part .ensures) (c .before .before .before .before .before .before .pre .0) (c .before .before .before .before .before .before .pre .1) .0, c .before .before .read2 .ensures .0)
 
--- src/lib.rt:202:5
 lookup-near-requires : tie.Need-lookup-near-requires
 lookup-near-requires c κs = (c .before .before .before .before .before .before .before .pre .2, held-here (c .before .before .before .before .before .before .before .args .s .now) (c .before .before .before .before .before .before .before .args .words .now) _ _ (c .before .before .before .before .before .before .before .pre .3) (c .before .before .if1 .left) .1)
 
--- src/lib.rt:190:1
 returns-2 : tie.Need-returns-2
 returns-2 c = λ t e a. type-is (c .before .before .before .before .before .first-part .ensures) (c .before .before .before .before .before .before .before .before .pre .1) (c .before .before .before .before .read2 .ensures .0) t (c .lookup-near .ensures t e) a
 

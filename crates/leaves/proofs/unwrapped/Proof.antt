@@ -22,43 +22,33 @@ Inv-loop s at p₀ p = (a : Accepted s 128 144 at) → Unwrapped a p
 abbrev μ-loop : tie.MeasureT-loop
 μ-loop s at p₀ p = le4 s p
 
--- src/lib.rt:214:5
 loop-holds : tie.Need-loop-holds Inv-loop μ-loop
 loop-holds c = whole
 
--- src/lib.rt:214:25
 add-read2 : tie.Need-add-read2 Inv-loop μ-loop
 add-read2 c = omega (arith, kinds (c .loop .inv (c .before .before .pre) .node) .2, kinds (c .loop .inv (c .before .before .pre) .node) .3)
 
--- src/lib.rt:214:11
 read2-requires : tie.Need-read2-requires Inv-loop μ-loop
 read2-requires c κs = omega (arith, kinds (c .loop .inv (c .before .before .pre) .node) .2, kinds (c .loop .inv (c .before .before .pre) .node) .3)
 
--- src/lib.rt:215:30
 first-part-requires : tie.Need-first-part-requires Inv-loop μ-loop
 first-part-requires c κs = c .before .before .loop .inv (c .before .before .before .before .pre) .node
 
--- src/lib.rt:215:16
 read8-requires : tie.Need-read8-requires Inv-loop μ-loop
 read8-requires c κs = align-number (c .first-part .ensures) (c .before .before .before .loop .inv (c .before .before .before .before .before .pre) .node) (sym (c .before .before .read2 .ensures .0) ∙ c .before .if1 .taken) .0
 
--- src/lib.rt:216:13
 returns : tie.Need-returns Inv-loop μ-loop
 returns c = c .before .before .before .before .before .loop .inv
 
--- src/lib.rt:218:9
 second-part-requires : tie.Need-second-part-requires Inv-loop μ-loop
 second-part-requires c κs = (c .before .before .before .before .before .loop .inv (c .before .before .before .before .before .before .before .pre) .node, enough _ _ (omega (arith, (sym (c .before .before .before .before .read2 .ensures .0) ∙ c .before .before .before .if1 .taken))) (omega (arith, (sym (c .before .before .before .before .read2 .ensures .0) ∙ c .before .before .before .if1 .taken))) (omega arith))
 
--- src/lib.rt:214:5
 loop-less : tie.Need-loop-less Inv-loop μ-loop
 loop-less c = align-child (c .second-part .ensures) (c .before .before .before .before .before .before .loop .inv (c .before .before .before .before .before .before .before .before .pre) .node) (sym (c .before .before .before .before .before .read2 .ensures .0) ∙ c .before .before .before .before .if1 .taken) .2
 
--- src/lib.rt:214:5
 loop-again : tie.Need-loop-again Inv-loop μ-loop
 loop-again c = λ a. inner (c .before .before .before .first-part .ensures) (c .second-part .ensures) (sym (c .before .before .before .before .before .read2 .ensures .0) ∙ c .before .before .before .before .if1 .taken) (c .before .before .read8 .ensures) (omega (arith, c .before .if2 .left)) (c .before .before .before .before .before .before .loop .inv a)
 
--- src/lib.rt:209:1
 returns-2 : tie.Need-returns-2 Inv-loop μ-loop
 returns-2 c = c .before .before .loop .inv
 

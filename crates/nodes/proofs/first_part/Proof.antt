@@ -7,15 +7,12 @@ use Rattle.nodes.proofs.first_part.Reads as reads
 use Rattle.nodes.proofs.first_part.Lts as lts
 use Rattle.nodes.proofs.behind.Reads as behind-reads
 
--- src/lib.rt:39:15
 add-behind : tie.Need-add-behind
 add-behind c = omega (arith, within (c .before .pre))
 
--- src/lib.rt:39:5
 behind-requires : tie.Need-behind-requires
 behind-requires c κs = flagged-part (c .before .pre)
 
--- src/lib.rt:35:1
 returns : tie.Need-returns
 returns c = behind-metadata (c .before .before .pre) (c .behind .ensures)
 

@@ -11,27 +11,21 @@ use Rattle.ir.proofs.node_part.Reads as node-part-reads
 use Rattle.nodes.proofs.behind.Reads as behind-reads
 use Rattle.nodes.proofs.first_part.Reads as first-part-reads
 
--- src/lib.rt:47:30
 add-read2 : tie.Need-add-read2
 add-read2 c = omega (arith, kinds (c .before .pre .0) .2, kinds (c .before .pre .0) .3)
 
--- src/lib.rt:47:9
 read2-requires : tie.Need-read2-requires
 read2-requires c κs = omega (arith, kinds (c .before .pre .0) .2, kinds (c .before .pre .0) .3)
 
--- src/lib.rt:48:15
 first-part-requires : tie.Need-first-part-requires
 first-part-requires c κs = search needs
 
--- src/lib.rt:48:34
 node-part-requires : tie.Need-node-part-requires
 node-part-requires c κs = (omega (arith, c .before .read2 .ensures .0, kinds (c .before .before .before .pre .0) .0), omega (arith, c .before .read2 .ensures .0, kinds (c .before .before .before .pre .0) .1), omega arith)
 
--- src/lib.rt:48:5
 behind-requires : tie.Need-behind-requires
 behind-requires c κs = stands (c .before .before .before .before .pre .0) (c .before .before .read2 .ensures .0) (c .node-part .ensures) (omega arith) (omega (arith, c .before .before .before .before .pre .1)) (c .before .first-part .ensures)
 
--- src/lib.rt:43:1
 returns : tie.Need-returns
 returns c = stands-next (c .before .before .before .read2 .ensures .0) (c .before .node-part .ensures) (omega arith) (omega (arith, c .before .before .before .before .before .pre .1)) (c .before .before .first-part .ensures) (c .behind .ensures)
 
