@@ -1,7 +1,6 @@
 # Puts a fault into a module's text: changes the candidate with the number `which`, counted from 0. With which=-1 it prints how many
 # candidates there are. A candidate is a comparison or a stored or added constant, in a function whose name begins with `only`; the
-# change keeps the instruction's form. The table of kinds (grammar::row_code) is left out, because most of its entries stand behind
-# the last part of a kind and nothing reads them.
+# change keeps the instruction's form.
 function change(line) {
     if (line ~ / icmp ult /) sub(/ icmp ult /, " icmp ule ", line)
     else if (line ~ / icmp ule /) sub(/ icmp ule /, " icmp ult ", line)
@@ -30,7 +29,7 @@ function next_stored(line,    value, from) {
 }
 /^define / { name = $0; sub(/^[^@]*@"?/, "", name); sub(/"?\(.*/, "", name) }
 {
-    changed = name == "grammar::row_code" || substr(name, 1, length(only)) != only ? "" : change($0)
+    changed = substr(name, 1, length(only)) != only ? "" : change($0)
     if (changed != "") {
         if (which == seen) {
             printf "%s: %s  ->  %s\n", name, $0, changed > "/dev/stderr"

@@ -5,14 +5,14 @@ use mathlib.Core.List.{List, [], _∷_}
 use native.Mathlib.Omega.{arith}
 use Rattle.errors.specs.Refusal.{Outcome, done, refused}
 use Rattle.blocks.specs.Tree.{Tree}
-use Rattle.inputs.specs.declared.Answer.{Answer}
-use Rattle.inputs.specs.declared.Answer.the-variants.{Accepted, Refused}
-use Rattle.inputs.specs.Inputs.{answerOf}
-use Rattle.leaves.specs.declared.Answer.the-variants as evaluated
-use Rattle.leaves.specs.Outcome.{outcomeOf}
+use Rattle.reader_calls.specs.declared.Answer.{Answer}
+use Rattle.reader_calls.specs.declared.Answer.the-variants.{Accepted, Refused}
+use Rattle.reader_calls.specs.Inputs.{answerOf}
+use Rattle.interpreter_leaves.specs.declared.Answer.the-variants as evaluated
+use Rattle.interpreter_leaves.specs.Outcome.{outcomeOf}
 use lib.ListN.{length}
-use Rattle.sets.specs.declared.Answer.the-variants as made
-use Rattle.sets.specs.Sets.{answerOf as setAnswer}
+use Rattle.builder_set.specs.declared.Answer.the-variants as made
+use Rattle.builder_set.specs.Sets.{answerOf as setAnswer}
 use Rattle.ciztarmo.specs.Told.{told, read, built}
 
 pub read-yes : (o : Outcome Tree) → Accepted ≡ answerOf o → (0 ∷ 65535 ∷ 0 ∷ 0 ∷ []) ≡ told (read o)

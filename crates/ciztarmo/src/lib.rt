@@ -8,52 +8,52 @@ ghost use lib.ListN.{length, drop, replicate};
 ghost use Rattle.errors.specs.Refusal.{Outcome};
 ghost use Rattle.blocks.specs.Tree.{Tree};
 ghost use Rattle.blocks.specs.Read.{readSet, readLayout, readValues, readRun};
-ghost use Rattle.inputs.specs.Inputs.{readCall, answerOf};
-ghost use Rattle.sets.specs.Sets.{answerOf as layoutAnswer};
-ghost use Rattle.leaves.specs.Outcome.{outcomeOf};
+ghost use Rattle.reader_calls.specs.Inputs.{readCall, answerOf};
+ghost use Rattle.builder_set.specs.Sets.{answerOf as layoutAnswer};
+ghost use Rattle.interpreter_leaves.specs.Outcome.{outcomeOf};
 ghost use Rattle.interpreter.specs.Validate.{validate, validate-run};
 ghost use Rattle.builder.specs.Build.{build-set, output-after, words-after};
-ghost use Rattle.runs.specs.Runs.{validate-runs, given};
-ghost use Rattle.runs.specs.Told.{told-all};
+ghost use Rattle.interpreter_runs.specs.Runs.{validate-runs, given};
+ghost use Rattle.interpreter_runs.specs.Told.{told-all};
 ghost use Rattle.ciztarmo.specs.Told.{told, read, built};
 
 // What a reading answered, as four words.
-fn tell_reading(a: inputs::Answer, answer: &mut [u64; 4])
+fn tell_reading(a: reader_calls::Answer, answer: &mut [u64; 4])
     ensures { λ _. ⌜ ((o : Outcome Tree) → a ≡ answerOf o → now (answer .exit) ≡ told (read o)) ⌝ }
 {
     match a {
-        inputs::Answer::Accepted => {
+        reader_calls::Answer::Accepted => {
             *answer = [0, 65535, 0, 0];
         }
-        inputs::Answer::Refused(number, place, offset, value) => {
+        reader_calls::Answer::Refused(number, place, offset, value) => {
             *answer = [number, place, offset as u64, value];
         }
     }
 }
 
 // What a build answered, as four words.
-fn tell_length(a: sets::Answer, answer: &mut [u64; 4])
+fn tell_length(a: builder_set::Answer, answer: &mut [u64; 4])
     ensures { λ _. ⌜ ((o : Outcome (List ℕ)) → a ≡ layoutAnswer o → now (answer .exit) ≡ told (built o)) ⌝ }
 {
     match a {
-        sets::Answer::Length(n) => {
+        builder_set::Answer::Length(n) => {
             *answer = [0, 65535, 0, n as u64];
         }
-        sets::Answer::Refused(q, place, offset, value) => {
+        builder_set::Answer::Refused(q, place, offset, value) => {
             *answer = [q, place, offset as u64, value];
         }
     }
 }
 
 // What a validation answered, as four words.
-fn tell_count(a: leaves::Answer, answer: &mut [u64; 4])
+fn tell_count(a: interpreter_leaves::Answer, answer: &mut [u64; 4])
     ensures { λ _. ⌜ now (answer .exit) ≡ told (outcomeOf a) ⌝ }
 {
     match a {
-        leaves::Answer::Count(n) => {
+        interpreter_leaves::Answer::Count(n) => {
             *answer = [0, 65535, 0, n];
         }
-        leaves::Answer::Refused {
+        interpreter_leaves::Answer::Refused {
             number,
             place,
             offset,
@@ -70,7 +70,7 @@ pub extern "C" fn ciztarmo_read_set(words: &mut [u64], set: &[u8], answer: &mut 
     ensures { λ _. ⌜ now (answer .exit) ≡ told (read (readCall readSet (length (now (words .entry))) (now (set .entry)))) ⌝ }
     ensures { λ _. ⌜ now (words .exit) ≡ replicate (length (now (words .entry))) 0 ⌝ }
 {
-    let a = inputs::read_set(words, set);
+    let a = reader_calls::read_set(words, set);
     tell_reading(a, answer);
 }
 
@@ -80,7 +80,7 @@ pub extern "C" fn ciztarmo_read_layout(words: &mut [u64], layout: &[u8], answer:
     ensures { λ _. ⌜ now (answer .exit) ≡ told (read (readCall readLayout (length (now (words .entry))) (now (layout .entry)))) ⌝ }
     ensures { λ _. ⌜ now (words .exit) ≡ replicate (length (now (words .entry))) 0 ⌝ }
 {
-    let a = inputs::read_layout(words, layout);
+    let a = reader_calls::read_layout(words, layout);
     tell_reading(a, answer);
 }
 
@@ -90,7 +90,7 @@ pub extern "C" fn ciztarmo_read_values(words: &mut [u64], values: &[u8], answer:
     ensures { λ _. ⌜ now (answer .exit) ≡ told (read (readCall readValues (length (now (words .entry))) (now (values .entry)))) ⌝ }
     ensures { λ _. ⌜ now (words .exit) ≡ replicate (length (now (words .entry))) 0 ⌝ }
 {
-    let a = inputs::read_values(words, values);
+    let a = reader_calls::read_values(words, values);
     tell_reading(a, answer);
 }
 
@@ -100,7 +100,7 @@ pub extern "C" fn ciztarmo_read_run(words: &mut [u64], run: &[u8], answer: &mut 
     ensures { λ _. ⌜ now (answer .exit) ≡ told (read (readCall readRun (length (now (words .entry))) (now (run .entry)))) ⌝ }
     ensures { λ _. ⌜ now (words .exit) ≡ replicate (length (now (words .entry))) 0 ⌝ }
 {
-    let a = inputs::read_run(words, run);
+    let a = reader_calls::read_run(words, run);
     tell_reading(a, answer);
 }
 
@@ -116,7 +116,7 @@ pub extern "C" fn ciztarmo_build_set(
     ensures { λ _. ⌜ now (out .exit) ≡ output-after (now (out .entry)) (build-set (length (now (words .entry))) (length (now (out .entry))) (now (set .entry))) ⌝ }
     ensures { λ _. ⌜ now (words .exit) ≡ words-after (now (words .entry)) ⌝ }
 {
-    let a = sets::build_set(set, out, words);
+    let a = builder_set::build_set(set, out, words);
     tell_length(a, answer);
 }
 
@@ -126,7 +126,7 @@ pub extern "C" fn ciztarmo_layout_of(set: &[u8], out: &mut [u8], answer: &mut [u
     ensures { λ _. ⌜ now (answer .exit) ≡ told (built (build-set 8192 (length (now (out .entry))) (now (set .entry)))) ⌝ }
     ensures { λ _. ⌜ now (out .exit) ≡ output-after (now (out .entry)) (build-set 8192 (length (now (out .entry))) (now (set .entry))) ⌝ }
 {
-    let a = sets::layout_of(set, out);
+    let a = builder_set::layout_of(set, out);
     tell_length(a, answer);
 }
 
@@ -143,7 +143,7 @@ pub extern "C" fn ciztarmo_validate(
     ensures { λ _. ⌜ now (answer .exit) ≡ told (validate (length (now (words .entry))) (now (layout .entry)) (now (name .entry)) (now (values .entry)) len) ⌝ }
     ensures { λ _. ⌜ now (words .exit) ≡ replicate (length (now (words .entry))) 0 ⌝ }
 {
-    let a = validator::validate(words, layout, name, values, len);
+    let a = interpreter_validate::validate(words, layout, name, values, len);
     tell_count(a, answer);
 }
 
@@ -158,7 +158,7 @@ pub extern "C" fn ciztarmo_validate_run(
     ensures { λ _. ⌜ now (answer .exit) ≡ told (validate-run (length (now (words .entry))) (now (layout .entry)) (now (run .entry))) ⌝ }
     ensures { λ _. ⌜ now (words .exit) ≡ replicate (length (now (words .entry))) 0 ⌝ }
 {
-    let a = validator::validate_run(words, layout, run);
+    let a = interpreter_validate::validate_run(words, layout, run);
     tell_count(a, answer);
 }
 
@@ -173,7 +173,7 @@ pub extern "C" fn ciztarmo_length_of(
 )
     ensures { λ _. ⌜ now (answer .exit) ≡ told (validate 8192 (now (layout .entry)) (now (name .entry)) (now (values .entry)) len) ⌝ }
 {
-    let a = validator::length_of(layout, name, values, len);
+    let a = interpreter_validate::length_of(layout, name, values, len);
     tell_count(a, answer);
 }
 
@@ -182,7 +182,7 @@ pub extern "C" fn ciztarmo_length_of(
 pub extern "C" fn ciztarmo_length_of_run(layout: &[u8], run: &[u8], answer: &mut [u64; 4])
     ensures { λ _. ⌜ now (answer .exit) ≡ told (validate-run 8192 (now (layout .entry)) (now (run .entry))) ⌝ }
 {
-    let a = validator::length_of_run(layout, run);
+    let a = interpreter_validate::length_of_run(layout, run);
     tell_count(a, answer);
 }
 
@@ -199,5 +199,5 @@ pub extern "C" fn ciztarmo_validate_runs(
     ensures { λ r. ⌜ now (answers .exit) ≡ told-all (given (length (now (answers .entry))) (validate-runs (length (now (words .entry))) (now (layout .entry)) (now (runs .entry)))) ++ drop (4 * r) (now (answers .entry)) ⌝ }
     ensures { λ _. ⌜ now (words .exit) ≡ replicate (length (now (words .entry))) 0 ⌝ }
 {
-    runs::validate_runs(words, layout, runs, answers)
+    interpreter_runs::validate_runs(words, layout, runs, answers)
 }

@@ -19,7 +19,7 @@ use Rattle.resolved.specs.Set.{Thing, asType, formOf, headOf, makeThing, thingO
 use Rattle.roundtrip.specs.Fits.{nothing, both, text, EntriesFits, PartFits, PartsFits, inside, BlockFits}
 use Rattle.roundtrip.proofs.Accepted.{accepted}
 use Rattle.compat.specs.Grown.{Entry, TypeOf, Extends}
-use Rattle.extended.specs.Types.{TypeGrown, TypesGrown}
+use Rattle.compat.specs.Types.{TypeGrown, TypesGrown}
 use Rattle.compat.proofs.Table.{table, agree, only}
 use Rattle.compat.proofs.Types.{type-grown}
 

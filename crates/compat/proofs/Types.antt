@@ -16,7 +16,7 @@ use Rattle.resolved.specs.Set.{Thing, asType, withField, withVariant, fieldsIn,
 use Rattle.builder.specs.Nodes.{isVariable}
 use Rattle.roundtrip.specs.Fits.{nothing, both, text, EntriesFits, InBlocks, PartFits, PartsFits, inside, BlockFits}
 use Rattle.compat.specs.Grown.{Grown, GrownLast, GrownEntries, growing}
-use Rattle.extended.specs.Types.{TypeGrown, KindGrown, FieldsGrown, VariantsGrown}
+use Rattle.compat.specs.Types.{TypeGrown, KindGrown, FieldsGrown, VariantsGrown}
 use Rattle.compat.proofs.Table.{table, bounds, agree, Opened, opened, open-kind}
 use Rattle.compat.proofs.Kept.{number-kept, text-kept, offset-kept, expr-kept, head-kept}
 

@@ -1,3 +1,5 @@
+pub mod Types
+pub mod Nodes
 pub mod Grown
 pub mod Ways
 pub mod Statement

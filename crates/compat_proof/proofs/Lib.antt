@@ -1,2 +1,11 @@
+pub mod Keeps
+pub mod Nodes
+pub mod Types
+pub mod Built
+pub mod Shapes
+pub mod Reread
+pub mod Extends
+pub mod Places
+pub mod Evaluated
 pub mod OldAndNew
 pub mod Worked

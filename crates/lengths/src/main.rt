@@ -1,10 +1,10 @@
-// Reads a type set, then runs, from standard input, and prints a line per run. What is printed is made by `lines`; here is only
+// Reads a type set, then runs, from standard input, and prints a line per run. What is printed is made by `lengths_lines`; here is only
 // what reads and writes.
+use builder_set::Answer;
+use lengths_lines::Header;
+use lengths_lines::Printed;
 use libc::STDIN_FILENO;
 use libc::STDOUT_FILENO;
-use lines::Header;
-use lines::Printed;
-use sets::Answer;
 ghost use mathlib.Core.Path.{_≡_};
 ghost use Prim.Native.Nat.{_≤_};
 ghost use lib.ListN.{length};
@@ -28,7 +28,7 @@ fn read_block(block: &mut [u8]) -> Next
     if got == 0 {
         return Next::End;
     }
-    match lines::block_length(&block[..got]) {
+    match lengths_lines::block_length(&block[..got]) {
         Header::Refused(q) => Next::Refused(q),
         Header::Fits(n) => {
             if io::read_full(STDIN_FILENO, &mut block[4..n]) < n - 4 {
@@ -48,7 +48,7 @@ fn print(line: &[u8], n: usize)
 
 fn print_stopped(number: u64) {
     let mut line = [0u8; 84];
-    let n = lines::put_stopped(&mut line, 0, number);
+    let n = lengths_lines::put_stopped(&mut line, 0, number);
     print(&line, n);
 }
 
@@ -63,7 +63,13 @@ fn answer_next(run: u64, layout: &[u8], block: &mut [u8], words: &mut [u64]) -> 
             print_stopped(q);
             false
         }
-        Next::Block(n) => match lines::answer_run(run, layout, &block[..n], words, &mut line) {
+        Next::Block(n) => match lengths_lines::answer_run(
+            run,
+            layout,
+            &block[..n],
+            words,
+            &mut line,
+        ) {
             Printed::Line(end) => {
                 print(&line, end);
                 true
@@ -96,7 +102,7 @@ fn main() {
     match read_block(&mut block) {
         Next::End => print_stopped(2),
         Next::Refused(q) => print_stopped(q),
-        Next::Block(n) => match sets::build_set(&block[..n], &mut layout, &mut words) {
+        Next::Block(n) => match builder_set::build_set(&block[..n], &mut layout, &mut words) {
             Answer::Refused(q, _, _, _) => print_stopped(q),
             Answer::Length(m) => {
                 // a layout lies in its array

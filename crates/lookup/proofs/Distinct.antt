@@ -15,9 +15,9 @@ use Rattle.blocks.specs.Grammar.{partsOf, findRow, grammar, nodeTable}
 use Rattle.blocks.specs.Tree.{Tree, nil, cons, body, part, rest, entries}
 use Rattle.blocks.specs.Read.{Earlier, inOrder, nameOf, readEntries, readBlock, readLayout}
 use Rattle.blocks.proofs.Name.{false-true, same-eq}
-use Rattle.walk.specs.Accepted.{Accepted, tree, Item, nameAt, Counted}
-use Rattle.walk.proofs.Read.{both}
-use Rattle.walk.proofs.Laws.{Opened, opened, key-part, Enlisted, list-part, input}
+use Rattle.accepted.specs.Accepted.{Accepted, tree, Item, nameAt, Counted}
+use Rattle.accepted.proofs.Read.{both}
+use Rattle.accepted.proofs.Laws.{Opened, opened, key-part, Enlisted, list-part, input}
 use Rattle.ir.specs.Layout.{typeIrOf, layoutOf}
 use Rattle.lookup.specs.Named.{firstNamed, blockAt}
 use Rattle.lookup.proofs.Search.{headed, passed, met}

@@ -11,7 +11,7 @@ use Rattle.blocks.specs.Bytes.{le2, le4}
 use Rattle.blocks.specs.Name.{Name, same}
 use Rattle.blocks.specs.Tree.{Tree}
 use Rattle.blocks.specs.Read.{readLayout}
-use Rattle.walk.specs.Accepted.{Accepted, nameAt}
+use Rattle.accepted.specs.Accepted.{Accepted, nameAt}
 use Rattle.ir.specs.Ir.{TypeIr}
 use Rattle.ir.specs.Layout.{layoutOf}
 use Rattle.lookup.specs.declared.Place.{Place}

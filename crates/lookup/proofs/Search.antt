@@ -13,9 +13,9 @@ use Rattle.blocks.specs.Bytes.{le2, le4}
 use Rattle.blocks.specs.Name.{Name, same}
 use Rattle.blocks.specs.Grammar.{partsOf}
 use Rattle.blocks.specs.Tree.{Tree, cons, body, part, text}
-use Rattle.walk.specs.Accepted.{Accepted, tree, Item, nameAt}
-use Rattle.walk.proofs.Laws.{opened, key-part, block-entry}
-use Rattle.walk.proofs.Lists.{Left, starts, steps, ended}
+use Rattle.accepted.specs.Accepted.{Accepted, tree, Item, nameAt}
+use Rattle.accepted.proofs.Laws.{opened, key-part, block-entry}
+use Rattle.accepted.proofs.Lists.{Left, starts, steps, ended}
 use Rattle.lookup.specs.declared.Place.the-variants.{At, Missing}
 use Rattle.lookup.specs.Named.{firstNamed, blockAt, Keyed, Entry}
 

@@ -15,8 +15,8 @@ use Rattle.blocks.specs.Name.{Name, same}
 use Rattle.blocks.specs.Grammar.{partsOf, findRow, grammar, nodeTable}
 use Rattle.blocks.specs.Tree.{Tree, name, num, block, nil, cons, body, part, text, rest, entries, view}
 use Rattle.blocks.specs.Read.{readSet, readLayout}
-use Rattle.walk.specs.Accepted.{Accepted, tree, Listed, Counted}
-use Rattle.walk.proofs.Laws.{opened, each, All, all-entries, sole, input}
+use Rattle.accepted.specs.Accepted.{Accepted, tree, Listed, Counted}
+use Rattle.accepted.proofs.Laws.{opened, each, All, all-entries, sole, input}
 use Rattle.resolved.specs.Resolved.{ResolvedType, head, get-type-info}
 use Rattle.resolved.specs.Set.{typeOf, typesOf, thingOf, makeThing, formOf}
 use Rattle.ir.specs.Ir.{TypeIr}

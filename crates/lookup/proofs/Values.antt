@@ -12,9 +12,9 @@ use Rattle.blocks.specs.Name.{Name, same}
 use Rattle.blocks.specs.Grammar.{partsOf, findRow, grammar, nodeTable}
 use Rattle.blocks.specs.Tree.{Tree, name, num, cons, entries}
 use Rattle.blocks.specs.Read.{readValues}
-use Rattle.walk.specs.Accepted.{Accepted, tree, Item, nameAt, Counted}
-use Rattle.walk.proofs.Laws.{Sole, sole, value-entry, input}
-use Rattle.walk.proofs.Lists.{Left, starts, steps, ended}
+use Rattle.accepted.specs.Accepted.{Accepted, tree, Item, nameAt, Counted}
+use Rattle.accepted.proofs.Laws.{Sole, sole, value-entry, input}
+use Rattle.accepted.proofs.Lists.{Left, starts, steps, ended}
 use Rattle.interpreter.specs.Eval.{find}
 use Rattle.interpreter.specs.Validate.{bindingOf, valuesOf}
 use Rattle.lookup.specs.declared.Value.{Value}

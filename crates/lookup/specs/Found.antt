@@ -7,7 +7,7 @@ use lib.ListN.{length}
 use Rattle.errors.specs.Refusal.{done, refused, plain, UnknownType}
 use Rattle.blocks.specs.Bytes.{le8}
 use Rattle.blocks.specs.Name.{Name}
-use Rattle.walk.specs.Accepted.{Accepted, tree}
+use Rattle.accepted.specs.Accepted.{Accepted, tree}
 use Rattle.resolved.specs.Resolved.{ResolvedType, get-type-info}
 use Rattle.resolved.specs.Set.{typeOf}
 use Rattle.ir.specs.Ir.{TypeIr}

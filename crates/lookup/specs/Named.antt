@@ -11,7 +11,7 @@ use Rattle.blocks.specs.Bytes.{le2, le4}
 use Rattle.blocks.specs.Name.{Name, same}
 use Rattle.blocks.specs.Grammar.{partsOf}
 use Rattle.blocks.specs.Tree.{Tree, name, num, block, nil, cons, body, part, text}
-use Rattle.walk.specs.Accepted.{Accepted, tree, nameAt, Listed}
+use Rattle.accepted.specs.Accepted.{Accepted, tree, nameAt, Listed}
 use Rattle.lookup.specs.declared.Place.{Place}
 use Rattle.lookup.specs.declared.Place.the-variants.{At, Missing}
 

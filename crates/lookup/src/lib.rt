@@ -10,7 +10,7 @@ ghost use Rattle.blocks.specs.Read.{readSet, readLayout, readValues};
 ghost use Rattle.resolved.specs.Set.{typesOf};
 ghost use Rattle.ir.specs.Layout.{layoutOf};
 ghost use Rattle.interpreter.specs.Validate.{valuesOf};
-ghost use Rattle.walk.specs.Accepted.{Accepted, tree, nameAt};
+ghost use Rattle.accepted.specs.Accepted.{Accepted, tree, nameAt};
 ghost use Rattle.lookup.specs.Named.{Keyed, Entry, blockAt, Placed, Among};
 ghost use Rattle.lookup.specs.Found.{TypeFound, TreeFound, ValueFound};
 
@@ -37,10 +37,10 @@ pub fn is_named(s: &[u8], at: usize, name: &[u8]) -> bool
     requires { ⌜ at + 2 + le2 (now s) at ≤ length (now s) ⌝ }
     ensures { λ r. ⌜ r ≡ same (now (name .entry)) (nameAt (now (s .entry)) at) ⌝ }
 {
-    let n = get::read2(s, at);
+    let n = wire::read2(s, at);
     let from = at + 2;
     let to = from + n;
-    get::same_name(name, &s[from..to])
+    wire::same_name(name, &s[from..to])
 }
 
 // The first block of a name in the list with which an outermost block begins.
@@ -48,14 +48,14 @@ fn entry(s: &[u8], name: &[u8]) -> Place
     requires { ⌜ Keyed (now s) (le2 (now s) 6) 8 ⌝ }
     ensures { λ r. ⌜ ((l : Keyed (now (s .entry)) (le2 (now (s .entry)) 6) 8) → Entry (now (name .entry)) l r) ⌝ }
 {
-    let mut left = get::read2(s, 6);
+    let mut left = wire::read2(s, 6);
     let mut at = 8;
     let mut i = 0;
     while 0 < left {
         if is_named(s, at + 6, name) {
             return Place::At(i, at);
         }
-        at = at + 4 + get::read4(s, at);
+        at = at + 4 + wire::read4(s, at);
         i += 1;
         left -= 1;
     }
@@ -93,7 +93,7 @@ fn entry_from(s: &[u8], name: &[u8], first: usize, from: usize, count: usize) ->
         if is_named(s, at + 6, name) {
             return Place::At(i, at);
         }
-        at = at + 4 + get::read4(s, at);
+        at = at + 4 + wire::read4(s, at);
         i += 1;
         left -= 1;
     }
@@ -106,7 +106,7 @@ pub fn lookup_near(layout: &[u8], name: &[u8], place: usize, at: usize) -> Place
     requires { ⌜ ((t : Tree) × (readLayout (now layout) ≡ done t)) × Placed (now layout) place at ⌝ }
     ensures { λ r. ⌜ ((t : Tree) → readLayout (now (layout .entry)) ≡ done t → TreeFound (now (layout .entry)) (now (name .entry)) (layoutOf t) r) ⌝ }
 {
-    match entry_from(layout, name, place, at, get::read2(layout, 6) - place) {
+    match entry_from(layout, name, place, at, wire::read2(layout, 6) - place) {
         Place::At(i, o) => Place::At(i, o),
         Place::Missing => entry_from(layout, name, 0, 8, place),
     }
@@ -117,10 +117,10 @@ pub fn value_in(s: &[u8], block: usize, name: &[u8]) -> Value
     requires { ⌜ Accepted (now s) 192 192 block ⌝ }
     ensures { λ r. ⌜ ((a : Accepted (now (s .entry)) 192 192 block) → ValueFound (now (s .entry)) (now (name .entry)) (valuesOf (tree a)) r) ⌝ }
 {
-    let mut left = get::read2(s, block + 6);
+    let mut left = wire::read2(s, block + 6);
     let mut at = block + 6 + 2;
     while 0 < left {
-        let next = at + 2 + get::read2(s, at);
+        let next = at + 2 + wire::read2(s, at);
         if is_named(s, at, name) {
             return Value::At(next);
         }

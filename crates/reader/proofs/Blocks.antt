@@ -12,13 +12,13 @@ use Rattle.blocks.specs.declared.Part.{Part}
 use Rattle.blocks.specs.Grammar.{partsOf}
 use Rattle.blocks.specs.Tree.{Tree, block}
 use Rattle.blocks.specs.Read.{Step, Earlier, Reader, readPart, readParts, readHeader, readBlock}
-use Rattle.leaf.specs.declared.Read.the-variants.{Ok, Refused}
-use Rattle.leaf.specs.declared.Head.the-variants.{Found, No}
-use Rattle.leaf.specs.Answer.{forget, headOf}
-use Rattle.leaf.proofs.Laws.{stopped, goes}
+use Rattle.reader_leaf.specs.declared.Read.the-variants.{Ok, Refused}
+use Rattle.reader_leaf.specs.declared.Head.the-variants.{Found, No}
+use Rattle.reader_leaf.specs.Answer.{forget, headOf}
+use Rattle.reader_leaf.proofs.Laws.{stopped, goes}
 use Rattle.ir.specs.Codes.{codeOf, codeAt}
-use Rattle.grammar.specs.Parts.{Coded, Keyed}
-use Rattle.grammar.proofs.Laws.{column}
+use Rattle.reader_grammar.specs.Parts.{Coded, Keyed}
+use Rattle.reader_grammar.proofs.Laws.{column}
 
 module _ (rb : Reader) (s : List ℕ) (e : Earlier) (start end : ℕ) where
   pub parts-none : {ps : List Part} (at : ℕ) → ps ≡ [] → forget (readParts rb s e start end ps at) ≡ Ok at

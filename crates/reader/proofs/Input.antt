@@ -9,8 +9,8 @@ use borrow.Author.Tests.{eq-eqb, ne-eqb}
 use Rattle.errors.specs.Refusal.{Outcome, done, refused, _>>=_, ask, unread}
 use Rattle.blocks.specs.Tree.{Tree}
 use Rattle.blocks.specs.Read.{Step, Earlier, readBlock, readInput}
-use Rattle.leaf.specs.declared.Read.the-variants.{Ok, Refused}
-use Rattle.leaf.specs.Answer.{forget}
+use Rattle.reader_leaf.specs.declared.Read.the-variants.{Ok, Refused}
+use Rattle.reader_leaf.specs.Answer.{forget}
 use Rattle.reader.specs.Input.{inputOf}
 
 -- behind the outermost block

@@ -16,7 +16,7 @@ use Rattle.errors.proofs.Laws.{done-one, not-done, asked, bound, bound-done}
 use Rattle.blocks.specs.declared.Part.{Part}
 use Rattle.blocks.specs.declared.Part.the-variants.{Text, Key, Number, Flag, Size, OptNumber, OptText, Literal, Block, OptBlock, Blocks, Ascending, Distinct, Names, Paths, Values}
 use Rattle.blocks.proofs.Part.{the-type}
-use Rattle.grammar.proofs.Laws.{type-begins, tree-begins}
+use Rattle.reader_grammar.proofs.Laws.{type-begins, tree-begins}
 use Rattle.blocks.specs.Bytes.{le2, le4}
 use Rattle.blocks.specs.Name.{Name}
 use Rattle.blocks.specs.Grammar.{partsOf, within, findRow, grammar}
@@ -24,13 +24,13 @@ use Rattle.blocks.proofs.Name.{and-left, and-right}
 use Rattle.blocks.specs.Tree.{Tree, name, num, block, nil, cons, number, part}
 use Rattle.blocks.specs.Read.{Step, Earlier, Reader, nameOf, pathsOf, pathsBefore, met, readKey, readCount, readEntries, readList, readPart, readParts, readHeader, readBlock}
 use Rattle.roundtrip.proofs.Accepted.{header-got}
-use Rattle.leaf.specs.declared.Seen.{Seen}
-use Rattle.leaf.specs.declared.Seen.the-variants.{Nothing, Owners, Types, After}
-use Rattle.leaf.specs.declared.Read.the-variants.{Ok}
-use Rattle.leaf.specs.Answer.{forget}
-use Rattle.leaf.specs.Seen.{Plain, nameAt, NameIn, behind, namesBefore, lastOf, Stand, Valid, earlierOf, grownOf, Grows}
-use Rattle.leaf.proofs.Laws.{taken}
-use Rattle.leaf.proofs.Lists.{key-done, entries-go}
+use Rattle.reader_leaf.specs.declared.Seen.{Seen}
+use Rattle.reader_leaf.specs.declared.Seen.the-variants.{Nothing, Owners, Types, After}
+use Rattle.reader_leaf.specs.declared.Read.the-variants.{Ok}
+use Rattle.reader_leaf.specs.Answer.{forget}
+use Rattle.reader_leaf.specs.Seen.{Plain, nameAt, NameIn, behind, namesBefore, lastOf, Stand, Valid, earlierOf, grownOf, Grows}
+use Rattle.reader_leaf.proofs.Laws.{taken}
+use Rattle.reader_leaf.proofs.Lists.{key-done, entries-go}
 use Rattle.reader.specs.Before.{Here, Suits, Before}
 
 -- ---- an accepted block

@@ -6,9 +6,9 @@ use mathlib.Core.List.{List, _∷_}
 use Rattle.blocks.specs.declared.Part.{Part}
 use Rattle.blocks.specs.declared.Part.the-variants.{Key}
 use Rattle.blocks.specs.Grammar.{partsOf, within}
-use Rattle.leaf.specs.declared.Seen.{Seen}
-use Rattle.leaf.specs.declared.Seen.the-variants.{Nothing, Owners, Types, After}
-use Rattle.leaf.specs.Seen.{Valid, behind}
+use Rattle.reader_leaf.specs.declared.Seen.{Seen}
+use Rattle.reader_leaf.specs.declared.Seen.the-variants.{Nothing, Owners, Types, After}
+use Rattle.reader_leaf.specs.Seen.{Valid, behind}
 
 -- the blocks before end where the next begins
 unfoldable pub Here : List ℕ → Seen → ℕ → Type 0

@@ -2,8 +2,8 @@
 use Prim.Native.Nat.{ℕ}
 use Rattle.errors.specs.Refusal.{Outcome, done, refused}
 use Rattle.blocks.specs.Tree.{Tree}
-use Rattle.leaf.specs.declared.Read.{Read}
-use Rattle.leaf.specs.declared.Read.the-variants.{Ok, Refused}
+use Rattle.reader_leaf.specs.declared.Read.{Read}
+use Rattle.reader_leaf.specs.declared.Read.the-variants.{Ok, Refused}
 
 unfoldable pub inputOf : ℕ → Outcome Tree → Read
 inputOf n (done t) = Ok n

@@ -1,17 +1,17 @@
 // Blocks: the reader of a whole input. It goes into blocks by recursion, and along lists and parts by loops.
 use blocks::Part;
-use leaf::Count;
-use leaf::Head;
-use leaf::Read;
-use leaf::Seen;
+use reader_leaf::Count;
+use reader_leaf::Head;
+use reader_leaf::Read;
+use reader_leaf::Seen;
 ghost use mathlib.Core.Path.{_≡_};
 ghost use Prim.Native.Nat.{_+_, _≤_};
 ghost use lib.ListN.{length};
 ghost use Rattle.blocks.specs.Grammar.{partsOf};
 ghost use Rattle.blocks.specs.Read.{readList, readPart, readParts, readBlock, readInput};
-ghost use Rattle.grammar.specs.Parts.{Keyed};
-ghost use Rattle.leaf.specs.Answer.{forget, Inside};
-ghost use Rattle.leaf.specs.Seen.{Valid, earlierOf};
+ghost use Rattle.reader_grammar.specs.Parts.{Keyed};
+ghost use Rattle.reader_leaf.specs.Answer.{forget, Inside};
+ghost use Rattle.reader_leaf.specs.Seen.{Valid, earlierOf};
 ghost use Rattle.reader.specs.Before.{Before};
 ghost use Rattle.reader.specs.Input.{inputOf};
 
@@ -30,7 +30,7 @@ fn list(
     requires { ⌜ (at ≤ end) × (end ≤ length (now s)) × (Before (now s) seen lo hi (at + 2)) ⌝ }
     ensures { λ r. ⌜ (r ≡ forget (readList (λ f a. readBlock room (now (s .entry)) f lo hi a end) (earlierOf (now (s .entry)) seen) limit (now (s .entry)) start end at)) × (Inside r end) ⌝ }
 {
-    match leaf::counted(s, limit as usize, start, at, end) {
+    match reader_leaf::counted(s, limit as usize, start, at, end) {
         Count::Bad(q, o) => Read::Refused(q, o),
         Count::Of(n) => {
             let mut i = at + 2;
@@ -39,7 +39,7 @@ fn list(
             while 0 < left {
                 match block(s, room, before, lo, hi, i, end) {
                     Read::Ok(next) => {
-                        before = leaf::grown(s, before, i);
+                        before = reader_leaf::grown(s, before, i);
                         i = next;
                     }
                     Read::Refused(q, o) => {
@@ -60,7 +60,7 @@ fn piece(s: &[u8], room: usize, seen: Seen, p: Part, start: usize, at: usize, en
 {
     match p {
         Part::Block(lo, hi) => block(s, room, Seen::Nothing, lo, hi, at, end),
-        Part::OptBlock(lo, hi) => match leaf::flag(s, start, at, end) {
+        Part::OptBlock(lo, hi) => match reader_leaf::flag(s, start, at, end) {
             Read::Refused(q, o) => Read::Refused(q, o),
             Read::Ok(next) => {
                 if s[at] == 1 {
@@ -82,7 +82,7 @@ fn piece(s: &[u8], room: usize, seen: Seen, p: Part, start: usize, at: usize, en
             list(s, room, none, lo, hi, limit, start, at, end)
         }
         // the others hold no block
-        _ => leaf::plain(s, seen, p, start, at, end),
+        _ => reader_leaf::plain(s, seen, p, start, at, end),
     }
 }
 
@@ -102,11 +102,19 @@ fn parts(
     let mut i = 0;
     let mut here = at;
     loop {
-        let code = grammar::code_at(kind, i);
+        let code = reader_grammar::code_at(kind, i);
         if code == 0 {
             return Read::Ok(here);
         }
-        match piece(s, room, seen, grammar::part_of(code), start, here, end) {
+        match piece(
+            s,
+            room,
+            seen,
+            reader_grammar::part_of(code),
+            start,
+            here,
+            end,
+        ) {
             Read::Ok(next) => {
                 here = next;
             }
@@ -123,7 +131,7 @@ fn block(s: &[u8], room: usize, seen: Seen, lo: u64, hi: u64, at: usize, end: us
     requires { ⌜ (at ≤ end) × (end ≤ length (now s)) × (Valid (now s) seen) ⌝ }
     ensures { λ r. ⌜ (r ≡ forget (readBlock room (now (s .entry)) (earlierOf (now (s .entry)) seen) lo hi at end)) × (Inside r end) ⌝ }
 {
-    match leaf::heading(s, lo as usize, hi as usize, at, end) {
+    match reader_leaf::heading(s, lo as usize, hi as usize, at, end) {
         Head::No(q, o) => Read::Refused(q, o),
         Head::Found(k, stop) => {
             if room == 0 {

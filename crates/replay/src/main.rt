@@ -1,12 +1,12 @@
 // Reads a list of stored calls with their answers from standard input and holds the proved readers against those that reading
 // decides, `build_set`, `validate` and `validate_run` against all of theirs, layouts byte for byte, and what `lengths` prints
 // against its stored lines.
-use inputs::Answer as Reading;
-use leaves::Answer;
+use builder_set::Answer as Built;
+use interpreter_leaves::Answer;
+use lengths_lines::Header;
 use libc::STDIN_FILENO;
 use libc::STDOUT_FILENO;
-use lines::Header;
-use sets::Answer as Built;
+use reader_calls::Answer as Reading;
 ghost use mathlib.Core.Path.{_≡_};
 ghost use Prim.Native.Nat.{_^_, _≤_, _<_};
 ghost use lib.ListN.{length};
@@ -64,7 +64,7 @@ fn lent(s: &[u8], words: &[u64]) -> usize
     if s.len() < 4 {
         return 0;
     }
-    let n = get::read4(s, 0);
+    let n = wire::read4(s, 0);
     if n < words.len() {
         return n;
     }
@@ -101,7 +101,7 @@ fn part_end(s: &[u8], at: usize) -> usize
     if s.len() - 4 < at {
         return 0;
     }
-    let n = get::read4(s, at);
+    let n = wire::read4(s, at);
     let start = at + 4;
     if s.len() - start < n {
         return 0;
@@ -125,10 +125,10 @@ fn is_stored(s: &[u8], at: usize, number: u64, place: u64, offset: usize, value:
     if s.len() - 15 < at {
         return false;
     }
-    let n = get::read2(s, at) % 256;
-    let p = get::read2(s, at + 1);
-    let o = get::read4(s, at + 3);
-    let v = get::read8(s, at + 7);
+    let n = wire::read2(s, at) % 256;
+    let p = wire::read2(s, at + 1);
+    let o = wire::read4(s, at + 3);
+    let v = wire::read8(s, at + 7);
     n as u64 == number && p as u64 == place && o == offset && v as u64 == value
 }
 
@@ -140,7 +140,7 @@ fn stored_number(s: &[u8], at: usize) -> usize {
     if s.len() - 2 < at {
         return 0;
     }
-    get::read2(s, at) % 256
+    wire::read2(s, at) % 256
 }
 
 // Whether the answer of reading is the stored one, which stands at `at`.
@@ -226,7 +226,7 @@ fn lent_output(s: &[u8], out: &[u8]) -> usize
     if s.len() < 8 {
         return 0;
     }
-    let n = get::read4(s, 4);
+    let n = wire::read4(s, 4);
     if n < out.len() {
         return n;
     }
@@ -242,7 +242,7 @@ fn is_built(got: Built, out: &[u8], s: &[u8], at: usize, layout: &[u8]) -> bool 
                 return false;
             }
             is_stored(s, at, 0, NOWHERE, 0, 0)
-                && get::same_name(&out[..n], layout)
+                && wire::same_name(&out[..n], layout)
                 && is_all(&out[n..], 0xA5)
         }
         Built::Refused(number, place, offset, value) => is_stored(
@@ -271,7 +271,7 @@ fn same_build(words: &mut [u64], out: &mut [u8], s: &[u8], end: usize) -> bool {
     let start = end + 19;
     soil(words);
     soil_bytes(out);
-    let got = sets::build_set(&s[12..end], out, words);
+    let got = builder_set::build_set(&s[12..end], out, words);
     is_clean(words) && is_built(got, out, s, end, &s[start..])
 }
 
@@ -285,7 +285,7 @@ fn hold_set(words: &mut [u64], tally: &mut [u64; 62], s: &[u8]) -> Held {
         return Held::Cut;
     }
     soil(words);
-    let got = inputs::read_set(words, &s[12..end]);
+    let got = reader_calls::read_set(words, &s[12..end]);
     count_refused(tally, got);
     if !(is_clean(words) && is_read(got, s, end)) {
         return Held::Differs;
@@ -314,9 +314,9 @@ fn first(a: Reading, b: Reading) -> Reading {
 // Values or a run, by the kind of the record.
 fn read_input(words: &mut [u64], input: &[u8], kind: u8) -> Reading {
     if kind == 2 {
-        return inputs::read_values(words, input);
+        return reader_calls::read_values(words, input);
     }
-    inputs::read_run(words, input)
+    reader_calls::read_run(words, input)
 }
 
 // Whether the readers give the answer at `at`, if it is one of reading, and leave the words clean.
@@ -330,7 +330,7 @@ fn same_reading(
     at: usize,
 ) -> bool {
     soil(words);
-    let a = inputs::read_layout(words, layout);
+    let a = reader_calls::read_layout(words, layout);
     if !is_clean(words) {
         return false;
     }
@@ -360,10 +360,10 @@ fn validated(
     if s.len() < 12 {
         return Held::Cut;
     }
-    let len = get::read8(s, 4) as u64;
+    let len = wire::read8(s, 4) as u64;
     let read = same_reading(words, tally, layout, values, 2, s, at);
     soil(words);
-    let got = validator::validate(words, layout, name, values, len);
+    let got = interpreter_validate::validate(words, layout, name, values, len);
     verdict(same_answer(words, tally, got, s, at) && read)
 }
 
@@ -413,7 +413,7 @@ fn hold_run(words: &mut [u64], tally: &mut [u64; 62], s: &[u8]) -> Held {
     }
     let read = same_reading(words, tally, &s[8..layout], &s[start..run], 4, s, run);
     soil(words);
-    let got = validator::validate_run(words, &s[8..layout], &s[start..run]);
+    let got = interpreter_validate::validate_run(words, &s[8..layout], &s[start..run]);
     verdict(same_answer(words, tally, got, s, run) && read)
 }
 
@@ -421,15 +421,15 @@ fn hold_run(words: &mut [u64], tally: &mut [u64; 62], s: &[u8]) -> Held {
 fn lines_of(input: &[u8], layout: &mut [u8], words: &mut [u64], out: &mut [u8]) -> usize
     requires { ⌜ (length (now words) ≡ 8192) × (length (now input) < 2 ^ 48) ⌝ }
 {
-    match lines::whole_block(input) {
-        Header::Refused(q) => lines::put_stopped(out, 0, q),
-        Header::Fits(n) => match sets::build_set(&input[..n], layout, words) {
-            Built::Refused(q, _, _, _) => lines::put_stopped(out, 0, q),
+    match lengths_lines::whole_block(input) {
+        Header::Refused(q) => lengths_lines::put_stopped(out, 0, q),
+        Header::Fits(n) => match builder_set::build_set(&input[..n], layout, words) {
+            Built::Refused(q, _, _, _) => lengths_lines::put_stopped(out, 0, q),
             Built::Length(m) => {
                 if layout.len() < m {
                     return 0;
                 }
-                lines::run_lines(&layout[..m], &input[n..], words, out)
+                lengths_lines::run_lines(&layout[..m], &input[n..], words, out)
             }
         },
     }
@@ -458,7 +458,7 @@ fn hold_lengths(s: &[u8]) -> Held {
     if 65536 < n {
         return Held::Differs;
     }
-    verdict(get::same_name(&out[..n], &s[start..]))
+    verdict(wire::same_name(&out[..n], &s[start..]))
 }
 
 // One record of the kind, counted.
@@ -511,7 +511,7 @@ fn hold_next(body: &mut [u8], words: &mut [u64], tally: &mut [u64; 62]) -> Turn 
     if got < 6 {
         return Turn::Bad;
     }
-    let length = get::read4(&header, 2);
+    let length = wire::read4(&header, 2);
     let n = io::count(length as isize, body);
     if n < length {
         return Turn::Bad;

@@ -1,6 +1,6 @@
 -- `ciztarmo::tell_count` meets its contract: the answer word by word. Assumes nothing.
 use mathlib.Core.Path.{sym, ap}
-use Rattle.leaves.specs.Outcome.{outcomeOf}
+use Rattle.interpreter_leaves.specs.Outcome.{outcomeOf}
 use Rattle.ciztarmo.proofs.Laws.{count-yes, count-no}
 use borrow.Author.Needs.{needs}
 use Rattle.ciztarmo.proofs.tell_count.Statement.{statement}

@@ -1,7 +1,7 @@
 -- `lengths::answer_next` is safe: a block and a line fit their arrays. Assumes nothing.
 use mathlib.Core.Path.{ap}
 use native.Mathlib.Omega.{arith}
-use Rattle.lines.specs.Lines.{bytesOf}
+use Rattle.lengths_lines.specs.Lines.{bytesOf}
 use Rattle.io.proofs.Counting.{front}
 use Rattle.lengths.specs.Next.{lengthOf}
 use borrow.Author.Needs.{needs}

@@ -2,7 +2,7 @@
 use native.Mathlib.Omega.{arith}
 use lib.ListN.{length-append}
 use Rattle.io.proofs.Counting.{front}
-use Rattle.lines.proofs.Runs.{header-within}
+use Rattle.lengths_lines.proofs.Runs.{header-within}
 use Rattle.lengths.proofs.Laws.{refilled}
 use borrow.Author.Needs.{needs}
 use Rattle.lengths.proofs.read_block.Statement.{statement}

@@ -8,7 +8,7 @@ use lib.ListN.{take, drop}
 use borrow.Author.Needs.{needs}
 use Rattle.blocks.specs.Bytes.{le2}
 use Rattle.blocks.specs.Name.{Name, same}
-use Rattle.walk.specs.Accepted.{nameAt}
+use Rattle.accepted.specs.Accepted.{nameAt}
 use Rattle.lookup.proofs.is_named.Statement.{statement}
 use Rattle.lookup.proofs.is_named.Tie as tie
 

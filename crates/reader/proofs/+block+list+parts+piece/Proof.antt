@@ -8,18 +8,18 @@ use borrow.Fn.Kinds.{In}
 use borrow.Fn.PlainCycle.{Measures, is, falls, and}
 use Rattle.blocks.specs.Read.{readPart, readParts, readBlock, readList, readEntries}
 use Rattle.blocks.specs.Grammar.{partsOf}
-use Rattle.grammar.proofs.Laws.{ended}
-use Rattle.grammar.proofs.code_at.Reads as code-at-reads
-use Rattle.grammar.proofs.part_of.Reads as part-of-reads
-use Rattle.leaf.proofs.Lists.{list-of, list-bad, entries-none, entries-stop}
-use Rattle.leaf.proofs.Laws.{optional-stop, optional-on, optional-off}
-use Rattle.leaf.specs.Seen.{earlierOf, namesBefore}
-use Rattle.leaf.specs.Answer.{forget}
-use Rattle.leaf.proofs.counted.Reads as counted-reads
-use Rattle.leaf.proofs.flag.Reads as flag-reads
-use Rattle.leaf.proofs.grown.Reads as grown-reads
-use Rattle.leaf.proofs.heading.Reads as heading-reads
-use Rattle.leaf.proofs.plain.Reads as plain-reads
+use Rattle.reader_grammar.proofs.Laws.{ended}
+use Rattle.reader_grammar.proofs.code_at.Reads as code-at-reads
+use Rattle.reader_grammar.proofs.part_of.Reads as part-of-reads
+use Rattle.reader_leaf.proofs.Lists.{list-of, list-bad, entries-none, entries-stop}
+use Rattle.reader_leaf.proofs.Laws.{optional-stop, optional-on, optional-off}
+use Rattle.reader_leaf.specs.Seen.{earlierOf, namesBefore}
+use Rattle.reader_leaf.specs.Answer.{forget}
+use Rattle.reader_leaf.proofs.counted.Reads as counted-reads
+use Rattle.reader_leaf.proofs.flag.Reads as flag-reads
+use Rattle.reader_leaf.proofs.grown.Reads as grown-reads
+use Rattle.reader_leaf.proofs.heading.Reads as heading-reads
+use Rattle.reader_leaf.proofs.plain.Reads as plain-reads
 use Rattle.reader.specs.Before.{Before}
 use Rattle.reader.proofs.Lists.{list-grows, list-go, nothing-before, nothing-valid, owners-before, types-before, plain}
 use Rattle.reader.proofs.Blocks.{parts-none, parts-stop, parts-go, block-no, block-full, block-stop, block-ok, block-rest, told}

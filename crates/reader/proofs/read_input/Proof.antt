@@ -2,7 +2,7 @@
 use mathlib.Core.Path.{sym, _∙_}
 use native.Mathlib.Omega.{arith}
 use borrow.Author.Needs.{needs}
-use Rattle.leaf.specs.Seen.{earlierOf}
+use Rattle.reader_leaf.specs.Seen.{earlierOf}
 use Rattle.reader.proofs.Input.{input-stop, input-ok, input-rest}
 use Rattle.reader.proofs.Lists.{nothing-valid}
 use Rattle.reader.proofs.read_input.Statement.{statement}

@@ -1,6 +1,6 @@
 -- `replay::lines_of` is safe. Assumes nothing.
 use Rattle.io.proofs.Counting.{front}
-use Rattle.lines.proofs.Runs.{block-inside}
+use Rattle.lengths_lines.proofs.Runs.{block-inside}
 use borrow.Author.Needs.{needs}
 use Rattle.replay.proofs.lines_of.Statement.{statement}
 use Rattle.replay.proofs.lines_of.Tie as tie

@@ -1,0 +1,34 @@
+use Rattle.builder_arrays.proofs.Laws.{behind-both, begins}
+use borrow.Author.Needs.{needs}
+use Rattle.builder_arrays.proofs.build_count.Statement.{statement}
+use Rattle.builder_arrays.proofs.build_count.Tie as tie
+use Rattle.builder_arrays.proofs.build_count.Reads as reads
+use Rattle.builder_arrays.proofs.build_count.Lts as lts
+use Rattle.builder_expressions.proofs.build_expr_ir.Reads as build-expr-ir-reads
+use Rattle.builder_nodes.proofs.open_align.Reads as open-align-reads
+use Rattle.builder_nodes.proofs.open_node.Reads as open-node-reads
+
+-- src/lib.rt:80:9
+open-align-requires : tie.Need-open-align-requires
+open-align-requires c κs = search needs
+
+-- src/lib.rt:81:9
+open-node-requires : tie.Need-open-node-requires
+open-node-requires c κs = search needs
+
+-- src/lib.rt:82:5
+build-expr-ir-requires : tie.Need-build-expr-ir-requires
+build-expr-ir-requires c κs = search needs
+
+-- src/lib.rt:64:1
+same-length : tie.Need-same-length
+same-length c = search needs
+
+-- src/lib.rt:64:1
+returns : tie.Need-returns
+returns c = (behind-both _ (c .before .before .before .before .before .before .before .before .before .before .open-align .ensures .1) (c .before .before .before .before .before .before .open-node .ensures .1) (c .before .before .build-expr-ir .ensures .0), λ e. begins _ _ (c .before .before .before .before .before .before .before .before .before .before .open-align .ensures .1) (c .before .before .before .before .before .before .before .before .before .before .open-align .ensures .0) (c .before .before .before .before .before .before .open-node .ensures .0) (c .before .before .build-expr-ir .ensures .1 e))
+
+pub build-count-spec : {M : Type 1} → statement M
+build-count-spec =
+    tie.close
+    (tie.spec open-align-requires open-node-requires build-expr-ir-requires same-length returns)

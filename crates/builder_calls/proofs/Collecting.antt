@@ -1,0 +1,136 @@
+-- Collecting the arguments of a call: the definition step by step, and what one step behind another leaves.
+use mathlib.Core.Path.{_≡_, refl, sym, _∙_, ap, subst}
+use mathlib.Core.Bool.{Bool, true, false}
+use mathlib.Core.List.{List, [], _∷_, _++_, append-assoc, append-nil}
+use Prim.Native.Nat.{ℕ, _+_, _≤_, _<_}
+use native.Mathlib.Omega.{arith}
+use lib.Dec.{leb, ltb}
+use lib.ListN.{length, length-append}
+use borrow.Author.Tests.{le-leb, lt-leb}
+use Rattle.errors.specs.Refusal.{Outcome, done, refused, plain}
+use Rattle.errors.specs.Refusal.{_>>=_ as _andThen_}
+use Rattle.errors.proofs.Laws.{done-one, bound}
+use Rattle.blocks.specs.Name.{Name}
+use Rattle.blocks.specs.Tree.{Tree}
+use Rattle.blocks.specs.Write.{write}
+use Rattle.resolved.specs.Resolved.{Owner}
+use Rattle.ir.specs.Ir.{IrArgument}
+use Rattle.ir.specs.Layout.{entriesTree, argumentTree}
+use Rattle.builder.specs.Names.{canonical-name}
+use Rattle.builder.specs.Registry.{Registry, Build, _>>=_, give, refuse, require, ensure}
+use Rattle.builder.specs.Nodes.{argument, collect-paths, collect-callee-arguments}
+use Rattle.wire.specs.Poke.{Wrote}
+use Rattle.wire.proofs.Laws.{both, no-parts}
+use Rattle.builder_registry.specs.Words.{entriesOf}
+use Rattle.builder_calls.specs.declared.Collected.{Collected}
+use Rattle.builder_calls.specs.Collected.{pathsIn, Collects}
+
+-- ---- the definition
+
+module _ (o p : Name) (before : List IrArgument) (g : Registry) where
+  -- what is done once the path is entered
+  abbrev pub entered : Unit {0} × Registry → Outcome (List IrArgument × Registry)
+  entered y = (require (ltb (length before) 512) 17 >>= (λ _. give (before ++ (argument (canonical-name o p) ∷ [])))) (y .1)
+
+  pub one-long : 255 < length (canonical-name o p) → collect-paths o (p ∷ []) before g ≡ refused (plain 17)
+  unfolding collect-paths _>>=_ _andThen_ require refuse
+  one-long h = rw (lt-leb _ _ h)
+
+  pub one-short : length (canonical-name o p) ≤ 255 → collect-paths o (p ∷ []) before g ≡ _andThen_ (ensure o p g) entered
+  unfolding collect-paths _>>=_ _andThen_ require give
+  one-short h = rw (le-leb _ _ h)
+
+-- the first path, then the others
+pub paths-more : (o p : Name) (ps : List Name) (before : List IrArgument) (g : Registry) →
+    collect-paths o (p ∷ ps) before g ≡ _andThen_ (collect-paths o (p ∷ []) before g) (λ x. collect-paths o ps (x .0) (x .1))
+unfolding collect-paths _>>=_ _andThen_ require give refuse
+paths-more o p ps before g = go (leb (length (canonical-name o p)) 255) (ensure o p) (ltb (length before) 512)
+  where
+    next : List IrArgument
+    next = before ++ (argument (canonical-name o p) ∷ [])
+
+    then : (y : Outcome (Unit {0} × Registry)) (b : Bool) → _andThen_ y (λ x. (require b 17 >>= (λ _. collect-paths o ps next)) (x .1)) ≡
+        _andThen_ (_andThen_ y (λ x. (require b 17 >>= (λ _. give next)) (x .1))) (λ x. collect-paths o ps (x .0) (x .1))
+    then (done y) true = refl
+    then (done y) false = refl
+    then (refused q) b = refl
+
+    go : (a : Bool) (e : Build Unit) (b : Bool) → (require a 17 >>= (λ _. e >>= (λ _. require b 17 >>= (λ _. collect-paths o ps next)))) g ≡
+        _andThen_ ((require a 17 >>= (λ _. e >>= (λ _. require b 17 >>= (λ _. give next)))) g) (λ x. collect-paths o ps (x .0) (x .1))
+    go true e b = then (e g) b
+    go false e b = refl
+
+-- where collecting succeeds, there is an argument for each path
+paths-count : (o : Name) (ps : List Name) (before : List IrArgument) (g : Registry) (y : List IrArgument × Registry) →
+    collect-paths o ps before g ≡ done y → length (y .0) ≡ length before + length ps
+unfolding collect-paths _>>=_ give
+paths-count o [] before g y h = let e : done (before, g) ≡ done y = h in omega (arith, ap (λ (z : List IrArgument × Registry). length (z .0)) (done-one e))
+paths-count o (p ∷ ps) before g y h =
+    let a = bound (require (leb (length (canonical-name o p)) 255) 17 g) _ _ h in
+    let b = bound (ensure o p (a .0 .1)) _ _ (a .2) in
+    let c = bound (require (ltb (length before) 512) 17 (b .0 .1)) _ _ (b .2) in
+    let i = paths-count o ps (before ++ (argument (canonical-name o p) ∷ [])) (c .0 .1) y (c .2) in
+    omega (arith, i, length-append before (argument (canonical-name o p) ∷ []))
+
+pub owners-count : (os : List Owner) (before : List IrArgument) (g : Registry) (y : List IrArgument × Registry) →
+    collect-callee-arguments os before g ≡ done y → length (y .0) ≡ length before + pathsIn os
+unfolding collect-callee-arguments pathsIn _>>=_ give
+owners-count [] before g y h = let e : done (before, g) ≡ done y = h in omega (arith, ap (λ (z : List IrArgument × Registry). length (z .0)) (done-one e))
+owners-count (o ∷ os) before g y h =
+    let a = bound (collect-paths (o .name) (o .paths) before g) _ _ h in
+    let i = owners-count os (a .0 .0) (a .0 .1) y (a .2) in
+    omega (arith, i, paths-count (o .name) (o .paths) before g (a .0) (a .1))
+
+-- ---- what collecting leaves
+
+entries-append : (as′ bs : List IrArgument) → write (entriesTree argumentTree (as′ ++ bs)) ≡ write (entriesTree argumentTree as′) ++ write (entriesTree argumentTree bs)
+unfolding entriesTree write
+entries-append [] bs = refl
+entries-append (a ∷ as′) bs =
+    ap (λ (l : List ℕ). write (argumentTree a) ++ l) (entries-append as′ bs) ∙ sym (append-assoc (write (argumentTree a)) (write (entriesTree argumentTree as′)) (write (entriesTree argumentTree bs)))
+
+module _ {s xs us ys : List ℕ} {at : ℕ} {before : List IrArgument} {r : Collected} where
+  pub collected : {x : Outcome (List IrArgument × Registry)} (as′ : List IrArgument) (g : Registry) → x ≡ done (before ++ as′, g) → r .no ≡ 0 → r .made ≡ length before + length as′ → entriesOf s us (r .count) ≡ g →
+      Wrote xs at (write (entriesTree argumentTree as′)) ys (r .at) → Collects s xs at before us ys r x
+  collected as′ g e z m h w = subst (Collects s xs at before us ys r) (sym e) (Collects.made as′ g z m h w)
+
+  pub refusal : {x : Outcome (List IrArgument × Registry)} (k : ℕ) → x ≡ refused (plain k) → r .no ≡ k → 0 < k → Collects s xs at before us ys r x
+  refusal k e z l = subst (Collects s xs at before us ys r) (sym e) (Collects.not k z l)
+
+  pub collects-done : {x : Outcome (List IrArgument × Registry)} → r .no ≡ 0 → Collects s xs at before us ys r x →
+      (as′ : List IrArgument) × (x ≡ done (before ++ as′, entriesOf s us (r .count))) × (r .made ≡ length before + length as′) × Wrote xs at (write (entriesTree argumentTree as′)) ys (r .at)
+  collects-done z (Collects.made as′ g e m h w) = (as′, ap (λ (l : Registry). done (before ++ as′, l)) (sym h), m, w)
+  collects-done z (Collects.not k e l) = absurd (let z : ⊥ = omega arith in z)
+
+  pub collects-refused : {x : Outcome (List IrArgument × Registry)} → (r .no ≡ 0 → ⊥) → Collects s xs at before us ys r x → (x ≡ refused (plain (r .no))) × (0 < r .no)
+  collects-refused z (Collects.made as′ g e m h w) = absurd (z e)
+  collects-refused z (Collects.not k e l) = (ap (λ (n : ℕ). refused (plain n)) (sym e), omega arith)
+
+-- nothing is collected
+pub collects-none : {s xs us : List ℕ} {at n made : ℕ} {before : List IrArgument} → length before ≡ made →
+    Collects s xs at before us xs (record { at = at; count = n; made = made; no = 0 }) (done (before, entriesOf s us n))
+unfolding entriesTree
+collects-none {s} {xs} {us} {at} {n} {before} e =
+    collected [] (entriesOf s us n) (ap (λ (l : List IrArgument). done (l, entriesOf s us n)) (sym (append-nil before))) refl (omega arith) refl (no-parts xs at)
+
+module _ {s xs vs zs : List ℕ} {at : ℕ} {before : List IrArgument} {a : Collected} {x : Outcome (List IrArgument × Registry)} (k : List IrArgument × Registry → Outcome (List IrArgument × Registry))
+    (f : Collects s xs at before vs zs a x) where
+  -- a step that refuses ends collecting
+  pub stopped : {us ys : List ℕ} → (a .no ≡ 0 → ⊥) → Collects s xs at before us ys a (_andThen_ x k)
+  unfolding _andThen_
+  stopped z = let d = collects-refused z f in refusal (a .no) (ap (λ (o : Outcome (List IrArgument × Registry)). _andThen_ o k) (d .0)) refl (d .1)
+
+  -- one step behind another
+  pub joined : {us ys : List ℕ} {r : Collected} → a .no ≡ 0 →
+      ((b : List IrArgument) → length b ≡ a .made → Collects s zs (a .at) b us ys r (k (b, entriesOf s vs (a .count)))) → Collects s xs at before us ys r (_andThen_ x k)
+  unfolding _andThen_
+  joined {us} {ys} {r} z h =
+      let d = collects-done z f in
+      let c = h (before ++ d .0) (omega (arith, length-append before (d .0), d .2)) in
+      rw (d .1) (go (d .0) (d .3) c)
+    where
+      go : (as′ : List IrArgument) {y : Outcome (List IrArgument × Registry)} → Wrote xs at (write (entriesTree argumentTree as′)) zs (a .at) → Collects s zs (a .at) (before ++ as′) us ys r y → Collects s xs at before us ys r y
+      go as′ w (Collects.made bs g e m h v) =
+          collected (as′ ++ bs) g (ap (λ (l : List IrArgument). done (l, g)) (append-assoc before as′ bs)) e (omega (arith, m, length-append before as′, length-append as′ bs)) h
+          (subst (λ (l : List ℕ). Wrote xs at l ys (r .at)) (sym (entries-append as′ bs)) (both w v))
+      go as′ w (Collects.not k e l) = Collects.not k e l

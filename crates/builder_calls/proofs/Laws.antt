@@ -1,0 +1,360 @@
+-- What the code leaves, place by place.
+use mathlib.Core.Path.{_≡_, refl, sym, _∙_, ap, subst}
+use mathlib.Core.Bool.{Bool, true, false}
+use mathlib.Core.List.{List, [], _∷_, _++_}
+use mathlib.Core.Option.{some, none}
+use Prim.Native.Nat.{ℕ, zero, suc, _+_, _-_, _*_, _≤_, _<_}
+use native.Mathlib.Numerals.{sub-one}
+use native.Mathlib.Omega.{arith}
+use lib.Dec.{ltb}
+use lib.ListN.{length, drop, length-drop}
+use lib.Seq.{length-take-le}
+use borrow.Author.Tests.{lt-ltb, le-ltb}
+use Rattle.errors.specs.Refusal.{Outcome, done, refused, plain}
+use Rattle.errors.specs.Refusal.{_>>=_ as _andThen_}
+use Rattle.blocks.specs.Bytes.{le2, le4, bytes}
+use Rattle.blocks.specs.Name.{Name}
+use Rattle.blocks.specs.Grammar.{partsOf, findRow, grammar, nodeTable}
+use Rattle.blocks.specs.Tree.{Tree, name, num, nil, cons, body, part, entries}
+use Rattle.blocks.specs.Write.{write}
+use Rattle.blocks.specs.Read.{readSet}
+use Rattle.accepted.specs.Accepted.{Accepted, tree, nameAt, Item, Entries, Listed, Counted}
+use Rattle.accepted.proofs.Laws.{Sole, sole, After, none-left, name-entry, block-entry}
+use Rattle.accepted.proofs.Lists.{Left, starts, steps, ended}
+use Rattle.resolved.specs.Resolved.{Owner, Head, ResolvedType, ResolvedTypeKind, head, kindOf, get-type-info}
+use Rattle.resolved.specs.Set.{ownerOf, typeOf, typesOf}
+use Rattle.lookup.specs.declared.Found.{Found}
+use Rattle.lookup.specs.declared.Found.the-variants.{At, Missing}
+use Rattle.lookup.specs.Found.{TypeFound}
+use Rattle.ir.specs.Ir.{IrNode, IrArgument, aligned, unplaced}
+use Rattle.ir.specs.Layout.{entriesTree, argumentTree, nodeTree, listTree}
+use Rattle.builder.specs.Names.{canonical-name}
+use Rattle.builder.specs.Registry.{Registry, _>>=_, give, refuse, require, need, ensure}
+use Rattle.builder.specs.Nodes.{argument, collect-paths, collect-callee-arguments, build-typeref-node}
+use Rattle.builder.proofs.Steps.{step-done, step-refused, need-some, need-none}
+use Rattle.wire.specs.Poke.{Wrote, opened}
+use Rattle.wire.proofs.Laws.{both, parts, no-parts, closed}
+use Rattle.resolved_parts.specs.declared.TypeHead.{TypeHead}
+use Rattle.resolved_parts.specs.Types.{Named, PathsAt, OwnerAt, HeadAt, TargetAt, ownersOf, textsOf}
+use Rattle.resolved_parts.proofs.Laws.{named}
+use Rattle.builder_registry.specs.declared.Held.{Held}
+use Rattle.builder_registry.specs.Words.{Kept, held, entriesOf}
+use Rattle.builder_registry.proofs.Laws.{held-name}
+use Rattle.builder_nodes.specs.declared.Built.{Built}
+use Rattle.builder_nodes.specs.Built.{Builds, nodeStart}
+use Rattle.builder_nodes.proofs.Laws.{node-closed}
+use Rattle.builder_calls.specs.declared.Collected.{Collected}
+use Rattle.builder_calls.specs.Collected.{pathsIn, Collects}
+use Rattle.builder_calls.specs.Call.{callOf}
+use Rattle.builder_calls.proofs.Collecting.{entered, one-long, one-short, paths-more, owners-count, collected, refusal, collects-done, collects-refused, collects-none, stopped, joined}
+
+-- ---- an argument
+
+-- a name of an accepted set has at most 255 bytes
+pub short-name : {s o : List ℕ} (owner : ℕ) → o ≡ nameAt s owner → Named s owner → length o ≤ 255
+short-name {s} owner e n =
+    let l : length (nameAt s owner) ≡ le2 s owner = length-take-le (le2 s owner) (drop (owner + 2) s) (rw length-drop (omega (arith, n .inside))) in
+    omega (arith, ap length e, l, n .short)
+
+-- the bytes of an argument
+argument-puts : {xs x₁ x₂ x₃ ys : List ℕ} {at b u v q : ℕ} (n : Name) → Wrote xs at (opened 164) x₁ b → Wrote x₁ b (write (name n)) x₂ u → Wrote x₂ u (write (name n)) x₃ v →
+    Wrote x₃ at (bytes 4 (v - at - 4)) ys q → Wrote xs at (write (entriesTree argumentTree (argument n ∷ []))) ys v
+unfolding entriesTree
+argument-puts {ys} {v} n w₁ w₂ w₃ w₄ =
+    parts (argumentTree (argument n)) nil
+    (closed 0 164 (cons (name n) (cons (name n) nil)) (both w₁ (parts (name n) (cons (name n) nil) w₂ (parts (name n) nil w₃ (no-parts _ _)))) w₄)
+    (no-parts ys v)
+
+module _ (s xs : List ℕ) (at owner path made : ℕ) (o p : List ℕ) (g₀ : Registry) (eo : o ≡ nameAt s owner) (ep : p ≡ nameAt s path) where
+  -- the same of the names' offsets
+  renamed : {us ys : List ℕ} {r : Collected} → ((before : List IrArgument) → length before ≡ made → Collects s xs at before us ys r (collect-paths o (p ∷ []) before g₀)) →
+      (before : List IrArgument) → length before ≡ made → Collects s xs at before us ys r (collect-paths (nameAt s owner) (nameAt s path ∷ []) before g₀)
+  renamed {us} {ys} {r} h before e =
+      subst (λ (z : Name). Collects s xs at before us ys r (collect-paths z (nameAt s path ∷ []) before g₀)) eo
+      (subst (λ (z : Name). Collects s xs at before us ys r (collect-paths o (z ∷ []) before g₀)) ep (h before e))
+
+  pub argument-long : {us ys : List ℕ} {m q c k : ℕ} → m ≡ length (canonical-name o p) → 255 < m → (before : List IrArgument) → length before ≡ made →
+      Collects s xs at before us ys (record { at = q; count = c; made = k; no = 17 }) (collect-paths (nameAt s owner) (nameAt s path ∷ []) before g₀)
+  argument-long el h = renamed (λ before e. refusal 17 (one-long o p before g₀ (omega (arith, el))) refl (omega arith))
+
+  module _ (us : List ℕ) (m : ℕ) (h : Held) (no : Named s owner) (np : Named s path) (el : m ≡ length (canonical-name o p)) (l : m ≤ 255) (k : Kept s us h (ensure (held s owner) (held s path) g₀)) where
+    -- what is entered, by the names
+    kept-names : Kept s us h (ensure o p g₀)
+    kept-names =
+        subst (λ (z : Name). Kept s us h (ensure z p g₀)) (held-name no ∙ sym eo)
+        (subst (λ (z : Name). Kept s us h (ensure (held s owner) z g₀)) (held-name np ∙ sym ep) k)
+
+    -- a path of this length, once it is entered
+    after-entry : {ys : List ℕ} {r : Collected} → ((before : List IrArgument) → length before ≡ made → (x : Outcome (Unit {0} × Registry)) → Kept s us h x → Collects s xs at before us ys r (_andThen_ x (entered o p before g₀))) →
+        (before : List IrArgument) → length before ≡ made → Collects s xs at before us ys r (collect-paths (nameAt s owner) (nameAt s path ∷ []) before g₀)
+    after-entry {ys} {r} f = renamed (λ before e. subst (Collects s xs at before us ys r) (sym (one-short o p before g₀ (omega (arith, el)))) (f before e (ensure o p g₀) kept-names))
+
+    pub argument-full : {ys : List ℕ} {q c j : ℕ} → (h .no ≡ 0 → ⊥) → (before : List IrArgument) → length before ≡ made →
+        Collects s xs at before us ys (record { at = q; count = c; made = j; no = h .no }) (collect-paths (nameAt s owner) (nameAt s path ∷ []) before g₀)
+    unfolding _andThen_
+    argument-full {ys} {q} {c} {j} z = after-entry go
+      where
+        go : (before : List IrArgument) → length before ≡ made → (x : Outcome (Unit {0} × Registry)) → Kept s us h x → Collects s xs at before us ys (record { at = q; count = c; made = j; no = h .no }) (_andThen_ x (entered o p before g₀))
+        go before e _ (Kept.kept g y w) = absurd (z y)
+        go before e _ (Kept.not i y w) = Collects.not i y w
+
+    pub argument-many : {ys : List ℕ} {q c j : ℕ} → h .no ≡ 0 → 512 ≤ made → (before : List IrArgument) → length before ≡ made →
+        Collects s xs at before us ys (record { at = q; count = c; made = j; no = 17 }) (collect-paths (nameAt s owner) (nameAt s path ∷ []) before g₀)
+    unfolding _andThen_ _>>=_ require refuse
+    argument-many {ys} {q} {c} {j} z f = after-entry go
+      where
+        go : (before : List IrArgument) → length before ≡ made → (x : Outcome (Unit {0} × Registry)) → Kept s us h x → Collects s xs at before us ys (record { at = q; count = c; made = j; no = 17 }) (_andThen_ x (entered o p before g₀))
+        go before e _ (Kept.kept g y w) = rw (le-ltb (length before) 512 (omega arith)) (Collects.not 17 refl (omega arith))
+        go before e _ (Kept.not i y w) = absurd (let u : ⊥ = omega arith in u)
+
+    pub argument-done : {x₁ x₂ x₃ ys : List ℕ} {b u v q : ℕ} → h .no ≡ 0 → made < 512 → Wrote xs at (opened 164) x₁ b → Wrote x₁ b (write (name (canonical-name o p))) x₂ u → Wrote x₂ u (write (name (canonical-name o p))) x₃ v →
+        Wrote x₃ at (bytes 4 (v - at - 4)) ys q → (before : List IrArgument) → length before ≡ made →
+        Collects s xs at before us ys (record { at = v; count = h .count; made = made + 1; no = 0 }) (collect-paths (nameAt s owner) (nameAt s path ∷ []) before g₀)
+    unfolding _andThen_ _>>=_ require give
+    argument-done {ys} {v} z f w₁ w₂ w₃ w₄ = after-entry go
+      where
+        go : (before : List IrArgument) → length before ≡ made → (x : Outcome (Unit {0} × Registry)) → Kept s us h x → Collects s xs at before us ys (record { at = v; count = h .count; made = made + 1; no = 0 }) (_andThen_ x (entered o p before g₀))
+        go before e _ (Kept.kept g y w) =
+            rw (lt-ltb (length before) 512 (omega arith)) (Collects.made (argument (canonical-name o p) ∷ []) g refl (omega arith) w (argument-puts (canonical-name o p) w₁ w₂ w₃ w₄))
+        go before e _ (Kept.not i y w) = absurd (let u : ⊥ = omega arith in u)
+
+-- ---- the paths of an owner
+
+module _ {s : List ℕ} {left path : ℕ} (z : left ≡ 0 → ⊥) (l : Entries s Item.names left path) where
+  -- the next path
+  next-path : After l (name (nameAt s path)) (path + 2 + le2 s path)
+  next-path = name-entry l (omega arith) .2
+
+  pub path-named : Named s path
+  path-named = named (omega (arith, next-path .inside, l .fits)) (name-entry l (omega arith) .0)
+
+  pub path-rest : {u : ℕ} → u ≡ le2 s path → Entries s Item.names (left - 1) (path + 2 + u)
+  path-rest e = subst (λ (k : ℕ). Entries s Item.names (left - 1) (path + 2 + k)) (sym e) (next-path .rest)
+
+  -- the first path, then the others
+  first-path : (o : Name) (before : List IrArgument) (g : Registry) →
+      collect-paths o (textsOf (l .got .0)) before g ≡ _andThen_ (collect-paths o (nameAt s path ∷ []) before g) (λ x. collect-paths o (textsOf (next-path .rest .got .0)) (x .0) (x .1))
+  unfolding entries
+  first-path o before g = ap (λ (t : Tree). collect-paths o (textsOf t) before g) (next-path .tree) ∙ paths-more o (nameAt s path) (textsOf (next-path .rest .got .0)) before g
+
+pub paths-none : {s xs ws : List ℕ} {at n left path made : ℕ} (o : Name) → left ≡ 0 → (l : Entries s Item.names left path) (before : List IrArgument) → length before ≡ made →
+    Collects s xs at before ws xs (record { at = at; count = n; made = made; no = 0 }) (collect-paths o (textsOf (l .got .0)) before (entriesOf s ws n))
+unfolding entries collect-paths give
+paths-none {s} {xs} {ws} {at} {n} {made} o z l before e =
+    subst (λ (t : Tree). Collects s xs at before ws xs (record { at = at; count = n; made = made; no = 0 }) (collect-paths o (textsOf t) before (entriesOf s ws n)))
+    (sym (ap (λ (y : Tree × ℕ). y .0) (none-left l (omega arith)))) (collects-none e)
+
+module _ {s xs vs zs : List ℕ} {at left path made : ℕ} {a : Collected} (o : Name) (g : Registry) (z : left ≡ 0 → ⊥)
+    (f : (before : List IrArgument) → length before ≡ made → Collects s xs at before vs zs a (collect-paths o (nameAt s path ∷ []) before g)) where
+  pub paths-stop : (a .no ≡ 0 → ⊥) → (l : Entries s Item.names left path) (before : List IrArgument) → length before ≡ made → Collects s xs at before vs zs a (collect-paths o (textsOf (l .got .0)) before g)
+  paths-stop y l before e = subst (Collects s xs at before vs zs a) (sym (first-path z l o before g)) (stopped _ (f before e) y)
+
+  pub paths-go : {us ys : List ℕ} {u : ℕ} {r : Collected} → a .no ≡ 0 → u ≡ le2 s path →
+      ((l : Entries s Item.names (left - 1) (path + 2 + u)) (before : List IrArgument) → length before ≡ a .made → Collects s zs (a .at) before us ys r (collect-paths o (textsOf (l .got .0)) before (entriesOf s vs (a .count)))) →
+      (l : Entries s Item.names left path) (before : List IrArgument) → length before ≡ made → Collects s xs at before us ys r (collect-paths o (textsOf (l .got .0)) before g)
+  paths-go {us} {ys} {u} {r} y eu h l before e =
+      let k : (l : Entries s Item.names (left - 1) (path + 2 + le2 s path)) (before : List IrArgument) → length before ≡ a .made → Collects s zs (a .at) before us ys r (collect-paths o (textsOf (l .got .0)) before (entriesOf s vs (a .count))) =
+      subst (λ (j : ℕ). (l : Entries s Item.names (left - 1) (path + 2 + j)) (before : List IrArgument) → length before ≡ a .made → Collects s zs (a .at) before us ys r (collect-paths o (textsOf (l .got .0)) before (entriesOf s vs (a .count)))) eu h in
+      subst (Collects s xs at before us ys r) (sym (first-path z l o before g)) (joined _ (f before e) y (λ b i. k (next-path z l .rest) b i))
+
+-- ---- owners
+
+module _ {s : List ℕ} {left owner : ℕ} (z : left ≡ 0 → ⊥) (l : Listed s 37 37 left owner) where
+  abbrev pub owner-here : Accepted s 37 37 owner
+  owner-here = block-entry l (omega arith) .child
+
+  pub owner-inside : owner + 4 + le4 s owner ≤ length s
+  owner-inside = omega (arith, block-entry l (omega arith) .after .inside, l .fits)
+
+  owner-next : After l (tree owner-here) (owner + 4 + le4 s owner)
+  owner-next = block-entry l (omega arith) .after
+
+  pub owner-rest : {u : ℕ} → u ≡ le4 s owner → Listed s 37 37 (left - 1) (owner + 4 + u)
+  owner-rest e = subst (λ (k : ℕ). Listed s 37 37 (left - 1) (owner + 4 + k)) (sym e) (owner-next .rest)
+
+  -- the first owner, then the others
+  first-owner : {q : ℕ} (w : OwnerAt owner-here q) (before : List IrArgument) (g : Registry) →
+      collect-callee-arguments (entries ownerOf (l .got .0)) before g ≡
+      _andThen_ (collect-paths (nameAt s (owner + 6)) (textsOf (w .paths .list .got .0)) before g) (λ x. collect-callee-arguments (entries ownerOf (owner-next .rest .got .0)) (x .0) (x .1))
+  unfolding entries collect-callee-arguments _>>=_
+  first-owner w before g =
+      ap (λ (t : Tree). collect-callee-arguments (entries ownerOf t) before g) (owner-next .tree)
+      ∙ ap (λ (o : Owner). _andThen_ (collect-paths (o .name) (o .paths) before g) (λ x. collect-callee-arguments (entries ownerOf (owner-next .rest .got .0)) (x .0) (x .1))) (w .is)
+
+pub owners-none : {s xs ws : List ℕ} {at n left owner made : ℕ} → left ≡ 0 → (l : Listed s 37 37 left owner) (before : List IrArgument) → length before ≡ made →
+    Collects s xs at before ws xs (record { at = at; count = n; made = made; no = 0 }) (collect-callee-arguments (entries ownerOf (l .got .0)) before (entriesOf s ws n))
+unfolding entries collect-callee-arguments give
+owners-none {s} {xs} {ws} {at} {n} {made} z l before e =
+    subst (λ (t : Tree). Collects s xs at before ws xs (record { at = at; count = n; made = made; no = 0 }) (collect-callee-arguments (entries ownerOf t) before (entriesOf s ws n)))
+    (sym (ap (λ (y : Tree × ℕ). y .0) (none-left l (omega arith)))) (collects-none e)
+
+module _ {s xs vs zs : List ℕ} {at left owner q few made : ℕ} {a : Collected} (g : Registry) (z : left ≡ 0 → ⊥) (w : (b : Accepted s 37 37 owner) → OwnerAt b q) (ef : few ≡ le2 s q)
+    (f : (l : Entries s Item.names few (q + 2)) (before : List IrArgument) → length before ≡ made → Collects s xs at before vs zs a (collect-paths (nameAt s (owner + 6)) (textsOf (l .got .0)) before g)) where
+  -- the arguments of the first owner
+  of-owner : (l : Listed s 37 37 left owner) (before : List IrArgument) → length before ≡ made →
+      Collects s xs at before vs zs a (collect-paths (nameAt s (owner + 6)) (textsOf (w (owner-here z l) .paths .list .got .0)) before g)
+  of-owner l =
+      let k : (l : Entries s Item.names (le2 s q) (q + 2)) (before : List IrArgument) → length before ≡ made → Collects s xs at before vs zs a (collect-paths (nameAt s (owner + 6)) (textsOf (l .got .0)) before g) =
+      subst (λ (j : ℕ). (l : Entries s Item.names j (q + 2)) (before : List IrArgument) → length before ≡ made → Collects s xs at before vs zs a (collect-paths (nameAt s (owner + 6)) (textsOf (l .got .0)) before g)) ef f in
+      k (w (owner-here z l) .paths .list)
+
+  pub owners-stop : (a .no ≡ 0 → ⊥) → (l : Listed s 37 37 left owner) (before : List IrArgument) → length before ≡ made → Collects s xs at before vs zs a (collect-callee-arguments (entries ownerOf (l .got .0)) before g)
+  owners-stop y l before e = subst (Collects s xs at before vs zs a) (sym (first-owner z l (w (owner-here z l)) before g)) (stopped _ (of-owner l before e) y)
+
+  pub owners-go : {us ys : List ℕ} {u : ℕ} {r : Collected} → a .no ≡ 0 → u ≡ le4 s owner →
+      ((l : Listed s 37 37 (left - 1) (owner + 4 + u)) (before : List IrArgument) → length before ≡ a .made → Collects s zs (a .at) before us ys r (collect-callee-arguments (entries ownerOf (l .got .0)) before (entriesOf s vs (a .count)))) →
+      (l : Listed s 37 37 left owner) (before : List IrArgument) → length before ≡ made → Collects s xs at before us ys r (collect-callee-arguments (entries ownerOf (l .got .0)) before g)
+  owners-go {us} {ys} {u} {r} y eu h l before e =
+      let k : (l : Listed s 37 37 (left - 1) (owner + 4 + le4 s owner)) (before : List IrArgument) → length before ≡ a .made → Collects s zs (a .at) before us ys r (collect-callee-arguments (entries ownerOf (l .got .0)) before (entriesOf s vs (a .count))) =
+      subst (λ (j : ℕ). (l : Listed s 37 37 (left - 1) (owner + 4 + j)) (before : List IrArgument) → length before ≡ a .made → Collects s zs (a .at) before us ys r (collect-callee-arguments (entries ownerOf (l .got .0)) before (entriesOf s vs (a .count)))) eu h in
+      subst (Collects s xs at before us ys r) (sym (first-owner z l (w (owner-here z l)) before g)) (joined _ (of-owner l before e) y (λ b i. k (owner-next z l .rest) b i))
+
+-- ---- counting
+
+-- the paths of owners are those that were counted and those of the owners that are left
+pub record Counts (n : ℕ) (w u : Tree) : Type 0 where
+  pub is : pathsIn (entries ownerOf w) ≡ n + pathsIn (entries ownerOf u)
+
+texts-count : {s : List ℕ} {n at : ℕ} (l : Entries s Item.names n at) → length (textsOf (l .got .0)) ≡ n
+unfolding entries
+texts-count {s} {n} {at} l = go n at l
+  where
+    go : (n at : ℕ) (l : Entries s Item.names n at) → length (textsOf (l .got .0)) ≡ n
+    go zero at l = ap (λ (y : Tree × ℕ). length (textsOf (y .0))) (none-left l (omega arith))
+    go (suc n) at l =
+        let e = name-entry l (omega arith) .2 in
+        let f : (q : ℕ) (r : Entries s Item.names (suc n - 1) q) → length (textsOf (r .got .0)) ≡ n = rw sub-one (go n) in
+        ap (λ (t : Tree). length (textsOf t)) (e .tree) ∙ ap suc (f (at + 2 + le2 s at) (e .rest))
+
+-- the block of references is a list of owners
+pub owners : {s : List ℕ} {at : ℕ} (a : Accepted s 32 32 at) → Sole a (Item.blocks 37 37) 64
+unfolding partsOf findRow grammar nodeTable
+owners a = sole a refl Counted.ascending
+
+pub owners-inside : {s : List ℕ} {at : ℕ} → Accepted s 32 32 at → at + 6 + 2 ≤ length s
+owners-inside a = owners a .inside
+
+pub owners-few : {s : List ℕ} {at : ℕ} → Accepted s 32 32 at → le2 s (at + 6) ≤ 64
+owners-few a = owners a .few
+
+abbrev pub owners-list : {s : List ℕ} {at : ℕ} → Accepted s 32 32 at → Listed s 37 37 (le2 s (at + 6)) (at + 6 + 2)
+owners-list a = owners a .list
+
+owners-are : {s : List ℕ} {at : ℕ} (a : Accepted s 32 32 at) → ownersOf (tree a) ≡ entries ownerOf (owners-list a .got .0)
+owners-are a = ap (entries ownerOf) (owners a .tree)
+
+-- Of the owners of the block at b, `left` are left, from `at` on, and the others have n paths.
+abbrev pub Count : List ℕ → ℕ → ℕ → ℕ → ℕ → Type 0
+Count s b left at n = Left (Counts n) s (Item.blocks 37 37) (le2 s (b + 6)) (b + 6 + 2) left at
+
+pub count-begin : {s : List ℕ} (b : ℕ) {left : ℕ} → Accepted s 32 32 b → left ≡ le2 s (b + 6) → Count s b left (b + 6 + 2) 0
+count-begin {s} b a e = subst (λ (k : ℕ). Count s b k (b + 6 + 2) 0) (sym e) (starts (λ t. record { is = omega arith }) (owners-list a))
+
+module _ {s : List ℕ} (b : ℕ) {left at n : ℕ} where
+  -- the next owner
+  pub count-here : 0 < left → Count s b left at n → Accepted s 37 37 at
+  count-here h c = block-entry (c .here) h .child
+
+  pub count-inside : 0 < left → Count s b left at n → at + 4 + le4 s at ≤ length s
+  count-inside h c = omega (arith, block-entry (c .here) h .after .inside, c .here .fits)
+
+  pub count-next : {q u v : ℕ} → 0 < left → ((a : Accepted s 37 37 at) → OwnerAt a q) → u ≡ le2 s q → v ≡ le4 s at → Count s b left at n → Count s b (left - 1) (at + 4 + v) (n + u)
+  unfolding entries pathsIn
+  count-next {q} {u} {v} h w eu ev c =
+      subst (λ (k : ℕ). Count s b (left - 1) (at + 4 + k) (n + u)) (sym ev)
+      (steps (λ r. tree (block-entry r h .child)) (λ r. block-entry r h .after) (λ r x y p. record { is = p .is ∙ one r y }) c)
+    where
+      one : (r : Listed s 37 37 left at) (y : Tree) → n + pathsIn (entries ownerOf (cons (tree (block-entry r h .child)) y)) ≡ n + u + pathsIn (entries ownerOf y)
+      one r y =
+          let o = w (block-entry r h .child) in
+          let l : length (ownerOf (tree (block-entry r h .child)) .paths) ≡ le2 s q = ap (λ (z : Owner). length (z .paths)) (o .is) ∙ texts-count (o .paths .list) in
+          omega (arith, l, eu)
+
+  pub count-end : left ≤ 0 → Count s b left at n → (a : Accepted s 32 32 b) → n ≡ pathsIn (ownersOf (tree a))
+  unfolding entries pathsIn
+  count-end h c a = let e = ended h c (owners-list a) .0 .is in omega (arith, e, ap pathsIn (owners-are a))
+
+-- ---- the call
+
+pub paths-list : {s : List ℕ} {q few : ℕ} → few ≡ le2 s q → PathsAt s q → Entries s Item.names few (q + 2)
+paths-list {s} {q} e p = subst (λ (k : ℕ). Entries s Item.names k (q + 2)) (sym e) (p .list)
+
+pub owners-at : {s : List ℕ} {q left : ℕ} → left ≡ le2 s (q + 6) → Accepted s 32 32 q → Listed s 37 37 left (q + 6 + 2)
+owners-at {s} {q} e a = subst (λ (k : ℕ). Listed s 37 37 k (q + 6 + 2)) (sym e) (owners-list a)
+
+module _ {s x₃ x₄ us : List ℕ} {v callee left : ℕ} {h : TypeHead} {r : Collected} (g : Registry) (hd : (a : Accepted s 1 7 callee) → HeadAt a h) (el : left ≡ le2 s (h .references + 6))
+    (f : (l : Listed s 37 37 left (h .references + 6 + 2)) (before : List IrArgument) → length before ≡ 0 → Collects s x₃ v before us x₄ r (collect-callee-arguments (entries ownerOf (l .got .0)) before g)) where
+  call-arguments : (a : Accepted s 1 7 callee) → Collects s x₃ v [] us x₄ r (collect-callee-arguments (head (typeOf (tree a)) .dynamic-params) [] g)
+  call-arguments a =
+      let k : (l : Listed s 37 37 (le2 s (h .references + 6)) (h .references + 6 + 2)) (before : List IrArgument) → length before ≡ 0 → Collects s x₃ v before us x₄ r (collect-callee-arguments (entries ownerOf (l .got .0)) before g) =
+      subst (λ (j : ℕ). (l : Listed s 37 37 j (h .references + 6 + 2)) (before : List IrArgument) → length before ≡ 0 → Collects s x₃ v before us x₄ r (collect-callee-arguments (entries ownerOf (l .got .0)) before g)) el f in
+      subst (λ (os : List Owner). Collects s x₃ v [] us x₄ r (collect-callee-arguments os [] g)) (sym (hd a .owners ∙ owners-are (hd a .references))) (k (owners-list (hd a .references)) [] refl)
+
+  module _ {xs ys : List ℕ} {at : ℕ} (nm : List ℕ) (alignment : ℕ) where
+    pub call-stop : {q c : ℕ} → (r .no ≡ 0 → ⊥) → (a : Accepted s 1 7 callee) → Builds s xs at us ys (record { at = q; count = c; no = r .no }) (callOf (typeOf (tree a)) nm alignment g)
+    unfolding callOf
+    call-stop {q} {c} z a =
+        let d = collects-refused z (call-arguments a) in
+        subst (Builds s xs at us ys (record { at = q; count = c; no = r .no })) (sym (step-refused _ _ g (d .0))) (Builds.not (r .no) refl (d .1))
+
+    -- the bytes of the call
+    call-puts : {x₁ x₂ : List ℕ} {p u q : ℕ} (few : ℕ) (as′ : List IrArgument) → few ≡ length as′ → Wrote xs at (nodeStart 133 alignment) x₁ p → Wrote x₁ p (write (name nm)) x₂ u → Wrote x₂ u (bytes 2 few) x₃ v →
+        Wrote x₃ v (write (entriesTree argumentTree as′)) x₄ (r .at) → Wrote x₄ at (bytes 4 (r .at - at - 4)) ys q → Wrote xs at (write (nodeTree (IrNode.CallNested unplaced (aligned alignment) nm as′))) ys (r .at)
+    unfolding nodeTree write
+    call-puts {x₂} {u} few as′ e w₁ w₂ w₃ w₄ w₅ =
+        let w : Wrote x₂ u (bytes 2 (length as′)) x₃ v = subst (λ (k : ℕ). Wrote x₂ u (bytes 2 k) x₃ v) e w₃ in
+        node-closed 133 alignment (cons (name nm) (cons (listTree argumentTree as′) nil)) w₁
+        (parts (name nm) (cons (listTree argumentTree as′) nil) w₂ (parts (listTree argumentTree as′) nil (parts (num 2 (length as′)) (entriesTree argumentTree as′) w w₄) (no-parts x₄ (r .at)))) w₅
+
+    pub call-done : {x₁ x₂ : List ℕ} {p u q : ℕ} (few : ℕ) → ((a : Accepted s 32 32 (h .references)) → few ≡ pathsIn (ownersOf (tree a))) → Wrote xs at (nodeStart 133 alignment) x₁ p → Wrote x₁ p (write (name nm)) x₂ u → Wrote x₂ u (bytes 2 few) x₃ v →
+        r .no ≡ 0 → Wrote x₄ at (bytes 4 (r .at - at - 4)) ys q → (a : Accepted s 1 7 callee) → Builds s xs at us ys (record { at = r .at; count = r .count; no = 0 }) (callOf (typeOf (tree a)) nm alignment g)
+    unfolding callOf give
+    call-done few ef w₁ w₂ w₃ z w₅ a =
+        let d = collects-done z (call-arguments a) in
+        let m = owners-count (head (typeOf (tree a)) .dynamic-params) [] g _ (d .1) in
+        let e : few ≡ length (d .0) = omega (arith, m, ef (hd a .references), ap pathsIn (hd a .owners)) in
+        subst (Builds s xs at us ys (record { at = r .at; count = r .count; no = 0 })) (sym (step-done _ _ g (d .1)))
+        (Builds.made (IrNode.CallNested unplaced (aligned alignment) nm (d .0), entriesOf s us (r .count)) refl refl (call-puts few (d .0) e w₁ w₂ w₃ (d .3) w₅))
+
+-- ---- a type reference
+
+typeref-is : (types : List ResolvedType) (h : Head) (target : Name) (g : Registry) {t : ResolvedType} → get-type-info target types ≡ some t → build-typeref-node types h target g ≡ callOf t target (h .alignment) g
+unfolding build-typeref-node callOf
+typeref-is types h target g e = need-some 15 _ g e
+
+typeref-none : (types : List ResolvedType) (h : Head) (target : Name) (g : Registry) → get-type-info target types ≡ none → build-typeref-node types h target g ≡ refused (plain 15)
+unfolding build-typeref-node
+typeref-none types h target g e = need-none 15 _ g e
+
+found-at : {s : List ℕ} {n : Name} {ts : List ResolvedType} {f : Found} {o : ℕ} → f ≡ At o → TypeFound s n ts f → (a : Accepted s 1 7 o) × (get-type-info n ts ≡ some (typeOf (tree a)))
+found-at {s} {n} {ts} {o} e (TypeFound.at {o = p} a g) = let i : p ≡ o = cc in subst (λ (k : ℕ). (a : Accepted s 1 7 k) × (get-type-info n ts ≡ some (typeOf (tree a)))) i (a, g)
+found-at e (TypeFound.missing g) = let z : _≡_ {A = ℕ} 0 1 = cc in absurd (omega arith)
+
+found-none : {s : List ℕ} {n : Name} {ts : List ResolvedType} {f : Found} → f ≡ Missing → TypeFound s n ts f → get-type-info n ts ≡ none
+found-none e (TypeFound.at a g) = let z : _≡_ {A = ℕ} 0 1 = cc in absurd (omega arith)
+found-none e (TypeFound.missing g) = g
+
+-- what a call of the type asks for
+pub callee-at : {s : List ℕ} {n : Name} {f : Found} {o : ℕ} → f ≡ At o → (t : Tree) × (readSet s ≡ done t) → ((t : Tree) → readSet s ≡ done t → TypeFound s n (typesOf t) f) → Accepted s 1 7 o
+callee-at e (t, d) k = found-at e (k t d) .0
+
+module _ {s : List ℕ} {kind q : ℕ} {nm : List ℕ} {f : Found} (g : Registry) (tq : (a : Accepted s 1 7 kind) → TargetAt a q) (en : nm ≡ nameAt s q)
+    (k : (t : Tree) → readSet s ≡ done t → TypeFound s nm (typesOf t) f) where
+  -- the name that was looked up is the target
+  target-is : (a : Accepted s 1 7 kind) {target : Name} → kindOf (typeOf (tree a)) ≡ ResolvedTypeKind.TypeRef target → nm ≡ target
+  target-is a e = let i = tq a .is in cc
+
+  pub typeref-missing : {xs us ys : List ℕ} {at p c : ℕ} → f ≡ Missing → (t : Tree) (a : Accepted s 1 7 kind) (target : Name) → readSet s ≡ done t → kindOf (typeOf (tree a)) ≡ ResolvedTypeKind.TypeRef target →
+      Builds s xs at us ys (record { at = p; count = c; no = 15 }) (build-typeref-node (typesOf t) (head (typeOf (tree a))) target g)
+  typeref-missing {xs} {us} {ys} {at} {p} {c} e t a target d i =
+      subst (λ (z : Name). Builds s xs at us ys (record { at = p; count = c; no = 15 }) (build-typeref-node (typesOf t) (head (typeOf (tree a))) z g)) (target-is a i)
+      (subst (Builds s xs at us ys (record { at = p; count = c; no = 15 })) (sym (typeref-none (typesOf t) (head (typeOf (tree a))) nm g (found-none e (k t d)))) (Builds.not 15 refl (omega arith)))
+
+  pub typeref-done : {xs us ys : List ℕ} {at : ℕ} {h : TypeHead} {callee : ℕ} {r : Built} → ((a : Accepted s 1 7 kind) → HeadAt a h) → f ≡ At callee →
+      ((a : Accepted s 1 7 callee) → Builds s xs at us ys r (callOf (typeOf (tree a)) nm (h .alignment) g)) →
+      (t : Tree) (a : Accepted s 1 7 kind) (target : Name) → readSet s ≡ done t → kindOf (typeOf (tree a)) ≡ ResolvedTypeKind.TypeRef target → Builds s xs at us ys r (build-typeref-node (typesOf t) (head (typeOf (tree a))) target g)
+  typeref-done {xs} {us} {ys} {at} {h} {r} hd e b t a target d i =
+      let w = found-at e (k t d) in
+      subst (λ (z : Name). Builds s xs at us ys r (build-typeref-node (typesOf t) (head (typeOf (tree a))) z g)) (target-is a i)
+      (subst (Builds s xs at us ys r) (sym (typeref-is (typesOf t) (head (typeOf (tree a))) nm g (w .1)))
+      (subst (λ (m : ℕ). Builds s xs at us ys r (callOf (typeOf (tree (w .0))) nm m g)) (sym (hd a .alignment)) (b (w .0))))

@@ -1,0 +1,236 @@
+// builder.rs, `build_typeref_node` and `collect_callee_arguments`.
+use builder_nodes::Built;
+ghost use mathlib.Core.Path.{_≡_};
+ghost use mathlib.Core.List.{List, [], _∷_};
+ghost use Prim.Native.Nat.{_+_, _^_, _≤_};
+ghost use lib.ListN.{length};
+ghost use Rattle.errors.specs.Refusal.{done};
+ghost use Rattle.blocks.specs.Name.{Name};
+ghost use Rattle.blocks.specs.Tree.{Tree, entries};
+ghost use Rattle.blocks.specs.Read.{readSet};
+ghost use Rattle.accepted.specs.Accepted.{Accepted, Item, Entries, Listed, tree, nameAt};
+ghost use Rattle.resolved.specs.Resolved.{ResolvedTypeKind, Fields, head, kindOf};
+ghost use Rattle.resolved.specs.Set.{ownerOf, typeOf, typesOf};
+ghost use Rattle.ir.specs.Ir.{IrArgument};
+ghost use Rattle.builder.specs.Nodes.{collect-paths, collect-callee-arguments, build-typeref-node};
+ghost use Rattle.resolved_parts.specs.Types.{ownersOf, textsOf};
+ghost use Rattle.builder_registry.specs.Words.{entriesOf};
+ghost use Rattle.builder_nodes.specs.Built.{Builds, Within};
+ghost use Rattle.builder_calls.specs.Ready.{Ready};
+ghost use Rattle.builder_calls.specs.Collected.{pathsIn, Collects, Fills, ReadyPath, ReadyPaths, ReadyOwners, ReadyCall};
+ghost use Rattle.builder_calls.specs.Call.{callOf};
+
+// The next cursor, how many entries the registry has, how many arguments are there, and the number of a refusal or 0.
+pub struct Collected {
+    pub at: usize,
+    pub count: usize,
+    pub made: usize,
+    pub no: u64,
+}
+
+// How many paths the owners of a references block have.
+fn count_paths(s: &[u8], references: usize) -> usize
+    requires { ⌜ Accepted (now s) 32 32 references ⌝ }
+    ensures { λ r. ⌜ r ≤ 4096 ⌝ }
+    ensures { λ r. ⌜ ((a : Accepted (now (s .entry)) 32 32 references) → r ≡ pathsIn (ownersOf (tree a))) ⌝ }
+{
+    let mut left = wire::read2(s, references + 6);
+    let mut at = references + 6 + 2;
+    let mut n = 0;
+    while 0 < left {
+        let paths = resolved_parts::owner_paths(s, at);
+        n += wire::read2(s, paths);
+        at = at + 4 + wire::read4(s, at);
+        left -= 1;
+    }
+    n
+}
+
+// The argument of a path of an owner, whose names stand at these offsets.
+fn put_argument(
+    s: &[u8],
+    words: &mut [u64],
+    n: usize,
+    owner: usize,
+    path: usize,
+    made: usize,
+    out: &mut [u8],
+    at: usize,
+) -> Collected
+    requires { ⌜ ReadyPath (now s) (now words) n owner path made at ⌝ }
+    ensures { λ r. ⌜ Fills at made r ⌝ }
+    ensures { λ r. ⌜ ((before : List IrArgument) → length before ≡ made → Collects (now (s .entry)) (now (out .entry)) at before (now (words .exit)) (now (out .exit)) r (collect-paths (nameAt (now (s .entry)) owner) (nameAt (now (s .entry)) path ∷ []) before (entriesOf (now (s .entry)) (now (words .entry)) n))) ⌝ }
+{
+    let o = resolved_parts::name_at(s, owner);
+    let p = resolved_parts::name_at(s, path);
+    if 255 < builder_names::canonical_length(o, p) {
+        return Collected {
+            at,
+            count: n,
+            made,
+            no: 17,
+        };
+    }
+    let h = builder_registry::ensure(s, words, n, owner, path);
+    if h.no != 0 {
+        return Collected {
+            at,
+            count: n,
+            made,
+            no: h.no,
+        };
+    }
+    if 512 <= made {
+        return Collected {
+            at,
+            count: n,
+            made,
+            no: 17,
+        };
+    }
+    let b = wire::open_block(out, at, 164);
+    let u = builder_names::put_canonical_name(out, b, o, p);
+    let v = builder_names::put_canonical_name(out, u, o, p);
+    wire::close_block(out, at, v);
+    Collected {
+        at: v,
+        count: h.count,
+        made: made + 1,
+        no: 0,
+    }
+}
+
+// The arguments of the paths of an owner: `left` of them are left, from `path` on.
+fn put_arguments(
+    s: &[u8],
+    words: &mut [u64],
+    n: usize,
+    owner: usize,
+    left: usize,
+    path: usize,
+    made: usize,
+    out: &mut [u8],
+    at: usize,
+) -> Collected
+    requires { ⌜ ReadyPaths (now s) (now words) n owner left path made at ⌝ }
+    ensures { λ r. ⌜ Fills at made r ⌝ }
+    ensures { λ r. ⌜ ((l : Entries (now (s .entry)) Item.names left path) (before : List IrArgument) → length before ≡ made → Collects (now (s .entry)) (now (out .entry)) at before (now (words .exit)) (now (out .exit)) r (collect-paths (nameAt (now (s .entry)) owner) (textsOf (l .got .0)) before (entriesOf (now (s .entry)) (now (words .entry)) n))) ⌝ }
+{
+    if left == 0 {
+        return Collected {
+            at,
+            count: n,
+            made,
+            no: 0,
+        };
+    }
+    let r = put_argument(s, words, n, owner, path, made, out, at);
+    if r.no != 0 {
+        return r;
+    }
+    let next = path + 2 + wire::read2(s, path);
+    let count = r.count;
+    let sum = r.made;
+    let to = r.at;
+    put_arguments(s, words, count, owner, left - 1, next, sum, out, to)
+}
+
+// The arguments of owners: `left` of them are left, from `owner` on.
+fn put_owners(
+    s: &[u8],
+    words: &mut [u64],
+    n: usize,
+    left: usize,
+    owner: usize,
+    made: usize,
+    out: &mut [u8],
+    at: usize,
+) -> Collected
+    requires { ⌜ ReadyOwners (now s) (now words) n left owner made at ⌝ }
+    ensures { λ r. ⌜ Fills at made r ⌝ }
+    ensures { λ r. ⌜ ((l : Listed (now (s .entry)) 37 37 left owner) (before : List IrArgument) → length before ≡ made → Collects (now (s .entry)) (now (out .entry)) at before (now (words .exit)) (now (out .exit)) r (collect-callee-arguments (entries ownerOf (l .got .0)) before (entriesOf (now (s .entry)) (now (words .entry)) n))) ⌝ }
+{
+    if left == 0 {
+        return Collected {
+            at,
+            count: n,
+            made,
+            no: 0,
+        };
+    }
+    let q = resolved_parts::owner_paths(s, owner);
+    let few = wire::read2(s, q);
+    let r = put_arguments(s, words, n, owner + 6, few, q + 2, made, out, at);
+    if r.no != 0 {
+        return r;
+    }
+    let next = owner + 4 + wire::read4(s, owner);
+    let count = r.count;
+    let sum = r.made;
+    let to = r.at;
+    put_owners(s, words, count, left - 1, next, sum, out, to)
+}
+
+// A call of the type at `callee`, which has this name.
+fn put_call(
+    s: &[u8],
+    words: &mut [u64],
+    n: usize,
+    callee: usize,
+    name: &[u8],
+    alignment: u64,
+    out: &mut [u8],
+    at: usize,
+) -> Built
+    requires { ⌜ ReadyCall (now s) (now words) n callee (now name) at ⌝ }
+    ensures { λ r. ⌜ Within at (2 ^ 19) r ⌝ }
+    ensures { λ r. ⌜ ((a : Accepted (now (s .entry)) 1 7 callee) → Builds (now (s .entry)) (now (out .entry)) at (now (words .exit)) (now (out .exit)) r (callOf (typeOf (tree a)) (now (name .entry)) alignment (entriesOf (now (s .entry)) (now (words .entry)) n))) ⌝ }
+{
+    let references = resolved_parts::type_head(s, callee).references;
+    let few = count_paths(s, references);
+    let left = wire::read2(s, references + 6);
+    let p = builder_nodes::open_node(out, at, 133, alignment);
+    let u = wire::put_name(out, p, name);
+    let v = wire::put_le(out, u, 2, few as u64);
+    let r = put_owners(s, words, n, left, references + 6 + 2, 0, out, v);
+    if r.no != 0 {
+        return Built {
+            at,
+            count: n,
+            no: r.no,
+        };
+    }
+    let end = r.at;
+    wire::close_block(out, at, end);
+    Built {
+        at: end,
+        count: r.count,
+        no: 0,
+    }
+}
+
+// A call of the target, with an argument for each path of its references.
+pub fn build_typeref_node(
+    s: &[u8],
+    words: &mut [u64],
+    n: usize,
+    kind: usize,
+    out: &mut [u8],
+    at: usize,
+) -> Built
+    requires { ⌜ Ready (now s) (now words) n 7 kind at ⌝ }
+    ensures { λ r. ⌜ Within at (2 ^ 19) r ⌝ }
+    ensures { λ r. ⌜ ((t : Tree) (a : Accepted (now (s .entry)) 1 7 kind) (target : Name) → readSet (now (s .entry)) ≡ done t → kindOf (typeOf (tree a)) ≡ ResolvedTypeKind.TypeRef target → Builds (now (s .entry)) (now (out .entry)) at (now (words .exit)) (now (out .exit)) r (build-typeref-node (typesOf t) (head (typeOf (tree a))) target (entriesOf (now (s .entry)) (now (words .entry)) n))) ⌝ }
+{
+    let target = resolved_parts::target(s, kind);
+    let name = resolved_parts::name_at(s, target);
+    let alignment = resolved_parts::type_head(s, kind).alignment;
+    match lookup::get_type_info(s, name) {
+        lookup::Found::At(callee) => put_call(s, words, n, callee, name, alignment, out, at),
+        lookup::Found::Missing => Built {
+            at,
+            count: n,
+            no: 15,
+        },
+    }
+}

@@ -1,0 +1,412 @@
+-- What building an expression rests on: the definition step by step, what a builder's answer tells, and what the code leaves,
+-- place by place. Assumes nothing.
+use mathlib.Core.Path.{_≡_, refl, sym, _∙_, ap, subst}
+use mathlib.Core.Bool.{Bool, true, false, cond}
+use mathlib.Core.List.{List}
+use mathlib.Core.Option.{Option, some, none}
+use Prim.Native.Nat.{ℕ, _+_, _-_, _*_, _^_, _≤_, _<_}
+use native.Mathlib.Omega.{arith}
+use lib.Dec.{leb, eqb}
+use lib.ListN.{length, getD, take, drop, length-take}
+use lib.Seq.{take-at}
+use borrow.Author.Tests.{eqb-true, eqb-false, leb-true, leb-false, le-leb, lt-leb, lt-ltb, le-ltb}
+use Rattle.errors.specs.Refusal.{Refusal, Outcome, done, refused, plain, UnsupportedExpression, MissingParameter}
+use Rattle.blocks.specs.Bytes.{bytes, le2, le4, le8}
+use Rattle.blocks.specs.Name.{Name, same}
+use Rattle.blocks.specs.Tree.{Tree, nil, cons}
+use Rattle.blocks.specs.Write.{write}
+use Rattle.blocks.proofs.Name.{same-eq}
+use Rattle.accepted.specs.Accepted.{Accepted, tree}
+use Rattle.accepted.proofs.Laws.{opened, each}
+use Rattle.expr.specs.Expr.{ExprKind, LiteralExpr, literals, literal-to-u64, unlessNegative, exprOf}
+use Rattle.expr_parts.proofs.Laws.{literal-at, field-ref-at, sizeof-at, alignof-at, unary-at, binary-at, compare-at}
+use Rattle.ir.specs.Ir.{BinaryOp, IrNode, aligned, default-metadata, default-alignment, unplaced}
+use Rattle.ir.specs.Layout.{operations, opKind, nodeBlock, nodeTree}
+use Rattle.builder.specs.Names.{join, apply-path-prefix}
+use Rattle.builder.specs.Registry.{Registry, _>>=_, give, refuse, require, need, short, lookup-name}
+use Rattle.builder.specs.Nodes.{operationOf, buffer-size, build-path, build-expr-ir}
+use Rattle.builder.proofs.Steps.{step-done, step-refused, require-yes, require-no, need-some, need-none, reads-then}
+use Rattle.wire.specs.Poke.{Wrote}
+use Rattle.wire.proofs.Laws.{poke-length, poke-whole, parts, no-parts}
+use Rattle.resolved_parts.specs.Types.{textsOf}
+use Rattle.builder_registry.specs.Words.{Standing, Looked, entriesOf, entryName}
+use Rattle.builder_registry.specs.declared.Found.{Found}
+use Rattle.builder_registry.specs.declared.Found.the-variants.{At, Missing}
+use Rattle.builder_registry.proofs.Laws.{standing, long-lookup}
+use Rattle.builder_paths.specs.Joined.{prefixOf, pathOf}
+use Rattle.builder_nodes.specs.declared.Built.{Built}
+use Rattle.builder_nodes.specs.Built.{Builds, Within, nodeStart}
+use Rattle.builder_nodes.proofs.Laws.{node-closed}
+use Rattle.builder_expressions.specs.Ready.{Ready}
+use Rattle.builder_expressions.specs.Operation.{Operation}
+
+-- ---- accepted expressions
+
+-- a block's header lies inside the bytes
+pub header-inside : {s : List ℕ} {lo hi at : ℕ} → Accepted s lo hi at → at + 6 ≤ length s
+header-inside a = let o = opened a refl refl in omega (arith, o .long, o .high, a .fits)
+
+-- ---- what a builder's answer tells
+
+module _ {s xs us ys : List ℕ} {at : ℕ} {r : Built} where
+  pub built : {x : Outcome (IrNode × Registry)} → r .no ≡ 0 → Builds s xs at us ys r x →
+      (y : IrNode × Registry) × (x ≡ done y) × (entriesOf s us (r .count) ≡ y .1) × Wrote xs at (write (nodeTree (y .0))) ys (r .at)
+  built z (Builds.made y e g w) = (y, refl, g, w)
+  built z (Builds.not k e l) = absurd (let z : ⊥ = omega arith in z)
+
+  pub not-built : {x : Outcome (IrNode × Registry)} → (r .no ≡ 0 → ⊥) → Builds s xs at us ys r x → (x ≡ refused (plain (r .no))) × (0 < r .no)
+  not-built z (Builds.made y e g w) = absurd (z e)
+  not-built z (Builds.not k e l) = (ap (λ (q : ℕ). refused (plain q)) (sym e), omega arith)
+
+-- a refusal moves no cursor
+pub stays : {at room n k : ℕ} → n ≤ 512 → Within at room (record { at = at; count = n; no = k })
+stays h = record { low = omega arith; high = omega arith; count = h }
+
+-- less room is enough
+pub wider : {at k room : ℕ} {r : Built} → k ≤ room → Within at k r → Within at room r
+wider h w = record { low = w .low; high = omega (arith, w .high); count = w .count }
+
+-- ---- literals
+
+abbrev Unsigned : ℕ → Type 0
+Unsigned c = (v : ℕ) → literal-to-u64 (getD literals c LiteralExpr.U64 v) ≡ some v
+
+abbrev Signed : ℕ → Type 0
+Signed c = (v : ℕ) → literal-to-u64 (getD literals c LiteralExpr.U64 v) ≡ unlessNegative v
+
+unsigned : (c : ℕ) → c < 4 → Unsigned c
+unfolding literals
+unsigned c h = each Unsigned 4 0 ((λ v. refl), ((λ v. refl), ((λ v. refl), ((λ v. refl), tt)))) c (omega arith) (omega arith)
+
+signed : (c : ℕ) → 4 ≤ c → c ≤ 7 → Signed c
+unfolding literals
+signed c l h = each Signed 4 4 ((λ v. refl), ((λ v. refl), ((λ v. refl), ((λ v. refl), tt)))) c l (omega arith)
+
+literal-one : {l m : LiteralExpr} → ExprKind.Literal l ≡ ExprKind.Literal m → l ≡ m
+literal-one e = cc
+
+negative-test : (v : ℕ) → unlessNegative v ≡ cond (leb (2 ^ 63) v) none (some v)
+negative-test v = go (leb (2 ^ 63) v) refl
+  where
+    go : (t : Bool) → leb (2 ^ 63) v ≡ t → unlessNegative v ≡ cond t none (some v)
+    go true e = rw (le-ltb v (2 ^ 63) (leb-true _ _ e))
+    go false e = rw (lt-ltb v (2 ^ 63) (leb-false _ _ e))
+
+-- what is_negative says
+abbrev pub Negative : List ℕ → ℕ → Bool → Type 0
+Negative s expr r = (a : Accepted s 64 91 expr) (l : LiteralExpr) → exprOf (tree a) ≡ ExprKind.Literal l → literal-to-u64 l ≡ cond r none (some (le8 s (expr + 7)))
+
+module _ {s : List ℕ} {expr : ℕ} (k : le2 s (expr + 4) ≡ 64) where
+  pub is-unsigned : getD s (expr + 6) 0 < 4 → Negative s expr false
+  is-unsigned h a l e =
+      ap literal-to-u64 (literal-one (sym e ∙ literal-at a k .is)) ∙ unsigned (getD s (expr + 6) 0) h (le8 s (expr + 7))
+
+  pub is-signed : {v : ℕ} → 4 ≤ getD s (expr + 6) 0 → v ≡ le8 s (expr + 7) → Negative s expr (leb (2 ^ 63) v)
+  is-signed {v} h q a l e =
+      ap literal-to-u64 (literal-one (sym e ∙ literal-at a k .is)) ∙ signed (getD s (expr + 6) 0) h (literal-at a k .small) (le8 s (expr + 7)) ∙
+      subst (λ (w : ℕ). unlessNegative w ≡ cond (leb (2 ^ 63) v) none (some w)) q (negative-test v)
+
+module _ (owner prefix : Name) (l : LiteralExpr) (g : Registry) where
+  literal-gives : {v : ℕ} → literal-to-u64 l ≡ some v → build-expr-ir owner prefix (ExprKind.Literal l) g ≡ done (IrNode.Const unplaced default-metadata v, g)
+  unfolding build-expr-ir give
+  literal-gives e = need-some UnsupportedExpression _ g e
+
+  literal-refused : literal-to-u64 l ≡ none → build-expr-ir owner prefix (ExprKind.Literal l) g ≡ refused (plain 14)
+  unfolding build-expr-ir
+  literal-refused e = need-none UnsupportedExpression _ g e
+
+-- what building an expression leaves
+abbrev pub Leaves : (s xs : List ℕ) (at : ℕ) (ws ys : List ℕ) (r : Built) (owner : Name) (depth expr n : ℕ) → Type 0
+Leaves s xs at ws ys r owner depth expr n = (a : Accepted s 64 91 expr) → Builds s xs at ws ys r (build-expr-ir owner (prefixOf depth) (exprOf (tree a)) (entriesOf s ws n))
+
+-- the same, told by what the definition gives
+module _ {s xs ws ys : List ℕ} {at : ℕ} {r : Built} where
+  pub makes : {x : Outcome (IrNode × Registry)} {n : ℕ} (y : IrNode) → r .no ≡ 0 → r .count ≡ n → Wrote xs at (write (nodeTree y)) ys (r .at) → x ≡ done (y, entriesOf s ws n) → Builds s xs at ws ys r x
+  makes {n} y z c w e = rw e (Builds.made (y, entriesOf s ws n) z (ap (entriesOf s ws) c) w)
+
+  pub refuses : {x : Outcome (IrNode × Registry)} (k : ℕ) → r .no ≡ k → 0 < k → x ≡ refused (plain k) → Builds s xs at ws ys r x
+  refuses k z l e = rw e (Builds.not k z l)
+
+module _ {s xs ws ys : List ℕ} {at expr n : ℕ} (owner : Name) (depth : ℕ) (k : le2 s (expr + 4) ≡ 64) {b : Bool} (neg : Negative s expr b) where
+  pub literal-stops : {u : ℕ} → b ≡ true → Leaves s xs at ws ys (record { at = u; count = n; no = 14 }) owner depth expr n
+  literal-stops t a =
+      let p = literal-at a k in
+      refuses 14 refl (omega arith) (rw (p .is) (literal-refused owner (prefixOf depth) _ _ (neg a _ (p .is) ∙ rw t)))
+
+  pub literal-made : {v u d : ℕ} → b ≡ false → v ≡ le8 s (expr + 7) → d ≡ default-alignment → Wrote xs at (write (nodeTree (IrNode.Const unplaced (aligned d) v))) ys u → Leaves s xs at ws ys (record { at = u; count = n; no = 0 }) owner depth expr n
+  literal-made t e f w a =
+      let p = literal-at a k in
+      makes _ refl refl (rw (e, f) at w) (rw (p .is) (literal-gives owner (prefixOf depth) _ _ (neg a _ (p .is) ∙ rw t)))
+
+-- ---- paths
+
+module _ (owner path : Name) (g : Registry) where
+  path-steps : build-path owner path g ≡ (need (lookup-name owner path g) MissingParameter >>= (λ p. require (short path) 17 >>= (λ _. give (IrNode.FieldRef unplaced default-metadata path (some p))))) g
+  unfolding build-path
+  path-steps = reads-then (lookup-name owner path) _ g
+
+  path-gives : {p : Name} → lookup-name owner path g ≡ some p → length path ≤ 255 → build-path owner path g ≡ done (IrNode.FieldRef unplaced default-metadata path (some p), g)
+  unfolding give
+  path-gives e h = path-steps ∙ need-some MissingParameter _ g e ∙ require-yes 17 _ g (le-leb (length path) 255 h)
+
+  path-long : {p : Name} → lookup-name owner path g ≡ some p → 255 < length path → build-path owner path g ≡ refused (plain 17)
+  path-long e h = path-steps ∙ need-some MissingParameter _ g e ∙ require-no 17 _ g (lt-leb (length path) 255 h)
+
+  path-missing : lookup-name owner path g ≡ none → build-path owner path g ≡ refused (plain 12)
+  path-missing e = path-steps ∙ need-none MissingParameter _ g e
+
+module _ {s ws : List ℕ} {n : ℕ} {r : Found} where
+  pub looked-at : {o : Option Name} {i : ℕ} → r ≡ At i → Looked s ws n r o → (i < n) × (o ≡ some (entryName s (getD ws i 0)))
+  looked-at {o} {i} e l = go (subst (λ (f : Found). Looked s ws n f o) e l) refl
+    where
+      go : {f : Found} {o : Option Name} → Looked s ws n f o → f ≡ At i → (i < n) × (o ≡ some (entryName s (getD ws i 0)))
+      go (Looked.at {i = j} h) q = let z : j ≡ i = cc in rw (← z) (h, refl)
+      go Looked.missing q = absurd (let z : _≡_ {A = ℕ} 0 1 = cc in omega arith)
+
+  pub looked-missing : {o : Option Name} → r ≡ Missing → Looked s ws n r o → o ≡ none
+  looked-missing {o} e l = go (subst (λ (f : Found). Looked s ws n f o) e l) refl
+    where
+      go : {f : Found} {o : Option Name} → Looked s ws n f o → f ≡ Missing → o ≡ none
+      go (Looked.at h) q = absurd (let z : _≡_ {A = ℕ} 0 1 = cc in omega arith)
+      go Looked.missing q = refl
+
+module _ {s xs ws ys : List ℕ} {at n : ℕ} (owner path : Name) {r : Found} (l : Looked s ws n r (lookup-name owner path (entriesOf s ws n))) where
+  pub ref-made : {i u : ℕ} → r ≡ At i → length path ≤ 255 → Wrote xs at (write (nodeTree (IrNode.FieldRef unplaced default-metadata path (some (entryName s (getD ws i 0)))))) ys u →
+      Builds s xs at ws ys (record { at = u; count = n; no = 0 }) (build-path owner path (entriesOf s ws n))
+  ref-made e h w = makes _ refl refl w (path-gives owner path _ (looked-at e l .1) h)
+
+  pub ref-long : {i u : ℕ} → r ≡ At i → 255 < length path → Builds s xs at ws ys (record { at = u; count = n; no = 17 }) (build-path owner path (entriesOf s ws n))
+  ref-long e h = refuses 17 refl (omega arith) (path-long owner path _ (looked-at e l .1) h)
+
+  pub ref-missing : {u : ℕ} → r ≡ Missing → Builds s xs at ws ys (record { at = u; count = n; no = 12 }) (build-path owner path (entriesOf s ws n))
+  ref-missing e = refuses 12 refl (omega arith) (path-missing owner path _ (looked-missing e l))
+
+-- ---- field references
+
+-- what a field reference becomes
+module _ (owner prefix : Name) (path : List Name) (g : Registry) where
+  buffer-gives : same (join path) buffer-size ≡ true → build-expr-ir owner prefix (ExprKind.FieldRef path) g ≡ done (IrNode.FieldRef unplaced default-metadata buffer-size none, g)
+  unfolding build-expr-ir give
+  buffer-gives e = rw (e, same-eq (join path) buffer-size e)
+
+  path-is : same (join path) buffer-size ≡ false → build-expr-ir owner prefix (ExprKind.FieldRef path) g ≡ build-path owner (apply-path-prefix prefix (join path)) g
+  unfolding build-expr-ir
+  path-is e = rw e
+
+-- what is_buffer_size, joined_length and put_joined say
+abbrev pub BufferSize : List ℕ → ℕ → Bool → Type 0
+BufferSize s expr r = (a : Accepted s 64 91 expr) (path : List Name) → exprOf (tree a) ≡ ExprKind.FieldRef path → r ≡ same (join path) buffer-size
+
+abbrev pub Long : List ℕ → ℕ → ℕ → ℕ → Type 0
+Long s expr depth r = (a : Accepted s 64 91 expr) (path : List Name) → exprOf (tree a) ≡ ExprKind.FieldRef path → r ≡ length (pathOf depth path)
+
+abbrev pub Put : List ℕ → ℕ → ℕ → (xs ys : List ℕ) → ℕ → Type 0
+Put s expr depth xs ys r = (a : Accepted s 64 91 expr) (path : List Name) → exprOf (tree a) ≡ ExprKind.FieldRef path → Wrote xs 0 (pathOf depth path) ys r
+
+-- the part of the buffer that was written
+pub taken : {xs ys bs : List ℕ} {e : ℕ} → length bs ≤ length xs → Wrote xs 0 bs ys e → take e ys ≡ bs
+taken {xs} {ys} {bs} {e} h w =
+    let z : e ≡ length bs = omega (arith, w .end) in
+    rw (w .left, poke-whole xs bs h, z) (take-at bs (drop (length bs) xs) (length bs) refl)
+
+pub taken-length : (ys : List ℕ) (e : ℕ) → e ≤ length ys → e ≡ length (take e ys)
+taken-length ys e h = simp length-take (omega arith)
+
+module _ {s : List ℕ} {expr : ℕ} (k : le2 s (expr + 4) ≡ 65) where
+  -- the path fits where it was measured
+  pub written : (depth : ℕ) {l e : ℕ} {xs ys : List ℕ} → Accepted s 64 91 expr → Long s expr depth l → l ≤ 511 → length xs ≡ 512 → Put s expr depth xs ys e → e ≤ length ys
+  written depth {l} {e} {xs} {ys} a g h x p =
+      let f = field-ref-at a k in
+      let w = p a _ (f .is) in
+      omega (arith, g a _ (f .is), w .end, ap length (w .left), poke-length xs 0 (pathOf depth (textsOf (f .list .got .0))))
+
+  module _ {xs ws ys : List ℕ} {at : ℕ} (owner : Name) (depth n : ℕ) {b : Bool} (is : BufferSize s expr b) where
+    pub buffer-made : {u : ℕ} → b ≡ true → Wrote xs at (write (nodeTree (IrNode.FieldRef unplaced default-metadata buffer-size none))) ys u → Leaves s xs at ws ys (record { at = u; count = n; no = 0 }) owner depth expr n
+    buffer-made t w a =
+        let f = field-ref-at a k in
+        makes _ refl refl w (rw (f .is) (buffer-gives owner (prefixOf depth) _ _ (sym (is a _ (f .is)) ∙ t)))
+
+    -- longer than any path of the registry
+    pub path-stops : {l u : ℕ} → Standing s ws n → length owner ≤ 255 → b ≡ false → Long s expr depth l → 511 < l → Leaves s xs at ws ys (record { at = u; count = n; no = 12 }) owner depth expr n
+    path-stops {l} st o t g h a =
+        let f = field-ref-at a k in
+        let m : 511 < length (pathOf depth (textsOf (f .list .got .0))) = rw (g a _ (f .is)) at h in
+        refuses 12 refl (omega arith)
+        (rw (f .is) (path-is owner (prefixOf depth) _ _ (sym (is a _ (f .is)) ∙ t) ∙ path-missing owner _ _ (long-lookup st owner _ o m)))
+
+    pub path-made : {l e : ℕ} {x₁ x₂ : List ℕ} {r : Built} → b ≡ false → Long s expr depth l → l ≤ 511 → length x₁ ≡ 512 → Put s expr depth x₁ x₂ e →
+        Builds s xs at ws ys r (build-path owner (take e x₂) (entriesOf s ws n)) → Leaves s xs at ws ys r owner depth expr n
+    path-made {l} {e} {x₁} {x₂} t g h x p m a =
+        let f = field-ref-at a k in
+        let i : length (pathOf depth (textsOf (f .list .got .0))) ≤ length x₁ = omega (arith, g a _ (f .is)) in
+        rw (f .is, path-is owner (prefixOf depth) _ _ (sym (is a _ (f .is)) ∙ t), ← taken i (p a _ (f .is))) m
+
+-- ---- operations
+
+abbrev Low : ℕ → Type 0
+Low k = (operationOf k ≡ some (getD operations (k - 68) BinaryOp.AddChecked)) × (opKind (getD operations (k - 68) BinaryOp.AddChecked) ≡ k + 66)
+
+abbrev High : ℕ → Type 0
+High k = (operationOf k ≡ some (getD operations (5 + (k - 74)) BinaryOp.AddChecked)) × (opKind (getD operations (5 + (k - 74)) BinaryOp.AddChecked) ≡ k + 65)
+
+pub low-operation : {k : ℕ} → 68 ≤ k → k < 73 → Operation k (k + 66)
+unfolding operationOf operations
+low-operation {k} l h =
+    let o : Low k = each Low 5 68 ((refl, refl), ((refl, refl), ((refl, refl), ((refl, refl), ((refl, refl), tt))))) k l (omega arith) in
+    record { low = l; high = omega arith; op = _; is = o .0; node = o .1; least = omega arith; most = omega arith }
+
+pub high-operation : {k : ℕ} → 74 ≤ k → k < 79 → Operation k (k + 65)
+unfolding operationOf operations
+high-operation {k} l h =
+    let o : High k = each High 5 74 ((refl, refl), ((refl, refl), ((refl, refl), ((refl, refl), ((refl, refl), tt))))) k l (omega arith) in
+    record { low = omega arith; high = omega arith; op = _; is = o .0; node = o .1; least = omega arith; most = omega arith }
+
+-- said of the kind as it is read
+pub of-kind : {k j m : ℕ} → k ≡ j → Operation k m → Operation j m
+of-kind {m} e o = subst (λ (i : ℕ). Operation i m) e o
+
+-- the other kinds have none
+none-low : {k : ℕ} → k < 68 → operationOf k ≡ none
+unfolding operationOf
+none-low {k} h = let i : k < 74 = omega arith in rw (lt-leb 68 k h, lt-leb 74 k i)
+
+none-between : {k : ℕ} → 73 ≤ k → k < 74 → operationOf k ≡ none
+unfolding operationOf
+none-between {k} l h = let i : 68 ≤ k = omega arith in let j : 72 < k = omega arith in rw (le-leb 68 k i, lt-leb k 72 j, lt-leb 74 k h)
+
+none-high : {k : ℕ} → 79 ≤ k → operationOf k ≡ none
+unfolding operationOf
+none-high {k} l = let i : 68 ≤ k = omega arith in let j : 72 < k = omega arith in let m : 74 ≤ k = omega arith in let p : 78 < k = omega arith in rw (le-leb 68 k i, lt-leb k 72 j, le-leb 74 k m, lt-leb k 78 p)
+
+module _ (owner prefix : Name) (g : Registry) where
+  binary-refused : (k : ℕ) (l r : ExprKind) → operationOf k ≡ none → build-expr-ir owner prefix (ExprKind.Binary k l r) g ≡ refused (plain 14)
+  unfolding build-expr-ir
+  binary-refused k l r e = need-none UnsupportedExpression _ g e
+
+  sizeof-refused : (n : Name) → build-expr-ir owner prefix (ExprKind.Sizeof n) g ≡ refused (plain 14)
+  unfolding build-expr-ir refuse
+  sizeof-refused n = refl
+
+  alignof-refused : (n : Name) → build-expr-ir owner prefix (ExprKind.Alignof n) g ≡ refused (plain 14)
+  unfolding build-expr-ir refuse
+  alignof-refused n = refl
+
+  unary-refused : (k : ℕ) (x : ExprKind) → build-expr-ir owner prefix (ExprKind.Unary k x) g ≡ refused (plain 14)
+  unfolding build-expr-ir refuse
+  unary-refused k x = refl
+
+  abbrev Refused : ExprKind → Type 0
+  Refused e = build-expr-ir owner prefix e g ≡ refused (plain 14)
+
+  -- a kind that becomes no node
+  other-refused : {s : List ℕ} {at : ℕ} (a : Accepted s 64 91 at) → (le2 s (at + 4) ≡ 64 → ⊥) → (le2 s (at + 4) ≡ 65 → ⊥) → operationOf (le2 s (at + 4)) ≡ none → Refused (exprOf (tree a))
+  other-refused {s} {at} a x y e = low (eqb (le2 s (at + 4)) 66) refl
+    where
+      high : (t : Bool) → leb (le2 s (at + 4)) 82 ≡ t → 79 ≤ le2 s (at + 4) → Refused (exprOf (tree a))
+      high true q h = let b = unary-at a h (leb-true _ _ q) in rw (b .is) (unary-refused _ _)
+      high false q h = let l : 82 < le2 s (at + 4) = leb-false _ _ q in let b = compare-at a (omega arith) in rw (b .is) (binary-refused _ _ _ e)
+
+      middle : (t : Bool) → leb 79 (le2 s (at + 4)) ≡ t → 68 ≤ le2 s (at + 4) → Refused (exprOf (tree a))
+      middle true q h = high (leb (le2 s (at + 4)) 82) refl (leb-true _ _ q)
+      middle false q h = let l : le2 s (at + 4) < 79 = leb-false _ _ q in let b = binary-at a h (omega arith) in rw (b .is) (binary-refused _ _ _ e)
+
+      next : (t : Bool) → eqb (le2 s (at + 4)) 67 ≡ t → (le2 s (at + 4) ≡ 66 → ⊥) → Refused (exprOf (tree a))
+      next true q h = rw (alignof-at a (eqb-true _ _ q)) (alignof-refused _)
+      next false q h = let z : le2 s (at + 4) ≡ 67 → ⊥ = eqb-false _ _ q in let o = opened a refl refl in middle (leb 79 (le2 s (at + 4))) refl (omega (arith, o .least))
+
+      low : (t : Bool) → eqb (le2 s (at + 4)) 66 ≡ t → Refused (exprOf (tree a))
+      low true q = rw (sizeof-at a (eqb-true _ _ q)) (sizeof-refused _)
+      low false q = next (eqb (le2 s (at + 4)) 67) refl (eqb-false _ _ q)
+
+module _ {s xs ws ys : List ℕ} {at expr : ℕ} (owner : Name) (depth n : ℕ) {k : ℕ} (e : k ≡ le2 s (expr + 4)) (x : k ≡ 64 → ⊥) (y : k ≡ 65 → ⊥) where
+  other-stops : {u : ℕ} → operationOf k ≡ none → Leaves s xs at ws ys (record { at = u; count = n; no = 14 }) owner depth expr n
+  other-stops z a = refuses 14 refl (omega arith) (other-refused owner (prefixOf depth) _ a (rw e at x) (rw e at y) (rw e at z))
+
+  pub low-stops : {u : ℕ} → k < 68 → Leaves s xs at ws ys (record { at = u; count = n; no = 14 }) owner depth expr n
+  low-stops h = other-stops (none-low h)
+
+  pub between-stops : {u : ℕ} → 73 ≤ k → k < 74 → Leaves s xs at ws ys (record { at = u; count = n; no = 14 }) owner depth expr n
+  between-stops l h = other-stops (none-between l h)
+
+  pub high-stops : {u : ℕ} → 79 ≤ k → Leaves s xs at ws ys (record { at = u; count = n; no = 14 }) owner depth expr n
+  high-stops h = other-stops (none-high h)
+
+-- ---- two operands
+
+module _ (owner prefix : Name) (k : ℕ) (l r : ExprKind) (g : Registry) {op : BinaryOp} (e : operationOf k ≡ some op) where
+  first-refused : {q : Refusal} → build-expr-ir owner prefix l g ≡ refused q → build-expr-ir owner prefix (ExprKind.Binary k l r) g ≡ refused q
+  unfolding build-expr-ir
+  first-refused h = need-some UnsupportedExpression _ g e ∙ step-refused (build-expr-ir owner prefix l) _ g h
+
+  module _ {x : IrNode × Registry} (h : build-expr-ir owner prefix l g ≡ done x) where
+    second-refused : {q : Refusal} → build-expr-ir owner prefix r (x .1) ≡ refused q → build-expr-ir owner prefix (ExprKind.Binary k l r) g ≡ refused q
+    unfolding build-expr-ir
+    second-refused i = need-some UnsupportedExpression _ g e ∙ step-done (build-expr-ir owner prefix l) _ g h ∙ step-refused (build-expr-ir owner prefix r) _ (x .1) i
+
+    both-give : {y : IrNode × Registry} → build-expr-ir owner prefix r (x .1) ≡ done y → build-expr-ir owner prefix (ExprKind.Binary k l r) g ≡ done (IrNode.Binary unplaced default-metadata op (x .0) (y .0), y .1)
+    unfolding build-expr-ir give
+    both-give i = need-some UnsupportedExpression _ g e ∙ step-done (build-expr-ir owner prefix l) _ g h ∙ step-done (build-expr-ir owner prefix r) _ (x .1) i
+
+-- the offset of the second operand, as the code sums it
+pub summed : (x : ℕ) {y z : ℕ} → y ≡ z → x + y ≡ x + z
+summed x e = ap (λ (w : ℕ). x + w) e
+
+-- what the operands stand on, and that they are shorter
+module _ {s ws : List ℕ} {n depth expr at kind p : ℕ} {owner : Name} (r : Ready s ws n owner depth expr at) (o : Operation (le2 s (expr + 4)) kind) (e : p ≡ at + 15) where
+  pub left-ready : (le4 s (expr + 6) < le4 s expr) × Ready s ws n owner depth (expr + 6) p
+  left-ready =
+      let b = binary-at (r .expression) (o .low) (o .high) in
+      (omega (arith, b .room), record { standing = r .standing; owned = r .owned; deep = r .deep; expression = b .left; cursor = omega (arith, r .cursor, b .room) })
+
+  pub second-inside : expr + 6 + 4 ≤ length s
+  second-inside = omega (arith, header-inside (binary-at (r .expression) (o .low) (o .high) .left))
+
+  module _ {q : ℕ} {l : Built} (w : Within p (1024 * (4 + le4 s (expr + 6))) l) (f : q ≡ expr + 10 + le4 s (expr + 6)) where
+    right-at : Accepted s 64 91 q × (10 + le4 s (expr + 6) + le4 s q ≤ le4 s expr)
+    right-at =
+        let b = binary-at (r .expression) (o .low) (o .high) in
+        rw f (b .right, b .room)
+
+    pub right-ready : (le4 s q < le4 s expr) × Ready s ws (l .count) owner depth q (l .at)
+    right-ready =
+        let b = right-at in
+        (omega (arith, b .1), record { standing = standing (r .standing) refl (w .count); owned = r .owned; deep = r .deep; expression = b .0; cursor = omega (arith, r .cursor, b .1, w .high) })
+
+    pub both-within : {m : Built} → Within (l .at) (1024 * (4 + le4 s q)) m → (at + 4 ≤ m .at) × (m .at < 2 ^ 61) × Within at (1024 * (4 + le4 s expr)) (record { at = m .at; count = m .count; no = 0 })
+    both-within {m} v =
+        let b = right-at in
+        (omega (arith, w .low, v .low), omega (arith, r .cursor, b .1, w .high, v .high), record { low = omega (arith, w .low, v .low); high = omega (arith, b .1, w .high, v .high); count = v .count })
+
+-- the bytes of a node of two operands
+pub two-written : {xs x₁ x₂ x₃ ys : List ℕ} {at p q u v : ℕ} (k a : ℕ) (m n : Tree) → Wrote xs at (nodeStart k a) x₁ p → Wrote x₁ p (write m) x₂ q → Wrote x₂ q (write n) x₃ u → Wrote x₃ at (bytes 4 (u - at - 4)) ys v →
+    Wrote xs at (write (nodeBlock k (aligned a) (cons m (cons n nil)))) ys u
+two-written {x₃} {u} k a m n w f g c = node-closed k a (cons m (cons n nil)) w (parts m (cons n nil) f (parts n nil g (no-parts x₃ u))) c
+
+module _ {s ws : List ℕ} {kind : ℕ} (owner : Name) (depth n expr : ℕ) (o : Operation (le2 s (expr + 4)) kind) {x₁ x₂ : List ℕ} {p : ℕ} {l : Built} (f : Leaves s x₁ p ws x₂ l owner depth (expr + 6) n) where
+  pub left-stops : {xs ys : List ℕ} {at u m : ℕ} → (l .no ≡ 0 → ⊥) → Leaves s xs at ws ys (record { at = u; count = m; no = l .no }) owner depth expr n
+  left-stops z a =
+      let b = binary-at a (o .low) (o .high) in
+      let i = not-built z (f (b .left)) in
+      refuses (l .no) refl (i .1) (rw (b .is) (first-refused owner (prefixOf depth) _ _ _ _ (o .is) (i .0)))
+
+  module _ {q : ℕ} (z : l .no ≡ 0) (e : q ≡ expr + 10 + le4 s (expr + 6)) {x₃ : List ℕ} {r : Built} (g : Leaves s x₂ (l .at) ws x₃ r owner depth q (l .count)) where
+    right-leaves : Leaves s x₂ (l .at) ws x₃ r owner depth (expr + 10 + le4 s (expr + 6)) (l .count)
+    right-leaves = subst (λ (j : ℕ). Leaves s x₂ (l .at) ws x₃ r owner depth j (l .count)) e g
+
+    pub right-stops : {xs ys : List ℕ} {at u m : ℕ} → (r .no ≡ 0 → ⊥) → Leaves s xs at ws ys (record { at = u; count = m; no = r .no }) owner depth expr n
+    right-stops y a =
+        let b = binary-at a (o .low) (o .high) in
+        let i = built z (f (b .left)) in
+        let j = not-built y (right-leaves (b .right)) in
+        refuses (r .no) refl (j .1) (rw (b .is) (second-refused owner (prefixOf depth) _ _ _ _ (o .is) (i .1) (rw (← i .2) (j .0))))
+
+    pub both-made : {xs ys : List ℕ} {at d v : ℕ} → r .no ≡ 0 → d ≡ default-alignment → Wrote xs at (nodeStart kind d) x₁ p → Wrote x₃ at (bytes 4 (r .at - at - 4)) ys v →
+        Leaves s xs at ws ys (record { at = r .at; count = r .count; no = 0 }) owner depth expr n
+    unfolding nodeTree
+    both-made y t w c a =
+        let b = binary-at a (o .low) (o .high) in
+        let i = built z (f (b .left)) in
+        let j = built y (right-leaves (b .right)) in
+        let g : build-expr-ir owner (prefixOf depth) (exprOf (tree (b .right))) (i .0 .1) ≡ done (j .0) = rw (← i .2) (j .1) in
+        rw (b .is, both-give owner (prefixOf depth) _ _ _ _ (o .is) (i .1) g)
+        (Builds.made (IrNode.Binary unplaced default-metadata (o .op) (i .0 .0) (j .0 .0), j .0 .1) refl (j .2) (rw (o .node) (two-written _ _ _ _ (rw t at w) (i .3) (j .3) c)))

@@ -1,0 +1,145 @@
+-- The last `::` of a name, and the alias of a path. Assumes nothing.
+use Prim.Native.Nat.{ℕ, zero, suc, _+_, _-_, _≤_, _<_}
+use native.Mathlib.Omega.{arith}
+use native.Mathlib.Numerals.{add-one}
+use native.Mathlib.Nat.{add-zero, not-suc-le-zero}
+use mathlib.Core.Path.{_≡_, refl, sym, ap, ap₂, _∙_}
+use mathlib.Core.Bool.{Bool, true, false, cond, _||_}
+use mathlib.Core.List.{[], _∷_, _++_, append-nil}
+use mathlib.Core.Option.{Option, some, none}
+use lib.ListN.{length, take, drop, getD, length-drop}
+use lib.Seq.{drop-length, length-take-le, drop-cons, drop-drop, getD-drop}
+use Rattle.blocks.specs.Name.{Name, text, same}
+use Rattle.blocks.proofs.Name.{false-true}
+use Rattle.builder.specs.Names.{isEmpty, isSome, strip-prefix, rsplit-once, behind, aliasUnless, alternate-owner-aliases}
+use Rattle.builder_names.specs.Views.{place, Parts, first, aliasOf}
+use Rattle.builder_names.specs.declared.Split.{Split}
+use Rattle.builder_names.specs.declared.Split.the-variants.{At, Missing}
+use Rattle.builder_names.proofs.Strip.{none-some, prefix-is, prefix-some, rest-part, strip-none, strip-put}
+
+-- ---- the last `::`
+
+module _ (s : Name) (i : ℕ) where
+  pub colons-end : length s ≤ i + 1 → false ≡ isSome (strip-prefix (text "::") (drop i s))
+  colons-end h = strip-none (text "::") (drop i s) (λ r e. let z : ⊥ = omega (arith, ap length e, length-drop i s) in z)
+
+  pub colons-first : (getD s i 0 ≡ 0x3A → ⊥) → false ≡ isSome (strip-prefix (text "::") (drop i s))
+  colons-first k =
+      strip-none (text "::") (drop i s)
+      (λ r e. k (ap (λ (n : ℕ). getD s n 0) (sym (add-zero i)) ∙ (sym (getD-drop i s 0 0) ∙ ap (λ (x : Name). getD x 0 0) e)))
+
+  pub colons-second : (getD s (i + 1) 0 ≡ 0x3A → ⊥) → false ≡ isSome (strip-prefix (text "::") (drop i s))
+  colons-second k = strip-none (text "::") (drop i s) (λ r e. k (sym (getD-drop i s 1 0) ∙ ap (λ (x : Name). getD x 1 0) e))
+
+  pub colons-both : i + 1 < length s → getD s i 0 ≡ 0x3A → getD s (i + 1) 0 ≡ 0x3A → true ≡ isSome (strip-prefix (text "::") (drop i s))
+  colons-both h e f = sym (ap isSome (ap (strip-prefix (text "::")) q ∙ strip-put (text "::") (drop (suc (suc i)) s)))
+    where
+      g : getD s (suc i) 0 ≡ 0x3A
+      g = ap (λ (n : ℕ). getD s n 0) (sym (add-one i)) ∙ f
+
+      q : drop i s ≡ 0x3A ∷ 0x3A ∷ drop (suc (suc i)) s
+      q = drop-cons s i 0 (omega arith) ∙ ap₂ (λ (x : ℕ) (xs : Name). x ∷ xs) e (drop-cons s (suc i) 0 (omega arith) ∙ ap (λ (x : ℕ). x ∷ drop (suc (suc i)) s) g)
+
+pub ruleset colons = (colons-end, colons-first, colons-second, colons-both)
+
+-- what stands before a place goes to the first part
+split-before : (i : ℕ) (s a b : Name) → rsplit-once (drop i s) ≡ some (a, b) → rsplit-once s ≡ some (take i s ++ a, b)
+unfolding rsplit-once
+split-before zero s a b e = e
+split-before (suc i) [] a b e = none-some e
+split-before (suc i) (x ∷ xs) a b e = rw (split-before i xs a b e, rsplit-once)
+
+module _ (s : Name) where
+  split-step : (j : ℕ) → j < length s → rsplit-once (drop (suc j) s) ≡ none → rsplit-once (drop j s) ≡ behind (strip-prefix (text "::") (drop j s))
+  unfolding rsplit-once
+  split-step j h e = rw (drop-cons s j 0 h, e, rsplit-once)
+
+  split-is : (j : ℕ) → rsplit-once (drop j s) ≡ behind (strip-prefix (text "::") (drop j s)) → isSome (strip-prefix (text "::") (drop j s)) ≡ true → rsplit-once s ≡ some (take j s, drop (j + 2) s)
+  split-is j e h = split-before j s [] (drop 2 (drop j s)) (e ∙ ap behind (prefix-some (text "::") (drop j s) h)) ∙ rw (append-nil, drop-drop 2 j s)
+
+  split-long : (j : ℕ) → isSome (strip-prefix (text "::") (drop j s)) ≡ true → j + 2 ≤ length s
+  split-long j h = omega (arith, ap length (prefix-is (text "::") (drop j s) h), length-drop j s)
+
+  module _ (i : ℕ) (p : 0 < i) (l : i ≤ length s) (e : rsplit-once (drop i s) ≡ none) (b : Bool) (f : b ≡ isSome (strip-prefix (text "::") (drop (i - 1) s))) where
+    step : rsplit-once (drop (i - 1) s) ≡ behind (strip-prefix (text "::") (drop (i - 1) s))
+    step = let q : suc (i - 1) ≡ i = omega arith in split-step (i - 1) (omega arith) (rw q e)
+
+    pub split-more : b ≡ false → rsplit-once (drop (i - 1) s) ≡ none
+    split-more h = step ∙ go (strip-prefix (text "::") (drop (i - 1) s)) (sym f ∙ h)
+      where
+        go : (t : Option Name) → isSome t ≡ false → behind t ≡ none
+        go none g = refl
+        go (some r) g = false-true (sym g)
+
+    pub split-fits : b ≡ true → i - 1 + 2 ≤ length s
+    split-fits h = split-long (i - 1) (sym f ∙ h)
+
+    pub split-found : b ≡ true → rsplit-once s ≡ some (take (i - 1) s, drop (i - 1 + 2) s)
+    split-found h = split-is (i - 1) step (sym f ∙ h)
+
+    pub place-found : b ≡ true → At (i - 1) ≡ place (rsplit-once s)
+    place-found h = rw (split-found h, length-take-le (i - 1) s (omega arith))
+
+pub split-start : (s : Name) → rsplit-once (drop (length s) s) ≡ none
+unfolding rsplit-once
+split-start s = rw drop-length
+
+pub split-missing : (s : Name) (i : ℕ) → i ≤ 0 → rsplit-once (drop i s) ≡ none → rsplit-once s ≡ none
+split-missing s zero h e = e
+split-missing s (suc i) h e = absurd (not-suc-le-zero h)
+
+pub place-missing : (s : Name) (i : ℕ) → i ≤ 0 → rsplit-once (drop i s) ≡ none → Missing ≡ place (rsplit-once s)
+place-missing s i h e = rw (split-missing s i h e)
+
+pub ruleset splits = (split-more, split-fits, split-found, place-found, split-missing, place-missing)
+
+-- ---- the place as the code has it, an enum that is told apart
+
+pub parts-at : (s : Name) (x : Split) (i : ℕ) → Parts s x → x ≡ At i → Parts s (At i)
+parts-at s x i w e = rw e at w
+
+pub parts-fit : (s : Name) (x : Split) (i : ℕ) → Parts s x → x ≡ At i → i + 2 ≤ length s
+parts-fit s x i w e = parts-at s x i w e .0
+
+-- ---- the alias of a path
+
+module _ (p n : Name) where
+  pub alias-none : (x : Split) → Parts p x → x ≡ Missing → aliasOf p n ≡ drop (length p) p
+  unfolding aliasOf alternate-owner-aliases
+  alias-none x w e = let q : Parts p Missing = rw e at w in rw (q, drop-length p)
+
+  module _ (x : Split) (i : ℕ) (w : Parts p x) (e : x ≡ At i) (b : Bool) (f : b ≡ same (take (length p - (i + 2)) (drop (i + 2) p)) n) where
+    open-same : same (drop (i + 2) p) n ≡ b
+    open-same = sym (f ∙ ap (λ (y : Name). same y n) (rest-part p (i + 2)))
+
+    pub alias-same : b ≡ true → aliasOf p n ≡ drop (length p) p
+    unfolding aliasOf alternate-owner-aliases
+    alias-same h = rw (parts-at p x i w e .1, drop-length p) (go (drop (i + 2) p) (open-same ∙ h))
+      where
+        go : (d : Name) → same d n ≡ true → first (cond (isEmpty d || same d n) [] (d ∷ [])) ≡ []
+        go [] q = refl
+        go (y ∷ ys) q = rw q
+
+    pub alias-rest : b ≡ false → aliasOf p n ≡ drop (i + 2) p
+    unfolding aliasOf alternate-owner-aliases
+    alias-rest h = rw (parts-at p x i w e .1) (go (drop (i + 2) p) (open-same ∙ h))
+      where
+        go : (d : Name) → same d n ≡ false → first (cond (isEmpty d || same d n) [] (d ∷ [])) ≡ d
+        go [] q = refl
+        go (y ∷ ys) q = rw q
+
+  -- the aliases are the one, where it is not empty
+  pub aliases-are : alternate-owner-aliases p n ≡ cond (isEmpty (aliasOf p n)) [] (aliasOf p n ∷ [])
+  unfolding aliasOf alternate-owner-aliases
+  aliases-are = go (rsplit-once p)
+    where
+      all : (d : Name) (t : Bool) → cond (isEmpty d || t) [] (d ∷ []) ≡ cond (isEmpty (first (cond (isEmpty d || t) [] (d ∷ [])))) [] (first (cond (isEmpty d || t) [] (d ∷ [])) ∷ [])
+      all [] t = refl
+      all (y ∷ ys) true = refl
+      all (y ∷ ys) false = refl
+
+      go : (t : Option (Name × Name)) → aliasUnless n t ≡ cond (isEmpty (first (aliasUnless n t))) [] (first (aliasUnless n t) ∷ [])
+      go none = refl
+      go (some q) = all (q .1) (same (q .1) n)
+
+pub ruleset aliases = (alias-none, alias-same, alias-rest)

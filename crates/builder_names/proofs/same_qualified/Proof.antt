@@ -1,0 +1,48 @@
+-- `builder_names::same_qualified` meets its contract: the owner's parent and `::` are the head. Assumes nothing.
+use Prim.Native.Nat.{_+_, _≤_}
+use lib.ListN.{length}
+use mathlib.Core.Path.{sym}
+use lib.Seq.{length-take-le}
+use native.Mathlib.Omega.{arith}
+use Rattle.builder_names.proofs.Colons.{parts-fit}
+use Rattle.builder_names.proofs.Qualified.{qualifies}
+use borrow.Author.Needs.{needs}
+use Rattle.builder_names.proofs.same_qualified.Statement.{statement}
+use Rattle.builder_names.proofs.same_qualified.Tie as tie
+
+last-colons-requires : tie.Need-last-colons-requires
+last-colons-requires c κs = search needs
+
+enum-known-i : tie.Need-enum-known-i
+enum-known-i c = search needs
+
+add-a : tie.Need-add-a
+add-a c = let h : c .before .i .given .0 .0 + 2 ≤ length (c .before .before .before .before .before .before .before .args .owner .now) = search parts-fit in omega arith
+
+slice-aggregate-same-behind : tie.Need-slice-aggregate-same-behind
+slice-aggregate-same-behind c = sym (length-take-le _ _ (search parts-fit))
+
+same-behind-requires : tie.Need-same-behind-requires
+same-behind-requires c κs = search needs
+
+enum-told : tie.Need-enum-told
+enum-told c = search needs
+
+returns : tie.Need-returns
+returns c = search qualifies
+
+returns-2 : tie.Need-returns-2
+returns-2 c = search qualifies
+
+pub same-qualified-spec : {M : Type 1} → statement M
+same-qualified-spec =
+    tie.close
+    (tie.spec
+    last-colons-requires
+    enum-known-i
+    add-a
+    slice-aggregate-same-behind
+    same-behind-requires
+    enum-told
+    returns
+    returns-2)

@@ -1,0 +1,273 @@
+// The names of parameters, as parts of the caller's own paths.
+ghost use mathlib.Core.Path.{_≡_};
+ghost use mathlib.Core.List.{_++_};
+ghost use Prim.Native.Nat.{_+_, _≤_, _<_, _^_};
+ghost use lib.ListN.{length, drop};
+ghost use Rattle.blocks.specs.Name.{text, same};
+ghost use Rattle.blocks.specs.Tree.{name};
+ghost use Rattle.blocks.specs.Write.{write};
+ghost use Rattle.wire.specs.Poke.{Wrote};
+ghost use Rattle.builder.specs.Names.{isSome, strip-prefix, strip-owner, normalize-path, canonical-name, rsplit-once, qualify-parent-path, ends-with};
+ghost use Rattle.builder_names.specs.Views.{alone, dotted, place, Parts, aliasOf, isName, isKey};
+
+// The place of a `::`, if there is one.
+pub enum Split {
+    At(usize),
+    Missing,
+}
+
+// Whether the path is the owner, a dot and a rest.
+pub fn begins_with_owner(owner: &[u8], path: &[u8]) -> bool
+    ensures { λ r. ⌜ r ≡ isSome (strip-owner (now (owner .entry)) (now (path .entry))) ⌝ }
+{
+    let n = owner.len();
+    if path.len() <= n {
+        return false;
+    }
+    if path[n] != 0x2E {
+        return false;
+    }
+    wire::same_name(&path[..n], owner)
+}
+
+// Where the normal path begins in the path.
+pub fn normal_start(owner: &[u8], path: &[u8]) -> usize
+    ensures { λ r. ⌜ r ≤ length (now (path .entry)) ⌝ }
+    ensures { λ r. ⌜ normalize-path (now (owner .entry)) (now (path .entry)) ≡ drop r (now (path .entry)) ⌝ }
+{
+    if wire::same_name(path, owner) {
+        return path.len();
+    }
+    if begins_with_owner(owner, path) {
+        return owner.len() + 1;
+    }
+    0
+}
+
+// The path without its owner: a part of the caller's path, empty where the path is the owner.
+pub fn normalize_path<'a>(owner: &[u8], path: &'a [u8]) -> &'a [u8]
+    ensures { λ r. ⌜ now r ≡ normalize-path (now (owner .entry)) (now (path .entry)) ⌝ }
+{
+    let a = normal_start(owner, path);
+    &path[a..]
+}
+
+// Whether the canonical name is the owner itself.
+pub fn is_owner_alone(owner: &[u8], path: &[u8]) -> bool
+    ensures { λ r. ⌜ r ≡ alone (now (owner .entry)) (now (path .entry)) ⌝ }
+{
+    if path.len() == 0 {
+        return true;
+    }
+    wire::same_name(path, owner)
+}
+
+// How many bytes the canonical name has.
+pub fn canonical_length(owner: &[u8], path: &[u8]) -> usize
+    ensures { λ r. ⌜ r ≡ length (canonical-name (now (owner .entry)) (now (path .entry))) ⌝ }
+{
+    let n = owner.len();
+    if is_owner_alone(owner, path) {
+        return n;
+    }
+    let a = normal_start(owner, path);
+    n + 1 + (path.len() - a)
+}
+
+// The canonical name, written as a name.
+pub fn put_canonical_name(out: &mut [u8], at: usize, owner: &[u8], path: &[u8]) -> usize
+    requires { ⌜ at + length (now owner) + length (now path) < 2 ^ 60 ⌝ }
+    ensures { λ r. ⌜ Wrote (now (out .entry)) at (write (name (canonical-name (now (owner .entry)) (now (path .entry))))) (now (out .exit)) r ⌝ }
+    ensures { λ r. ⌜ r ≡ at + (2 + length (canonical-name (now (owner .entry)) (now (path .entry)))) ⌝ }
+{
+    let p = wire::put_le(out, at, 2, canonical_length(owner, path) as u64);
+    let q = wire::put_from(out, p, owner, 0);
+    if is_owner_alone(owner, path) {
+        return q;
+    }
+    let u = wire::put_byte(out, q, 0x2E);
+    let a = normal_start(owner, path);
+    wire::put_from(out, u, path, a)
+}
+
+// Whether the owner, a dot and the rest are the name.
+fn same_dotted(owner: &[u8], rest: &[u8], name: &[u8]) -> bool
+    ensures { λ r. ⌜ r ≡ same (dotted (now (owner .entry)) (now (rest .entry))) (now (name .entry)) ⌝ }
+{
+    if begins_with_owner(owner, name) {
+        let a = owner.len() + 1;
+        return wire::same_name(rest, &name[a..]);
+    }
+    false
+}
+
+// Whether a, a dot and b are c, a dot and d.
+fn same_dotteds(a: &[u8], b: &[u8], c: &[u8], d: &[u8]) -> bool
+    ensures { λ r. ⌜ r ≡ same (dotted (now (a .entry)) (now (b .entry))) (dotted (now (c .entry)) (now (d .entry))) ⌝ }
+{
+    if a.len() == c.len() {
+        if wire::same_name(a, c) {
+            return wire::same_name(b, d);
+        }
+        return false;
+    }
+    if begins_with_owner(a, c) {
+        let i = a.len() + 1;
+        return same_dotted(&c[i..], d, b);
+    }
+    if begins_with_owner(c, a) {
+        let i = c.len() + 1;
+        return same_dotted(&a[i..], b, d);
+    }
+    false
+}
+
+// Whether the canonical name is the name.
+pub fn same_canonical(owner: &[u8], path: &[u8], name: &[u8]) -> bool
+    ensures { λ r. ⌜ r ≡ same (canonical-name (now (owner .entry)) (now (path .entry))) (now (name .entry)) ⌝ }
+{
+    if is_owner_alone(owner, path) {
+        return wire::same_name(owner, name);
+    }
+    same_dotted(owner, normalize_path(owner, path), name)
+}
+
+// Whether two canonical names are one.
+pub fn same_canonicals(owner: &[u8], path: &[u8], owner2: &[u8], path2: &[u8]) -> bool
+    ensures { λ r. ⌜ r ≡ same (canonical-name (now (owner .entry)) (now (path .entry))) (canonical-name (now (owner2 .entry)) (now (path2 .entry))) ⌝ }
+{
+    if is_owner_alone(owner, path) {
+        return same_canonical(owner2, path2, owner);
+    }
+    if is_owner_alone(owner2, path2) {
+        return same_canonical(owner, path, owner2);
+    }
+    same_dotteds(
+        owner,
+        normalize_path(owner, path),
+        owner2,
+        normalize_path(owner2, path2),
+    )
+}
+
+// Whether `::` stands at i.
+fn colons_at(s: &[u8], i: usize) -> bool
+    requires { ⌜ i < length (now s) ⌝ }
+    ensures { λ r. ⌜ r ≡ isSome (strip-prefix (text "::") (drop i (now (s .entry)))) ⌝ }
+{
+    let j = i + 1;
+    if s.len() <= j {
+        return false;
+    }
+    if s[i] != 0x3A {
+        return false;
+    }
+    if s[j] != 0x3A {
+        return false;
+    }
+    true
+}
+
+// Where the last `::` of a name stands.
+pub fn last_colons(name: &[u8]) -> Split
+    ensures { λ r. ⌜ r ≡ place (rsplit-once (now (name .entry))) ⌝ }
+    ensures { λ r. ⌜ Parts (now (name .entry)) r ⌝ }
+{
+    let mut i = name.len();
+    while 0 < i {
+        i -= 1;
+        if colons_at(name, i) {
+            return Split::At(i);
+        }
+    }
+    Split::Missing
+}
+
+// Where the alias begins in the path; the path's end where there is none.
+fn alias_start(path: &[u8], normal: &[u8]) -> usize
+    ensures { λ r. ⌜ r ≤ length (now (path .entry)) ⌝ }
+    ensures { λ r. ⌜ aliasOf (now (path .entry)) (now (normal .entry)) ≡ drop r (now (path .entry)) ⌝ }
+{
+    match last_colons(path) {
+        Split::At(i) => {
+            let a = i + 2;
+            if wire::same_name(&path[a..], normal) {
+                return path.len();
+            }
+            a
+        }
+        Split::Missing => path.len(),
+    }
+}
+
+// The alias of a path, a part of the path; empty where there is none.
+pub fn alias<'a>(path: &'a [u8], normal: &[u8]) -> &'a [u8]
+    ensures { λ r. ⌜ now r ≡ aliasOf (now (path .entry)) (now (normal .entry)) ⌝ }
+{
+    let a = alias_start(path, normal);
+    &path[a..]
+}
+
+// Whether a name ends with another.
+pub fn ends_with(name: &[u8], end: &[u8]) -> bool
+    ensures { λ r. ⌜ r ≡ ends-with (now (end .entry)) (now (name .entry)) ⌝ }
+{
+    if name.len() < end.len() {
+        return false;
+    }
+    let a = name.len() - end.len();
+    wire::same_name(&name[a..], end)
+}
+
+// Whether the head and the path are the name.
+fn same_behind(head: &[u8], path: &[u8], name: &[u8]) -> bool
+    ensures { λ r. ⌜ r ≡ same (now (head .entry) ++ now (path .entry)) (now (name .entry)) ⌝ }
+{
+    let n = head.len();
+    if name.len() < n {
+        return false;
+    }
+    if wire::same_name(&name[..n], head) {
+        return wire::same_name(path, &name[n..]);
+    }
+    false
+}
+
+// Whether the path behind the head has the key, where the owner is the rest behind the head.
+fn same_key(head: &[u8], rest: &[u8], path: &[u8], key: &[u8]) -> bool
+    ensures { λ r. ⌜ r ≡ same (normalize-path (now (head .entry) ++ now (rest .entry)) (now (head .entry) ++ now (path .entry))) (now (key .entry)) ⌝ }
+{
+    if wire::same_name(path, rest) {
+        return key.len() == 0;
+    }
+    if begins_with_owner(rest, path) {
+        return wire::same_name(normalize_path(rest, path), key);
+    }
+    same_behind(head, path, key)
+}
+
+// Whether the path, qualified by the owner's parent, is the name.
+pub fn same_qualified(owner: &[u8], path: &[u8], name: &[u8]) -> bool
+    ensures { λ r. ⌜ r ≡ isName (qualify-parent-path (now (owner .entry)) (now (path .entry))) (now (name .entry)) ⌝ }
+{
+    match last_colons(owner) {
+        Split::At(i) => {
+            let a = i + 2;
+            same_behind(&owner[..a], path, name)
+        }
+        Split::Missing => false,
+    }
+}
+
+// Whether the path, qualified by the owner's parent, has the key.
+pub fn qualified_has_key(owner: &[u8], path: &[u8], key: &[u8]) -> bool
+    ensures { λ r. ⌜ r ≡ isKey (now (owner .entry)) (qualify-parent-path (now (owner .entry)) (now (path .entry))) (now (key .entry)) ⌝ }
+{
+    match last_colons(owner) {
+        Split::At(i) => {
+            let a = i + 2;
+            same_key(&owner[..a], &owner[a..], path, key)
+        }
+        Split::Missing => false,
+    }
+}

@@ -1,0 +1,27 @@
+-- `builder_nodes::open_node` meets its contract. Assumes nothing.
+use Rattle.builder_nodes.proofs.Parts.{meta-is}
+use borrow.Author.Needs.{needs}
+use native.Mathlib.Omega.{arith}
+use Rattle.builder_nodes.proofs.open_node.Statement.{statement}
+use Rattle.builder_nodes.proofs.open_node.Tie as tie
+
+aligned-requires : tie.Need-aligned-requires
+aligned-requires c κs = search needs
+
+start-node-requires : tie.Need-start-node-requires
+start-node-requires c κs = (omega (arith, c .before .before .before .pre .0), c .before .before .before .pre .1, c .before .before .before .pre .2)
+
+same-length : tie.Need-same-length
+same-length c = search needs
+
+returns : tie.Need-returns
+returns c = (meta-is _ (c .before .before .before .aligned .ensures) (c .before .before .start-node .ensures .0), c .before .before .start-node .ensures .1)
+
+pub open-node-spec : {M : Type 1} → statement M
+open-node-spec =
+    tie.close
+    (tie.spec
+    aligned-requires
+    start-node-requires
+    same-length
+    returns)

@@ -1,0 +1,273 @@
+-- The entries that are listed: each law in the form in which the code has it.
+use mathlib.Core.Path.{_≡_, refl, sym, _∙_, ap, subst}
+use mathlib.Core.Bool.{Bool, true, false, not, _&&_, _||_, cond}
+use mathlib.Core.List.{List, [], _∷_, map}
+use mathlib.Core.Option.{Option, some, none}
+use Prim.Native.Nat.{ℕ, zero, suc, _+_, _-_, _≤_, _<_}
+use native.Mathlib.Numerals.{add-one}
+use native.Mathlib.Omega.{arith}
+use lib.ListN.{length, take, drop, getD, set}
+use lib.Seq.{drop-cons, set-comm}
+use Rattle.blocks.specs.Bytes.{bytes}
+use Rattle.blocks.specs.Name.{Name, same, among}
+use Rattle.blocks.specs.Tree.{num}
+use Rattle.blocks.specs.Write.{write}
+use Rattle.blocks.proofs.Name.{same-eq}
+use Rattle.resolved.specs.Resolved.{ResolvedType, kindOf}
+use Rattle.ir.specs.Ir.{IrParameter}
+use Rattle.ir.specs.Layout.{parameterTree, listTree, entriesTree}
+use Rattle.wire.specs.Poke.{poke, Wrote}
+use Rattle.wire.proofs.Laws.{parts, no-parts, bytes-length}
+use Rattle.builder.specs.Names.{replace-colons, split, before-element}
+use Rattle.builder.specs.Registry.{Registry, firsts, into-parameters}
+use Rattle.builder.specs.Build.{fieldsOf, has-jagged, jagged-before, is-jagged-element-parameter, filter-jagged-element-parameters}
+use Rattle.builder_registry.specs.Words.{Standing, entryOf, entriesOf}
+use Rattle.builder_parameters.specs.declared.Segment.{Segment}
+use Rattle.builder_parameters.specs.declared.Segment.the-variants.{Part, Missing}
+use Rattle.builder_parameters.specs.Segments.{Found}
+use Rattle.builder_parameters.proofs.Tests.{was-true, was-false}
+use Rattle.builder_parameters.specs.Ready.{Ready}
+use Rattle.builder_parameters.specs.Listed.{nameIn, names, lists, Room, Jagged, Asks}
+
+-- ---- two names
+
+pub other-length : (m n : Name) {k l : ℕ} → k ≡ length m → l ≡ length n → (k ≡ l → ⊥) → false ≡ same m n
+other-length m n e f h = go (same m n) refl
+  where
+    go : (b : Bool) → same m n ≡ b → false ≡ b
+    go true g = absurd (h (e ∙ ap (λ (z : Name). length z) (same-eq m n g) ∙ sym f))
+    go false g = refl
+
+pub same-parts : {a b m n : Name} {r : Bool} → a ≡ m → b ≡ n → r ≡ same a b → r ≡ same m n
+same-parts e f g = rw (← e, ← f) g
+
+-- ---- a name among the earlier ones
+
+module _ (s ws : List ℕ) (m : Name) {j : ℕ} (h : 0 < j) where
+  name-step : among m (names s ws j) ≡ (same m (nameIn s ws (j - 1)) || among m (names s ws (j - 1)))
+  unfolding names among
+  name-step =
+      let e : j ≡ suc (j - 1) = omega arith in
+      ap (λ (k : ℕ). among m (names s ws k)) e
+
+  module _ {b r : Bool} (g : b ≡ among m (names s ws j)) (e : r ≡ same m (nameIn s ws (j - 1))) where
+    pub met : r ≡ true → false ≡ not b
+    met t = sym (ap not (g ∙ name-step ∙ ap (λ (b : Bool). b || among m (names s ws (j - 1))) (sym e ∙ t)))
+
+    pub unmet : r ≡ false → b ≡ among m (names s ws (j - 1))
+    unmet t = g ∙ name-step ∙ ap (λ (b : Bool). b || among m (names s ws (j - 1))) (sym e ∙ t)
+
+pub none-met : (s ws : List ℕ) (m : Name) {j : ℕ} {b : Bool} → j ≤ 0 → b ≡ among m (names s ws j) → true ≡ not b
+unfolding names among
+none-met s ws m {j} h g =
+    let e : j ≡ 0 = omega arith in
+    sym (ap not (g ∙ ap (λ (k : ℕ). among m (names s ws k)) e))
+
+-- ---- an element of a jagged array
+
+pub found-part : {n : Name} {g : Segment} {o : Option Name} (from to : ℕ) → Found n g o → g ≡ Part from to → (from ≤ to) × (to ≤ length n) × (o ≡ some (take (to - from) (drop from n)))
+found-part from to (Found.part {from = f} {to = t} h l) e = let a : f ≡ from = cc in let b : t ≡ to = cc in (omega arith, omega arith, rw (a, b) refl)
+found-part from to Found.missing e = let z : _≡_ {A = ℕ} 0 1 = cc in absurd (omega arith)
+
+found-none : {n : Name} {g : Segment} {o : Option Name} → Found n g o → g ≡ Missing → o ≡ none
+found-none (Found.part h l) e = let z : _≡_ {A = ℕ} 0 1 = cc in absurd (omega arith)
+found-none Found.missing e = refl
+
+module _ {m : Name} (n : Name) (f : m ≡ replace-colons n) (t : ResolvedType) {g : Segment} (w : Found m g (before-element (split m))) where
+  segment-is : before-element (split m) ≡ before-element (split (replace-colons n))
+  segment-is = ap (λ (z : Name). before-element (split z)) f
+
+  pub element-yes : (from to : ℕ) {r : Bool} → g ≡ Part from to → r ≡ has-jagged (take (to - from) (drop from m)) (fieldsOf (kindOf t)) → r ≡ is-jagged-element-parameter t n
+  unfolding is-jagged-element-parameter
+  element-yes from to p q = q ∙ ap (jagged-before (fieldsOf (kindOf t))) (sym (sym segment-is ∙ found-part from to w p .2))
+
+  pub element-no : g ≡ Missing → false ≡ is-jagged-element-parameter t n
+  unfolding is-jagged-element-parameter
+  element-no p = ap (jagged-before (fieldsOf (kindOf t))) (sym (sym segment-is ∙ found-none w p))
+
+-- ---- whether an entry is listed
+
+module _ (t : ResolvedType) (s ws : List ℕ) (i : ℕ) {f : Bool} (e : f ≡ not (among (nameIn s ws i) (names s ws i))) where
+  pub not-first : not f ≡ true → false ≡ lists t s ws i
+  not-first h = ap (λ (b : Bool). b && not (is-jagged-element-parameter t (nameIn s ws i))) (sym (was-false f h) ∙ e)
+
+  pub first-listed : {r : Bool} → not f ≡ false → r ≡ is-jagged-element-parameter t (nameIn s ws i) → not r ≡ lists t s ws i
+  first-listed {r} h g =
+      ap not g ∙ ap (λ (b : Bool). b && not (is-jagged-element-parameter t (nameIn s ws i))) (sym (was-true f h) ∙ e)
+
+-- ---- one entry after another
+
+-- what is listed of the k entries from i on
+unfoldable pub listed : ResolvedType → List ℕ → List ℕ → ℕ → ℕ → List IrParameter
+listed t s ws i zero = []
+listed t s ws i (suc k) = cond (lists t s ws i) (entryOf s (getD ws i 0) .parameter ∷ listed t s ws (i + 1) k) (listed t s ws (i + 1) k)
+
+module _ (t : ResolvedType) (s ws : List ℕ) {i n : ℕ} where
+  listed-step : i < n → listed t s ws i (n - i) ≡ cond (lists t s ws i) (entryOf s (getD ws i 0) .parameter ∷ listed t s ws (i + 1) (n - (i + 1))) (listed t s ws (i + 1) (n - (i + 1)))
+  unfolding listed
+  listed-step h =
+      let e : n - i ≡ suc (n - (i + 1)) = omega arith in
+      ap (listed t s ws i) e
+
+  module _ {r : Bool} (h : i < n) (e : r ≡ lists t s ws i) where
+    pub listed-no : not r ≡ true → listed t s ws i (n - i) ≡ listed t s ws (i + 1) (n - (i + 1))
+    listed-no f = listed-step h ∙ ap (λ (b : Bool). cond b (entryOf s (getD ws i 0) .parameter ∷ listed t s ws (i + 1) (n - (i + 1))) (listed t s ws (i + 1) (n - (i + 1)))) (sym e ∙ was-false r f)
+
+    pub listed-yes : not r ≡ false → listed t s ws i (n - i) ≡ entryOf s (getD ws i 0) .parameter ∷ listed t s ws (i + 1) (n - (i + 1))
+    listed-yes f = listed-step h ∙ ap (λ (b : Bool). cond b (entryOf s (getD ws i 0) .parameter ∷ listed t s ws (i + 1) (n - (i + 1))) (listed t s ws (i + 1) (n - (i + 1)))) (sym e ∙ was-true r f)
+
+  pub listed-end : n ≤ i → listed t s ws i (n - i) ≡ []
+  unfolding listed
+  listed-end h =
+      let e : n - i ≡ 0 = omega arith in
+      ap (listed t s ws i) e
+
+-- ---- the definition
+
+-- the names that were seen are those of the earlier entries
+record Seen (seen : List Name) (s ws : List ℕ) (i : ℕ) : Type 0 where
+  is : (m : Name) → among m seen ≡ among m (names s ws i)
+
+module _ {s ws : List ℕ} {seen : List Name} {i : ℕ} (c : Seen seen s ws i) where
+  -- a name that was seen already
+  seen-again : among (nameIn s ws i) seen ≡ true → Seen seen s ws (i + 1)
+  unfolding names among
+  seen-again h = record { is = λ m. rw add-one (c .is m ∙ go m (same m (nameIn s ws i)) refl) }
+    where
+      go : (m : Name) (b : Bool) → same m (nameIn s ws i) ≡ b → among m (names s ws i) ≡ (b || among m (names s ws i))
+      go m true e = ap (λ (z : Name). among z (names s ws i)) (same-eq m (nameIn s ws i) e) ∙ sym (c .is (nameIn s ws i)) ∙ h
+      go m false e = refl
+
+  -- a new one
+  seen-new : Seen (nameIn s ws i ∷ seen) s ws (i + 1)
+  unfolding names among
+  seen-new = record { is = λ m. rw add-one (ap (λ (b : Bool). same m (nameIn s ws i) || b) (c .is m)) }
+
+turned : {A : Type 0} (b : Bool) (x y : A) → cond b x y ≡ cond (not b) y x
+turned true x y = refl
+turned false x y = refl
+
+listed-from : (t : ResolvedType) (s ws : List ℕ) (k i : ℕ) (seen : List Name) → i + k ≤ length ws → Seen seen s ws i →
+    filter-jagged-element-parameters t (firsts seen (map (entryOf s) (take k (drop i ws)))) ≡ listed t s ws i k
+unfolding firsts filter-jagged-element-parameters listed
+listed-from t s ws zero i seen h c = refl
+listed-from t s ws (suc k) i seen h c =
+    let d : drop i ws ≡ getD ws i 0 ∷ drop (i + 1) ws = drop-cons ws i 0 (omega arith) ∙ rw add-one refl in
+    ap (λ (l : List ℕ). filter-jagged-element-parameters t (firsts seen (map (entryOf s) (take (suc k) l)))) d ∙
+    go (among (nameIn s ws i) seen) refl (λ l w. listed-from t s ws k (i + 1) l (omega arith) w)
+  where
+    p : IrParameter
+    p = entryOf s (getD ws i 0) .parameter
+
+    es : Registry
+    es = map (entryOf s) (take k (drop (i + 1) ws))
+
+    rest : List IrParameter
+    rest = listed t s ws (i + 1) k
+
+    go : (b : Bool) → among (nameIn s ws i) seen ≡ b → ((l : List Name) → Seen l s ws (i + 1) → filter-jagged-element-parameters t (firsts l es) ≡ rest) →
+        filter-jagged-element-parameters t (cond b (firsts seen es) (p ∷ firsts (nameIn s ws i ∷ seen) es)) ≡ cond (lists t s ws i) (p ∷ rest) rest
+    go true e ih = ih seen (seen-again c e) ∙ ap (λ (b : Bool). cond (not b && not (is-jagged-element-parameter t (nameIn s ws i))) (p ∷ rest) rest) (sym e ∙ c .is (nameIn s ws i))
+    go false e ih =
+        ap (λ (l : List IrParameter). cond (is-jagged-element-parameter t (nameIn s ws i)) l (p ∷ l)) (ih (nameIn s ws i ∷ seen) (seen-new c)) ∙ turned (is-jagged-element-parameter t (nameIn s ws i)) rest (p ∷ rest) ∙
+        ap (λ (b : Bool). cond (not b && not (is-jagged-element-parameter t (nameIn s ws i))) (p ∷ rest) rest) (sym e ∙ c .is (nameIn s ws i))
+
+pub listed-is : (t : ResolvedType) (s ws : List ℕ) (n : ℕ) → n ≤ length ws → filter-jagged-element-parameters t (into-parameters (entriesOf s ws n)) ≡ listed t s ws 0 n
+unfolding into-parameters entriesOf names among
+listed-is t s ws n h = listed-from t s ws n 0 [] (omega arith) (record { is = λ m. refl })
+
+-- ---- what is written
+
+-- the parameters that are left, one behind another
+abbrev pub left : ResolvedType → List ℕ → List ℕ → ℕ → ℕ → List ℕ
+left t s ws i n = write (entriesTree parameterTree (listed t s ws i (n - i)))
+
+module _ {xs ys : List ℕ} {p q : ℕ} (t : ResolvedType) (s ws : List ℕ) {i n : ℕ} {r : Bool} (h : i < n) (e : r ≡ lists t s ws i) where
+  pub pass : not r ≡ true → Wrote xs p (left t s ws (i + 1) n) ys q → Wrote xs p (left t s ws i n) ys q
+  pass f w = subst (λ (l : List IrParameter). Wrote xs p (write (entriesTree parameterTree l)) ys q) (sym (listed-no t s ws h e f)) w
+
+  pub put : {zs : List ℕ} {u : ℕ} → not r ≡ false → Wrote xs p (write (parameterTree (entryOf s (getD ws i 0) .parameter))) ys q → Wrote ys q (left t s ws (i + 1) n) zs u → Wrote xs p (left t s ws i n) zs u
+  unfolding entriesTree
+  put {zs} {u} f v w =
+      subst (λ (l : List IrParameter). Wrote xs p (write (entriesTree parameterTree l)) zs u) (sym (listed-yes t s ws h e f))
+      (parts (parameterTree (entryOf s (getD ws i 0) .parameter)) (entriesTree parameterTree (listed t s ws (i + 1) (n - (i + 1)))) v w)
+
+pub all-put : (xs : List ℕ) (p : ℕ) (t : ResolvedType) (s ws : List ℕ) {i n : ℕ} → n ≤ i → Wrote xs p (left t s ws i n) xs p
+unfolding entriesTree
+all-put xs p t s ws h = subst (λ (l : List IrParameter). Wrote xs p (write (entriesTree parameterTree l)) xs p) (sym (listed-end t s ws h)) (no-parts xs p)
+
+pub from-first : {xs ys : List ℕ} {p q : ℕ} (t : ResolvedType) (s ws : List ℕ) (n : ℕ) → Wrote xs p (left t s ws 0 n) ys q → Wrote xs p (write (entriesTree parameterTree (listed t s ws 0 n))) ys q
+from-first {xs} {ys} {p} {q} t s ws n w =
+    let e : n - 0 ≡ n = omega arith in
+    subst (λ (k : ℕ). Wrote xs p (write (entriesTree parameterTree (listed t s ws 0 k))) ys q) e w
+
+-- ---- their count
+
+-- how many of the n entries are listed, i of which were passed
+abbrev pub Counts : ResolvedType → List ℕ → List ℕ → ℕ → ℕ → ℕ → Type 0
+Counts t s ws n i k = k + length (listed t s ws i (n - i)) ≡ length (listed t s ws 0 n)
+
+pub count-none : (t : ResolvedType) (s ws : List ℕ) (n : ℕ) → Counts t s ws n 0 0
+count-none t s ws n =
+    let e : n - 0 ≡ n = omega arith in
+    let l = ap (λ (k : ℕ). length (listed t s ws 0 k)) e in
+    omega arith
+
+module _ (t : ResolvedType) (s ws : List ℕ) {i n : ℕ} (k : ℕ) (c : Counts t s ws n i k) where
+  module _ {r : Bool} (h : i < n) (e : r ≡ lists t s ws i) where
+    pub count-pass : not r ≡ true → Counts t s ws n (i + 1) k
+    count-pass f = let l = ap (λ (l : List IrParameter). length l) (listed-no t s ws h e f) in omega arith
+
+    pub count-more : not r ≡ false → Counts t s ws n (i + 1) (k + 1)
+    count-more f = let l = ap (λ (l : List IrParameter). length l) (listed-yes t s ws h e f) in omega arith
+
+  pub count-end : n ≤ i → k ≡ length (listed t s ws 0 n)
+  count-end h = let l = ap (λ (l : List IrParameter). length l) (listed-end t s ws h) in omega arith
+
+-- behind their count
+counted : {xs ys zs : List ℕ} {p q u : ℕ} (t : ResolvedType) (s ws : List ℕ) (n : ℕ) {k : ℕ} → n ≤ length ws → k ≡ length (listed t s ws 0 n) → Wrote xs p (bytes 2 k) ys q →
+    Wrote ys q (write (entriesTree parameterTree (listed t s ws 0 n))) zs u → Wrote xs p (write (listTree parameterTree (filter-jagged-element-parameters t (into-parameters (entriesOf s ws n))))) zs u
+unfolding write
+counted {xs} {ys} {zs} {p} {q} {u} t s ws n h e v w =
+    subst (λ (l : List IrParameter). Wrote xs p (write (listTree parameterTree l)) zs u) (sym (listed-is t s ws n h))
+    (parts (num 2 (length (listed t s ws 0 n))) (entriesTree parameterTree (listed t s ws 0 n)) (subst (λ (m : ℕ). Wrote xs p (bytes 2 m) ys q) e v) w)
+
+-- a store behind a write
+set-behind : (xs : List ℕ) (i j x : ℕ) (cs : List ℕ) → i + length cs ≤ j → set (poke xs i cs) j x ≡ poke (set xs j x) i cs
+unfolding poke
+set-behind xs i j x [] h = refl
+set-behind xs i j x (c ∷ cs) h = rw (set-behind (set xs i c) (suc i) j x cs (omega arith), set-comm xs i j c x (omega arith))
+
+-- a write before another may come after it
+poke-before : (xs : List ℕ) (i j : ℕ) (cs bs : List ℕ) → i + length cs ≤ j → poke (poke xs j bs) i cs ≡ poke (poke xs i cs) j bs
+unfolding poke
+poke-before xs i j cs [] h = refl
+poke-before xs i j cs (b ∷ bs) h = rw (set-behind xs i j b cs h) (poke-before (set xs j b) i (suc j) cs bs (omega arith))
+
+-- their count is written last
+pub counted-last : {xs ys zs : List ℕ} {p q u : ℕ} (t : ResolvedType) (s ws : List ℕ) (n : ℕ) {k : ℕ} → n ≤ length ws → k ≡ length (listed t s ws 0 n) →
+    Wrote xs (p + 2) (write (entriesTree parameterTree (listed t s ws 0 n))) ys u → Wrote ys p (bytes 2 k) zs q → Wrote xs p (write (listTree parameterTree (filter-jagged-element-parameters t (into-parameters (entriesOf s ws n))))) zs u
+counted-last {xs} {ys} {zs} {p} {q} {u} t s ws n {k} h e w v =
+    let l : length (bytes 2 k) ≡ 2 = bytes-length 2 k in
+    let first : Wrote xs p (bytes 2 k) (poke xs p (bytes 2 k)) (p + 2) = record { end = rw l; left = refl } in
+    let rest : Wrote (poke xs p (bytes 2 k)) (p + 2) (write (entriesTree parameterTree (listed t s ws 0 n))) zs u = record {
+      end = w .end;
+      left = v .left ∙ rw (w .left) (poke-before xs p (p + 2) (bytes 2 k) (write (entriesTree parameterTree (listed t s ws 0 n))) (omega arith));
+    } in
+    counted t s ws n h e first rest
+
+-- ---- room for two names
+
+pub same-room : {s ws : List ℕ} {n : ℕ} {a b c d : List ℕ} → Room s ws n a b → length c ≡ length a → length d ≡ length b → Room s ws n c d
+same-room r e f = record { standing = r .standing; first = rw e (r .first); second = rw f (r .second) }
+
+-- an entry has a place in the words
+pub placed : {s ws : List ℕ} {n i : ℕ} → Standing s ws n → i < n → (i < 512) × (i < length ws)
+placed a h = let k = a .count in let w = a .words in (omega (arith, h, k), omega (arith, h, k, w))
+
+pub asks : {s ws : List ℕ} {n type at : ℕ} {j : Bool} {a b : List ℕ} → Ready s ws n type at → Jagged s type j → 520 ≡ length a → 520 ≡ length b → Asks s ws n type j a b
+asks r h e f = record { room = record { standing = r .standing; first = rw (← e) (omega arith); second = rw (← f) (omega arith) }; type-at = r .type-at; jagged-is = h }
+
+-- the entries have their places in the words
+pub all-placed : {s ws : List ℕ} {n : ℕ} → Standing s ws n → n ≤ length ws
+all-placed a = let k = a .count in let w = a .words in omega (arith, k, w)

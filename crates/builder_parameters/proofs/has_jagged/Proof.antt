@@ -1,0 +1,49 @@
+-- `builder_parameters::has_jagged` meets its contract. The invariant: no field that was passed is a jagged array of this name. The measure is the fields that are left.
+use mathlib.Core.Path.{_≡_, refl}
+use Rattle.resolved_parts.proofs.Laws.{inside}
+use Rattle.builder_parameters.proofs.Fields.{Search, begin, found, not-found, next-field, go-on, hits, misses}
+use native.Mathlib.Omega.{arith}
+use Rattle.builder_parameters.proofs.has_jagged.Statement.{statement}
+use Rattle.builder_parameters.proofs.has_jagged.Tie as tie
+
+abbrev Inv-loop : tie.InvT-loop
+Inv-loop s kind name left₀ at₀ left at = Search (λ n. n ≡ name) s left₀ at₀ left at
+
+abbrev μ-loop : tie.MeasureT-loop
+μ-loop s kind name left₀ at₀ left at = left
+
+field-list-requires : tie.Need-field-list-requires Inv-loop μ-loop
+field-list-requires c κs = (c .before .before .pre .0, (omega (arith, c .before .before .pre .1), omega (arith, c .before .before .pre .1)))
+
+loop-holds : tie.Need-loop-holds Inv-loop μ-loop
+loop-holds c = begin (c .field-list .ensures (c .before .before .before .pre .0)) _
+
+is-jagged-field-requires : tie.Need-is-jagged-field-requires Inv-loop μ-loop
+is-jagged-field-requires c κs = next-field (c .loop-test .taken) (c .before .loop .inv)
+
+returns : tie.Need-returns Inv-loop μ-loop
+returns c = λ a. found (c .before .before .before .before .field-list .ensures a) _ (c .before .before .before .before .before .before .before .pre .1) refl (c .before .before .before .loop .inv) (c .before .before .loop-test .taken) (λ b u. hits _ (c .before .is-jagged-field .ensures) b u (c .if1 .taken))
+
+add-at : tie.Need-add-at Inv-loop μ-loop
+add-at c = omega (arith, inside (next-field (c .before .before .loop-test .taken) (c .before .before .before .loop .inv)))
+
+read4-requires : tie.Need-read4-requires Inv-loop μ-loop
+read4-requires c κs = omega (arith, inside (next-field (c .before .before .loop-test .taken) (c .before .before .before .loop .inv)))
+
+add-at-2 : tie.Need-add-at-2 Inv-loop μ-loop
+add-at-2 c = omega (arith, inside (next-field (c .before .before .before .loop-test .taken) (c .before .before .before .before .loop .inv)), c .read4 .ensures .0)
+
+sub-left : tie.Need-sub-left Inv-loop μ-loop
+sub-left c = omega (arith, c .before .before .before .loop-test .taken)
+
+loop-less : tie.Need-loop-less Inv-loop μ-loop
+loop-less c = omega (arith, c .before .before .before .loop-test .taken)
+
+loop-again : tie.Need-loop-again Inv-loop μ-loop
+loop-again c = go-on (c .before .before .before .loop-test .taken) (λ n e b u. rw e (misses _ (c .before .before .is-jagged-field .ensures) b u (c .before .if1 .left))) (c .read4 .ensures .0) (c .before .before .before .before .loop .inv)
+
+returns-2 : tie.Need-returns-2 Inv-loop μ-loop
+returns-2 c = λ a. not-found (c .before .before .field-list .ensures a) _ (c .before .before .before .before .before .pre .1) refl (c .before .loop .inv) (c .loop-test .left)
+
+pub has-jagged-spec : {M : Type 1} → statement M
+has-jagged-spec = tie.close (tie.spec Inv-loop μ-loop field-list-requires loop-holds is-jagged-field-requires returns add-at read4-requires add-at-2 sub-left loop-less loop-again returns-2)

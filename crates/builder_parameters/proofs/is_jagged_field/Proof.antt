@@ -1,0 +1,31 @@
+-- `builder_parameters::is_jagged_field` meets its contract. Assumes nothing.
+use Rattle.resolved_parts.proofs.Laws.{inside, long}
+use Rattle.builder_parameters.proofs.Fields.{other-field, that-field}
+use native.Mathlib.Omega.{arith}
+use borrow.Author.Needs.{needs}
+use Rattle.builder_parameters.proofs.is_jagged_field.Statement.{statement}
+use Rattle.builder_parameters.proofs.is_jagged_field.Tie as tie
+
+field-parts-requires : tie.Need-field-parts-requires
+field-parts-requires c κs = c .before .before .pre
+
+add-name-at : tie.Need-add-name-at
+add-name-at c = omega (arith, inside (c .before .before .before .pre), long (c .before .before .before .pre))
+
+name-at-requires : tie.Need-name-at-requires
+name-at-requires c κs = c .field-parts .ensures (c .before .before .before .pre) .named
+
+same-name-requires : tie.Need-same-name-requires
+same-name-requires c κs = search needs
+
+returns : tie.Need-returns
+returns c = λ a u. other-field (c .before .before .before .field-parts .ensures a) _ u (c .before .before .name-at .ensures) (c .before .same-name .ensures) (c .if1 .taken)
+
+is-jagged-requires : tie.Need-is-jagged-requires
+is-jagged-requires c κs = c .before .before .before .field-parts .ensures (c .before .before .before .before .before .before .pre) .type
+
+returns-2 : tie.Need-returns-2
+returns-2 c = λ a u. that-field (c .before .before .before .before .field-parts .ensures a) _ u (c .before .before .before .name-at .ensures) (c .before .before .same-name .ensures) (c .before .if1 .left) (c .is-jagged .ensures)
+
+pub is-jagged-field-spec : {M : Type 1} → statement M
+is-jagged-field-spec = tie.close (tie.spec field-parts-requires add-name-at name-at-requires same-name-requires returns is-jagged-requires returns-2)

@@ -1,0 +1,182 @@
+-- A loop over the segments of an accepted path. Assumes nothing.
+use mathlib.Core.Path.{_≡_, refl, sym, _∙_, ap, subst}
+use mathlib.Core.Bool.{Bool, true, false}
+use mathlib.Core.List.{List, [], _∷_, _++_, append-assoc, append-nil}
+use Prim.Native.Nat.{ℕ, _+_, _-_, _≤_, _<_}
+use native.Mathlib.Omega.{arith}
+use lib.Dec.{eqb}
+use lib.ListN.{length, take, drop, length-append, length-drop}
+use lib.Seq.{length-take-le}
+use borrow.Author.Tests.{eqb-true, eqb-false}
+use Rattle.blocks.specs.Bytes.{le2}
+use Rattle.blocks.specs.Name.{Name, text, same}
+use Rattle.blocks.specs.Tree.{Tree, name, nil, cons, entries}
+use Rattle.accepted.specs.Accepted.{Accepted, tree, Item, Entries, nameAt}
+use Rattle.accepted.proofs.Laws.{After, name-entry, none-left}
+use Rattle.accepted.proofs.Lists.{Left, starts, ended}
+use Rattle.expr.specs.Expr.{ExprKind, exprOf}
+use Rattle.resolved_parts.specs.Types.{textsOf}
+use Rattle.builder.specs.Names.{join}
+use Rattle.builder.specs.Nodes.{buffer-size}
+use Rattle.wire.specs.Poke.{Wrote}
+use Rattle.wire.proofs.Laws.{none, both}
+use Rattle.expr_parts.specs.Exprs.{FieldRefAt}
+use Rattle.expr_parts.proofs.Laws.{field-ref-at}
+use Rattle.builder_paths.specs.Joined.{noNames, segment, goesOn}
+use Rattle.builder_paths.proofs.Match.{Stands, segment-dot, segment-last, past-end, all-on, on-end}
+
+-- ---- one segment
+
+-- the part of a slice that holds a name
+pub slice-is : (s : List ℕ) (at u : ℕ) → u ≡ le2 s at → take (at + 2 + u - (at + 2)) (drop (at + 2) s) ≡ nameAt s at
+slice-is s at u e = let f : at + 2 + u - (at + 2) ≡ le2 s at = omega arith in ap (λ (k : ℕ). take k (drop (at + 2) s)) f
+
+pub name-length : (s : List ℕ) (at : ℕ) → at + 2 + le2 s at ≤ length s → length (nameAt s at) ≡ le2 s at
+name-length s at h = length-take-le (le2 s at) (drop (at + 2) s) (omega (arith, length-drop (at + 2) s))
+
+module _ (s : List ℕ) (at : ℕ) {u : ℕ} (e : u ≡ le2 s at) (h : at + 2 + le2 s at ≤ length s) where
+  -- it is matched
+  stood : (m : Name) (i : ℕ) (r : Bool) → Stands m i (take (at + 2 + u - (at + 2)) (drop (at + 2) s)) (length (take (at + 2 + u - (at + 2)) (drop (at + 2) s))) r → Stands m i (nameAt s at) u r
+  stood m i r f =
+      let g : Stands m i (nameAt s at) (length (nameAt s at)) r = subst (λ (n : Name). Stands m i n (length n) r) (slice-is s at u e) f in
+      subst (λ (k : ℕ). Stands m i (nameAt s at) k r) (name-length s at h ∙ sym e) g
+
+  module _ (m : Name) (i left : ℕ) {r : Bool} (f : Stands m i (take (at + 2 + u - (at + 2)) (drop (at + 2) s)) (length (take (at + 2 + u - (at + 2)) (drop (at + 2) s))) r) where
+    -- the segment does not stand there
+    pub segment-missed : r ≡ false → (x : Name) → goesOn m i (segment left (nameAt s at) ++ x) ≡ goesOn m (length m + 1) x
+    unfolding segment
+    segment-missed b x = rw (append-assoc, past-end m x) (stood m i r f _ ∙ rw b)
+
+    pub last-met : r ≡ true → left ≤ 1 → (x : Name) → goesOn m i (segment left (nameAt s at) ++ x) ≡ goesOn m (i + u) x
+    last-met b l x = rw (segment-last left (nameAt s at) l) (stood m i r f x ∙ rw b)
+
+    module _ (b : r ≡ true) (l : 1 < left) {q : Bool} (d : Stands m (i + u) (text ".") 1 q) where
+      -- its dot does not
+      pub dot-missed : q ≡ false → (x : Name) → goesOn m i (segment left (nameAt s at) ++ x) ≡ goesOn m (length m + 1) x
+      dot-missed a x = rw (segment-dot left (nameAt s at) l, append-assoc, past-end m x) (stood m i r f _ ∙ rw b (d x ∙ rw a))
+
+      pub dot-met : q ≡ true → (x : Name) → goesOn m i (segment left (nameAt s at) ++ x) ≡ goesOn m (i + u + 1) x
+      dot-met a x = rw (segment-dot left (nameAt s at) l, append-assoc) (stood m i r f _ ∙ rw b (d x ∙ rw a))
+
+  -- it stands inside
+  pub inside-name : (i : ℕ) {k : ℕ} → i + length (take (at + 2 + u - (at + 2)) (drop (at + 2) s)) ≤ k → i + u ≤ 1 + k
+  inside-name i g = omega (arith, g, e, ap length (slice-is s at u e), name-length s at h)
+
+  -- it is counted
+  pub long-dot : {left : ℕ} → 1 < left → (u + 1 ≡ length (segment left (nameAt s at))) × (u + 1 ≤ 1 + le2 s at)
+  long-dot {left} l = (rw (segment-dot left (nameAt s at) l) (omega (arith, length-append (nameAt s at) (text "."), name-length s at h)), omega arith)
+
+  pub long-last : {left : ℕ} → left ≤ 1 → (u ≡ length (segment left (nameAt s at))) × (u ≤ 1 + le2 s at)
+  long-last {left} l = (rw (segment-last left (nameAt s at) l) (e ∙ sym (name-length s at h)), omega arith)
+
+  -- it is written
+  module _ {xs ys : List ℕ} {p q : ℕ} (f : Wrote xs p (take (at + 2 + u - (at + 2)) (drop (at + 2) s)) ys q) where
+    named : Wrote xs p (nameAt s at) ys q
+    named = subst (λ (n : Name). Wrote xs p n ys q) (slice-is s at u e) f
+
+    pub put-dot : {left : ℕ} {zs : List ℕ} {r : ℕ} → 1 < left → Wrote ys q (text ".") zs r → Wrote xs p (segment left (nameAt s at)) zs r × (r ≤ p + 1 + le2 s at)
+    put-dot {left} l g = (rw (segment-dot left (nameAt s at) l) (both named g), omega (arith, named .end, g .end, name-length s at h))
+
+    pub put-last : {left : ℕ} → left ≤ 1 → Wrote xs p (segment left (nameAt s at)) ys q × (q ≤ p + 1 + le2 s at)
+    put-last {left} l = (rw (segment-last left (nameAt s at) l) named, omega (arith, named .end, name-length s at h))
+
+-- no name is in a list of none
+pub no-names : {s : List ℕ} {n at : ℕ} (l : Entries s Item.names n at) → eqb n 0 ≡ noNames (textsOf (l .got .0))
+unfolding entries
+no-names {n} l = go (eqb n 0) refl
+  where
+    go : (b : Bool) → eqb n 0 ≡ b → b ≡ noNames (textsOf (l .got .0))
+    go true e = rw (none-left l (omega (arith, eqb-true n 0 e)))
+    go false e = rw (name-entry l (let h = eqb-false n 0 e in omega (arith, h)) .2 .tree)
+
+-- the first of n names, and the names behind it
+join-more : (left : ℕ) (n : Name) (ns : List Name) → 0 < left → eqb (left - 1) 0 ≡ noNames ns → join (n ∷ ns) ≡ segment left n ++ join ns
+unfolding join
+join-more left n [] h e = sym (rw (segment-last left n (omega (arith, eqb-true (left - 1) 0 e)), append-nil n))
+join-more left n (m ∷ ns) h e = rw (segment-dot left n (let k = eqb-false (left - 1) 0 e in omega (arith, k)), append-assoc) refl
+
+-- ---- the loop: P says of the whole path and of the segments that are left, both joined, what it has done
+
+pub record Joined (P : Name → Name → Type 0) (w u : Tree) : Type 0 where
+  pub is : P (join (textsOf w)) (join (textsOf u))
+
+abbrev pub Walk : (Name → Name → Type 0) → List ℕ → ℕ → ℕ → ℕ → Type 0
+Walk P s at left q = Left (Joined P) s Item.names (le2 s (at + 6)) (at + 8) left q
+
+pub inside : {s : List ℕ} {at : ℕ} → Accepted s 64 91 at → le2 s (at + 4) ≡ 65 → at + 8 ≤ length s
+inside a k = field-ref-at a k .inside
+
+pub begin : {P : Name → Name → Type 0} {s : List ℕ} {at left : ℕ} → ((n : Name) → P n n) → Accepted s 64 91 at → le2 s (at + 4) ≡ 65 → left ≡ le2 s (at + 6) → Walk P s at left (at + 8)
+begin {P} {s} {at} h a k e = subst (λ (n : ℕ). Walk P s at n (at + 8)) (sym e) (starts (λ t. record { is = h (join (textsOf t)) }) (field-ref-at a k .list))
+
+-- the next segment lies inside
+pub next-one : {P : Name → Name → Type 0} {s : List ℕ} (at : ℕ) {left q : ℕ} → 0 < left → Walk P s at left q → q + 2 + le2 s q ≤ length s
+next-one at h c = let a = name-entry (c .here) h .2 in omega (arith, a .inside, c .here .fits)
+
+-- it is passed
+joined-next : {P Q : Name → Name → Type 0} {s : List ℕ} {left q : ℕ} → 0 < left → ((w u : Name) → P w (segment left (nameAt s q) ++ u) → Q w u) → (w : Tree) (l : Entries s Item.names left q) (a : After l (name (nameAt s q)) (q + 2 + le2 s q)) →
+    Joined P w (l .got .0) → Joined Q w (a .rest .got .0)
+unfolding entries
+joined-next {P} {s} {left} {q} h g w l a j =
+    let e : join (textsOf (l .got .0)) ≡ segment left (nameAt s q) ++ join (textsOf (a .rest .got .0)) = ap (λ (t : Tree). join (textsOf t)) (a .tree) ∙ join-more left (nameAt s q) (textsOf (a .rest .got .0)) h (no-names (a .rest)) in
+    record { is = g _ _ (subst (P (join (textsOf w))) e (j .is)) }
+
+go-on : {P Q : Name → Name → Type 0} {s : List ℕ} (at : ℕ) {left q u : ℕ} → 0 < left → ((w r : Name) → P w (segment left (nameAt s q) ++ r) → Q w r) → u ≡ le2 s q → Walk P s at left q → Walk Q s at (left - 1) (q + 2 + u)
+go-on {P} {Q} {s} at {left} {q} h g e c = subst (λ (k : ℕ). Walk Q s at (left - 1) (q + 2 + k)) (sym e) (record {
+  here = name-entry (c .here) h .2 .rest;
+  whole = λ w.
+      let m = c .whole w in
+      let a = name-entry (m .0) h .2 in
+      (a .rest, joined-next h g (w .got .0) (m .0) a (m .1), m .2 ∙ a .stop);
+})
+
+-- ---- what is said of the names of the accepted path
+
+abbrev namesIn : ExprKind → List Name
+namesIn (ExprKind.Literal l) = []
+namesIn (ExprKind.FieldRef ns) = ns
+namesIn (ExprKind.Sizeof n) = []
+namesIn (ExprKind.Alignof n) = []
+namesIn (ExprKind.Binary k x y) = []
+namesIn (ExprKind.Unary k x) = []
+
+pub told : (P : List Name → Type 0) {s : List ℕ} {at : ℕ} → le2 s (at + 4) ≡ 65 → ((l : Entries s Item.names (le2 s (at + 6)) (at + 8)) → P (textsOf (l .got .0))) →
+    (a : Accepted s 64 91 at) (path : List Name) → exprOf (tree a) ≡ ExprKind.FieldRef path → P path
+told P k h a path e = let f = field-ref-at a k in subst P (ap namesIn (sym (f .is) ∙ e)) (h (f .list))
+
+pub no-more : {P : Name → Name → Type 0} {s : List ℕ} {at left q : ℕ} → left ≤ 0 → Walk P s at left q → le2 s (at + 4) ≡ 65 →
+    (a : Accepted s 64 91 at) (path : List Name) → exprOf (tree a) ≡ ExprKind.FieldRef path → P (join path) []
+unfolding join entries
+no-more {P} h c k = told (λ ns. P (join ns) []) k (λ l. ended h c l .0 .is)
+
+-- ---- the three loops
+
+-- the name has been matched as far as i
+pub record Matched (i : ℕ) (w u : Name) : Type 0 where
+  pub is : goesOn buffer-size 0 w ≡ goesOn buffer-size i u
+
+pub match-more : {s : List ℕ} (at : ℕ) {left q u i r : ℕ} → 0 < left → ((x : Name) → goesOn buffer-size i (segment left (nameAt s q) ++ x) ≡ goesOn buffer-size r x) → u ≡ le2 s q → Walk (Matched i) s at left q → Walk (Matched r) s at (left - 1) (q + 2 + u)
+match-more at l h = go-on at l (λ w x m. record { is = m .is ∙ h x })
+
+pub match-end : {i : ℕ} {w : Name} → Matched i w [] → eqb i 13 ≡ same w buffer-size
+match-end {i} {w} m = sym (on-end buffer-size i) ∙ sym (m .is) ∙ all-on buffer-size w
+
+-- n bytes have been passed
+pub record Passed (n : ℕ) (w u : Name) : Type 0 where
+  pub is : length w ≡ n + length u
+
+pub pass-more : {s : List ℕ} (at : ℕ) {left q u n r : ℕ} → 0 < left → r ≡ length (segment left (nameAt s q)) → u ≡ le2 s q → Walk (Passed n) s at left q → Walk (Passed (n + r)) s at (left - 1) (q + 2 + u)
+pass-more {s} at {left} {q} l e = go-on at l (λ w x p. record { is = omega (arith, p .is, length-append (segment left (nameAt s q)) x, e) })
+
+pub pass-end : {n : ℕ} {w : Name} → Passed n w [] → n ≡ length w
+pass-end p = omega (arith, p .is)
+
+-- Whatever writes the segments that are left makes the whole write.
+pub record Written (xs : List ℕ) (start : ℕ) (ys : List ℕ) (p : ℕ) (w u : Name) : Type 0 where
+  pub is : (zs : List ℕ) (r : ℕ) → Wrote ys p u zs r → Wrote xs start w zs r
+
+pub write-more : {s : List ℕ} (at : ℕ) {left q u start p r : ℕ} {xs ys zs : List ℕ} → 0 < left → Wrote ys p (segment left (nameAt s q)) zs r → u ≡ le2 s q → Walk (Written xs start ys p) s at left q → Walk (Written xs start zs r) s at (left - 1) (q + 2 + u)
+write-more at l f = go-on at l (λ w x c. record { is = λ vs k g. c .is vs k (both f g) })
+
+pub write-end : {xs ys : List ℕ} {start p : ℕ} {w : Name} → Written xs start ys p w [] → Wrote xs start w ys p
+write-end {ys} {p} c = c .is _ _ (none ys p)

@@ -1,0 +1,74 @@
+-- `builder_paths::put_path` meets its contract. The invariant: whatever writes the segments that are left makes the whole write.
+use borrow.Author.Needs.{needs}
+use native.Mathlib.Omega.{arith}
+use mathlib.Core.Path.{_≡_}
+use Prim.Native.Nat.{_+_, _≤_}
+use lib.ListN.{length}
+use Rattle.builder_paths.proofs.Segments.{Walk, inside, begin, next-one, no-more, Written, write-more, write-end}
+use Rattle.builder_paths.proofs.put_path.Statement.{statement}
+use Rattle.builder_paths.proofs.put_path.Tie as tie
+
+abbrev Inv-loop : tie.InvT-loop
+Inv-loop s at out₀ start left₀ q₀ p₀ out left q p = Walk (Written out₀ start out p) s at left q × (p ≤ start + q) × (length out ≡ length out₀)
+
+abbrev μ-loop : tie.MeasureT-loop
+μ-loop s at out₀ start left₀ q₀ p₀ out left q p = left
+
+add-read2 : tie.Need-add-read2 Inv-loop μ-loop
+add-read2 c = omega (arith, inside (c .before .before .pre .0) (c .before .before .pre .1))
+
+read2-requires : tie.Need-read2-requires Inv-loop μ-loop
+read2-requires c κs = omega (arith, inside (c .before .before .pre .0) (c .before .before .pre .1))
+
+add-q : tie.Need-add-q Inv-loop μ-loop
+add-q c = omega (arith, inside (c .before .before .before .pre .0) (c .before .before .before .pre .1))
+
+loop-holds : tie.Need-loop-holds Inv-loop μ-loop
+loop-holds c = (begin (λ n. record { is = λ zs r g. g }) (c .before .before .before .pre .0) (c .before .before .before .pre .1) (c .read2 .ensures .0), omega arith, search needs)
+
+put-segment-requires : tie.Need-put-segment-requires Inv-loop μ-loop
+put-segment-requires c κs = (next-one _ (c .before .loop-test .taken) (c .before .before .loop .inv .0), c .before .before .before .before .before .before .pre .2, omega (arith, c .before .before .loop .inv .1, c .before .before .before .before .before .before .pre .2, c .before .before .before .before .before .before .pre .3, next-one _ (c .before .loop-test .taken) (c .before .before .loop .inv .0)))
+
+add-q-2 : tie.Need-add-q-2 Inv-loop μ-loop
+add-q-2 c = omega (arith, next-one _ (c .before .before .before .before .loop-test .taken) (c .before .before .before .before .before .loop .inv .0))
+
+read2-requires-2 : tie.Need-read2-requires-2 Inv-loop μ-loop
+read2-requires-2 c κs = omega (arith, next-one _ (c .before .before .before .before .loop-test .taken) (c .before .before .before .before .before .loop .inv .0))
+
+add-q-3 : tie.Need-add-q-3 Inv-loop μ-loop
+add-q-3 c = omega (arith, c .read22 .ensures .0, next-one _ (c .before .before .before .before .before .loop-test .taken) (c .before .before .before .before .before .before .loop .inv .0))
+
+sub-left : tie.Need-sub-left Inv-loop μ-loop
+sub-left c = omega arith
+
+loop-less : tie.Need-loop-less Inv-loop μ-loop
+loop-less c = omega arith
+
+loop-again : tie.Need-loop-again Inv-loop μ-loop
+loop-again c = (write-more _ (c .before .before .before .before .before .loop-test .taken) (c .before .before .before .put-segment .ensures .0) (c .read22 .ensures .0) (c .before .before .before .before .before .before .loop .inv .0), omega (arith, c .before .before .before .before .before .before .loop .inv .1, c .read22 .ensures .0, c .before .before .before .put-segment .ensures .1), search needs)
+
+same-length : tie.Need-same-length Inv-loop μ-loop
+same-length c = search needs
+
+returns : tie.Need-returns Inv-loop μ-loop
+returns c = λ a path e. write-end (no-more (c .loop-test .left) (c .before .loop .inv .0) (c .before .before .before .before .before .pre .1) a path e)
+
+pub put-path-spec : {M : Type 1} → statement M
+put-path-spec =
+    tie.close
+    (tie.spec
+    Inv-loop
+    μ-loop
+    add-read2
+    read2-requires
+    add-q
+    loop-holds
+    put-segment-requires
+    add-q-2
+    read2-requires-2
+    add-q-3
+    sub-left
+    loop-less
+    loop-again
+    same-length
+    returns)

@@ -1,0 +1,196 @@
+-- What a word more enters, and what a mark changes. Assumes nothing.
+use Prim.Native.Nat.{ℕ, zero, suc, _+_, _*_, _/_, _%_, _≤_, _<_}
+use native.Mathlib.Omega.{arith}
+use native.Mathlib.Numerals.{add-one}
+use mathlib.Core.Path.{_≡_, refl, sym, ap, _∙_}
+use mathlib.Core.Bool.{Bool, true, false, cond}
+use mathlib.Core.List.{List, [], _∷_, _++_, map}
+use mathlib.Core.Option.{some, none}
+use lib.Dec.{eqb}
+use lib.ListN.{length, take, getD, set}
+use lib.Seq.{take-suc-set, take-set-lt, set-getD, getD-set-same}
+use borrow.Author.Tests.{ne-eqb, lt-ltb, le-ltb, le-leb, lt-leb}
+use Rattle.errors.specs.Refusal.{Outcome, done, refused, plain}
+use Rattle.errors.specs.Refusal.{_>>=_ as _andThen_}
+use Rattle.blocks.specs.Name.{Name, text}
+use Rattle.ir.specs.Ir.{IrParameter}
+use Rattle.builder.specs.Names.{normalize-path}
+use Rattle.builder.specs.Registry.{Entry, Registry, _>>=_, give, refuse, require, reads, change, find, enter, ensure, add-synthetic, derivedEntry, mark, mark-derived, entryOf as pathEntry}
+use Rattle.builder_registry.specs.declared.Held.{Held}
+use Rattle.builder_registry.specs.Words.{held, ownerAt, madeOf, derivedOf, flagged, madePath, madeParameter, madeEntry, entryOf, entriesOf, entryName, Kept, Tags}
+use Rattle.builder_registry.specs.Place.{placeOf}
+use Rattle.builder_registry.proofs.Names.{made-flagged}
+use Rattle.builder_registry.proofs.Places.{entries-length, entry-at, found-at, found-none, marked-at, marked-none}
+
+-- ---- the definition, by its tests
+
+module _ (e : Entry) (g : Registry) where
+  enter-long : 255 < length (e .parameter .name) → enter e g ≡ refused (plain 17)
+  unfolding enter _>>=_ _andThen_ give refuse require reads change
+  enter-long h = rw (lt-leb (length (e .parameter .name)) 255 h)
+
+  enter-full : length (e .parameter .name) ≤ 255 → 512 ≤ length g → enter e g ≡ refused (plain 17)
+  unfolding enter _>>=_ _andThen_ give refuse require reads change
+  enter-full h k = rw (le-leb (length (e .parameter .name)) 255 h, le-ltb (length g) 512 k)
+
+  enter-room : length (e .parameter .name) ≤ 255 → length g < 512 → enter e g ≡ done (tt, g ++ (e ∷ []))
+  unfolding enter _>>=_ _andThen_ give refuse require reads change
+  enter-room h k = rw (le-leb (length (e .parameter .name)) 255 h, lt-ltb (length g) 512 k)
+
+module _ (o p : Name) (g : Registry) where
+  ensure-found : (x : IrParameter) → find o (normalize-path o p) g ≡ some x → ensure o p g ≡ done (tt, g)
+  unfolding ensure _>>=_ _andThen_ reads give
+  ensure-found x h = rw h
+
+  ensure-new : find o (normalize-path o p) g ≡ none → ensure o p g ≡ enter (pathEntry o p) g
+  unfolding ensure _>>=_ _andThen_ reads
+  ensure-new h = rw h
+
+  module _ (q : IrParameter) where
+    synthetic-found : (x : IrParameter) → find o (normalize-path o p) g ≡ some x → add-synthetic o p q g ≡ done (x .name, g)
+    unfolding add-synthetic _>>=_ _andThen_ reads give
+    synthetic-found x h = rw h
+
+    synthetic-new : find o (normalize-path o p) g ≡ none →
+        add-synthetic o p q g ≡ _andThen_ (enter (record { owner = o; keys = normalize-path o p ∷ []; parameter = q }) g) (λ x. done (q .name, x .1))
+    unfolding add-synthetic _>>=_ _andThen_ reads give
+    synthetic-new h = rw h
+
+-- ---- one word more
+
+map-last : {A B : Type 0} (f : A → B) (xs : List A) (y : A) → map f (xs ++ (y ∷ [])) ≡ map f xs ++ (f y ∷ [])
+map-last f [] y = refl
+map-last {B = B} f (x ∷ xs) y = ap (λ (z : List B). f x ∷ z) (map-last f xs y)
+
+pushed : (s ws : List ℕ) (n w : ℕ) → n < length ws → entriesOf s (set ws n w) (n + 1) ≡ entriesOf s ws n ++ (entryOf s w ∷ [])
+unfolding entriesOf
+pushed s ws n w h = rw (add-one, take-suc-set ws n w h, map-last (entryOf s) (take n ws) w)
+
+module _ (s ws : List ℕ) (n w l : ℕ) (fit : n ≤ length ws) (e : l ≡ length (entryName s w)) where
+  pub entered-long : (us : List ℕ) → 255 < l → Kept s us (record { count = n; no = 17 }) (enter (entryOf s w) (entriesOf s ws n))
+  entered-long us h = rw (enter-long (entryOf s w) (entriesOf s ws n) (omega arith)) (Kept.not 17 refl (omega arith))
+
+  pub entered-full : (us : List ℕ) → l ≤ 255 → 512 ≤ n → Kept s us (record { count = n; no = 17 }) (enter (entryOf s w) (entriesOf s ws n))
+  entered-full us h k = rw (enter-full (entryOf s w) (entriesOf s ws n) (omega arith) (omega (arith, entries-length s ws n fit))) (Kept.not 17 refl (omega arith))
+
+  pub entered : l ≤ 255 → n < 512 → n < length ws →
+      Kept s (set ws n w) (record { count = n + 1; no = 0 }) (enter (entryOf s w) (entriesOf s ws n)) × (_≡_ {A = ℕ} 0 0 → (n + 1 ≡ n + 1) × (getD (set ws n w) n 0 ≡ w))
+  entered h k g = (
+    rw (enter-room (entryOf s w) (entriesOf s ws n) (omega arith) (omega (arith, entries-length s ws n fit))) (Kept.kept _ refl (pushed s ws n w g)),
+    λ z. (refl, getD-set-same ws n w 0 g),
+  )
+
+pub not-seventeen : {X : Type 0} → _≡_ {A = ℕ} 17 0 → X
+not-seventeen e = absurd (let z : ⊥ = omega arith in z)
+
+-- ---- a path
+
+-- the word of a path
+packed : (s : List ℕ) (a b : ℕ) → a < 65536 → b < 65536 → entryOf s (a + 65536 * b) ≡ pathEntry (held s a) (held s b)
+unfolding entryOf
+packed s a b h k =
+    let e : (a + 65536 * b) % 65536 ≡ a = omega arith in
+    let f : (a + 65536 * b) / 65536 ≡ b = omega arith in
+    let g : b % 65536 ≡ b = omega arith in
+    let m : (a + 65536 * b) / 4294967296 ≡ 0 = omega arith in
+    let d : (a + 65536 * b) / 17179869184 ≡ 0 = omega arith in
+    rw (e, f, g, m, d)
+
+module _ (s ws : List ℕ) (n owner path : ℕ) (fit : n ≤ length ws) (o p : Name) (f : o ≡ held s owner) (g : p ≡ held s path)
+    (i : ℕ) (e : i ≡ placeOf o (some p) (entriesOf s ws n)) where
+  pub ensure-has : i < n → Kept s ws (record { count = n; no = 0 }) (ensure (held s owner) (held s path) (entriesOf s ws n))
+  ensure-has h = rw (← f, ← g, ensure-found o p (entriesOf s ws n) _ (found-at s ws n fit o i p e h)) (Kept.kept _ refl refl)
+
+  pub ensure-more : {us : List ℕ} {r : Held} → n ≤ i → owner < 65536 → path < 65536 → Kept s us r (enter (entryOf s (owner + 65536 * path)) (entriesOf s ws n)) →
+      Kept s us r (ensure (held s owner) (held s path) (entriesOf s ws n))
+  ensure-more h a b k =
+      rw (← f, ← g, ensure-new o p (entriesOf s ws n) (found-none s ws n fit o i p e h), f, g, ← packed s owner path a b) k
+
+-- ---- a made parameter
+
+-- the word of a made parameter
+module _ (s : List ℕ) (a m : ℕ) (h : a < 65536) where
+  made-is : (w : ℕ) → ownerAt w ≡ a → madeOf w ≡ m → (m ≡ 0 → ⊥) → derivedOf w ≡ eqb m 1 → entryOf s w ≡ madeEntry m (held s a)
+  unfolding entryOf
+  made-is w e f k g = rw (f, ne-eqb m 0 k, e, g) (made-flagged m (held s a))
+
+  pub made-one : m ≡ 1 → entryOf s (a + 4294967296 * m + 17179869184) ≡ madeEntry m (held s a)
+  made-one e =
+      let f : (a + 4294967296 * m + 17179869184) / 4294967296 ≡ 5 = omega arith in
+      let d : (a + 4294967296 * m + 17179869184) / 17179869184 ≡ 1 = omega arith in
+      made-is (a + 4294967296 * m + 17179869184) (omega arith) (rw (f, e)) (λ z. let y : ⊥ = omega arith in y) (rw (d, e))
+
+  pub made-other : (m ≡ 1 → ⊥) → 1 ≤ m → m ≤ 3 → entryOf s (a + 4294967296 * m) ≡ madeEntry m (held s a)
+  made-other k l u =
+      let f : (a + 4294967296 * m) / 4294967296 ≡ m = omega arith in
+      let g : m % 4 ≡ m = omega arith in
+      let d : (a + 4294967296 * m) / 17179869184 ≡ 0 = omega arith in
+      made-is (a + 4294967296 * m) (omega arith) (rw (f, g)) (λ z. let y : ⊥ = omega arith in y) (rw (d, ne-eqb m 1 k))
+
+module _ (s ws : List ℕ) (n owner made : ℕ) (fit : n ≤ length ws) (o p : Name) (f : o ≡ held s owner) (g : p ≡ madePath made)
+    (i : ℕ) (e : i ≡ placeOf o (some p) (entriesOf s ws n)) where
+  pub synthetic-has : i < n → Tags s ws (record { at = i; count = n; no = 0 }) (add-synthetic (held s owner) (madePath made) (madeParameter made (held s owner)) (entriesOf s ws n))
+  synthetic-has h = rw (← f, ← g, synthetic-found o p (entriesOf s ws n) (madeParameter made o) _ (found-at s ws n fit o i p e h)) (Tags.tags _ refl refl h)
+
+  -- the outcome of entering, with the name that is then answered
+  tagged : {us : List ℕ} {r : Held} {x : Outcome (Unit × Registry)} (m : Name) → Kept s us r x → (r .no ≡ 0 → m ≡ entryName s (getD us n 0)) → (r .no ≡ 0 → r .count ≡ n + 1) →
+      Tags s us (record { at = n; count = r .count; no = r .no }) (_andThen_ x (λ y. done (m, y .1)))
+  unfolding _andThen_
+  tagged m (Kept.kept g z q) k l = rw (k z) (Tags.tags g z q (omega (arith, l z)))
+  tagged m (Kept.not j z q) k l = Tags.not j z q
+
+  pub synthetic-more : {us : List ℕ} {r : Held} (w : ℕ) → n ≤ i → ((t : List ℕ) → entryOf t w ≡ madeEntry made (held t owner)) → Kept s us r (enter (entryOf s w) (entriesOf s ws n)) →
+      (r .no ≡ 0 → (r .count ≡ n + 1) × (getD us n 0 ≡ w)) →
+      Tags s us (record { at = n; count = r .count; no = r .no }) (add-synthetic (held s owner) (madePath made) (madeParameter made (held s owner)) (entriesOf s ws n))
+  unfolding madeEntry
+  synthetic-more {us} {r} w h m k l =
+      rw (synthetic-new (held s owner) (madePath made) (entriesOf s ws n) (madeParameter made (held s owner)) none-found)
+      (tagged (madeParameter made (held s owner) .name) (rw (m s) at k) (λ z. sym (ap (entryName s) (l z .1) ∙ ap (λ (y : Entry). y .parameter .name) (m s))) (λ z. l z .0))
+    where
+      none-found : find (held s owner) (normalize-path (held s owner) (madePath made)) (entriesOf s ws n) ≡ none
+      none-found = rw (← f, ← g) (found-none s ws n fit o i p e h)
+
+-- ---- a mark
+
+odd : (q : ℕ) → (q % 2 ≡ 1 → ⊥) → (q + 1) % 2 ≡ 1
+odd q h = omega (arith, h)
+
+module _ (s : List ℕ) (w : ℕ) where
+  mark-word : (w / 17179869184 % 2 ≡ 1 → ⊥) → entryOf s (w + 17179869184) ≡ derivedEntry (entryOf s w)
+  unfolding entryOf
+  mark-word h =
+      let a : (w + 17179869184) % 65536 ≡ w % 65536 = omega arith in
+      let b : (w + 17179869184) / 65536 ≡ w / 65536 + 262144 = omega arith in
+      let c : (w / 65536 + 262144) % 65536 ≡ w / 65536 % 65536 = omega arith in
+      let d : (w + 17179869184) / 4294967296 ≡ w / 4294967296 + 4 = omega arith in
+      let e : (w / 4294967296 + 4) % 4 ≡ w / 4294967296 % 4 = omega arith in
+      let f : (w + 17179869184) / 17179869184 ≡ w / 17179869184 + 1 = omega arith in
+      rw (a, b, c, d, e, f, odd (w / 17179869184) h)
+
+  marked-word : w / 17179869184 % 2 ≡ 1 → derivedEntry (entryOf s w) ≡ entryOf s w
+  unfolding entryOf
+  marked-word h = rw h
+
+map-set : {A B : Type 0} (f : A → B) (xs : List A) (i : ℕ) (y : A) → map f (set xs i y) ≡ set (map f xs) i (f y)
+map-set f [] i y = refl
+map-set f (x ∷ xs) zero y = refl
+map-set {B = B} f (x ∷ xs) (suc i) y = ap (λ (z : List B). f x ∷ z) (map-set f xs i y)
+
+changed : (s ws : List ℕ) (n i w : ℕ) → i < n → entriesOf s (set ws i w) n ≡ set (entriesOf s ws n) i (entryOf s w)
+unfolding entriesOf
+changed s ws n i w h = rw (take-set-lt n ws i w h) (map-set (entryOf s) (take n ws) i w)
+
+module _ (s ws : List ℕ) (n : ℕ) (fit : n ≤ length ws) (o p : Name) (i : ℕ) (e : i ≡ placeOf o (some p) (entriesOf s ws n)) where
+  pub mark-nothing : n ≤ i → entriesOf s ws n ≡ mark-derived o p (entriesOf s ws n)
+  unfolding mark-derived
+  mark-nothing h = sym (marked-none s ws n fit o i p e h)
+
+  pub mark-again : i < n → getD ws i 0 / 17179869184 % 2 ≡ 1 → entriesOf s ws n ≡ mark-derived o p (entriesOf s ws n)
+  unfolding mark-derived
+  mark-again h d =
+      sym (marked-at s ws n fit o i p e h ∙ (ap (set (entriesOf s ws n) i) (marked-word s (getD ws i 0) d ∙ sym (entry-at s ws n fit i h)) ∙ set-getD (entriesOf s ws n) i (entryOf s 0)))
+
+  pub mark-first : i < n → (getD ws i 0 / 17179869184 % 2 ≡ 1 → ⊥) → entriesOf s (set ws i (getD ws i 0 + 17179869184)) n ≡ mark-derived o p (entriesOf s ws n)
+  unfolding mark-derived
+  mark-first h d =
+      changed s ws n i (getD ws i 0 + 17179869184) h ∙ (ap (set (entriesOf s ws n) i) (mark-word s (getD ws i 0) d) ∙ sym (marked-at s ws n fit o i p e h))

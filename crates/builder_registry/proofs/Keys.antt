@@ -1,0 +1,159 @@
+-- A word's names, its keys, and the texts of made parameters. Assumes nothing.
+use Prim.Native.Nat.{ℕ, _+_, _-_, _≤_, _<_}
+use native.Mathlib.Omega.{arith}
+use mathlib.Core.Path.{_≡_, refl, sym, ap, ap₂, _∙_}
+use mathlib.Core.Bool.{Bool, true, false, _||_, cond}
+use mathlib.Core.List.{List, [], _∷_}
+use mathlib.Core.Option.{Option}
+use lib.Dec.{eqb}
+use lib.ListN.{length, take, drop, length-take}
+use borrow.Author.Tests.{le-leb, lt-leb, eq-eqb, ne-eqb}
+use Rattle.blocks.specs.Bytes.{le2}
+use Rattle.blocks.specs.Name.{Name, text, same}
+use Rattle.blocks.proofs.Name.{same-eq}
+use Rattle.builder.specs.Names.{isEmpty, normalize-path}
+use Rattle.builder.specs.Registry.{Entry, entryOf as pathEntry}
+use Rattle.builder_names.specs.Views.{isKey, aliasOf}
+use Rattle.builder_names.proofs.Colons.{aliases-are}
+use Rattle.builder_registry.specs.Words.{held, ownerAt, pathAt, madeOf, derivedOf, flagged, madePath, madeEntry, entryOf}
+use Rattle.builder_registry.specs.Place.{wanted, anyKey, hasKey}
+
+-- ---- the name at an offset
+
+module _ (s : List ℕ) (at : ℕ) where
+  pub held-none : length s < at + 2 → [] ≡ held s at
+  unfolding held
+  held-none h = rw (lt-leb (at + 2 + le2 s at) (length s) (omega arith))
+
+  module _ (n : ℕ) (e : n ≡ le2 s at) where
+    pub held-out : length s < at + 2 + n → [] ≡ held s at
+    unfolding held
+    held-out h = rw (← e, lt-leb (at + 2 + n) (length s) h)
+
+    pub held-long : at + 2 + n ≤ length s → 255 < n → [] ≡ held s at
+    unfolding held
+    held-long h k = rw (← e, le-leb (at + 2 + n) (length s) h, lt-leb n 255 k)
+
+    pub held-in : at + 2 + n ≤ length s → n ≤ 255 → take (at + 2 + n - (at + 2)) (drop (at + 2) s) ≡ held s at
+    unfolding held
+    held-in h k = let q : at + 2 + n - (at + 2) ≡ n = omega arith in rw (← e, le-leb (at + 2 + n) (length s) h, le-leb n 255 k, q)
+
+  pub held-short : (n : ℕ) → n ≤ 255 → length (take (at + 2 + n - (at + 2)) (drop (at + 2) s)) ≤ 255
+  held-short n h = omega (arith, length-take (at + 2 + n - (at + 2)) (drop (at + 2) s))
+
+pub ruleset helds = (held-none, held-out, held-long, held-in, held-short)
+
+-- ---- the text of a made parameter
+
+module _ {A : Type 0} (made : ℕ) (a b c : A) where
+  pub pick-first : made ≡ 1 → a ≡ cond (eqb made 1) a (cond (eqb made 2) b c)
+  pick-first e = rw (eq-eqb made 1 e)
+
+  pub pick-second : (made ≡ 1 → ⊥) → made ≡ 2 → b ≡ cond (eqb made 1) a (cond (eqb made 2) b c)
+  pick-second h e = rw (ne-eqb made 1 h, eq-eqb made 2 e)
+
+  pub pick-third : (made ≡ 1 → ⊥) → (made ≡ 2 → ⊥) → c ≡ cond (eqb made 1) a (cond (eqb made 2) b c)
+  pick-third h k = rw (ne-eqb made 1 h, ne-eqb made 2 k)
+
+pub ruleset picks = (pick-first, pick-second, pick-third)
+
+-- ---- the key of a path
+
+module _ (qualified : Bool) (o p k : Name) (b : Bool) where
+  pub key-qualified : qualified ≡ true → b ≡ isKey o (wanted true o p) k → b ≡ isKey o (wanted qualified o p) k
+  key-qualified h e = rw h e
+
+  pub key-plain : (n : Name) → qualified ≡ false → n ≡ normalize-path o p → b ≡ same n k → b ≡ isKey o (wanted qualified o p) k
+  key-plain n h e f = f ∙ rw (h, e)
+
+pub ruleset path-keys = (key-qualified, key-plain)
+
+-- ---- the keys of an entered path
+
+or-false : (b : Bool) → (b || false) ≡ b
+or-false true = refl
+or-false false = refl
+
+module _ (o : Name) (w : Option Name) (p n : Name) (e : n ≡ normalize-path o p) (b : Bool) (f : b ≡ isKey o w n) where
+  pub keys-normal : b ≡ true → true ≡ anyKey o w (pathEntry o p .keys)
+  unfolding anyKey
+  keys-normal h = let q : isKey o w (normalize-path o p) ≡ true = ap (isKey o w) (sym e) ∙ (sym f ∙ h) in rw q
+
+  module _ (h : b ≡ false) (a : Name) (g : a ≡ aliasOf p n) where
+    keys-rest : anyKey o w (pathEntry o p .keys) ≡ anyKey o w (cond (isEmpty a) [] (a ∷ []))
+    unfolding anyKey
+    keys-rest =
+        let q : isKey o w (normalize-path o p) ≡ false = ap (isKey o w) (sym e) ∙ (sym f ∙ h) in
+        rw q (ap (anyKey o w) (aliases-are p (normalize-path o p) ∙ ap (λ (x : Name). cond (isEmpty x) [] (x ∷ [])) (sym (g ∙ ap (aliasOf p) e))))
+
+    pub keys-none : length a ≡ 0 → false ≡ anyKey o w (pathEntry o p .keys)
+    unfolding anyKey
+    keys-none l = sym (keys-rest ∙ go a l)
+      where
+        go : (a : Name) → length a ≡ 0 → anyKey o w (cond (isEmpty a) [] (a ∷ [])) ≡ false
+        go [] l = refl
+        go (x ∷ xs) l = absurd (let z : ⊥ = omega arith in z)
+
+    pub keys-alias : (t : Bool) → (length a ≡ 0 → ⊥) → t ≡ isKey o w a → t ≡ anyKey o w (pathEntry o p .keys)
+    unfolding anyKey
+    keys-alias t l i = i ∙ sym (keys-rest ∙ go a l)
+      where
+        go : (a : Name) → (length a ≡ 0 → ⊥) → anyKey o w (cond (isEmpty a) [] (a ∷ [])) ≡ isKey o w a
+        go [] l = absurd (l refl)
+        go (x ∷ xs) l = or-false (isKey o w (x ∷ xs))
+
+pub ruleset entered-keys = (keys-normal, keys-none, keys-alias)
+
+-- ---- the key of a made parameter
+
+-- its path, as the code gives it
+pub made-text : (made : ℕ) (t : Name) → t ≡ cond (eqb made 1) (text "__computed_tag") (cond (eqb made 2) (text "__variant") (text "__payload_size")) → t ≡ madePath made
+unfolding madePath
+made-text made t e = e
+
+pub made-key : (o : Name) (w : Option Name) (made : ℕ) (t n : Name) (b : Bool) → t ≡ madePath made → n ≡ normalize-path o t → b ≡ isKey o w n → b ≡ isKey o w (normalize-path o (madePath made))
+made-key o w made t n b e f g = g ∙ ap (isKey o w) (f ∙ ap (normalize-path o) e)
+
+-- ---- what a word holds
+
+module _ (s : List ℕ) (w : ℕ) where
+  pub owner-is : entryOf s w .owner ≡ held s (ownerAt w)
+  unfolding entryOf madeEntry
+  owner-is = go (eqb (madeOf w) 0)
+    where
+      go : (b : Bool) → cond b (pathEntry (held s (ownerAt w)) (held s (pathAt w))) (madeEntry (madeOf w) (held s (ownerAt w))) .owner ≡ held s (ownerAt w)
+      go true = refl
+      go false = refl
+
+  pub entry-path : madeOf w ≡ 0 → entryOf s w ≡ flagged (derivedOf w) (pathEntry (held s (ownerAt w)) (held s (pathAt w)))
+  unfolding entryOf
+  entry-path e = rw (eq-eqb (madeOf w) 0 e)
+
+  pub entry-made : (madeOf w ≡ 0 → ⊥) → entryOf s w ≡ flagged (derivedOf w) (madeEntry (madeOf w) (held s (ownerAt w)))
+  unfolding entryOf
+  entry-made e = rw (ne-eqb (madeOf w) 0 e)
+
+  pub owner-told : (o n : Name) (b : Bool) → n ≡ held s (ownerAt w) → b ≡ same o n → b ≡ same o (entryOf s w .owner)
+  owner-told o n b e f = f ∙ ap (same o) (e ∙ sym owner-is)
+
+  module _ (o : Name) (x : Option Name) (t : Bool) (e : t ≡ same o (entryOf s w .owner)) where
+    pub word-other : t ≡ false → false ≡ hasKey o x (entryOf s w)
+    word-other h = let q : same o (entryOf s w .owner) ≡ false = sym e ∙ h in rw q
+
+    module _ (h : t ≡ true) where
+      keys-of : hasKey o x (entryOf s w) ≡ anyKey o x (entryOf s w .keys)
+      keys-of = let q : same o (entryOf s w .owner) ≡ true = sym e ∙ h in rw q
+
+      owner-same : held s (ownerAt w) ≡ o
+      owner-same = sym (same-eq o (entryOf s w .owner) (sym e ∙ h) ∙ owner-is)
+
+      pub word-path : (p : Name) (b : Bool) → madeOf w ≡ 0 → p ≡ held s (pathAt w) → b ≡ anyKey o x (pathEntry o p .keys) → b ≡ hasKey o x (entryOf s w)
+      word-path p b m f g =
+          g ∙ sym (keys-of ∙ (ap (λ (y : Entry). anyKey o x (y .keys)) (entry-path m) ∙ ap₂ (λ (y z : Name). anyKey o x (pathEntry y z .keys)) owner-same (sym f)))
+
+      pub word-made : (b : Bool) → (madeOf w ≡ 0 → ⊥) → b ≡ isKey o x (normalize-path o (madePath (madeOf w))) → b ≡ hasKey o x (entryOf s w)
+      unfolding anyKey madeEntry
+      word-made b m g =
+          g ∙ sym (keys-of ∙ (ap (λ (y : Entry). anyKey o x (y .keys)) (entry-made m) ∙ (or-false (isKey o x (normalize-path (held s (ownerAt w)) (madePath (madeOf w)))) ∙ ap (λ (y : Name). isKey o x (normalize-path y (madePath (madeOf w)))) owner-same)))
+
+pub ruleset word-keys = (word-other, word-path, word-made)

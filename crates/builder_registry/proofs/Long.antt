@@ -1,0 +1,121 @@
+-- A key of more than 255 bytes is in no entry. Assumes nothing.
+use Prim.Native.Nat.{ℕ, _+_, _≤_, _<_}
+use native.Mathlib.Omega.{arith}
+use mathlib.Core.Path.{_≡_, refl, sym, ap, _∙_}
+use mathlib.Core.Bool.{Bool, true, false, _&&_, _||_, cond}
+use mathlib.Core.List.{List, [], _∷_, map}
+use mathlib.Core.Option.{Option, some, none}
+use lib.Dec.{eqb}
+use lib.ListN.{length, take, length-drop}
+use borrow.Author.Tests.{eqb-true, eqb-false}
+use Rattle.blocks.specs.Name.{Name, text, same, among}
+use Rattle.blocks.proofs.Name.{same-eq}
+use Rattle.wire.proofs.Names.{same-long}
+use Rattle.builder.specs.Names.{isEmpty, isSome, strip-prefix, strip-owner, normalize-path, rsplit-once, behind, aliasUnless, alternate-owner-aliases}
+use Rattle.builder.specs.Registry.{Entry, Registry, holds, find, derivedEntry, mark, entryOf as pathEntry}
+use Rattle.builder_names.proofs.Strip.{strip-got, normal-rest, normal-whole}
+use Rattle.builder_registry.specs.Words.{held, ownerAt, pathAt, madeOf, madePath, madeEntry, entryOf, entriesOf}
+use Rattle.builder_registry.proofs.Keys.{entry-path, entry-made}
+use Rattle.builder_registry.proofs.Names.{normal-short, held-bound}
+
+-- ---- what stands behind the last `::` is shorter
+
+pub record Shorter (n : ℕ) (t : Option (Name × Name)) : Type 0 where
+  pub is : (p : Name × Name) → t ≡ some p → length (p .1) ≤ n
+
+split-short : (s : Name) → Shorter (length s) (rsplit-once s)
+unfolding rsplit-once
+split-short [] = record { is = λ p e. absurd (let z : _≡_ {A = ℕ} 0 1 = cc in omega arith) }
+split-short (x ∷ xs) = go (rsplit-once xs) (split-short xs)
+  where
+    first-one : (t : Option Name) → strip-prefix (text "::") (x ∷ xs) ≡ t → Shorter (length (x ∷ xs)) (behind t)
+    first-one none f = record { is = λ p e. absurd (let z : _≡_ {A = ℕ} 0 1 = cc in omega arith) }
+    first-one (some r) f = record {
+      is = λ p e.
+          let q : _≡_ {A = Name × Name} ([], r) p = cc in
+          omega (arith, ap (λ (v : Name × Name). length (v .1)) q, ap length (strip-got (text "::") (x ∷ xs) r f));
+    }
+
+    go : (t : Option (Name × Name)) → Shorter (length xs) t → Shorter (length (x ∷ xs)) (elim t [ none ↦ behind (strip-prefix (text "::") (x ∷ xs)) | some p ↦ some (x ∷ p .0, p .1) ])
+    go none ih = first-one (strip-prefix (text "::") (x ∷ xs)) refl
+    go (some q) ih = record {
+      is = λ p e.
+          let v : _≡_ {A = Name × Name} (x ∷ q .0, q .1) p = cc in
+          omega (arith, ap (λ (u : Name × Name). length (u .1)) v, ih .is q refl);
+    }
+
+-- ---- a long key
+
+module _ (k : Name) (long : 255 < length k) where
+  not-same : (n : Name) → length n ≤ 255 → same k n ≡ false
+  not-same n h = sym (same-long k n (λ e. let z : ⊥ = omega arith in z))
+
+  not-alias : (p n : Name) → length p ≤ 255 → among k (alternate-owner-aliases p n) ≡ false
+  unfolding alternate-owner-aliases among
+  not-alias p n h = go (rsplit-once p) (split-short p)
+    where
+      go : (t : Option (Name × Name)) → Shorter (length p) t → among k (aliasUnless n t) ≡ false
+      go none l = refl
+      go (some q) l = all (isEmpty (q .1) || same (q .1) n)
+        where
+          all : (b : Bool) → among k (cond b [] (q .1 ∷ [])) ≡ false
+          all true = refl
+          all false = rw (not-same (q .1) (omega (arith, l .is q refl)))
+
+  not-path : (o p : Name) → length p ≤ 255 → among k (pathEntry o p .keys) ≡ false
+  unfolding among
+  not-path o p h = rw (not-same (normalize-path o p) (omega (arith, normal-short o p))) (not-alias p (normalize-path o p) h)
+
+  made-short : (m : ℕ) → length (madePath m) ≤ 255
+  unfolding madePath
+  made-short m = go (eqb m 1) (eqb m 2)
+    where
+      go : (b t : Bool) → length (cond b (text "__computed_tag") (cond t (text "__variant") (text "__payload_size"))) ≤ 255
+      go true t = omega arith
+      go false true = omega arith
+      go false false = omega arith
+
+  not-made : (m : ℕ) (o : Name) → among k (madeEntry m o .keys) ≡ false
+  unfolding among madeEntry
+  not-made m o = rw (not-same (normalize-path o (madePath m)) (omega (arith, normal-short o (madePath m), made-short m)))
+
+  not-key : (s : List ℕ) (w : ℕ) → among k (entryOf s w .keys) ≡ false
+  not-key s w = go (eqb (madeOf w) 0) refl
+    where
+      go : (b : Bool) → eqb (madeOf w) 0 ≡ b → among k (entryOf s w .keys) ≡ false
+      go true h = ap (λ (y : Entry). among k (y .keys)) (entry-path s w (eqb-true (madeOf w) 0 h)) ∙ not-path (held s (ownerAt w)) (held s (pathAt w)) (held-bound s (pathAt w))
+      go false h = ap (λ (y : Entry). among k (y .keys)) (entry-made s w (eqb-false (madeOf w) 0 h)) ∙ not-made (madeOf w) (held s (ownerAt w))
+
+  not-held : (o : Name) (s : List ℕ) (w : ℕ) → holds o k (entryOf s w) ≡ false
+  not-held o s w = ap (λ (b : Bool). same o (entryOf s w .owner) && b) (not-key s w) ∙ go (same o (entryOf s w .owner))
+    where
+      go : (b : Bool) → (b && false) ≡ false
+      go true = refl
+      go false = refl
+
+  find-words : (o : Name) (s ws : List ℕ) → find o k (map (entryOf s) ws) ≡ none
+  unfolding find
+  find-words o s [] = refl
+  find-words o s (w ∷ ws) = ap (λ (t : Bool). elim t [ true ↦ some (entryOf s w .parameter) | false ↦ find o k (map (entryOf s) ws) ]) (not-held o s w) ∙ find-words o s ws
+
+  mark-words : (o : Name) (s ws : List ℕ) → mark o k (map (entryOf s) ws) ≡ map (entryOf s) ws
+  unfolding mark
+  mark-words o s [] = refl
+  mark-words o s (w ∷ ws) = ap (λ (t : Bool). cond t (derivedEntry (entryOf s w) ∷ map (entryOf s) ws) (entryOf s w ∷ mark o k (map (entryOf s) ws))) (not-held o s w) ∙ ap (λ (l : Registry). entryOf s w ∷ l) (mark-words o s ws)
+
+  pub find-long : (o : Name) (s ws : List ℕ) (n : ℕ) → find o k (entriesOf s ws n) ≡ none
+  unfolding entriesOf
+  find-long o s ws n = find-words o s (take n ws)
+
+  pub mark-long : (o : Name) (s ws : List ℕ) (n : ℕ) → mark o k (entriesOf s ws n) ≡ entriesOf s ws n
+  unfolding entriesOf
+  mark-long o s ws n = mark-words o s (take n ws)
+
+-- the normal path of a long path is long
+pub normal-long : (o p : Name) → length o ≤ 255 → 511 < length p → 255 < length (normalize-path o p)
+normal-long o p h k = go (same p o) refl (isSome (strip-owner o p)) refl
+  where
+    go : (b : Bool) → b ≡ same p o → (t : Bool) → t ≡ isSome (strip-owner o p) → 255 < length (normalize-path o p)
+    go true e t f = absurd (let z : ⊥ = omega (arith, ap length (same-eq p o (sym e))) in z)
+    go false e true f = omega (arith, ap length (normal-rest o p false e true refl f refl), length-drop (length o + 1) p)
+    go false e false f = omega (arith, ap length (normal-whole o p false e false refl f refl), length-drop 0 p)

@@ -1,0 +1,138 @@
+-- The name of an entry, and how long names and keys are. Assumes nothing.
+use Prim.Native.Nat.{ℕ, _+_, _≤_}
+use native.Mathlib.Omega.{arith}
+use mathlib.Core.Path.{_≡_, refl, sym, ap, ap₂, _∙_}
+use mathlib.Core.Bool.{Bool, true, false, _&&_, cond}
+use mathlib.Core.List.{List, [], _++_}
+use mathlib.Core.Option.{some, none}
+use lib.Dec.{eqb, leb}
+use lib.ListN.{length, drop, length-take, length-drop, length-append}
+use borrow.Author.Tests.{eqb-true, eqb-false, leb-true}
+use Rattle.blocks.specs.Bytes.{le2, nameAt}
+use Rattle.blocks.specs.Name.{Name, text, same}
+use Rattle.ir.specs.Ir.{IrParameter}
+use Rattle.builder.specs.Names.{isSome, strip-owner, normalize-path, canonical-name}
+use Rattle.builder.specs.Registry.{Entry}
+use Rattle.builder_names.specs.Views.{alone}
+use Rattle.builder_names.proofs.Strip.{normal-same, normal-rest, normal-whole, dot-length}
+use Rattle.builder_names.proofs.Canonical.{canonical-alone, canonical-rest}
+use Rattle.builder_registry.specs.Words.{held, ownerAt, pathAt, madeOf, flagged, madeParameter, madeEntry, entryOf, entryName}
+use Rattle.builder_registry.specs.Texts.{madeEnd, madeText, describing}
+use Rattle.builder_registry.proofs.Keys.{entry-path, entry-made}
+
+-- ---- lengths
+
+-- the normal path is a part of the path
+pub normal-part : (o p : Name) → (k : ℕ) × (normalize-path o p ≡ drop k p)
+normal-part o p = go (same p o) refl (isSome (strip-owner o p)) refl
+  where
+    go : (b : Bool) → b ≡ same p o → (t : Bool) → t ≡ isSome (strip-owner o p) → (k : ℕ) × (normalize-path o p ≡ drop k p)
+    go true e t f = (length p, normal-same o p true e refl)
+    go false e true f = (length o + 1, normal-rest o p false e true refl f refl)
+    go false e false f = (0, normal-whole o p false e false refl f refl)
+
+pub normal-short : (o p : Name) → length (normalize-path o p) ≤ length p
+normal-short o p = let k = normal-part o p in omega (arith, ap length (k .1), length-drop (k .0) p)
+
+pub canonical-short : (o p : Name) → length (canonical-name o p) ≤ length o + 1 + length p
+canonical-short o p = go (alone o p) refl
+  where
+    go : (b : Bool) → b ≡ alone o p → length (canonical-name o p) ≤ length o + 1 + length p
+    go true e = omega (arith, ap length (canonical-alone o p true e refl))
+    go false e = omega (arith, ap length (canonical-rest o p false e refl), dot-length o (normalize-path o p), normal-short o p)
+
+end-short : (m : ℕ) → length (madeEnd m) ≤ 13
+unfolding madeEnd
+end-short m = go (eqb m 1) (eqb m 2)
+  where
+    go : (b t : Bool) → length (cond b (text ".computed_tag") (cond t (text ".variant") (text ".payload_size"))) ≤ 13
+    go true t = omega arith
+    go false true = omega arith
+    go false false = omega arith
+
+pub end-bound : (m : ℕ) (t : Name) → t ≡ madeEnd m → length t ≤ 13
+end-bound m t e = omega (arith, ap length e, end-short m)
+
+pub text-short : (m : ℕ) → length (madeText m) ≤ 80
+unfolding madeText
+text-short m = go (eqb m 1) (eqb m 2)
+  where
+    go : (b t : Bool) → length (cond b (text "Computed enum tag expression") (cond t (text "Active union variant selector") (text "Runtime payload size (bytes) selecting size-discriminated variant"))) ≤ 80
+    go true t = omega arith
+    go false true = omega arith
+    go false false = omega arith
+
+-- ---- a made parameter
+
+made-whole : (m : ℕ) (o : Name) → madeParameter m o ≡ record { name = o ++ madeEnd m; description = some (madeText m); derived = eqb m 1 }
+unfolding madeParameter madeEnd madeText
+made-whole m o = go (eqb m 1) (eqb m 2)
+  where
+    go : (b t : Bool) →
+        cond {A = IrParameter} b
+        (record { name = o ++ text ".computed_tag"; description = some (text "Computed enum tag expression"); derived = true })
+        (cond t
+        (record { name = o ++ text ".variant"; description = some (text "Active union variant selector"); derived = false })
+        (record { name = o ++ text ".payload_size"; description = some (text "Runtime payload size (bytes) selecting size-discriminated variant"); derived = false })) ≡
+        record {
+          name = o ++ cond b (text ".computed_tag") (cond t (text ".variant") (text ".payload_size"));
+          description = some (cond b (text "Computed enum tag expression") (cond t (text "Active union variant selector") (text "Runtime payload size (bytes) selecting size-discriminated variant")));
+          derived = b;
+        }
+    go true t = refl
+    go false true = refl
+    go false false = refl
+
+-- only a computed tag is derived from the start
+pub made-flagged : (m : ℕ) (o : Name) → flagged (eqb m 1) (madeEntry m o) ≡ madeEntry m o
+unfolding madeEntry
+made-flagged m o = rw (made-whole m o)
+
+-- ---- the name of an entry
+
+module _ (s : List ℕ) (w : ℕ) where
+  pub name-path : madeOf w ≡ 0 → entryName s w ≡ canonical-name (held s (ownerAt w)) (held s (pathAt w))
+  name-path e = ap (λ (y : Entry). y .parameter .name) (entry-path s w e)
+
+  pub name-made : (madeOf w ≡ 0 → ⊥) → entryName s w ≡ held s (ownerAt w) ++ madeEnd (madeOf w)
+  unfolding madeEntry
+  name-made e = ap (λ (y : Entry). y .parameter .name) (entry-made s w e) ∙ ap (λ (p : IrParameter). p .name) (made-whole (madeOf w) (held s (ownerAt w)))
+
+  module _ (o : Name) (f : o ≡ held s (ownerAt w)) (l : length o ≤ 255) where
+    pub length-path : (p : Name) (r : ℕ) → p ≡ held s (pathAt w) → length p ≤ 255 → madeOf w ≡ 0 → r ≡ length (canonical-name o p) → (r ≡ length (entryName s w)) × (r ≤ 511)
+    length-path p r g k m e =
+        (e ∙ ap length (ap₂ canonical-name f g ∙ sym (name-path m)), omega (arith, canonical-short o p))
+
+    pub length-made : (t : Name) → (madeOf w ≡ 0 → ⊥) → t ≡ madeEnd (madeOf w) → (length o + length t ≡ length (entryName s w)) × (length o + length t ≤ 511)
+    length-made t m g =
+        (sym (length-append o t) ∙ ap length (ap₂ (λ (x y : Name). x ++ y) f g ∙ sym (name-made m)), omega (arith, ap length g, end-short (madeOf w)))
+
+-- ---- bounds that hold of every word
+
+pub held-bound : (s : List ℕ) (at : ℕ) → length (held s at) ≤ 255
+unfolding held
+held-bound s at = go (leb (at + 2 + le2 s at) (length s)) (leb (le2 s at) 255) refl
+  where
+    go : (a b : Bool) → leb (le2 s at) 255 ≡ b → length (cond (a && b) (nameAt s at) []) ≤ 255
+    go false b h = omega arith
+    go true false h = omega arith
+    go true true h = omega (arith, leb-true (le2 s at) 255 h, length-take (le2 s at) (drop (at + 2) s))
+
+pub entry-short : (s : List ℕ) (w : ℕ) → length (entryName s w) ≤ 511
+entry-short s w = go (eqb (madeOf w) 0) refl
+  where
+    go : (b : Bool) → eqb (madeOf w) 0 ≡ b → length (entryName s w) ≤ 511
+    go true h =
+        omega (arith, ap length (name-path s w (eqb-true (madeOf w) 0 h)), canonical-short (held s (ownerAt w)) (held s (pathAt w)), held-bound s (ownerAt w), held-bound s (pathAt w))
+    go false h =
+        omega (arith, ap length (name-made s w (eqb-false (madeOf w) 0 h)), length-append (held s (ownerAt w)) (madeEnd (madeOf w)), end-short (madeOf w), held-bound s (ownerAt w))
+
+-- ---- the description of an entry
+
+pub described : (s : List ℕ) (w : ℕ) → entryOf s w .parameter .description ≡ describing (madeOf w)
+unfolding describing madeEntry
+described s w = go (eqb (madeOf w) 0) refl
+  where
+    go : (b : Bool) → eqb (madeOf w) 0 ≡ b → entryOf s w .parameter .description ≡ cond b none (some (madeText (madeOf w)))
+    go true h = ap (λ (y : Entry). y .parameter .description) (entry-path s w (eqb-true (madeOf w) 0 h))
+    go false h = ap (λ (y : Entry). y .parameter .description) (entry-made s w (eqb-false (madeOf w) 0 h)) ∙ ap (λ (p : IrParameter). p .description) (made-whole (madeOf w) (held s (ownerAt w)))

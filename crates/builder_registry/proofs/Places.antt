@@ -1,0 +1,146 @@
+-- The place of a path in the registry, and what is found there. Assumes nothing.
+use Prim.Native.Nat.{ℕ, suc, _+_, _≤_, _<_}
+use native.Mathlib.Omega.{arith}
+use native.Mathlib.Nat.{add-zero}
+use native.Mathlib.Numerals.{add-one}
+use mathlib.Core.Path.{_≡_, refl, sym, ap, _∙_}
+use mathlib.Core.Bool.{Bool, true, false, _&&_, _||_, cond}
+use mathlib.Core.List.{List, [], _∷_}
+use mathlib.Core.Option.{Option, some, none}
+use lib.ListN.{length, take, drop, getD, set, length-map, List·getD-map, drop-of-length-le}
+use lib.Seq.{drop-cons, getD-take, length-take-le}
+use Rattle.blocks.specs.Name.{Name, same, among}
+use Rattle.ir.specs.Ir.{IrParameter}
+use Rattle.builder.specs.Names.{normalize-path}
+use Rattle.builder.specs.Registry.{Entry, Registry, holds, find, lookup-name, derivedEntry, mark}
+use Rattle.builder.specs.Nodes.{lookupQualified}
+use Rattle.builder_registry.specs.declared.Found.the-variants.{At, Missing}
+use Rattle.builder_registry.specs.Words.{entryOf, entriesOf, Looked}
+use Rattle.builder_registry.specs.Place.{anyKey, hasKey, placeOf}
+
+-- ---- the entries in the words
+
+module _ (s ws : List ℕ) (n : ℕ) (fit : n ≤ length ws) where
+  pub entries-length : length (entriesOf s ws n) ≡ n
+  unfolding entriesOf
+  entries-length = length-map (take n ws) (entryOf s) ∙ length-take-le n ws fit
+
+  pub entry-at : (i : ℕ) → i < n → getD (entriesOf s ws n) i (entryOf s 0) ≡ entryOf s (getD ws i 0)
+  unfolding entriesOf
+  entry-at i l = rw (List·getD-map (entryOf s) (take n ws) i 0, getD-take n ws i 0 l)
+
+  pub entries-from : (i : ℕ) → i < n → drop i (entriesOf s ws n) ≡ entryOf s (getD ws i 0) ∷ drop (i + 1) (entriesOf s ws n)
+  entries-from i l = rw (add-one, drop-cons (entriesOf s ws n) i (entryOf s 0) (rw entries-length l), entry-at i l)
+
+  pub entries-end : (i : ℕ) → n ≤ i → drop i (entriesOf s ws n) ≡ []
+  entries-end i h = drop-of-length-le (entriesOf s ws n) {i = i} (omega (arith, entries-length))
+
+  -- ---- the loop: none of the entries before i has the key
+  module _ (o : Name) (x : Option Name) (i : ℕ) (e : placeOf o x (entriesOf s ws n) ≡ i + placeOf o x (drop i (entriesOf s ws n))) where
+    pub place-end : n ≤ i → i ≤ n → n ≡ placeOf o x (entriesOf s ws n)
+    unfolding placeOf
+    place-end h k = let q : i ≡ n = omega arith in sym (e ∙ rw (entries-end i h, add-zero, q))
+
+    module _ (l : i < n) (b : Bool) (f : b ≡ hasKey o x (entryOf s (getD ws i 0))) where
+      pub place-here : b ≡ true → i ≡ placeOf o x (entriesOf s ws n)
+      unfolding placeOf
+      place-here h = sym (e ∙ rw (entries-from i l, ← f, h, add-zero))
+
+      pub place-more : b ≡ false → placeOf o x (entriesOf s ws n) ≡ i + 1 + placeOf o x (drop (i + 1) (entriesOf s ws n))
+      unfolding placeOf
+      place-more h = e ∙ rw (entries-from i l, ← f, h) (omega arith)
+
+pub ruleset places = (place-end, place-here, place-more)
+
+-- ---- what stands at the place
+
+any-among : (o q : Name) (ks : List Name) → among (normalize-path o q) ks ≡ anyKey o (some q) ks
+unfolding among anyKey
+any-among o q [] = refl
+any-among o q (k ∷ ks) = ap (λ (b : Bool). same (normalize-path o q) k || b) (any-among o q ks)
+
+holds-is : (o q : Name) (e : Entry) → holds o (normalize-path o q) e ≡ hasKey o (some q) e
+holds-is o q e = ap (λ (b : Bool). same o (e .owner) && b) (any-among o q (e .keys))
+
+module _ (o q : Name) where
+  find-at : (d : Entry) (es : Registry) → placeOf o (some q) es < length es → find o (normalize-path o q) es ≡ some (getD es (placeOf o (some q) es) d .parameter)
+  unfolding find placeOf
+  find-at d [] h = absurd (let z : ⊥ = omega arith in z)
+  find-at d (e ∷ es) h = ap (λ (t : Bool). elim t [ true ↦ some (e .parameter) | false ↦ find o (normalize-path o q) es ]) (holds-is o q e) ∙ go (hasKey o (some q) e) h (find-at d es)
+    where
+      go : (b : Bool) → cond b 0 (suc (placeOf o (some q) es)) < suc (length es) → (placeOf o (some q) es < length es → find o (normalize-path o q) es ≡ some (getD es (placeOf o (some q) es) d .parameter)) →
+          elim b [ true ↦ some (e .parameter) | false ↦ find o (normalize-path o q) es ] ≡ some (getD (e ∷ es) (cond b 0 (suc (placeOf o (some q) es))) d .parameter)
+      go true h ih = refl
+      go false h ih = ih (omega arith)
+
+  find-none : (es : Registry) → length es ≤ placeOf o (some q) es → find o (normalize-path o q) es ≡ none
+  unfolding find placeOf
+  find-none [] h = refl
+  find-none (e ∷ es) h = ap (λ (t : Bool). elim t [ true ↦ some (e .parameter) | false ↦ find o (normalize-path o q) es ]) (holds-is o q e) ∙ go (hasKey o (some q) e) h (find-none es)
+    where
+      go : (b : Bool) → suc (length es) ≤ cond b 0 (suc (placeOf o (some q) es)) → (length es ≤ placeOf o (some q) es → find o (normalize-path o q) es ≡ none) →
+          _≡_ {A = Option IrParameter} (elim b [ true ↦ some (e .parameter) | false ↦ find o (normalize-path o q) es ]) none
+      go true h ih = absurd (let z : ⊥ = omega arith in z)
+      go false h ih = ih (omega arith)
+
+  mark-at : (d : Entry) (es : Registry) → placeOf o (some q) es < length es → mark o (normalize-path o q) es ≡ set es (placeOf o (some q) es) (derivedEntry (getD es (placeOf o (some q) es) d))
+  unfolding mark placeOf
+  mark-at d [] h = absurd (let z : ⊥ = omega arith in z)
+  mark-at d (e ∷ es) h = ap (λ (t : Bool). cond t (derivedEntry e ∷ es) (e ∷ mark o (normalize-path o q) es)) (holds-is o q e) ∙ go (hasKey o (some q) e) h (mark-at d es)
+    where
+      go : (b : Bool) → cond b 0 (suc (placeOf o (some q) es)) < suc (length es) → (placeOf o (some q) es < length es → mark o (normalize-path o q) es ≡ set es (placeOf o (some q) es) (derivedEntry (getD es (placeOf o (some q) es) d))) →
+          cond b (derivedEntry e ∷ es) (e ∷ mark o (normalize-path o q) es) ≡ set (e ∷ es) (cond b 0 (suc (placeOf o (some q) es))) (derivedEntry (getD (e ∷ es) (cond b 0 (suc (placeOf o (some q) es))) d))
+      go true h ih = refl
+      go false h ih = ap (λ (l : Registry). e ∷ l) (ih (omega arith))
+
+  mark-none : (es : Registry) → length es ≤ placeOf o (some q) es → mark o (normalize-path o q) es ≡ es
+  unfolding mark placeOf
+  mark-none [] h = refl
+  mark-none (e ∷ es) h = ap (λ (t : Bool). cond t (derivedEntry e ∷ es) (e ∷ mark o (normalize-path o q) es)) (holds-is o q e) ∙ go (hasKey o (some q) e) h (mark-none es)
+    where
+      go : (b : Bool) → suc (length es) ≤ cond b 0 (suc (placeOf o (some q) es)) → (length es ≤ placeOf o (some q) es → mark o (normalize-path o q) es ≡ es) →
+          cond b (derivedEntry e ∷ es) (e ∷ mark o (normalize-path o q) es) ≡ e ∷ es
+      go true h ih = absurd (let z : ⊥ = omega arith in z)
+      go false h ih = ap (λ (l : Registry). e ∷ l) (ih (omega arith))
+
+-- where there is no path to look for, nothing is found
+place-nothing : (o : Name) (es : Registry) → placeOf o none es ≡ length es
+unfolding placeOf anyKey
+place-nothing o [] = refl
+place-nothing o (e ∷ es) = go (same o (e .owner)) (e .keys) (place-nothing o es)
+  where
+    no-key : (ks : List Name) → anyKey o none ks ≡ false
+    no-key [] = refl
+    no-key (k ∷ ks) = no-key ks
+
+    go : (b : Bool) (ks : List Name) → placeOf o none es ≡ length es → cond (b && anyKey o none ks) 0 (suc (placeOf o none es)) ≡ suc (length es)
+    go true ks ih = rw (no-key ks, ih)
+    go false ks ih = ap suc ih
+
+-- ---- the same of the words, where the place is i
+
+module _ (s ws : List ℕ) (n : ℕ) (fit : n ≤ length ws) (o : Name) (i : ℕ) where
+  module _ (q : Name) (e : i ≡ placeOf o (some q) (entriesOf s ws n)) where
+    pub found-at : i < n → find o (normalize-path o q) (entriesOf s ws n) ≡ some (entryOf s (getD ws i 0) .parameter)
+    found-at h =
+        find-at o q (entryOf s 0) (entriesOf s ws n) (omega (arith, entries-length s ws n fit)) ∙ rw (← e, entry-at s ws n fit i h)
+
+    pub found-none : n ≤ i → find o (normalize-path o q) (entriesOf s ws n) ≡ none
+    found-none h = find-none o q (entriesOf s ws n) (omega (arith, entries-length s ws n fit))
+
+    pub marked-at : i < n → mark o (normalize-path o q) (entriesOf s ws n) ≡ set (entriesOf s ws n) i (derivedEntry (entryOf s (getD ws i 0)))
+    marked-at h =
+        mark-at o q (entryOf s 0) (entriesOf s ws n) (omega (arith, entries-length s ws n fit)) ∙ rw (← e, entry-at s ws n fit i h)
+
+    pub marked-none : n ≤ i → mark o (normalize-path o q) (entriesOf s ws n) ≡ entriesOf s ws n
+    marked-none h = mark-none o q (entriesOf s ws n) (omega (arith, entries-length s ws n fit))
+
+  pub looked-at : (x : Option Name) → i ≡ placeOf o x (entriesOf s ws n) → i < n → Looked s ws n (At i) (lookupQualified o x (entriesOf s ws n))
+  unfolding lookup-name
+  looked-at none e h = absurd (let z : ⊥ = omega (arith, place-nothing o (entriesOf s ws n), entries-length s ws n fit) in z)
+  looked-at (some q) e h = rw (found-at q e h) (Looked.at h)
+
+  pub looked-none : (x : Option Name) → i ≡ placeOf o x (entriesOf s ws n) → n ≤ i → Looked s ws n Missing (lookupQualified o x (entriesOf s ws n))
+  unfolding lookup-name
+  looked-none none e h = Looked.missing
+  looked-none (some q) e h = rw (found-none q e h) Looked.missing

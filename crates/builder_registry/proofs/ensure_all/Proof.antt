@@ -1,0 +1,81 @@
+-- `builder_registry::ensure_all` meets its contract. The loop's invariant: all paths on the registry at entry are the paths that are left on the registry now. Assumes nothing.
+use borrow.Author.Needs.{needs}
+use Prim.Native.Nat.{_≤_}
+use native.Mathlib.Omega.{arith}
+use mathlib.Core.Path.{_≡_}
+use lib.ListN.{length}
+use Rattle.builder_registry.specs.Words.{held, entriesOf}
+use Rattle.builder_registry.proofs.Laws.{standing}
+use Rattle.builder_registry.proofs.Extend.{named, Paths, paths-begin, paths-more, paths-stop, paths-end}
+use Rattle.builder_registry.proofs.ensure_all.Statement.{statement}
+use Rattle.builder_registry.proofs.ensure_all.Tie as tie
+
+abbrev Inv-loop : tie.InvT-loop
+Inv-loop s words₀ n owner paths left₀ at₀ count₀ words left at count =
+    (count ≤ 512) × (length words ≡ length words₀) × Paths s (held s owner) (entriesOf s words₀ n) (entriesOf s words count) paths left at
+
+abbrev μ-loop : tie.MeasureT-loop
+μ-loop s words₀ n owner paths left₀ at₀ count₀ words left at count = left
+
+read2-requires : tie.Need-read2-requires Inv-loop μ-loop
+read2-requires c κs = omega arith
+
+add-at : tie.Need-add-at Inv-loop μ-loop
+add-at c = omega arith
+
+loop-holds : tie.Need-loop-holds Inv-loop μ-loop
+loop-holds c = (omega arith, search needs, paths-begin _ _ (c .read2 .ensures .0) (c .before .before .before .pre .2))
+
+ensure-requires : tie.Need-ensure-requires Inv-loop μ-loop
+ensure-requires c κs = (standing (c .before .before .before .before .before .before .pre .0) (c .before .before .loop .inv .1) (c .before .before .loop .inv .0), omega arith, omega (arith, named (c .before .before .loop .inv .2 .here) (c .before .loop-test .taken)))
+
+same-length : tie.Need-same-length Inv-loop μ-loop
+same-length c = search needs
+
+returns : tie.Need-returns Inv-loop μ-loop
+returns c = (omega arith, paths-stop _ _ _ _ (c .before .before .before .before .before .before .loop-test .taken) (c .before .before .before .before .ensure .ensures .1) (c .if1 .taken) (c .before .before .before .before .before .before .before .loop .inv .2))
+
+add-at-2 : tie.Need-add-at-2 Inv-loop μ-loop
+add-at-2 c = omega (arith, named (c .before .before .before .before .before .before .before .loop .inv .2 .here) (c .before .before .before .before .before .before .loop-test .taken))
+
+read2-requires-2 : tie.Need-read2-requires-2 Inv-loop μ-loop
+read2-requires-2 c κs = omega (arith, named (c .before .before .before .before .before .before .before .loop .inv .2 .here) (c .before .before .before .before .before .before .loop-test .taken))
+
+add-at-3 : tie.Need-add-at-3 Inv-loop μ-loop
+add-at-3 c = omega (arith, c .read22 .ensures .0, named (c .before .before .before .before .before .before .before .before .loop .inv .2 .here) (c .before .before .before .before .before .before .before .loop-test .taken))
+
+sub-left : tie.Need-sub-left Inv-loop μ-loop
+sub-left c = omega arith
+
+loop-less : tie.Need-loop-less Inv-loop μ-loop
+loop-less c = omega arith
+
+loop-again : tie.Need-loop-again Inv-loop μ-loop
+loop-again c = (omega arith, search needs, paths-more _ _ _ _ (c .before .before .before .before .before .before .before .loop-test .taken) (c .before .before .before .before .before .ensure .ensures .1) (c .read22 .ensures .0) (c .before .if1 .left) (c .before .before .before .before .before .before .before .before .loop .inv .2))
+
+same-length-2 : tie.Need-same-length-2 Inv-loop μ-loop
+same-length-2 c = search needs
+
+returns-2 : tie.Need-returns-2 Inv-loop μ-loop
+returns-2 c = (omega arith, paths-end _ _ _ (c .loop-test .left) (c .before .loop .inv .2))
+
+pub ensure-all-spec : {M : Type 1} → statement M
+ensure-all-spec =
+    tie.close
+    (tie.spec
+    Inv-loop
+    μ-loop
+    read2-requires
+    add-at
+    loop-holds
+    ensure-requires
+    same-length
+    returns
+    add-at-2
+    read2-requires-2
+    add-at-3
+    sub-left
+    loop-less
+    loop-again
+    same-length-2
+    returns-2)

@@ -1,0 +1,59 @@
+-- `builder_registry::mark_derived` meets its contract: the word with its bit set holds the derived entry. Assumes nothing.
+use native.Mathlib.Omega.{arith}
+use Rattle.builder_registry.proofs.Changes.{mark-nothing, mark-again, mark-first}
+use borrow.Author.Needs.{needs}
+use Rattle.builder_registry.proofs.mark_derived.Statement.{statement}
+use Rattle.builder_registry.proofs.mark_derived.Tie as tie
+
+place-requires : tie.Need-place-requires
+place-requires c κs = search needs
+
+same-length : tie.Need-same-length
+same-length c = search needs
+
+returns : tie.Need-returns
+returns c = mark-nothing _ _ _ (omega arith) _ _ _ (c .before .place .ensures .0) (c .if1 .taken)
+
+mul-w : tie.Need-mul-w
+mul-w c = search needs
+
+slice-read-w : tie.Need-slice-read-w
+slice-read-w c = search needs
+
+same-length-2 : tie.Need-same-length-2
+same-length-2 c = search needs
+
+returns-2 : tie.Need-returns-2
+returns-2 c = mark-again _ _ _ (omega arith) _ _ _ (c .before .before .before .place .ensures .0) (c .before .before .if1 .left) (c .if2 .taken)
+
+add-words : tie.Need-add-words
+add-words c = omega (arith, c .before .slice-known2 .given (c .before .before .before .place .result))
+
+mul-words : tie.Need-mul-words
+mul-words c = search needs
+
+slice-write-words : tie.Need-slice-write-words
+slice-write-words c = search needs
+
+same-length-3 : tie.Need-same-length-3
+same-length-3 c = search needs
+
+returns-3 : tie.Need-returns-3
+returns-3 c = mark-first _ _ _ (omega arith) _ _ _ (c .before .before .before .place .ensures .0) (c .before .before .if1 .left) (c .if2 .left)
+
+pub mark-derived-spec : {M : Type 1} → statement M
+mark-derived-spec =
+    tie.close
+    (tie.spec
+    place-requires
+    same-length
+    returns
+    mul-w
+    slice-read-w
+    same-length-2
+    returns-2
+    add-words
+    mul-words
+    slice-write-words
+    same-length-3
+    returns-3)

@@ -1,0 +1,25 @@
+-- `builder_registry::put_one` meets its contract: the parameter where the owner is the same. Assumes nothing.
+use native.Mathlib.Omega.{arith}
+use Rattle.builder_registry.proofs.Puts.{puts-yes, puts-no}
+use borrow.Author.Needs.{needs}
+use Rattle.builder_registry.proofs.put_one.Statement.{statement}
+use Rattle.builder_registry.proofs.put_one.Tie as tie
+
+has-owner-requires : tie.Need-has-owner-requires
+has-owner-requires c κs = search needs
+
+put-parameter-requires : tie.Need-put-parameter-requires
+put-parameter-requires c κs = search needs
+
+same-length : tie.Need-same-length
+same-length c = search needs
+
+returns : tie.Need-returns
+returns c = (puts-yes _ _ _ _ (c .before .before .before .before .before .has-owner .ensures) (c .before .before .before .before .if1 .taken) (c .before .before .put-parameter .ensures .0), (omega arith, omega arith))
+
+returns-2 : tie.Need-returns-2
+returns-2 c = (puts-no _ _ _ _ (c .before .has-owner .ensures) _ _ (c .if1 .left), (omega arith, omega arith))
+
+pub put-one-spec : {M : Type 1} → statement M
+put-one-spec =
+    tie.close (tie.spec has-owner-requires put-parameter-requires same-length returns returns-2)

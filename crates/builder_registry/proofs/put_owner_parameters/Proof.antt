@@ -1,0 +1,26 @@
+-- `builder_registry::put_owner_parameters` meets its contract: the count, then the parameters. Assumes nothing.
+use native.Mathlib.Omega.{arith}
+use Rattle.builder_registry.proofs.Puts.{puts-list}
+use borrow.Author.Needs.{needs}
+use Rattle.builder_registry.proofs.put_owner_parameters.Statement.{statement}
+use Rattle.builder_registry.proofs.put_owner_parameters.Tie as tie
+
+count-owned-requires : tie.Need-count-owned-requires
+count-owned-requires c κs = search needs
+
+put-le-requires : tie.Need-put-le-requires
+put-le-requires c κs = search needs
+
+put-owned-requires : tie.Need-put-owned-requires
+put-owned-requires c κs = search needs
+
+same-length : tie.Need-same-length
+same-length c = search needs
+
+returns : tie.Need-returns
+returns c = (puts-list _ _ (c .before .before .before .before .before .before .before .before .count-owned .ensures) (c .before .before .before .before .before .before .put-le .ensures .0) (c .before .before .put-owned .ensures .0), (omega arith, omega arith))
+
+pub put-owner-parameters-spec : {M : Type 1} → statement M
+put-owner-parameters-spec =
+    tie.close
+    (tie.spec count-owned-requires put-le-requires put-owned-requires same-length returns)

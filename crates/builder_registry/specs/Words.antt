@@ -1,0 +1,94 @@
+-- The registry in working words: an entry in each word, in order of entry. A word holds the offset of the owner's name in the
+-- set, that of the path's, what is entered (a path, or which made parameter), and whether it is derived.
+use Prim.Native.Nat.{ℕ, zero, suc, _+_, _*_, _/_, _%_, _^_, _≤_, _<_}
+use mathlib.Core.Path.{_≡_}
+use mathlib.Core.Bool.{Bool, true, false, _&&_, cond}
+use mathlib.Core.List.{List, [], _∷_, _++_, map}
+use mathlib.Core.Option.{Option, some, none}
+use lib.Dec.{leb, eqb}
+use lib.ListN.{length, take, getD}
+use Rattle.errors.specs.Refusal.{Outcome, done, refused, plain}
+use Rattle.blocks.specs.Bytes.{le2, nameAt}
+use Rattle.blocks.specs.Name.{Name, text}
+use Rattle.ir.specs.Ir.{IrParameter}
+use Rattle.builder.specs.Names.{normalize-path}
+use Rattle.builder.specs.Registry.{Entry, Registry, entryOf as pathEntry}
+use Rattle.builder_registry.specs.declared.Held.{Held}
+use Rattle.builder_registry.specs.declared.Tagged.{Tagged}
+use Rattle.builder_registry.specs.declared.Found.{Found}
+use Rattle.builder_registry.specs.declared.Found.the-variants.{At, Missing}
+
+-- the name at an offset; empty where it does not lie inside the bytes, or is longer than any name of a set
+unfoldable pub held : List ℕ → ℕ → Name
+held s at = cond (leb (at + 2 + le2 s at) (length s) && leb (le2 s at) 255) (nameAt s at) []
+
+-- a parameter that the builder makes: 1 computed tag, 2 union variant, 3 payload size. Its path, and what it is under an owner.
+unfoldable pub madePath : ℕ → Name
+madePath made = cond (eqb made 1) (text "__computed_tag") (cond (eqb made 2) (text "__variant") (text "__payload_size"))
+
+unfoldable pub madeParameter : ℕ → Name → IrParameter
+madeParameter made owner =
+    cond (eqb made 1)
+    (record { name = owner ++ text ".computed_tag"; description = some (text "Computed enum tag expression"); derived = true })
+    (cond (eqb made 2)
+    (record { name = owner ++ text ".variant"; description = some (text "Active union variant selector"); derived = false })
+    (record {
+      name = owner ++ text ".payload_size";
+      description = some (text "Runtime payload size (bytes) selecting size-discriminated variant");
+      derived = false;
+    }))
+
+unfoldable pub madeEntry : ℕ → Name → Entry
+madeEntry made owner = record { owner = owner; keys = normalize-path owner (madePath made) ∷ []; parameter = madeParameter made owner }
+
+-- the entry with this derived flag
+abbrev pub flagged : Bool → Entry → Entry
+flagged d e = record {
+  owner = e .owner;
+  keys = e .keys;
+  parameter = record { name = e .parameter .name; description = e .parameter .description; derived = d };
+}
+
+-- the fields of a word
+abbrev pub ownerAt : ℕ → ℕ
+ownerAt w = w % 65536
+
+abbrev pub pathAt : ℕ → ℕ
+pathAt w = w / 65536 % 65536
+
+abbrev pub madeOf : ℕ → ℕ
+madeOf w = w / 4294967296 % 4
+
+abbrev pub derivedOf : ℕ → Bool
+derivedOf w = eqb (w / 17179869184 % 2) 1
+
+unfoldable pub entryOf : List ℕ → ℕ → Entry
+entryOf s w = flagged (derivedOf w) (cond (eqb (madeOf w) 0) (pathEntry (held s (ownerAt w)) (held s (pathAt w))) (madeEntry (madeOf w) (held s (ownerAt w))))
+
+unfoldable pub entriesOf : List ℕ → List ℕ → ℕ → Registry
+entriesOf s ws n = map (entryOf s) (take n ws)
+
+abbrev pub entryName : List ℕ → ℕ → Name
+entryName s w = entryOf s w .parameter .name
+
+-- what every call of the builder stands on: a set of at most 65,536 bytes, room for the registry, and n entries in it
+pub record Standing (s ws : List ℕ) (n : ℕ) : Type 0 where
+  pub size : length s ≤ 65536
+  pub words : 512 ≤ length ws
+  pub count : n ≤ 512
+
+-- What a change of the registry leaves: the entries in the words us, or the refusal, of which nothing is said but its number.
+-- Nothing is said of the words behind the entries.
+pub data Kept (s us : List ℕ) (r : Held) : Outcome (Unit × Registry) → Type 0 where
+  kept : (g : Registry) → r .no ≡ 0 → entriesOf s us (r .count) ≡ g → Kept s us r (done (tt, g))
+  not : (k : ℕ) → r .no ≡ k → 0 < k → Kept s us r (refused (plain k))
+
+-- the same where a name is answered: that of the entry at r .at
+pub data Tags (s us : List ℕ) (r : Tagged) : Outcome (Name × Registry) → Type 0 where
+  tags : (g : Registry) → r .no ≡ 0 → entriesOf s us (r .count) ≡ g → r .at < r .count → Tags s us r (done (entryName s (getD us (r .at) 0), g))
+  not : (k : ℕ) → r .no ≡ k → 0 < k → Tags s us r (refused (plain k))
+
+-- a name found in the registry: that of the entry at i
+pub data Looked (s ws : List ℕ) (n : ℕ) : Found → Option Name → Type 0 where
+  at : {i : ℕ} → i < n → Looked s ws n (At i) (some (entryName s (getD ws i 0)))
+  missing : Looked s ws n Missing none

@@ -1,0 +1,455 @@
+// builder.rs, `ParameterRegistry`, in working words.
+ghost use mathlib.Core.Path.{_≡_};
+ghost use mathlib.Core.Bool.{cond};
+ghost use mathlib.Core.List.{List};
+ghost use Prim.Native.Nat.{ℕ, _+_, _*_, _^_, _≤_, _<_};
+ghost use lib.Dec.{eqb};
+ghost use lib.ListN.{length, getD};
+ghost use Rattle.blocks.specs.Name.{same};
+ghost use Rattle.blocks.specs.Tree.{name};
+ghost use Rattle.blocks.specs.Write.{write};
+ghost use Rattle.accepted.specs.Accepted.{Accepted, tree};
+ghost use Rattle.resolved_parts.specs.Types.{ownersOf, textsOf, PathsAt};
+ghost use Rattle.ir.specs.Layout.{parameterTree, listTree, entriesTree, optionalTree};
+ghost use Rattle.wire.specs.Poke.{Wrote};
+ghost use Rattle.builder.specs.Names.{qualify-parent-path, normalize-path};
+ghost use Rattle.builder.specs.Registry.{enter, ensure, ensure-all, extend-with, lookup-name, owner-parameters, add-synthetic, mark-derived, entryOf as pathEntry};
+ghost use Rattle.builder.specs.Nodes.{lookupQualified};
+ghost use Rattle.builder_names.specs.Views.{isKey};
+ghost use Rattle.builder_registry.specs.Words.{Standing, Kept, Tags, Looked, held, ownerAt, pathAt, madePath, madeParameter, madeEntry, entryOf, entriesOf, entryName};
+ghost use Rattle.builder_registry.specs.Texts.{describing};
+ghost use Rattle.builder_registry.specs.Place.{wanted, anyKey, hasKey, placeOf, owned};
+
+// How many entries the registry has, and the number of a refusal or 0. Of a refusal, a count of at most 512.
+pub struct Held {
+    pub count: usize,
+    pub no: u64,
+}
+
+// The same, and the entry whose name is meant.
+pub struct Tagged {
+    pub at: usize,
+    pub count: usize,
+    pub no: u64,
+}
+
+// An entry's place.
+pub enum Found {
+    At(usize),
+    Missing,
+}
+
+// The name at an offset; empty where it does not lie inside the bytes, or is longer than any name of a set.
+fn held_at<'a>(s: &'a [u8], at: usize) -> &'a [u8]
+    requires { ⌜ at < 65536 ⌝ }
+    ensures { λ r. ⌜ now r ≡ held (now (s .entry)) at ⌝ }
+    ensures { λ r. ⌜ length (now r) ≤ 255 ⌝ }
+{
+    let from = at + 2;
+    if s.len() < from {
+        return &s[..0];
+    }
+    let n = wire::read2(s, at);
+    let to = from + n;
+    if s.len() < to {
+        return &s[..0];
+    }
+    if 255 < n {
+        return &s[..0];
+    }
+    &s[from..to]
+}
+
+// The name of an entry's owner.
+fn owner_of<'a>(s: &'a [u8], w: u64) -> &'a [u8]
+    ensures { λ r. ⌜ now r ≡ held (now (s .entry)) (ownerAt w) ⌝ }
+    ensures { λ r. ⌜ length (now r) ≤ 255 ⌝ }
+{
+    held_at(s, (w % 65536) as usize)
+}
+
+// The path of an entry that is no made one.
+fn path_of<'a>(s: &'a [u8], w: u64) -> &'a [u8]
+    ensures { λ r. ⌜ now r ≡ held (now (s .entry)) (pathAt w) ⌝ }
+    ensures { λ r. ⌜ length (now r) ≤ 255 ⌝ }
+{
+    held_at(s, (w / 65536 % 65536) as usize)
+}
+
+// The text that belongs to a made parameter.
+fn pick<'a>(made: u64, a: &'a [u8], b: &'a [u8], c: &'a [u8]) -> &'a [u8]
+    ensures { λ r. ⌜ now r ≡ cond (eqb made 1) (now (a .entry)) (cond (eqb made 2) (now (b .entry)) (now (c .entry))) ⌝ }
+{
+    if made == 1 {
+        return a;
+    }
+    if made == 2 {
+        return b;
+    }
+    c
+}
+
+// Whether a path has the key.
+fn is_key(qualified: bool, owner: &[u8], path: &[u8], key: &[u8]) -> bool
+    ensures { λ r. ⌜ r ≡ isKey (now (owner .entry)) (wanted qualified (now (owner .entry)) (now (path .entry))) (now (key .entry)) ⌝ }
+{
+    if qualified {
+        return builder_names::qualified_has_key(owner, path, key);
+    }
+    wire::same_name(builder_names::normalize_path(owner, path), key)
+}
+
+// Whether a path has a key of an entered one.
+fn path_has(qualified: bool, owner: &[u8], path: &[u8], entered: &[u8]) -> bool
+    ensures { λ r. ⌜ r ≡ anyKey (now (owner .entry)) (wanted qualified (now (owner .entry)) (now (path .entry))) (pathEntry (now (owner .entry)) (now (entered .entry)) .keys) ⌝ }
+{
+    let normal = builder_names::normalize_path(owner, entered);
+    if is_key(qualified, owner, path, normal) {
+        return true;
+    }
+    let a = builder_names::alias(entered, normal);
+    if a.len() == 0 {
+        return false;
+    }
+    is_key(qualified, owner, path, a)
+}
+
+// Whether a path has the key of a made parameter.
+fn made_has(qualified: bool, owner: &[u8], path: &[u8], made: u64) -> bool
+    ensures { λ r. ⌜ r ≡ isKey (now (owner .entry)) (wanted qualified (now (owner .entry)) (now (path .entry))) (normalize-path (now (owner .entry)) (madePath made)) ⌝ }
+{
+    let text = pick(made, b"__computed_tag", b"__variant", b"__payload_size");
+    is_key(
+        qualified,
+        owner,
+        path,
+        builder_names::normalize_path(owner, text),
+    )
+}
+
+// Whether an entry is the owner's.
+fn has_owner(s: &[u8], w: u64, owner: &[u8]) -> bool
+    ensures { λ r. ⌜ r ≡ same (now (owner .entry)) (entryOf (now (s .entry)) w .owner) ⌝ }
+{
+    wire::same_name(owner, owner_of(s, w))
+}
+
+// Whether an entry is the owner's and has the path's key.
+fn has_key(s: &[u8], w: u64, qualified: bool, owner: &[u8], path: &[u8]) -> bool
+    ensures { λ r. ⌜ r ≡ hasKey (now (owner .entry)) (wanted qualified (now (owner .entry)) (now (path .entry))) (entryOf (now (s .entry)) w) ⌝ }
+{
+    if has_owner(s, w, owner) {
+        let made = w / 4294967296 % 4;
+        if made == 0 {
+            return path_has(qualified, owner, path, path_of(s, w));
+        }
+        return made_has(qualified, owner, path, made);
+    }
+    false
+}
+
+// The place of the first entry that has the path's key, or how many entries there are.
+fn place(s: &[u8], words: &[u64], n: usize, qualified: bool, owner: &[u8], path: &[u8]) -> usize
+    requires { ⌜ n ≤ length (now words) ⌝ }
+    ensures { λ r. ⌜ r ≡ placeOf (now (owner .entry)) (wanted qualified (now (owner .entry)) (now (path .entry))) (entriesOf (now (s .entry)) (now (words .entry)) n) ⌝ }
+    ensures { λ r. ⌜ r ≤ n ⌝ }
+{
+    let mut i = 0;
+    while i < n {
+        if has_key(s, words[i], qualified, owner, path) {
+            return i;
+        }
+        i += 1;
+    }
+    n
+}
+
+// The entry that names a path under an owner.
+pub fn lookup_name(s: &[u8], words: &[u64], n: usize, owner: &[u8], path: &[u8]) -> Found
+    requires { ⌜ Standing (now s) (now words) n ⌝ }
+    ensures { λ r. ⌜ Looked (now (s .entry)) (now (words .entry)) n r (lookup-name (now (owner .entry)) (now (path .entry)) (entriesOf (now (s .entry)) (now (words .entry)) n)) ⌝ }
+{
+    let i = place(s, words, n, false, owner, path);
+    if i < n {
+        return Found::At(i);
+    }
+    Found::Missing
+}
+
+// The same for the path qualified by the owner's parent.
+pub fn lookup_qualified(s: &[u8], words: &[u64], n: usize, owner: &[u8], path: &[u8]) -> Found
+    requires { ⌜ Standing (now s) (now words) n ⌝ }
+    ensures { λ r. ⌜ Looked (now (s .entry)) (now (words .entry)) n r (lookupQualified (now (owner .entry)) (qualify-parent-path (now (owner .entry)) (now (path .entry))) (entriesOf (now (s .entry)) (now (words .entry)) n)) ⌝ }
+{
+    let i = place(s, words, n, true, owner, path);
+    if i < n {
+        return Found::At(i);
+    }
+    Found::Missing
+}
+
+// How many bytes an entry's name has.
+pub fn name_length(s: &[u8], w: u64) -> usize
+    requires { ⌜ length (now s) ≤ 65536 ⌝ }
+    ensures { λ r. ⌜ r ≡ length (entryName (now (s .entry)) w) ⌝ }
+    ensures { λ r. ⌜ r ≤ 511 ⌝ }
+{
+    let made = w / 4294967296 % 4;
+    let o = owner_of(s, w);
+    if made == 0 {
+        return builder_names::canonical_length(o, path_of(s, w));
+    }
+    let end = pick(made, b".computed_tag", b".variant", b".payload_size");
+    o.len() + end.len()
+}
+
+// A new entry, if its name is short and there is room.
+fn enter(s: &[u8], words: &mut [u64], n: usize, w: u64) -> Held
+    requires { ⌜ Standing (now s) (now words) n ⌝ }
+    ensures { λ r. ⌜ r .count ≤ 512 ⌝ }
+    ensures { λ r. ⌜ Kept (now (s .entry)) (now (words .exit)) r (enter (entryOf (now (s .entry)) w) (entriesOf (now (s .entry)) (now (words .entry)) n)) ⌝ }
+    ensures { λ r. ⌜ (r .no ≡ 0 → (r .count ≡ n + 1) × (getD (now (words .exit)) n 0 ≡ w)) ⌝ }
+{
+    if 255 < name_length(s, w) {
+        return Held { count: n, no: 17 };
+    }
+    if 512 <= n {
+        return Held { count: n, no: 17 };
+    }
+    words[n] = w;
+    Held {
+        count: n + 1,
+        no: 0,
+    }
+}
+
+// A path of an owner, whose names stand at these offsets, entered if its key is new.
+pub fn ensure(s: &[u8], words: &mut [u64], n: usize, owner: usize, path: usize) -> Held
+    requires { ⌜ Standing (now s) (now words) n × (owner < 65536) × (path < 65536) ⌝ }
+    ensures { λ r. ⌜ r .count ≤ 512 ⌝ }
+    ensures { λ r. ⌜ Kept (now (s .entry)) (now (words .exit)) r (ensure (held (now (s .entry)) owner) (held (now (s .entry)) path) (entriesOf (now (s .entry)) (now (words .entry)) n)) ⌝ }
+{
+    let o = held_at(s, owner);
+    let p = held_at(s, path);
+    let i = place(s, words, n, false, o, p);
+    if i < n {
+        return Held { count: n, no: 0 };
+    }
+    enter(s, words, n, owner as u64 + 65536 * path as u64)
+}
+
+// Every path of the owner whose name stands at an offset. The paths stand behind their count.
+fn ensure_all(s: &[u8], words: &mut [u64], n: usize, owner: usize, paths: usize) -> Held
+    requires { ⌜ Standing (now s) (now words) n × (owner < 65536) × PathsAt (now s) paths ⌝ }
+    ensures { λ r. ⌜ r .count ≤ 512 ⌝ }
+    ensures { λ r. ⌜ ((p : PathsAt (now (s .entry)) paths) → Kept (now (s .entry)) (now (words .exit)) r (ensure-all (held (now (s .entry)) owner) (textsOf (p .list .got .0)) (entriesOf (now (s .entry)) (now (words .entry)) n))) ⌝ }
+{
+    let mut left = wire::read2(s, paths);
+    let mut at = paths + 2;
+    let mut count = n;
+    while 0 < left {
+        let e = ensure(s, words, count, owner, at);
+        if e.no != 0 {
+            return e;
+        }
+        count = e.count;
+        at = at + 2 + wire::read2(s, at);
+        left -= 1;
+    }
+    Held { count, no: 0 }
+}
+
+// Every path of every owner of a references block.
+pub fn extend_with(s: &[u8], words: &mut [u64], n: usize, references: usize) -> Held
+    requires { ⌜ Standing (now s) (now words) n × Accepted (now s) 32 32 references ⌝ }
+    ensures { λ r. ⌜ r .count ≤ 512 ⌝ }
+    ensures { λ r. ⌜ ((a : Accepted (now (s .entry)) 32 32 references) → Kept (now (s .entry)) (now (words .exit)) r (extend-with (ownersOf (tree a)) (entriesOf (now (s .entry)) (now (words .entry)) n))) ⌝ }
+{
+    let mut left = wire::read2(s, references + 6);
+    let mut at = references + 6 + 2;
+    let mut count = n;
+    while 0 < left {
+        let paths = resolved_parts::owner_paths(s, at);
+        let e = ensure_all(s, words, count, at + 6, paths);
+        if e.no != 0 {
+            return e;
+        }
+        count = e.count;
+        at = at + 4 + wire::read4(s, at);
+        left -= 1;
+    }
+    Held { count, no: 0 }
+}
+
+// The word of a made parameter; a computed tag is derived.
+fn made_word(owner: usize, made: u64) -> u64
+    requires { ⌜ (owner < 65536) × ((1 ≤ made) × (made ≤ 3)) ⌝ }
+    ensures { λ r. ⌜ ((s : List ℕ) → entryOf s r ≡ madeEntry made (held s owner)) ⌝ }
+{
+    let w = owner as u64 + 4294967296 * made;
+    if made == 1 {
+        return w + 17179869184;
+    }
+    w
+}
+
+// A parameter that the builder makes, under the owner whose name stands at this offset: 1 computed tag, 2 union variant, 3
+// payload size.
+pub fn add_synthetic(s: &[u8], words: &mut [u64], n: usize, owner: usize, made: u64) -> Tagged
+    requires { ⌜ Standing (now s) (now words) n × (owner < 65536) × ((1 ≤ made) × (made ≤ 3)) ⌝ }
+    ensures { λ r. ⌜ r .count ≤ 512 ⌝ }
+    ensures { λ r. ⌜ Tags (now (s .entry)) (now (words .exit)) r (add-synthetic (held (now (s .entry)) owner) (madePath made) (madeParameter made (held (now (s .entry)) owner)) (entriesOf (now (s .entry)) (now (words .entry)) n)) ⌝ }
+{
+    let o = held_at(s, owner);
+    let text = pick(made, b"__computed_tag", b"__variant", b"__payload_size");
+    let i = place(s, words, n, false, o, text);
+    if i < n {
+        return Tagged {
+            at: i,
+            count: n,
+            no: 0,
+        };
+    }
+    let e = enter(s, words, n, made_word(owner, made));
+    Tagged {
+        at: n,
+        count: e.count,
+        no: e.no,
+    }
+}
+
+// The entry that has the path's key becomes a derived one. Nothing is said of the words behind the entries.
+pub fn mark_derived(s: &[u8], words: &mut [u64], n: usize, owner: &[u8], path: &[u8])
+    requires { ⌜ Standing (now s) (now words) n ⌝ }
+    ensures { λ _. ⌜ entriesOf (now (s .entry)) (now (words .exit)) n ≡ mark-derived (now (owner .entry)) (now (path .entry)) (entriesOf (now (s .entry)) (now (words .entry)) n) ⌝ }
+{
+    let i = place(s, words, n, false, owner, path);
+    if n <= i {
+        return;
+    }
+    let w = words[i];
+    if w / 17179869184 % 2 == 1 {
+        return;
+    }
+    words[i] = w + 17179869184;
+}
+
+// An entry's name, written as a name.
+pub fn put_entry_name(s: &[u8], w: u64, out: &mut [u8], at: usize) -> usize
+    requires { ⌜ (length (now s) ≤ 65536) × (at < 2 ^ 59) ⌝ }
+    ensures { λ r. ⌜ Wrote (now (out .entry)) at (write (name (entryName (now (s .entry)) w))) (now (out .exit)) r ⌝ }
+    ensures { λ r. ⌜ (at ≤ r) × (r ≤ at + 513) ⌝ }
+{
+    let made = w / 4294967296 % 4;
+    let o = owner_of(s, w);
+    if made == 0 {
+        return builder_names::put_canonical_name(out, at, o, path_of(s, w));
+    }
+    let end = pick(made, b".computed_tag", b".variant", b".payload_size");
+    let p = wire::put_le(out, at, 2, name_length(s, w) as u64);
+    let q = wire::put_from(out, p, o, 0);
+    wire::put_from(out, q, end, 0)
+}
+
+// The description of an entry, behind its flag.
+fn put_description(out: &mut [u8], at: usize, made: u64) -> usize
+    requires { ⌜ at < 2 ^ 59 ⌝ }
+    ensures { λ r. ⌜ Wrote (now (out .entry)) at (write (optionalTree name (describing made))) (now (out .exit)) r ⌝ }
+    ensures { λ r. ⌜ (at ≤ r) × (r ≤ at + 83) ⌝ }
+{
+    if made == 0 {
+        return wire::put_flag(out, at, false);
+    }
+    let text = pick(
+        made,
+        b"Computed enum tag expression",
+        b"Active union variant selector",
+        b"Runtime payload size (bytes) selecting size-discriminated variant",
+    );
+    let p = wire::put_flag(out, at, true);
+    wire::put_name(out, p, text)
+}
+
+// An entry's parameter, as a block 162.
+pub fn put_parameter(s: &[u8], w: u64, out: &mut [u8], at: usize) -> usize
+    requires { ⌜ (length (now s) ≤ 65536) × (at < 2 ^ 58) ⌝ }
+    ensures { λ r. ⌜ Wrote (now (out .entry)) at (write (parameterTree (entryOf (now (s .entry)) w .parameter))) (now (out .exit)) r ⌝ }
+    ensures { λ r. ⌜ (at ≤ r) × (r ≤ at + 700) ⌝ }
+{
+    let p = wire::open_block(out, at, 162);
+    let q = put_entry_name(s, w, out, p);
+    let u = put_description(out, q, w / 4294967296 % 4);
+    let e = wire::put_flag(out, u, w / 17179869184 % 2 == 1);
+    wire::close_block(out, at, e);
+    e
+}
+
+// How many parameters of the owner an entry is.
+fn count_one(s: &[u8], w: u64, owner: &[u8]) -> usize
+    ensures { λ r. ⌜ r ≡ length (owned (now (owner .entry)) (entryOf (now (s .entry)) w)) ⌝ }
+    ensures { λ r. ⌜ r ≤ 1 ⌝ }
+{
+    if has_owner(s, w, owner) {
+        return 1;
+    }
+    0
+}
+
+// How many parameters an owner has.
+fn count_owned(s: &[u8], words: &[u64], n: usize, owner: &[u8]) -> usize
+    requires { ⌜ n ≤ length (now words) ⌝ }
+    ensures { λ r. ⌜ r ≡ length (owner-parameters (now (owner .entry)) (entriesOf (now (s .entry)) (now (words .entry)) n)) ⌝ }
+{
+    let mut count = 0;
+    let mut i = 0;
+    while i < n {
+        count = count + count_one(s, words[i], owner);
+        i += 1;
+    }
+    count
+}
+
+// An entry's parameter, if it is the owner's.
+fn put_one(s: &[u8], w: u64, owner: &[u8], out: &mut [u8], at: usize) -> usize
+    requires { ⌜ (length (now s) ≤ 65536) × (at < 2 ^ 58) ⌝ }
+    ensures { λ r. ⌜ Wrote (now (out .entry)) at (write (entriesTree parameterTree (owned (now (owner .entry)) (entryOf (now (s .entry)) w)))) (now (out .exit)) r ⌝ }
+    ensures { λ r. ⌜ (at ≤ r) × (r ≤ at + 700) ⌝ }
+{
+    if has_owner(s, w, owner) {
+        return put_parameter(s, w, out, at);
+    }
+    at
+}
+
+// The parameters of an owner.
+fn put_owned(s: &[u8], words: &[u64], n: usize, owner: &[u8], out: &mut [u8], at: usize) -> usize
+    requires { ⌜ Standing (now s) (now words) n × (at < 2 ^ 57 + 2) ⌝ }
+    ensures { λ r. ⌜ Wrote (now (out .entry)) at (write (entriesTree parameterTree (owner-parameters (now (owner .entry)) (entriesOf (now (s .entry)) (now (words .entry)) n)))) (now (out .exit)) r ⌝ }
+    ensures { λ r. ⌜ (at ≤ r) × (r ≤ at + 358400) ⌝ }
+{
+    let mut p = at;
+    let mut i = 0;
+    while i < n {
+        p = put_one(s, words[i], owner, out, p);
+        i += 1;
+    }
+    p
+}
+
+// The parameters of an owner, behind their count.
+pub fn put_owner_parameters(
+    s: &[u8],
+    words: &[u64],
+    n: usize,
+    owner: &[u8],
+    out: &mut [u8],
+    at: usize,
+) -> usize
+    requires { ⌜ Standing (now s) (now words) n × (at < 2 ^ 57) ⌝ }
+    ensures { λ r. ⌜ Wrote (now (out .entry)) at (write (listTree parameterTree (owner-parameters (now (owner .entry)) (entriesOf (now (s .entry)) (now (words .entry)) n)))) (now (out .exit)) r ⌝ }
+    ensures { λ r. ⌜ (at ≤ r) × (r ≤ at + 400000) ⌝ }
+{
+    let count = count_owned(s, words, n, owner);
+    let p = wire::put_le(out, at, 2, count as u64);
+    put_owned(s, words, n, owner, out, p)
+}

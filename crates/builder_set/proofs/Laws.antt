@@ -1,0 +1,366 @@
+-- Building the types of a set one after the other, and the layout around them.
+use mathlib.Core.Path.{_≡_, refl, sym, _∙_, ap, subst}
+use mathlib.Core.Bool.{Bool, true, false, _&&_}
+use mathlib.Core.List.{List, [], _∷_, _++_, append-assoc, append-nil}
+use Prim.Native.Nat.{ℕ, zero, suc, _+_, _-_, _*_, _^_, _≤_, _<_}
+use native.Mathlib.Numerals.{add-one, sub-one}
+use native.Mathlib.Nat.{zero-add}
+use native.Mathlib.Omega.{arith}
+use lib.ListN.{length, take, drop, replicate}
+use lib.Seq.{take-append-le, take-all}
+use lib.Dec.{leb}
+use Rattle.blocks.proofs.Name.{and-left}
+use Rattle.blocks.proofs.Refusals.{Unread, input-unread}
+use borrow.Author.Tests.{le-leb, lt-leb, leb-true}
+use Rattle.errors.proofs.Laws.{done-one, bound, bound-done}
+use Rattle.errors.specs.Refusal.{Refusal, Outcome, done, refused, _>>=_, atType, plain, answered, ask, enough, unread}
+use Rattle.blocks.specs.Bytes.{le2, le4, bytes}
+use Rattle.blocks.specs.Tree.{Tree, num, cons, nil, entries}
+use Rattle.blocks.specs.Write.{write}
+use Rattle.blocks.specs.Read.{small, readSet, readLayout}
+use Rattle.accepted.specs.Accepted.{Accepted, tree, Listed}
+use Rattle.accepted.proofs.Laws.{Enter, block-entry, none-left, opened as block-opened}
+use Rattle.resolved.specs.Resolved.{ResolvedType}
+use Rattle.resolved.specs.Set.{typeOf, typesOf}
+use Rattle.ir.specs.Ir.{TypeIr}
+use Rattle.ir.specs.Layout.{typeIrTree, entriesTree, layoutTree}
+use Rattle.builder.specs.Build.{build-type, build-types, holds, write-layout, build-set, output-after}
+use Rattle.wire.specs.Poke.{Wrote, opened}
+use Rattle.wire.proofs.Laws.{none, both, closed, poke-whole, poke-length}
+use Rattle.reader_leaf.specs.declared.Read.{Read}
+use Rattle.reader_leaf.specs.declared.Read.the-variants.{Ok, Refused}
+use Rattle.reader.specs.Input.{inputOf}
+use Rattle.lookup.proofs.Types.{set-list}
+use Rattle.builder_type.specs.declared.TypeTree.{TypeTree}
+use Rattle.builder_type.specs.Built.{BuildsType, Ready as TypeReady}
+use Rattle.builder_set.specs.declared.Types.{Types}
+use Rattle.builder_set.specs.declared.Answer.{Answer}
+use Rattle.builder_set.specs.declared.Answer.the-variants as answer
+use Rattle.builder_registry.proofs.Laws.{standing}
+use Rattle.builder_set.specs.Sets.{BuildsTypes, Ready, holdsAt, answerOf, layoutOf, Leaves}
+
+-- ---- the loop
+
+-- the types that were built, then those that are built next
+unfoldable pub prepend : List TypeIr → Outcome (List TypeIr) → Outcome (List TypeIr)
+prepend xs (done ys) = done (xs ++ ys)
+prepend xs (refused r) = refused r
+
+-- `left` types are left, from an offset on: those before them stand in the output as far as p
+pub record Reached (s xs : List ℕ) (at : ℕ) (ys : List ℕ) (left from place p : ℕ) (t : Tree) : Type 0 where
+  pub list : Listed s 1 7 left from
+  pub built : List TypeIr
+  pub wrote : Wrote xs at (write (entriesTree typeIrTree built)) ys p
+  pub whole : build-types (typesOf t) 0 (typesOf t) ≡ prepend built (build-types (typesOf t) place (entries typeOf (list .got .0)))
+
+pub record Loop (s xs : List ℕ) (at : ℕ) (ys : List ℕ) (left from place p : ℕ) : Type 0 where
+  pub on : (t : Tree) → readSet s ≡ done t → Reached s xs at ys left from place p t
+
+prepend-none : (o : Outcome (List TypeIr)) → o ≡ prepend [] o
+unfolding prepend
+prepend-none (done xs) = refl
+prepend-none (refused r) = refl
+
+pub begin : {s xs : List ℕ} {at left : ℕ} → left ≡ le2 s 6 → Loop s xs at xs left 8 0 at
+unfolding write entriesTree
+begin {s} {xs} {at} e = subst (λ (k : ℕ). Loop s xs at xs k 8 0 at) (sym e) (record {
+  on = λ t r. let l = set-list r in record {
+    list = l .1;
+    built = [];
+    wrote = none xs at;
+    whole = ap (λ (ts : List ResolvedType). build-types (typesOf t) 0 ts) (l .2) ∙ prepend-none _;
+  };
+})
+
+-- one more type tree behind others
+entries-more : (ts : List TypeIr) (x : TypeIr) → write (entriesTree typeIrTree (ts ++ (x ∷ []))) ≡ write (entriesTree typeIrTree ts) ++ write (typeIrTree x)
+unfolding write entriesTree
+entries-more [] x = append-nil (write (typeIrTree x))
+entries-more (t ∷ ts) x = ap (λ (bs : List ℕ). write (typeIrTree t) ++ bs) (entries-more ts x) ∙ sym (append-assoc (write (typeIrTree t)) (write (entriesTree typeIrTree ts)) (write (typeIrTree x)))
+
+-- the next type builds, or refuses
+module _ (types : List ResolvedType) (i : ℕ) (T : ResolvedType) (rest : List ResolvedType) (pre : List TypeIr) where
+  one-built : {x : TypeIr} → build-type types T ≡ done x → prepend pre (build-types types i (T ∷ rest)) ≡ prepend (pre ++ (x ∷ [])) (build-types types (i + 1) rest)
+  unfolding build-types _>>=_ atType prepend
+  one-built {x} e = rw (e, add-one) (go (build-types types (suc i) rest))
+    where
+      go : (o : Outcome (List TypeIr)) → prepend pre (o >>= (λ xs. done (x ∷ xs))) ≡ prepend (pre ++ (x ∷ [])) o
+      go (done ys) = ap done (sym (append-assoc pre (x ∷ []) ys))
+      go (refused r) = refl
+
+  one-refused : {k : ℕ} → build-type types T ≡ refused (plain k) → prepend pre (build-types types i (T ∷ rest)) ≡ refused (record { number = k; place = i; offset = 0; value = 0 })
+  unfolding build-types _>>=_ atType prepend
+  one-refused e = rw e refl
+
+-- ---- in the code's form: b is what building the type at `from` left
+
+-- what is asked of it
+abbrev pub Makes : (s ys : List ℕ) (from p : ℕ) (zs : List ℕ) (b : TypeTree) → Type 0
+Makes s ys from p zs b = (t : Tree) (a : Accepted s 1 7 from) → readSet s ≡ done t → BuildsType ys p zs b (build-type (typesOf t) (typeOf (tree a)))
+
+module _ {s xs ys : List ℕ} {at left from place p : ℕ} {t : Tree} (q : Reached s xs at ys left from place p t) (e : Enter (q .list)) where
+  next-is : prepend (q .built) (build-types (typesOf t) place (entries typeOf (q .list .got .0))) ≡
+      prepend (q .built) (build-types (typesOf t) place (typeOf (tree (e .child)) ∷ entries typeOf (e .after .rest .got .0)))
+  unfolding entries
+  next-is = ap (λ (u : Tree). prepend (q .built) (build-types (typesOf t) place (entries typeOf u))) (e .after .tree)
+
+  reach-more : {zs : List ℕ} {b : TypeTree} (o : Outcome TypeIr) → build-type (typesOf t) (typeOf (tree (e .child))) ≡ o → BuildsType ys p zs b o → b .no ≡ 0 →
+      Reached s xs at zs (left - 1) (from + 4 + le4 s from) (place + 1) (b .at) t
+  reach-more _ d (BuildsType.made x n w) z = record {
+    list = e .after .rest;
+    built = q .built ++ (x ∷ []);
+    wrote = rw (entries-more (q .built) x) (both (q .wrote) w);
+    whole = q .whole ∙ next-is ∙ one-built (typesOf t) place (typeOf (tree (e .child))) (entries typeOf (e .after .rest .got .0)) (q .built) d;
+  }
+  reach-more _ d (BuildsType.not k n h f) z = absurd (omega arith)
+
+  reach-none : {zs : List ℕ} {b : TypeTree} (r : Types) (o : Outcome TypeIr) → build-type (typesOf t) (typeOf (tree (e .child))) ≡ o → BuildsType ys p zs b o → (b .no ≡ 0 → ⊥) → r .no ≡ b .no → r .place ≡ place →
+      BuildsTypes xs at zs r (build-types (typesOf t) 0 (typesOf t))
+  reach-none r _ d (BuildsType.made x n w) z g k = absurd (z n)
+  reach-none {zs} r _ d (BuildsType.not m n h f) z g k =
+      subst (BuildsTypes xs at zs r) (sym (q .whole ∙ next-is ∙ one-refused (typesOf t) place (typeOf (tree (e .child))) (entries typeOf (e .after .rest .got .0)) (q .built) d))
+      (BuildsTypes.not m place (g ∙ n) h k)
+
+module _ {s xs ys : List ℕ} {at left from place p : ℕ} where
+  -- the type that is next
+  pub next-type : 0 < left → Loop s xs at ys left from place p → (t : Tree) → readSet s ≡ done t → Accepted s 1 7 from × (from + 4 + le4 s from ≤ length s)
+  next-type h c t r =
+      let e = block-entry (c .on t r .list) h in
+      let o = block-opened (e .child) refl refl in
+      (e .child, omega (arith, o .high, e .child .fits))
+
+  -- it is built
+  pub go-on : {zs : List ℕ} {b : TypeTree} {u : ℕ} → 0 < left → Makes s ys from p zs b → b .no ≡ 0 → u ≡ le4 s from → Loop s xs at ys left from place p → Loop s xs at zs (left - 1) (from + 4 + u) (place + 1) (b .at)
+  go-on {zs} {b} h f z g c =
+      subst (λ (k : ℕ). Loop s xs at zs (left - 1) (from + 4 + k) (place + 1) (b .at)) (sym g) (record {
+        on = λ t r. let e = block-entry (c .on t r .list) h in reach-more (c .on t r) e _ refl (f t (e .child) r) z;
+      })
+
+  -- it is refused
+  pub stopped : {zs : List ℕ} {b : TypeTree} {r : Types} → 0 < left → Makes s ys from p zs b → (b .no ≡ 0 → ⊥) → r .no ≡ b .no → r .place ≡ place → Loop s xs at ys left from place p →
+      (t : Tree) → readSet s ≡ done t → BuildsTypes xs at zs r (build-types (typesOf t) 0 (typesOf t))
+  stopped {r} h f z g k c t d = let e = block-entry (c .on t d .list) h in reach-none (c .on t d) e r _ refl (f t (e .child) d) z g k
+
+-- no type is left
+pub no-more : {s xs ys : List ℕ} {at left from place p : ℕ} {r : Types} → left ≤ 0 → r .no ≡ 0 → r .at ≡ p → Loop s xs at ys left from place p →
+    (t : Tree) → readSet s ≡ done t → BuildsTypes xs at ys r (build-types (typesOf t) 0 (typesOf t))
+unfolding prepend build-types entries
+no-more {xs} {ys} {at} {place} {r} h z g c t e =
+    let q = c .on t e in
+    subst (BuildsTypes xs at ys r) (sym (q .whole ∙ ap (λ (v : Tree × ℕ). prepend (q .built) (build-types (typesOf t) place (entries typeOf (v .0)))) (none-left (q .list) h) ∙ ap done (append-nil (q .built))))
+    (BuildsTypes.made (q .built) z (rw g (q .wrote)))
+
+-- ---- what the calls stand on
+
+pub type-ready : {s ws xs ys : List ℕ} {at left from place p : ℕ} → Ready s ws → 0 < left → Loop s xs at ys left from place p → p + 512 < 2 ^ 55 → TypeReady s ws 0 from (p + 512)
+type-ready r h c k = record { standing = r .standing; set = r .set; type-at = next-type h c (r .set .0) (r .set .1) .0; cursor = k }
+
+pub ready-again : {s ws us : List ℕ} → Ready s ws → length us ≡ length ws → Ready s us
+ready-again r e = record { standing = standing (r .standing) e (omega arith); set = r .set }
+
+-- where the next type ends
+pub next-end : {s ws xs ys : List ℕ} {at left from place p : ℕ} → Ready s ws → 0 < left → Loop s xs at ys left from place p → from + 4 + le4 s from ≤ 65536
+next-end {s} {from} r h c = let n = next-type h c (r .set .0) (r .set .1) .1 in omega (arith, n, r .standing .size)
+
+pub next-inside : {s ws xs ys : List ℕ} {at left from place p : ℕ} → Ready s ws → 0 < left → Loop s xs at ys left from place p → from + 4 + le4 s from ≤ length s
+next-inside r h c = next-type h c (r .set .0) (r .set .1) .1
+
+pub count-few : {s ws : List ℕ} → Ready s ws → (8 ≤ length s) × (le2 s 6 ≤ 256)
+count-few r = let l = set-list (r .set .1) in (l .0, l .3)
+
+-- ---- 18
+
+module _ (out : List ℕ) (n : ℕ) where
+  pub holds-out : length out < n → false ≡ holdsAt out n
+  unfolding holdsAt
+  holds-out h = rw (lt-leb _ _ h) refl
+
+  pub holds-long : 65536 < n → false ≡ holdsAt out n
+  unfolding holdsAt
+  holds-long h = rw (lt-leb _ _ h) (go (leb n (length out)))
+    where
+      go : (b : Bool) → false ≡ ((b && false) && answered (readLayout (take n out)))
+      go true = refl
+      go false = refl
+
+  module _ (m : ℕ) {r : Read} (h : n ≤ length out) (k : n ≤ 65536) (e : r ≡ inputOf m (readLayout (take n out))) where
+    read-is : (o : Outcome Tree) → r ≡ inputOf m o → {i : ℕ} → r ≡ Ok i → answered o ≡ true
+    unfolding inputOf
+    read-is (done t) d f = refl
+    read-is (refused q) d f = let z : _≡_ {A = ℕ} 0 1 = cc in absurd (omega arith)
+
+    unread-is : (o : Outcome Tree) → r ≡ inputOf m o → {q i : ℕ} → r ≡ Refused q i → answered o ≡ false
+    unfolding inputOf
+    unread-is (done t) d f = let z : _≡_ {A = ℕ} 0 1 = cc in absurd (omega arith)
+    unread-is (refused q) d f = refl
+
+    pub holds-yes : {i : ℕ} → r ≡ Ok i → true ≡ holdsAt out n
+    unfolding holdsAt
+    holds-yes f = rw (le-leb _ _ h, le-leb _ _ k, read-is (readLayout (take n out)) e f) refl
+
+    pub holds-no : {q i : ℕ} → r ≡ Refused q i → false ≡ holdsAt out n
+    unfolding holdsAt
+    holds-no f = rw (le-leb _ _ h, le-leb _ _ k, unread-is (readLayout (take n out)) e f) refl
+
+-- ---- the layout
+
+-- as many types build as the set has
+built-count : (types : List ResolvedType) (i : ℕ) (ts : List ResolvedType) {xs : List TypeIr} → build-types types i ts ≡ done xs → length xs ≡ length ts
+unfolding build-types
+built-count types i [] e = ap length (sym (done-one e))
+built-count types i (t ∷ ts) e =
+    let a = bound (atType i (build-type types t)) _ _ e in
+    let b = bound (build-types types (suc i) ts) _ _ (a .2) in
+    ap length (sym (done-one (b .2))) ∙ ap suc (built-count types (suc i) ts (b .1))
+
+listed-count : {s : List ℕ} {A : Type 0} (f : Tree → A) {lo hi : ℕ} (n at : ℕ) (l : Listed s lo hi n at) → length (entries f (l .got .0)) ≡ n
+unfolding entries
+listed-count f zero at l = rw (none-left l (omega arith)) refl
+listed-count {s} f {lo} {hi} (suc n) at l =
+    let e = block-entry l (omega arith) in
+    let g : (q : ℕ) (r : Listed s lo hi (suc n - 1) q) → length (entries f (r .got .0)) ≡ n = rw sub-one (listed-count f n) in
+    rw (e .after .tree) (ap suc (g (at + 4 + le4 s at) (e .after .rest)))
+
+pub set-count : (s : List ℕ) {t : Tree} {xs : List TypeIr} → readSet s ≡ done t → build-types (typesOf t) 0 (typesOf t) ≡ done xs → le2 s 6 ≡ length xs
+set-count s {t} e d =
+    let l = set-list e in
+    sym (built-count (typesOf t) 0 (typesOf t) d ∙ ap length (l .2) ∙ listed-count typeOf (le2 s 6) 8 (l .1))
+
+-- the layout of so many types: its header, its count and its type trees, and then its length
+pub layout-is : {xs xs₁ xs₂ xs₃ ys : List ℕ} {p q u v n : ℕ} (ts : List TypeIr) → Wrote xs 0 (opened 160) xs₁ p → Wrote xs₁ p (bytes 2 n) xs₂ q → Wrote xs₂ q (write (entriesTree typeIrTree ts)) xs₃ u →
+    Wrote xs₃ 0 (bytes 4 (u - 0 - 4)) ys v → n ≡ length ts → Wrote xs 0 (write (layoutTree ts)) ys u
+unfolding layoutTree write
+layout-is {xs} {xs₃} {u} {n} ts o k t c e =
+    closed 0 160 (cons (cons (num 2 (length ts)) (entriesTree typeIrTree ts)) nil)
+    (subst (λ (bs : List ℕ). Wrote xs 0 bs xs₃ u) (ap (λ (bs : List ℕ). opened 160 ++ bs) (sym (append-nil _) ∙ ap (λ (m : ℕ). (bytes 2 m ++ write (entriesTree typeIrTree ts)) ++ []) e)) (both o (both k t))) c
+
+-- a write at the start that fits: what was written, then what stood behind
+pub whole-is : {xs ys bs : List ℕ} {u : ℕ} → Wrote xs 0 bs ys u → length bs ≤ length xs → ys ≡ bs ++ drop (length bs) xs
+whole-is w h = w .left ∙ poke-whole _ _ h
+
+-- 18 is put to the layout's bytes where they stand in the output
+same-holds : {xs ys bs : List ℕ} {u : ℕ} → Wrote xs 0 bs ys u → holds (length xs) bs ≡ holdsAt ys u
+unfolding holdsAt
+same-holds {xs} {ys} {bs} {u} w = go (leb (length bs) (length xs)) refl
+  where
+    long : length ys ≡ length xs
+    long = ap length (w .left) ∙ poke-length xs 0 bs
+
+    go : (b : Bool) → leb (length bs) (length xs) ≡ b → ((leb (length bs) (length xs) && leb (length bs) 65536) && answered (readLayout bs)) ≡ ((leb u (length ys) && leb u 65536) && answered (readLayout (take u ys)))
+    go true e =
+        let n : u ≡ length bs = w .end ∙ zero-add (length bs) in
+        let h : ys ≡ bs ++ drop (length bs) xs = whole-is w (leb-true _ _ e) in
+        let k : take (length bs) ys ≡ bs = ap (take (length bs)) h ∙ take-append-le (length bs) bs (drop (length bs) xs) (omega arith) ∙ take-all (length bs) bs (omega arith) in
+        rw (n, long, k) refl
+    go false e = let n : u ≡ length bs = w .end ∙ zero-add (length bs) in rw (n, long, e) refl
+
+-- ---- in the code's form: r is what the types left, then the length is written
+
+not-held : (out : ℕ) (ts : List TypeIr) → holds out (write (layoutTree ts)) ≡ false → write-layout out ts ≡ refused (plain 18)
+unfolding write-layout _>>=_ ask
+not-held out ts h = rw h refl
+
+is-held : (out : ℕ) (ts : List TypeIr) → holds out (write (layoutTree ts)) ≡ true → write-layout out ts ≡ done (write (layoutTree ts))
+unfolding write-layout _>>=_ ask
+is-held out ts h = rw h refl
+
+refused-18 : answer.Refused 18 65535 0 0 ≡ answerOf (refused (plain 18))
+unfolding answerOf
+refused-18 = refl
+
+-- the types are built: 18 decides
+decided : (out : ℕ) (t : Tree) {ts : List TypeIr} → build-types (typesOf t) 0 (typesOf t) ≡ done ts → layoutOf out t ≡ write-layout out ts
+unfolding layoutOf
+decided out t e = bound-done (write-layout out) e
+
+module _ (s : List ℕ) {xs xs₁ xs₂ xs₃ : List ℕ} {p q : ℕ} {r : Types} {n : ℕ} (o : Wrote xs 0 (opened 160) xs₁ p) (k : Wrote xs₁ p (bytes 2 n) xs₂ q) (c : n ≡ le2 s 6)
+    (f : (t : Tree) → readSet s ≡ done t → BuildsTypes xs₂ q xs₃ r (build-types (typesOf t) 0 (typesOf t))) where
+  -- a type refused
+  pub types-no : (r .no ≡ 0 → ⊥) → (t : Tree) → readSet s ≡ done t → Leaves xs xs₃ (answer.Refused (r .no) (r .place) 0 0) (layoutOf (length xs) t)
+  unfolding layoutOf _>>=_ answerOf
+  types-no z t e = go (build-types (typesOf t) 0 (typesOf t)) (f t e)
+    where
+      go : (b : Outcome (List TypeIr)) → BuildsTypes xs₂ q xs₃ r b → Leaves xs xs₃ (answer.Refused (r .no) (r .place) 0 0) (b >>= write-layout (length xs))
+      go _ (BuildsTypes.made ts n w) = absurd (z n)
+      go _ (BuildsTypes.not m i n h g) = Leaves.refuses (record { number = m; place = i; offset = 0; value = 0 }) (rw (n, g) refl)
+
+  -- all are built
+  module _ {ys : List ℕ} {v : ℕ} (z : r .no ≡ 0) (d : Wrote xs₃ 0 (bytes 4 (r .at - 0 - 4)) ys v) (t : Tree) (e : readSet s ≡ done t) where
+    all-made : (b : Outcome (List TypeIr)) → build-types (typesOf t) 0 (typesOf t) ≡ b → BuildsTypes xs₂ q xs₃ r b →
+        (ts : List TypeIr) × (build-types (typesOf t) 0 (typesOf t) ≡ done ts) × Wrote xs 0 (write (layoutTree ts)) ys (r .at)
+    all-made _ g (BuildsTypes.made ts m w) = (ts, g, layout-is ts o k w d (c ∙ set-count s e g))
+    all-made _ g (BuildsTypes.not m i y h l) = absurd (omega (arith, z, y, h))
+
+    pub layout-yes : true ≡ holdsAt ys (r .at) → Leaves xs ys (answer.Length (r .at)) (layoutOf (length xs) t)
+    layout-yes h =
+        let (ts, g, w) = all-made _ refl (f t e) in
+        let y : holds (length xs) (write (layoutTree ts)) ≡ true = same-holds w ∙ sym h in
+        let l : length (write (layoutTree ts)) ≤ length xs = leb-true _ _ (and-left _ _ (and-left _ _ y)) in
+        subst (Leaves xs ys (answer.Length (r .at))) (sym (decided (length xs) t g ∙ is-held (length xs) ts y))
+        (Leaves.built (write (layoutTree ts)) (ap answer.Length (w .end ∙ zero-add _)) (whole-is w l))
+
+    pub layout-no : false ≡ holdsAt ys (r .at) → Leaves xs ys (answer.Refused 18 65535 0 0) (layoutOf (length xs) t)
+    layout-no h =
+        let (ts, g, w) = all-made _ refl (f t e) in
+        let y : holds (length xs) (write (layoutTree ts)) ≡ false = same-holds w ∙ sym h in
+        subst (Leaves xs ys (answer.Refused 18 65535 0 0)) (sym (decided (length xs) t g ∙ not-held (length xs) ts y)) (Leaves.refuses (plain 18) refused-18)
+
+-- ---- the questions before building
+
+read-tree : (m : ℕ) {i : ℕ} (o : Outcome Tree) → inputOf m o ≡ Ok i → (t : Tree) × (o ≡ done t)
+unfolding inputOf
+read-tree m (done t) e = (t, refl)
+read-tree m (refused r) e = let z : _≡_ {A = ℕ} 0 1 = cc in absurd (omega arith)
+
+unread-leaves : (xs : List ℕ) (m q o : ℕ) {a : Outcome Tree} → Unread a → inputOf m a ≡ Refused q o → (k : Tree → Outcome (List ℕ)) → Leaves xs xs (answer.Refused q 65535 o 0) (a >>= k)
+unfolding inputOf _>>=_ answerOf
+unread-leaves xs m q o (Unread.given t) e k = let z : _≡_ {A = ℕ} 0 1 = cc in absurd (omega arith)
+unread-leaves xs m q o (Unread.at-offset p i) e k =
+    let g : p ≡ q = cc in
+    let h : i ≡ o = cc in
+    Leaves.refuses (unread p i) (rw (g, h) refl)
+
+module _ (n : ℕ) (set xs : List ℕ) where
+  pub set-19 : n < 8192 → Leaves xs xs (answer.Refused 19 65535 0 0) (build-set n (length xs) set)
+  unfolding build-set enough _>>=_ ask answerOf
+  set-19 h = rw (lt-leb _ _ h) (Leaves.refuses (plain 19) refl)
+
+  module _ (h : 8192 ≤ n) where
+    pub set-1 : 65536 < length set → Leaves xs xs (answer.Refused 1 65535 0 0) (build-set n (length xs) set)
+    unfolding build-set enough small _>>=_ ask answerOf
+    set-1 k = rw (le-leb _ _ h, lt-leb _ _ k) (Leaves.refuses (unread 1 0) refl)
+
+    module _ (k : length set ≤ 65536) where
+      asked : build-set n (length xs) set ≡ (readSet set >>= layoutOf (length xs))
+      unfolding build-set enough small _>>=_ ask layoutOf
+      asked = rw (le-leb _ _ h, le-leb _ _ k) refl
+
+      module _ {r : Read} (e : r ≡ inputOf (length set) (readSet set)) where
+        pub set-unread : {q o : ℕ} → r ≡ Refused q o → Leaves xs xs (answer.Refused q 65535 o 0) (build-set n (length xs) set)
+        set-unread {q} {o} f = subst (Leaves xs xs (answer.Refused q 65535 o 0)) (sym asked) (unread-leaves xs (length set) q o (input-unread 32 36 set) (sym e ∙ f) (layoutOf (length xs)))
+
+        pub set-read : {i : ℕ} {ys : List ℕ} {a : Answer} → r ≡ Ok i → ((t : Tree) → readSet set ≡ done t → Leaves xs ys a (layoutOf (length xs) t)) → Leaves xs ys a (build-set n (length xs) set)
+        set-read {ys} {a} f g = let (t, d) = read-tree (length set) (readSet set) (sym e ∙ f) in subst (Leaves xs ys a) (sym (asked ∙ bound-done (layoutOf (length xs)) d)) (g t d)
+
+-- building stands on a set that was read, and on the words
+pub set-ready : {set ws : List ℕ} {r : Read} {i : ℕ} → 512 ≤ length ws → length set ≤ 65536 → r ≡ inputOf (length set) (readSet set) → r ≡ Ok i → Ready set ws
+set-ready {set} h k e f = record { standing = record { size = k; words = h; count = omega arith }; set = read-tree (length set) (readSet set) (sym e ∙ f) }
+
+-- ---- what a call leaves
+
+-- the length of a layout
+pub leaves-built : {xs ys : List ℕ} {a : Answer} {n : ℕ} {o : Outcome (List ℕ)} → Leaves xs ys a o → a ≡ answer.Length n → (answer.Length n ≡ answerOf o) × (ys ≡ output-after xs o)
+unfolding answerOf output-after
+leaves-built (Leaves.built bs e w) f = (sym f ∙ e, w)
+leaves-built (Leaves.refuses r e) f = let z : _≡_ {A = ℕ} 0 1 = cc in absurd (omega arith)
+
+-- a refusal
+pub leaves-refused : {xs ys zs : List ℕ} {a : Answer} {q p i v : ℕ} {o : Outcome (List ℕ)} → Leaves xs ys a o → a ≡ answer.Refused q p i v → zs ≡ replicate (length xs) 0 →
+    (answer.Refused q p i v ≡ answerOf o) × (zs ≡ output-after xs o)
+unfolding answerOf output-after
+leaves-refused (Leaves.built bs e w) f g = let z : _≡_ {A = ℕ} 0 1 = cc in absurd (omega arith)
+leaves-refused (Leaves.refuses r e) f g = (sym f ∙ e, g)
+
+-- cleared words, or bytes, as many as there were
+pub zeros : (xs ys : List ℕ) {zs : List ℕ} → zs ≡ replicate (length ys) 0 → length ys ≡ length xs → zs ≡ replicate (length xs) 0
+zeros xs ys e h = e ∙ ap (λ (n : ℕ). replicate n 0) h

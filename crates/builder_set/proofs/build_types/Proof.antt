@@ -1,0 +1,91 @@
+-- `build_types` meets its contract. The invariant: the types that were passed are built, and stand in the output. The measure
+-- is the types that are left.
+use Prim.Native.Nat.{_+_, _*_, _^_, _≤_, _<_}
+use mathlib.Core.Path.{_≡_, refl}
+use native.Mathlib.Omega.{arith}
+use borrow.Author.Needs.{needs}
+use lib.ListN.{length}
+use Rattle.blocks.specs.Bytes.{le2}
+use Rattle.lookup.proofs.Types.{set-list}
+use Rattle.builder_set.specs.Sets.{Ready}
+use Rattle.builder_set.proofs.Laws.{Loop, begin, go-on, stopped, no-more, type-ready, ready-again, next-end, next-inside, count-few}
+use Rattle.builder_set.proofs.build_types.Statement.{statement}
+use Rattle.builder_set.proofs.build_types.Tie as tie
+
+abbrev Inv-loop : tie.InvT-loop
+Inv-loop s words₀ out₀ at left₀ from₀ place₀ p₀ words out left from place p =
+    (place + left ≤ 256) × (at ≤ p) × (p ≤ at + 2 ^ 42 * place) × (from ≤ 65536) × Ready s words × Loop s out₀ at out left from place p × (length words ≡ length words₀) × (length out ≡ length out₀)
+
+abbrev μ-loop : tie.MeasureT-loop
+μ-loop s words₀ out₀ at left₀ from₀ place₀ p₀ words out left from place p = left
+
+read2-requires : tie.Need-read2-requires Inv-loop μ-loop
+read2-requires c κs = omega (arith, count-few (c .before .before .before .pre .0) .0)
+
+loop-holds : tie.Need-loop-holds Inv-loop μ-loop
+loop-holds c = (omega (arith, count-few (c .before .before .before .before .pre .0) .1, c .read2 .ensures .0), omega arith, omega arith, omega arith, c .before .before .before .before .pre .0, begin (c .read2 .ensures .0), refl, refl)
+
+build-type-requires : tie.Need-build-type-requires Inv-loop μ-loop
+build-type-requires c κs = type-ready (c .before .before .before .loop .inv .4) (c .before .before .loop-test .taken) (c .before .before .before .loop .inv .5) (omega (arith, c .before .before .before .before .before .before .before .before .pre .1, c .before .before .before .loop .inv))
+
+same-length : tie.Need-same-length Inv-loop μ-loop
+same-length c = search needs
+
+same-length-2 : tie.Need-same-length-2 Inv-loop μ-loop
+same-length-2 c = search needs
+
+returns : tie.Need-returns Inv-loop μ-loop
+returns c = ((omega arith, omega arith), stopped (c .before .before .before .before .before .before .before .before .before .loop-test .taken) (c .before .before .before .before .before .before .build-type .ensures .1) (c .if1 .taken) refl refl (c .before .before .before .before .before .before .before .before .before .before .loop .inv .5))
+
+add-from : tie.Need-add-from Inv-loop μ-loop
+add-from c = omega (arith, next-end (c .before .before .before .before .before .before .before .before .before .before .loop .inv .4) (c .before .before .before .before .before .before .before .before .before .loop-test .taken) (c .before .before .before .before .before .before .before .before .before .before .loop .inv .5))
+
+read4-requires : tie.Need-read4-requires Inv-loop μ-loop
+read4-requires c κs = omega (arith, next-inside (c .before .before .before .before .before .before .before .before .before .before .loop .inv .4) (c .before .before .before .before .before .before .before .before .before .loop-test .taken) (c .before .before .before .before .before .before .before .before .before .before .loop .inv .5))
+
+add-from-2 : tie.Need-add-from-2 Inv-loop μ-loop
+add-from-2 c = omega (arith, next-end (c .before .before .before .before .before .before .before .before .before .before .before .loop .inv .4) (c .before .before .before .before .before .before .before .before .before .before .loop-test .taken) (c .before .before .before .before .before .before .before .before .before .before .before .loop .inv .5), c .read4 .ensures .0)
+
+add-place : tie.Need-add-place Inv-loop μ-loop
+add-place c = omega arith
+
+sub-left : tie.Need-sub-left Inv-loop μ-loop
+sub-left c = omega arith
+
+loop-less : tie.Need-loop-less Inv-loop μ-loop
+loop-less c = omega arith
+
+loop-again : tie.Need-loop-again Inv-loop μ-loop
+loop-again c = (omega arith, omega (arith, c .before .before .before .before .before .before .before .build-type .ensures .0 .0), omega (arith, c .before .before .before .before .before .before .before .build-type .ensures .0 .1), omega (arith, next-end (c .before .before .before .before .before .before .before .before .before .before .before .loop .inv .4) (c .before .before .before .before .before .before .before .before .before .before .loop-test .taken) (c .before .before .before .before .before .before .before .before .before .before .before .loop .inv .5), c .read4 .ensures .0), ready-again (c .before .before .before .before .before .before .before .before .before .before .before .loop .inv .4) (omega arith), go-on (c .before .before .before .before .before .before .before .before .before .before .loop-test .taken) (c .before .before .before .before .before .before .before .build-type .ensures .1) (c .before .if1 .left) (c .read4 .ensures .0) (c .before .before .before .before .before .before .before .before .before .before .before .loop .inv .5), omega (arith, c .before .before .before .before .before .before .before .before .before .before .before .loop .inv .6), omega (arith, c .before .before .before .before .before .before .before .before .before .before .before .loop .inv .7))
+
+same-length-3 : tie.Need-same-length-3 Inv-loop μ-loop
+same-length-3 c = search needs
+
+same-length-4 : tie.Need-same-length-4 Inv-loop μ-loop
+same-length-4 c = search needs
+
+returns-2 : tie.Need-returns-2 Inv-loop μ-loop
+returns-2 c = ((omega arith, omega arith), no-more (c .loop-test .left) refl refl (c .before .loop .inv .5))
+
+pub build-types-spec : {M : Type 1} → statement M
+build-types-spec =
+    tie.close
+    (tie.spec
+    Inv-loop
+    μ-loop
+    read2-requires
+    loop-holds
+    build-type-requires
+    same-length
+    same-length-2
+    returns
+    add-from
+    read4-requires
+    add-from-2
+    add-place
+    sub-left
+    loop-less
+    loop-again
+    same-length-3
+    same-length-4
+    returns-2)

@@ -1,0 +1,48 @@
+-- `builder_set::layout_of` meets its contract: the output is cleared where it is a refusal.
+use denote.Ref.{now}
+use native.Mathlib.Omega.{arith}
+use Rattle.builder_set.proofs.Laws.{leaves-built, leaves-refused, zeros}
+use borrow.Author.Needs.{needs}
+use Rattle.builder_set.proofs.layout_of.Statement.{statement}
+use Rattle.builder_set.proofs.layout_of.Tie as tie
+
+slice-aggregate-built : tie.Need-slice-aggregate-built
+slice-aggregate-built c = search needs
+
+built-requires : tie.Need-built-requires
+built-requires c κs = search needs
+
+enum-known-a : tie.Need-enum-known-a
+enum-known-a c = search needs
+
+enum-known-a-2 : tie.Need-enum-known-a-2
+enum-known-a-2 c = search needs
+
+clear-bytes-requires : tie.Need-clear-bytes-requires
+clear-bytes-requires c κs = search needs
+
+same-length : tie.Need-same-length
+same-length c = search needs
+
+returns : tie.Need-returns
+returns c = leaves-built (c .before .before .before .before .before .before .built .ensures 8192 (omega arith)) (c .before .a .given .1)
+
+same-length-2 : tie.Need-same-length-2
+same-length-2 c = search needs
+
+returns-2 : tie.Need-returns-2
+returns-2 c = leaves-refused (c .before .before .before .before .before .before .before .before .before .before .built .ensures 8192 (omega arith)) (c .before .before .before .before .before .a2 .given .1) (zeros (now (c .before .before .before .before .before .before .before .before .before .before .before .before .before .before .before .args .out)) (c .before .before .before .before .before .before .before .before .before .before .built .last .1 .0) (c .before .before .clear-bytes .ensures) (omega arith))
+
+pub layout-of-spec : {M : Type 1} → statement M
+layout-of-spec =
+    tie.close
+    (tie.spec
+    slice-aggregate-built
+    built-requires
+    enum-known-a
+    enum-known-a-2
+    clear-bytes-requires
+    same-length
+    returns
+    same-length-2
+    returns-2)

@@ -1,0 +1,61 @@
+-- `count_nodes` meets its contract. The invariant: the nodes of the fields that were passed are counted, and the prefix ends at `end`. The measure is the fields that are left.
+use borrow.Author.Needs.{needs}
+use native.Mathlib.Omega.{arith}
+use Prim.Native.Nat.{_+_, _*_, _≤_}
+use Rattle.builder_structs.proofs.Laws.{Count, count-begin, count-next, count-over, count-end, field-here, field-inside}
+use Rattle.builder_structs.proofs.count_nodes.Statement.{statement}
+use Rattle.builder_structs.proofs.count_nodes.Tie as tie
+
+abbrev Inv-loop : tie.InvT-loop
+Inv-loop s field left at₀ rest₀ end₀ n₀ at rest end n = (n + 2 * rest ≤ 128) × Count s left field rest at end n
+
+abbrev μ-loop : tie.MeasureT-loop
+μ-loop s field left at₀ rest₀ end₀ n₀ at rest end n = rest
+
+loop-holds : tie.Need-loop-holds Inv-loop μ-loop
+loop-holds c = (omega (arith, c .before .pre .1), count-begin (c .before .pre .0))
+
+field-parts-requires : tie.Need-field-parts-requires Inv-loop μ-loop
+field-parts-requires c κs = field-here (c .loop-test .taken) (c .before .loop .inv .1 .here)
+
+nodes-of-requires : tie.Need-nodes-of-requires Inv-loop μ-loop
+nodes-of-requires c κs = search needs
+
+add-n : tie.Need-add-n Inv-loop μ-loop
+add-n c = omega (arith, c .nodes-of .ensures .0, c .before .before .before .loop .inv .0, c .before .before .loop-test .taken)
+
+prefix-after-requires : tie.Need-prefix-after-requires Inv-loop μ-loop
+prefix-after-requires c κs = c .before .field-parts .ensures (field-here (c .before .before .loop-test .taken) (c .before .before .before .loop .inv .1 .here)) .type
+
+enum-known-after : tie.Need-enum-known-after Inv-loop μ-loop
+enum-known-after c = search needs
+
+enum-told : tie.Need-enum-told Inv-loop μ-loop
+enum-told c = search needs
+
+returns : tie.Need-returns Inv-loop μ-loop
+returns c = (omega (arith, c .before .before .before .nodes-of .ensures .0, c .before .before .before .before .before .before .loop .inv .0, c .before .before .before .before .before .loop-test .taken), count-over _ (c .before .before .before .before .field-parts .ensures) (c .before .before .before .nodes-of .ensures .1) (c .before .before .prefix-after .ensures) (c .before .before .before .before .before .loop-test .taken) (c .enum-told .given .1) (c .before .before .before .before .before .before .loop .inv .1))
+
+add-at : tie.Need-add-at Inv-loop μ-loop
+add-at c = omega (arith, field-inside (c .before .before .before .before .before .before .loop-test .taken) (c .before .before .before .before .before .before .before .loop .inv .1 .here))
+
+read4-requires : tie.Need-read4-requires Inv-loop μ-loop
+read4-requires c κs = omega (arith, field-inside (c .before .before .before .before .before .before .loop-test .taken) (c .before .before .before .before .before .before .before .loop .inv .1 .here))
+
+add-at-2 : tie.Need-add-at-2 Inv-loop μ-loop
+add-at-2 c = omega (arith, c .read4 .ensures .0, field-inside (c .before .before .before .before .before .before .before .loop-test .taken) (c .before .before .before .before .before .before .before .before .loop .inv .1 .here))
+
+sub-rest : tie.Need-sub-rest Inv-loop μ-loop
+sub-rest c = omega (arith, c .before .before .before .before .before .before .before .loop-test .taken)
+
+loop-less : tie.Need-loop-less Inv-loop μ-loop
+loop-less c = omega (arith, c .before .before .before .before .before .before .before .loop-test .taken)
+
+loop-again : tie.Need-loop-again Inv-loop μ-loop
+loop-again c = (omega (arith, c .before .before .before .before .before .nodes-of .ensures .0, c .before .before .before .before .before .before .before .before .loop .inv .0, c .before .before .before .before .before .before .before .loop-test .taken), count-next _ (c .before .before .before .before .before .before .field-parts .ensures) (c .before .before .before .before .before .nodes-of .ensures .1) (c .before .before .before .before .prefix-after .ensures) (c .before .before .before .before .before .before .before .loop-test .taken) (c .before .before .after .given .1) (c .read4 .ensures .0) (c .before .before .before .before .before .before .before .before .loop .inv .1))
+
+returns-2 : tie.Need-returns-2 Inv-loop μ-loop
+returns-2 c = (omega (arith, c .before .loop .inv .0), count-end (c .loop-test .left) (c .before .loop .inv .1))
+
+pub count-nodes-spec : {M : Type 1} → statement M
+count-nodes-spec = tie.close (tie.spec Inv-loop μ-loop loop-holds field-parts-requires nodes-of-requires add-n prefix-after-requires enum-known-after enum-told returns add-at read4-requires add-at-2 sub-rest loop-less loop-again returns-2)

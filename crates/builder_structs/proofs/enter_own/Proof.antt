@@ -1,0 +1,20 @@
+-- `enter_own` meets its contract.
+use borrow.Author.Needs.{needs}
+use Rattle.builder_structs.proofs.Field.{own-entered}
+use Rattle.builder_structs.proofs.enter_own.Statement.{statement}
+use Rattle.builder_structs.proofs.enter_own.Tie as tie
+
+type-head-requires : tie.Need-type-head-requires
+type-head-requires c κs = c .before .before .pre .1
+
+extend-with-requires : tie.Need-extend-with-requires
+extend-with-requires c κs = (c .before .before .before .before .pre .0, c .before .type-head .ensures (c .before .before .before .before .pre .1) .references)
+
+same-length : tie.Need-same-length
+same-length c = search needs
+
+returns : tie.Need-returns
+returns c = (c .before .before .extend-with .ensures .0, own-entered _ (c .before .before .before .before .type-head .ensures) (c .before .before .extend-with .ensures .1))
+
+pub enter-own-spec : {M : Type 1} → statement M
+enter-own-spec = tie.close (tie.spec type-head-requires extend-with-requires same-length returns)

@@ -1,0 +1,19 @@
+-- `nodes_of` meets its contract.
+use borrow.Author.Needs.{needs}
+use native.Mathlib.Omega.{arith}
+use Rattle.resolved_parts.specs.Types.{offsetOf}
+use Rattle.builder_structs.proofs.Laws.{one-node, two-nodes}
+use Rattle.builder_structs.proofs.nodes_of.Statement.{statement}
+use Rattle.builder_structs.proofs.nodes_of.Tie as tie
+
+padding-requires : tie.Need-padding-requires
+padding-requires c κs = search needs
+
+returns : tie.Need-returns
+returns c = (omega arith, one-node (c .before .before .args .end) (offsetOf (c .before .before .args .placed) (c .before .before .args .offset)) (c .before .padding .ensures) (c .if1 .taken))
+
+returns-2 : tie.Need-returns-2
+returns-2 c = (omega arith, two-nodes (c .before .before .args .end) (offsetOf (c .before .before .args .placed) (c .before .before .args .offset)) (c .before .padding .ensures) (c .if1 .left))
+
+pub nodes-of-spec : {M : Type 1} → statement M
+nodes-of-spec = tie.close (tie.spec padding-requires returns returns-2)

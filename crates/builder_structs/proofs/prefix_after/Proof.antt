@@ -1,0 +1,30 @@
+-- `prefix_after` meets its contract.
+use borrow.Author.Needs.{needs}
+use native.Mathlib.Omega.{arith}
+use Rattle.builder_structs.proofs.Laws.{end-unplaced, end-variable, end-const, end-over}
+use Rattle.builder_structs.proofs.prefix_after.Statement.{statement}
+use Rattle.builder_structs.proofs.prefix_after.Tie as tie
+
+type-head-requires : tie.Need-type-head-requires
+type-head-requires c κs = c .before .pre
+
+returns : tie.Need-returns
+returns c = end-variable _ _ _ (c .before .before .type-head .ensures) (c .before .if1 .taken) (c .if2 .taken)
+
+sub-if3 : tie.Need-sub-if3
+sub-if3 c = search needs
+
+add-t11 : tie.Need-add-t11
+add-t11 c = search needs
+
+returns-2 : tie.Need-returns-2
+returns-2 c = end-const _ _ _ (c .before .before .before .type-head .ensures) (c .before .before .if1 .taken) (c .before .if2 .left) (omega arith) (c .if3 .taken)
+
+returns-3 : tie.Need-returns-3
+returns-3 c = end-over _ _ _ (c .before .before .before .type-head .ensures) (c .before .before .if1 .taken) (c .before .if2 .left) (omega arith) (c .if3 .left)
+
+returns-4 : tie.Need-returns-4
+returns-4 c = end-unplaced _ _ _ (c .before .type-head .ensures) (c .if1 .left)
+
+pub prefix-after-spec : {M : Type 1} → statement M
+prefix-after-spec = tie.close (tie.spec type-head-requires returns sub-if3 add-t11 returns-2 returns-3 returns-4)

@@ -1,0 +1,275 @@
+-- The sum of references, the last first: a sum of one more is the Add of the sum before it and the next reference.
+use mathlib.Core.Path.{_≡_, refl, sym, ap, subst, _∙_}
+use mathlib.Core.Bool.{Bool, true, false}
+use mathlib.Core.List.{List, [], _∷_, _++_}
+use mathlib.Core.Option.{Option, some, none}
+use Prim.Native.Nat.{ℕ, zero, suc, _+_, _-_, _*_, _≤_, _<_}
+use native.Mathlib.Numerals.{sub-one}
+use native.Mathlib.Omega.{arith}
+use lib.ListN.{length, take, getD, length-append}
+use lib.Seq.{take-suc, take-length}
+use lib.Dec.{leb}
+use borrow.Author.Tests.{le-leb, lt-leb}
+use Rattle.errors.specs.Refusal.{Outcome, done, refused, plain, MissingDynamicRefs, MissingParameter}
+use Rattle.errors.specs.Refusal.{_>>=_ as _andThen_}
+use Rattle.blocks.specs.Bytes.{bytes}
+use Rattle.blocks.specs.Name.{Name, text}
+use Rattle.blocks.specs.Tree.{nil, cons}
+use Rattle.blocks.specs.Write.{write}
+use Rattle.ir.specs.Ir.{IrNode, BinaryOp, default-alignment, default-metadata, unplaced}
+use Rattle.ir.specs.Layout.{nodeTree}
+use Rattle.builder.specs.Registry.{Registry, Build, _>>=_, give, refuse, require, need, reads, short, lookup-name}
+use Rattle.builder.specs.Nodes.{refText, build-field-ref-nodes, add-all, combine-checked-add, sum-refs}
+use Rattle.wire.specs.Poke.{Wrote}
+use Rattle.wire.proofs.Laws.{both, parts, no-parts}
+use Rattle.resolved_parts.specs.Types.{PathsAt, textsOf}
+use Rattle.builder_registry.specs.declared.Found.{Found}
+use Rattle.builder_registry.specs.declared.Found.the-variants.{At, Missing}
+use Rattle.builder_registry.specs.Words.{Looked, entriesOf, entryName}
+use Rattle.builder_nodes.specs.declared.Built.{Built}
+use Rattle.builder_nodes.specs.Built.{Builds, Within, nodeStart}
+use Rattle.builder_nodes.proofs.Laws.{node-closed}
+use Rattle.builder_sums.specs.Ready.{chosen}
+use Rattle.builder_sums.specs.Paths.{picks, build-ref}
+use Rattle.builder_sums.proofs.Chosen.{picks-are}
+
+-- ---- a sum leaves the registry as it was
+
+abbrev leaving : {A : Type 0} → Registry → Outcome A → Outcome (A × Registry)
+leaving g (done a) = done (a, g)
+leaving g (refused q) = refused q
+
+abbrev refNode : Name → Name → Name → IrNode
+refNode owner path parameter = IrNode.FieldRef unplaced (record { alignment = default-alignment; size-expr = some (refText owner path) }) path (some parameter)
+
+abbrev refIf : Name → Name → Option Name → Bool → Outcome IrNode
+refIf owner path none b = refused (plain MissingParameter)
+refIf owner path (some x) false = refused (plain 17)
+refIf owner path (some x) true = done (refNode owner path x)
+
+abbrev sumIf : List IrNode → Outcome IrNode
+sumIf [] = refused (plain MissingDynamicRefs)
+sumIf (n ∷ ns) = done (add-all n ns)
+
+abbrev consIf : Outcome IrNode → Outcome (List IrNode) → Outcome (List IrNode)
+consIf (refused q) o = refused q
+consIf (done n) (refused q) = refused q
+consIf (done n) (done ns) = done (n ∷ ns)
+
+abbrev thenSum : Outcome (List IrNode) → Outcome IrNode
+thenSum (refused q) = refused q
+thenSum (done ns) = sumIf ns
+
+abbrev addIf : Outcome IrNode → Outcome IrNode → Outcome IrNode
+addIf (refused q) o = refused q
+addIf (done l) (refused q) = refused q
+addIf (done l) (done r) = done (IrNode.Binary unplaced default-metadata BinaryOp.AddChecked l r)
+
+add-last : (n : IrNode) (ns : List IrNode) (m : IrNode) → add-all n (ns ++ (m ∷ [])) ≡ IrNode.Binary unplaced default-metadata BinaryOp.AddChecked (add-all n ns) m
+unfolding add-all
+add-last n [] m = refl
+add-last n (k ∷ ns) m = add-last (IrNode.Binary unplaced default-metadata BinaryOp.AddChecked n k) ns m
+
+abbrev lastIf : Outcome (List IrNode) → Outcome IrNode → Outcome (List IrNode)
+lastIf (refused q) o = refused q
+lastIf (done ns) (refused q) = refused q
+lastIf (done ns) (done n) = done (ns ++ (n ∷ []))
+
+module _ (owner : Name) (g : Registry) where
+  refOf : Name → Outcome IrNode
+  refOf path = refIf owner path (lookup-name owner path g) (short (refText owner path))
+
+  refs : List Name → Outcome (List IrNode)
+  refs [] = done []
+  refs (p ∷ ps) = consIf (refOf p) (refs ps)
+
+  ref-is : (path : Name) → build-ref owner path g ≡ leaving g (refOf path)
+  unfolding build-ref _>>=_ _andThen_ reads need require give refuse refOf
+  ref-is path = go (lookup-name owner path g) (short (refText owner path))
+    where
+      go : (o : Option Name) (b : Bool) →
+          _andThen_ (need o MissingParameter g) (λ x. _andThen_ (require b 17 (x .1)) (λ y. done (refNode owner path (x .0), y .1))) ≡ leaving g (refIf owner path o b)
+      go none b = refl
+      go (some x) false = refl
+      go (some x) true = refl
+
+  refs-are : (ps : List Name) → build-field-ref-nodes owner ps g ≡ leaving g (refs ps)
+  unfolding build-field-ref-nodes _>>=_ _andThen_ reads need require give refuse refs refOf
+  refs-are [] = refl
+  refs-are (p ∷ ps) = go (lookup-name owner p g) (short (refText owner p)) (refs ps) (refs-are ps)
+    where
+      go : (o : Option Name) (b : Bool) (z : Outcome (List IrNode)) → build-field-ref-nodes owner ps g ≡ leaving g z →
+          _andThen_ (need o MissingParameter g) (λ x. _andThen_ (require b 17 (x .1)) (λ y. _andThen_ (build-field-ref-nodes owner ps (y .1)) (λ w. done (refNode owner p (x .0) ∷ w .0, w .1)))) ≡
+          leaving g (consIf (refIf owner p o b) z)
+      go none b z e = refl
+      go (some x) false z e = refl
+      go (some x) true (done ns) e = rw e
+      go (some x) true (refused q) e = rw e
+
+  sum-is : (ps : List Name) → sum-refs owner ps g ≡ leaving g (thenSum (refs ps))
+  unfolding sum-refs _>>=_ _andThen_ combine-checked-add give refuse
+  sum-is ps = rw (refs-are ps) (go (refs ps))
+    where
+      go : (z : Outcome (List IrNode)) → _andThen_ (leaving g z) (λ x. combine-checked-add (x .0) (x .1)) ≡ leaving g (thenSum z)
+      go (refused q) = refl
+      go (done []) = refl
+      go (done (n ∷ ns)) = refl
+
+  refs-last : (ps : List Name) (p : Name) → refs (ps ++ (p ∷ [])) ≡ lastIf (refs ps) (refOf p)
+  unfolding refs
+  refs-last [] p = go (refOf p)
+    where
+      go : (o : Outcome IrNode) → consIf o (done []) ≡ lastIf (done []) o
+      go (done n) = refl
+      go (refused q) = refl
+  refs-last (x ∷ ps) p = go (refOf x) (refs ps) (refOf p) (refs-last ps p)
+    where
+      go : {y : Outcome (List IrNode)} (a : Outcome IrNode) (z : Outcome (List IrNode)) (c : Outcome IrNode) → y ≡ lastIf z c → consIf a y ≡ lastIf (consIf a z) c
+      go (refused q) z c e = refl
+      go (done n) (refused q) c e = rw e
+      go (done n) (done ns) (refused q) e = rw e
+      go (done n) (done ns) (done m) e = rw e
+
+  sum-one : (p : Name) → sum-refs owner (p ∷ []) g ≡ build-ref owner p g
+  unfolding refs add-all
+  sum-one p = sum-is (p ∷ []) ∙ go (refOf p) ∙ sym (ref-is p)
+    where
+      go : (o : Outcome IrNode) → leaving g (thenSum (consIf o (done []))) ≡ leaving g o
+      go (done n) = refl
+      go (refused q) = refl
+
+  -- the sum of a list that is not empty, and one more
+  sum-last : (x : Name) (ps : List Name) (p : Name) → sum-refs owner ((x ∷ ps) ++ (p ∷ [])) g ≡ leaving g (addIf (thenSum (refs (x ∷ ps))) (refOf p))
+  unfolding refs
+  sum-last x ps p = sum-is ((x ∷ ps) ++ (p ∷ [])) ∙ ap (λ (z : Outcome (List IrNode)). leaving g (thenSum (consIf (refOf x) z))) (refs-last ps p) ∙ go (refOf x) (refs ps) (refOf p)
+    where
+      go : (a : Outcome IrNode) (z : Outcome (List IrNode)) (c : Outcome IrNode) → leaving g (thenSum (consIf a (lastIf z c))) ≡ leaving g (addIf (thenSum (consIf a z)) c)
+      go (refused q) z c = refl
+      go (done n) (refused q) c = refl
+      go (done n) (done ns) (refused q) = refl
+      go (done n) (done ns) (done m) = ap (λ (y : IrNode). done (y, g)) (add-last n ns m)
+
+-- ---- what a builder that leaves the registry tells
+
+built-done : {s xs us ys : List ℕ} {at : ℕ} {r : Built} (g : Registry) (o : Outcome IrNode) → r .no ≡ 0 → Builds s xs at us ys r (leaving g o) →
+    (n : IrNode) × (o ≡ done n) × Wrote xs at (write (nodeTree n)) ys (r .at)
+built-done g (done n) z (Builds.made x e f w) = (n, refl, w)
+built-done g (refused q) z (Builds.not k e h) = absurd (omega arith)
+
+built-refused : {s xs us ys : List ℕ} {at : ℕ} {r : Built} (g : Registry) (o : Outcome IrNode) → (r .no ≡ 0 → ⊥) → Builds s xs at us ys r (leaving g o) → (0 < r .no) × (o ≡ refused (plain (r .no)))
+built-refused g (done n) z (Builds.made x e f w) = absurd (z e)
+built-refused g (refused q) z (Builds.not k e h) = rw e (h, refl)
+
+-- ---- one reference, in the code's form
+
+pub looked-at : {s ws : List ℕ} {n i : ℕ} {f : Found} {o : Option Name} → f ≡ At i → Looked s ws n f o → (i < n) × (o ≡ some (entryName s (getD ws i 0)))
+looked-at {i} e (Looked.at {i = j} h) = let z : j ≡ i = cc in rw (← z) (h, refl)
+looked-at e Looked.missing = let z : _≡_ {A = ℕ} 0 1 = cc in absurd (omega arith)
+
+pub looked-none : {s ws : List ℕ} {n : ℕ} {f : Found} {o : Option Name} → f ≡ Missing → Looked s ws n f o → o ≡ none
+looked-none e (Looked.at h) = let z : _≡_ {A = ℕ} 0 1 = cc in absurd (omega arith)
+looked-none e Looked.missing = refl
+
+pub entry-in : {s ws : List ℕ} {n i : ℕ} {f : Found} {o : Option Name} → f ≡ At i → Looked s ws n f o → i < n
+entry-in e l = looked-at e l .0
+
+ref-length : (owner path : Name) → length (refText owner path) ≡ length owner + (1 + length path)
+ref-length owner path = simp length-append (omega arith)
+
+module _ {s ws : List ℕ} {n : ℕ} {f : Found} (owner : Name) {path name : Name} (e : path ≡ name) (l : Looked s ws n f (lookup-name owner path (entriesOf s ws n))) where
+  module _ {xs ys : List ℕ} {at : ℕ} {r : Built} where
+    leads : {o : Option Name} {b : Bool} → lookup-name owner path (entriesOf s ws n) ≡ o → short (refText owner path) ≡ b → Builds s xs at ws ys r (leaving (entriesOf s ws n) (refIf owner path o b)) →
+        Builds s xs at ws ys r (build-ref owner name (entriesOf s ws n))
+    unfolding refOf
+    leads {o} {b} h k c =
+        subst (λ (p : Name). Builds s xs at ws ys r (build-ref owner p (entriesOf s ws n))) e
+        (subst (λ (z : Outcome (IrNode × Registry)). Builds s xs at ws ys r z) (sym (ref-is owner (entriesOf s ws n) path ∙ ap (λ (z : Option Name). leaving (entriesOf s ws n) (refIf owner path z (short (refText owner path)))) h ∙ ap (λ (z : Bool). leaving (entriesOf s ws n) (refIf owner path o z)) k)) c)
+
+  module _ {xs ys : List ℕ} {at : ℕ} where
+    pub ref-missing : f ≡ Missing → Builds s xs at ws ys (record { at = at; count = n; no = 12 }) (build-ref owner name (entriesOf s ws n))
+    ref-missing m = leads (looked-none m l) refl (Builds.not 12 refl (omega arith))
+
+    pub ref-long : {i : ℕ} → f ≡ At i → 255 < length owner + (1 + length path) → Builds s xs at ws ys (record { at = at; count = n; no = 17 }) (build-ref owner name (entriesOf s ws n))
+    ref-long m h = leads (looked-at m l .1) (lt-leb (length (refText owner path)) 255 (omega (arith, ref-length owner path))) (Builds.not 17 refl (omega arith))
+
+    pub ref-done : {i w r : ℕ} → f ≡ At i → length owner + (1 + length path) ≤ 255 → w ≡ getD ws i 0 → Wrote xs at (write (nodeTree (refNode owner path (entryName s w)))) ys r →
+        Builds s xs at ws ys (record { at = r; count = n; no = 0 }) (build-ref owner name (entriesOf s ws n))
+    ref-done {i} {w} {r} m h d v =
+        leads (looked-at m l .1) (le-leb (length (refText owner path)) 255 (omega (arith, ref-length owner path)))
+        (Builds.made (refNode owner path (entryName s (getD ws i 0)), entriesOf s ws n) refl refl (subst (λ (z : ℕ). Wrote xs at (write (nodeTree (refNode owner path (entryName s z)))) ys r) d v))
+
+-- ---- a sum, in the code's form
+
+pub sum-first : {s xs us ys : List ℕ} {at k : ℕ} {r : Built} (owner : Name) (cs : List Name) (g : Registry) → k ≡ 1 → 0 < length cs → Builds s xs at us ys r (build-ref owner (getD cs 0 []) g) →
+    Builds s xs at us ys r (sum-refs owner (take k cs) g)
+sum-first owner [] g e h b = absurd (omega arith)
+sum-first owner (c ∷ cs) g e h b = rw (e, sum-one owner g c) b
+
+-- the sum of one less, and the last reference
+abbrev before : Name → List Name → ℕ → Registry → Outcome IrNode
+before owner cs k g = thenSum (refs owner g (take (k - 1) cs))
+
+abbrev last : Name → List Name → ℕ → Registry → Outcome IrNode
+last owner cs k g = refOf owner g (getD cs (k - 1) [])
+
+whole : (owner : Name) (cs : List Name) (k : ℕ) (g : Registry) → 0 < k → (k ≡ 1 → ⊥) → k ≤ length cs → sum-refs owner (take k cs) g ≡ leaving g (addIf (before owner cs k g) (last owner cs k g))
+whole owner cs zero g a b c = absurd (omega arith)
+whole owner cs (suc zero) g a b c = absurd (b refl)
+whole owner [] (suc (suc m)) g a b c = absurd (omega arith)
+whole owner (x ∷ cs) (suc (suc m)) g a b c =
+    rw sub-one
+    (ap (λ (ps : List Name). sum-refs owner ps g) (take-suc (x ∷ cs) (suc m) [] (omega arith)) ∙ sum-last owner g x (take m cs) (getD (x ∷ cs) (suc m) []))
+
+module _ {s xs ws x₁ x₂ : List ℕ} {at k p : ℕ} {l : Built} (owner : Name) (cs : List Name) (n : ℕ) (h : 0 < k) (h₁ : k ≡ 1 → ⊥) (h₂ : k ≤ length cs) (w : Wrote xs at (nodeStart 134 1) x₁ p)
+    (b : Builds s x₁ p ws x₂ l (sum-refs owner (take (k - 1) cs) (entriesOf s ws n))) where
+  front : Builds s x₁ p ws x₂ l (leaving (entriesOf s ws n) (before owner cs k (entriesOf s ws n)))
+  front = rw (← sum-is owner (entriesOf s ws n) (take (k - 1) cs)) b
+
+  pub sum-stops : {ys : List ℕ} → (l .no ≡ 0 → ⊥) → Builds s xs at ws ys (record { at = at; count = n; no = l .no }) (sum-refs owner (take k cs) (entriesOf s ws n))
+  sum-stops z = let d = built-refused (entriesOf s ws n) (before owner cs k (entriesOf s ws n)) z front in
+      rw (whole owner cs k (entriesOf s ws n) h h₁ h₂, d .1) (Builds.not (l .no) refl (d .0))
+
+  module _ {x₃ : List ℕ} {m : Built} (z : l .no ≡ 0) (v : Builds s x₂ (l .at) ws x₃ m (build-ref owner (getD cs (k - 1) []) (entriesOf s ws n))) where
+    back : Builds s x₂ (l .at) ws x₃ m (leaving (entriesOf s ws n) (last owner cs k (entriesOf s ws n)))
+    back = rw (← ref-is owner (entriesOf s ws n) (getD cs (k - 1) [])) v
+
+    pub sum-stops-last : {ys : List ℕ} → (m .no ≡ 0 → ⊥) → Builds s xs at ws ys (record { at = at; count = n; no = m .no }) (sum-refs owner (take k cs) (entriesOf s ws n))
+    sum-stops-last y =
+        let d = built-done (entriesOf s ws n) (before owner cs k (entriesOf s ws n)) z front in
+        let q = built-refused (entriesOf s ws n) (last owner cs k (entriesOf s ws n)) y back in
+        rw (whole owner cs k (entriesOf s ws n) h h₁ h₂, d .1, q .1) (Builds.not (m .no) refl (q .0))
+
+    pub sum-done : {ys : List ℕ} {q : ℕ} → m .no ≡ 0 → Wrote x₃ at (bytes 4 (m .at - at - 4)) ys q → Builds s xs at ws ys (record { at = m .at; count = n; no = 0 }) (sum-refs owner (take k cs) (entriesOf s ws n))
+    unfolding nodeTree
+    sum-done y u =
+        let d = built-done (entriesOf s ws n) (before owner cs k (entriesOf s ws n)) z front in
+        let q = built-done (entriesOf s ws n) (last owner cs k (entriesOf s ws n)) y back in
+        rw (whole owner cs k (entriesOf s ws n) h h₁ h₂, d .1, q .1)
+        (Builds.made (IrNode.Binary unplaced default-metadata BinaryOp.AddChecked (d .0) (q .0), entriesOf s ws n) refl refl
+        (node-closed 134 1 (cons (nodeTree (d .0)) (cons (nodeTree (q .0)) nil)) w (parts (nodeTree (d .0)) (cons (nodeTree (q .0)) nil) (d .2) (parts (nodeTree (q .0)) nil (q .2) (no-parts x₃ (m .at)))) u))
+
+-- ---- where the cursor goes
+
+pub stopped : {at room n no : ℕ} → n ≤ 512 → Within at room (record { at = at; count = n; no = no })
+stopped h = record { low = omega arith; high = omega arith; count = h }
+
+pub widened : {at room more : ℕ} {r : Built} → room ≤ more → Within at room r → Within at more r
+widened h w = record { low = w .low; high = omega (arith, w .high); count = w .count }
+
+pub sum-within : {at k p n : ℕ} {l m : Built} → 0 < k → n ≤ 512 → p ≡ at + 15 → Within p (1115 * (k - 1)) l → Within (l .at) 1100 m → Within at (1115 * k) (record { at = m .at; count = n; no = 0 })
+sum-within h e f a b = record { low = omega (arith, a .low, b .low); high = omega (arith, a .high, b .high); count = e }
+
+-- ---- all the chosen paths
+
+pub sum-none : {s xs us ys : List ℕ} {at n k q : ℕ} (owner : Name) (only : Bool) (g : Registry) → k ≡ length (picks s only q) → k ≡ 0 → (p : PathsAt s q) →
+    Builds s xs at us ys (record { at = at; count = n; no = 11 }) (sum-refs owner (chosen only (textsOf (p .list .got .0))) g)
+unfolding refs
+sum-none {s} {xs} {us} {ys} {at} {n} {q} owner only g e z p = rw (picks-are only p) (go (picks s only q) (omega arith))
+  where
+    go : (ps : List Name) → length ps ≡ 0 → Builds s xs at us ys (record { at = at; count = n; no = 11 }) (sum-refs owner ps g)
+    go [] h = rw (sum-is owner g []) (Builds.not 11 refl (omega arith))
+    go (x ∷ ps) h = absurd (omega arith)
+
+pub sum-all : {s xs us ys : List ℕ} {at k : ℕ} {r : Built} (owner : Name) (only : Bool) (q : ℕ) (g : Registry) → k ≡ length (picks s only q) → Builds s xs at us ys r (sum-refs owner (take k (picks s only q)) g) →
+    (p : PathsAt s q) → Builds s xs at us ys r (sum-refs owner (chosen only (textsOf (p .list .got .0))) g)
+sum-all {s} owner only q g e b p = rw (picks-are only p) (rw (e, take-length (picks s only q)) at b)

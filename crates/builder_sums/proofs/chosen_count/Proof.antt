@@ -1,0 +1,72 @@
+use mathlib.Core.Path.{_≡_, refl}
+use Prim.Native.Nat.{ℕ, _+_, _≤_}
+use native.Mathlib.Omega.{arith}
+use borrow.Author.Needs.{needs}
+use Rattle.builder_sums.proofs.Chosen.{Counting, count-begin, count-more, count-end, named, name-in}
+use Rattle.builder_sums.proofs.chosen_count.Statement.{statement}
+use Rattle.builder_sums.proofs.chosen_count.Tie as tie
+use Rattle.builder_sums.proofs.chosen_count.Reads as reads
+use Rattle.builder_sums.proofs.chosen_count.Lts as lts
+use Rattle.wire.proofs.read2.Reads as read2-reads
+use Rattle.builder_sums.proofs.weight.Reads as weight-reads
+
+abbrev Inv-loop : tie.InvT-loop
+Inv-loop s only paths left₀ q₀ m₀ left q m = Counting s only paths left q m
+
+abbrev μ-loop : tie.MeasureT-loop
+μ-loop s only paths left₀ q₀ m₀ left q m = left
+
+read2-requires : tie.Need-read2-requires Inv-loop μ-loop
+read2-requires c κs = c .before .pre .list .inside
+
+add-q : tie.Need-add-q Inv-loop μ-loop
+add-q c = omega (arith, c .before .before .pre .list .inside)
+
+loop-holds : tie.Need-loop-holds Inv-loop μ-loop
+loop-holds c = count-begin _ (c .before .before .pre .list) (c .read2 .ensures .0)
+
+weight-requires : tie.Need-weight-requires Inv-loop μ-loop
+weight-requires c κs = search (needs, named)
+
+add-m : tie.Need-add-m Inv-loop μ-loop
+add-m c = omega (arith, c .before .before .loop .inv .few)
+
+add-q-2 : tie.Need-add-q-2 Inv-loop μ-loop
+add-q-2 c = omega (arith, name-in (c .before .loop-test .taken) (c .before .before .loop .inv .here))
+
+read2-requires-2 : tie.Need-read2-requires-2 Inv-loop μ-loop
+read2-requires-2 c κs = omega (arith, name-in (c .before .loop-test .taken) (c .before .before .loop .inv .here))
+
+add-q-3 : tie.Need-add-q-3 Inv-loop μ-loop
+add-q-3 c = omega (arith, name-in (c .before .before .loop-test .taken) (c .before .before .before .loop .inv .here), c .read22 .ensures .0)
+
+sub-left : tie.Need-sub-left Inv-loop μ-loop
+sub-left c = omega arith
+
+loop-less : tie.Need-loop-less Inv-loop μ-loop
+loop-less c = omega arith
+
+loop-again : tie.Need-loop-again Inv-loop μ-loop
+loop-again c = count-more (c .before .before .loop-test .taken) (c .before .weight .ensures .0) (c .read22 .ensures .0) (c .before .before .before .loop .inv)
+
+returns : tie.Need-returns Inv-loop μ-loop
+returns c = count-end (c .loop-test .left) (c .before .loop .inv)
+
+pub chosen-count-spec : {M : Type 1} → statement M
+chosen-count-spec =
+    tie.close
+    (tie.spec
+    Inv-loop
+    μ-loop
+    read2-requires
+    add-q
+    loop-holds
+    weight-requires
+    add-m
+    add-q-2
+    read2-requires-2
+    add-q-3
+    sub-left
+    loop-less
+    loop-again
+    returns)

@@ -1,0 +1,72 @@
+use mathlib.Core.Path.{_≡_, refl}
+use Prim.Native.Nat.{ℕ, _+_, _≤_}
+use native.Mathlib.Omega.{arith}
+use borrow.Author.Needs.{needs}
+use Rattle.builder_sums.proofs.Chosen.{Seeking, seek-begin, seek-more, seek-hit, seek-never, named, name-in}
+use Rattle.builder_sums.proofs.chosen_path.Statement.{statement}
+use Rattle.builder_sums.proofs.chosen_path.Tie as tie
+use Rattle.builder_sums.proofs.chosen_path.Reads as reads
+use Rattle.builder_sums.proofs.chosen_path.Lts as lts
+use Rattle.wire.proofs.read2.Reads as read2-reads
+use Rattle.builder_sums.proofs.weight.Reads as weight-reads
+
+abbrev Inv-loop : tie.InvT-loop
+Inv-loop s only paths i left₀ q₀ j₀ left q j = Seeking s only paths i left q j
+
+abbrev μ-loop : tie.MeasureT-loop
+μ-loop s only paths i left₀ q₀ j₀ left q j = left
+
+read2-requires : tie.Need-read2-requires Inv-loop μ-loop
+read2-requires c κs = c .before .pre .0 .list .inside
+
+add-q : tie.Need-add-q Inv-loop μ-loop
+add-q c = omega (arith, c .before .before .pre .0 .list .inside)
+
+loop-holds : tie.Need-loop-holds Inv-loop μ-loop
+loop-holds c = seek-begin (c .before .before .pre .0 .list) (c .before .before .pre .1) (c .read2 .ensures .0)
+
+weight-requires : tie.Need-weight-requires Inv-loop μ-loop
+weight-requires c κs = search (needs, named)
+
+returns : tie.Need-returns Inv-loop μ-loop
+returns c = seek-hit (c .before .before .loop-test .taken) (c .before .weight .ensures .0) (c .if1 .taken) (c .before .before .before .loop .inv)
+
+add-q-2 : tie.Need-add-q-2 Inv-loop μ-loop
+add-q-2 c = omega (arith, name-in (c .before .before .loop-test .taken) (c .before .before .before .loop .inv .here))
+
+read2-requires-2 : tie.Need-read2-requires-2 Inv-loop μ-loop
+read2-requires-2 c κs = omega (arith, name-in (c .before .before .loop-test .taken) (c .before .before .before .loop .inv .here))
+
+add-q-3 : tie.Need-add-q-3 Inv-loop μ-loop
+add-q-3 c = omega (arith, name-in (c .before .before .before .loop-test .taken) (c .before .before .before .before .loop .inv .here), c .read22 .ensures .0)
+
+sub-left : tie.Need-sub-left Inv-loop μ-loop
+sub-left c = omega arith
+
+loop-less : tie.Need-loop-less Inv-loop μ-loop
+loop-less c = omega arith
+
+loop-again : tie.Need-loop-again Inv-loop μ-loop
+loop-again c = seek-more (c .before .before .before .loop-test .taken) (c .before .before .weight .ensures .0) (c .before .if1 .left) (c .read22 .ensures .0) (c .before .before .before .before .loop .inv)
+
+returns-2 : tie.Need-returns-2 Inv-loop μ-loop
+returns-2 c = seek-never (c .loop-test .left) (c .before .loop .inv)
+
+pub chosen-path-spec : {M : Type 1} → statement M
+chosen-path-spec =
+    tie.close
+    (tie.spec
+    Inv-loop
+    μ-loop
+    read2-requires
+    add-q
+    loop-holds
+    weight-requires
+    returns
+    add-q-2
+    read2-requires-2
+    add-q-3
+    sub-left
+    loop-less
+    loop-again
+    returns-2)

@@ -1,0 +1,16 @@
+use Rattle.builder_sums.proofs.Chosen.{payload-is}
+use borrow.Author.Needs.{needs}
+use Rattle.builder_sums.proofs.has_payload.Statement.{statement}
+use Rattle.builder_sums.proofs.has_payload.Tie as tie
+use Rattle.builder_sums.proofs.has_payload.Reads as reads
+use Rattle.builder_sums.proofs.has_payload.Lts as lts
+use Rattle.builder_sums.proofs.chosen_count.Reads as chosen-count-reads
+
+chosen-count-requires : tie.Need-chosen-count-requires
+chosen-count-requires c κs = search needs
+
+returns : tie.Need-returns
+returns c = λ p. payload-is (c .chosen-count .ensures .0) p
+
+pub has-payload-spec : {M : Type 1} → statement M
+has-payload-spec = tie.close (tie.spec chosen-count-requires returns)

@@ -1,0 +1,414 @@
+-- The alternatives of a switch, their nodes and their cases, one by one.
+use mathlib.Core.Path.{_≡_, refl, sym, ap, subst, _∙_}
+use mathlib.Core.Bool.{Bool, true, false, cond}
+use mathlib.Core.List.{List, [], _∷_, _++_, append-nil}
+use mathlib.Core.Option.{some, none}
+use Prim.Native.Nat.{ℕ, suc, _+_, _-_, _*_, _^_, _≤_, _<_}
+use native.Mathlib.Numerals.{add-one}
+use native.Mathlib.Omega.{arith}
+use lib.ListN.{length}
+use lib.Dec.{eqb}
+use Rattle.errors.specs.Refusal.{Refusal, Outcome, done, refused, plain, MissingDynamicRefs}
+use Rattle.errors.specs.Refusal.{_>>=_ as _andThen_}
+use Rattle.errors.proofs.Laws.{done-one, not-done}
+use Rattle.blocks.specs.Bytes.{bytes, le4, nameAt}
+use Rattle.blocks.specs.Name.{Name}
+use Rattle.blocks.specs.Tree.{Tree, name, num, block, nil, cons, view}
+use Rattle.blocks.specs.Write.{write}
+use Rattle.accepted.specs.Accepted.{Accepted, tree, Item, Listed}
+use Rattle.accepted.proofs.Laws.{block-entry}
+use Rattle.accepted.proofs.Lists.{Left, starts, steps, ended}
+use Rattle.resolved.specs.Resolved.{Owner, Size, head, fields, variants, get}
+use Rattle.resolved.specs.Set.{thingOf, fieldsIn, variantsIn, typeOf}
+use Rattle.ir.specs.Ir.{IrNode, IrParameter, SwitchCases, unplaced}
+use Rattle.ir.specs.Layout.{nodeTree, casesTree, caseCount, listTree, parameterTree}
+use Rattle.builder.specs.Registry.{Registry, _>>=_, give, refuse, need, reads, owner-parameters}
+use Rattle.builder.specs.Nodes.{Alternative, enum-alternatives, union-alternatives, sized-alternatives, align-node, const-or-zero, build-field-ref-nodes, combine-checked-add, sum-refs, build-alternative, build-cases}
+use Rattle.wire.specs.Poke.{Wrote, opened}
+use Rattle.wire.proofs.Laws.{both, parts, no-parts, closed}
+use Rattle.resolved_parts.specs.declared.TypeHead.{TypeHead}
+use Rattle.resolved_parts.specs.declared.FieldParts.{FieldParts}
+use Rattle.resolved_parts.specs.declared.VariantParts.{VariantParts}
+use Rattle.resolved_parts.specs.declared.Paths.{Paths}
+use Rattle.resolved_parts.specs.declared.Paths.the-variants.{At, Missing}
+use Rattle.resolved_parts.specs.Types.{HeadAt, FieldAt, VariantAt, PathsAt, PathsFound, ownersOf, textsOf, sized}
+use Rattle.builder_registry.specs.Words.{entriesOf}
+use Rattle.builder_nodes.specs.declared.Built.{Built}
+use Rattle.builder_nodes.specs.Built.{Builds, Within, nodeStart}
+use Rattle.builder_nodes.proofs.Laws.{align-closed}
+use Rattle.builder_switches.specs.declared.Choice.{Choice}
+use Rattle.builder_switches.specs.Cases.{alternatives, Kind, AltAt, Cases, CaseAt}
+
+-- ---- the alternatives of each kind
+
+pub union-are : (i : ℕ) (u : Tree) → alternatives 33 i u ≡ union-alternatives i (fields (fieldsIn (view thingOf u)))
+unfolding alternatives
+union-are i u = refl
+
+pub enum-are : (i : ℕ) (u : Tree) → alternatives 34 i u ≡ enum-alternatives (variants (variantsIn (view thingOf u)))
+unfolding alternatives
+enum-are i u = refl
+
+pub sized-are : (i : ℕ) (u : Tree) → alternatives 35 i u ≡ sized-alternatives (variants (variantsIn (view thingOf u)))
+unfolding alternatives
+sized-are i u = refl
+
+abbrev alternativeOf : ℕ → Name → Size → ℕ → Alternative
+alternativeOf t n s a = record { tag = t; name = n; size = s; alignment = a }
+
+module _ {s : List ℕ} {k q i : ℕ} {f : FieldParts} {h : TypeHead} (e : k ≡ 33) (p : (c : Accepted s 33 33 q) → FieldAt c f) (t : (a : Accepted s 1 7 (f .kind)) → HeadAt a h) where
+  pub alt-union : (c : Accepted s k k q) → AltAt c i (record { tag = i; variable = h .variable; size = h .size; alignment = h .alignment })
+  unfolding union-alternatives
+  alt-union = subst (λ (k : ℕ). (c : Accepted s k k q) → AltAt c i (record { tag = i; variable = h .variable; size = h .size; alignment = h .alignment })) (sym e) go
+    where
+      go : (c : Accepted s 33 33 q) → AltAt c i (record { tag = i; variable = h .variable; size = h .size; alignment = h .alignment })
+      go c =
+          let x = p c in
+          let y = t (x .type) in
+          record {
+            named = x .named;
+            is = λ u. union-are i (cons (tree c) u) ∙ ap (union-alternatives i) (x .is u)
+                ∙ ap (λ (z : Size). alternativeOf i (nameAt s (q + 6)) z (head (typeOf (tree (x .type))) .alignment) ∷ union-alternatives (suc i) (fields (fieldsIn (view thingOf u)))) (y .size)
+                ∙ ap (λ (z : ℕ). alternativeOf i (nameAt s (q + 6)) (sized (h .variable) (h .size)) z ∷ union-alternatives (suc i) (fields (fieldsIn (view thingOf u)))) (y .alignment)
+                ∙ ap (λ (z : List Alternative). alternativeOf i (nameAt s (q + 6)) (sized (h .variable) (h .size)) (h .alignment) ∷ z) (sym (union-are (suc i) u));
+          }
+
+module _ {s : List ℕ} {k q i : ℕ} {v : VariantParts} {h : TypeHead} (p : (c : Accepted s k k q) → VariantAt c v) (t : (a : Accepted s 1 7 (v .kind)) → HeadAt a h) where
+  pub alt-enum : k ≡ 34 → (c : Accepted s k k q) → AltAt c i (record { tag = v .number; variable = h .variable; size = h .size; alignment = h .alignment })
+  unfolding enum-alternatives
+  alt-enum e c =
+      let x = p c in
+      let y = t (x .type) in
+      record {
+        named = x .named;
+        is = λ u. ap (λ (j : ℕ). alternatives j i (cons (tree c) u)) e ∙ enum-are i (cons (tree c) u) ∙ ap enum-alternatives (x .is u)
+            ∙ ap (λ (z : Size). alternativeOf (v .number) (nameAt s (q + 6)) z (head (typeOf (tree (x .type))) .alignment) ∷ enum-alternatives (variants (variantsIn (view thingOf u)))) (y .size)
+            ∙ ap (λ (z : ℕ). alternativeOf (v .number) (nameAt s (q + 6)) (sized (h .variable) (h .size)) z ∷ enum-alternatives (variants (variantsIn (view thingOf u)))) (y .alignment)
+            ∙ ap (λ (z : List Alternative). alternativeOf (v .number) (nameAt s (q + 6)) (sized (h .variable) (h .size)) (h .alignment) ∷ z) (sym (ap (λ (j : ℕ). alternatives j (suc i) u) e ∙ enum-are (suc i) u));
+      }
+
+  pub alt-sized : k ≡ 35 → (c : Accepted s k k q) → AltAt c i (record { tag = v .number; variable = false; size = v .number; alignment = h .alignment })
+  unfolding sized-alternatives
+  alt-sized e c =
+      let x = p c in
+      let y = t (x .type) in
+      record {
+        named = x .named;
+        is = λ u. ap (λ (j : ℕ). alternatives j i (cons (tree c) u)) e ∙ sized-are i (cons (tree c) u) ∙ ap sized-alternatives (x .is u)
+            ∙ ap (λ (z : ℕ). alternativeOf (v .number) (nameAt s (q + 6)) (Size.Const (v .number)) z ∷ sized-alternatives (variants (variantsIn (view thingOf u)))) (y .alignment)
+            ∙ ap (λ (z : List Alternative). alternativeOf (v .number) (nameAt s (q + 6)) (Size.Const (v .number)) (h .alignment) ∷ z) (sym (ap (λ (j : ℕ). alternatives j (suc i) u) e ∙ sized-are (suc i) u));
+      }
+
+-- behind the last
+none-more : (k i : ℕ) → alternatives k i nil ≡ []
+unfolding alternatives view fieldsIn variantsIn fields variants union-alternatives enum-alternatives sized-alternatives
+none-more k i = go (eqb k 33) (eqb k 34)
+  where
+    go : (b c : Bool) → cond {A = List Alternative} b [] (cond c [] []) ≡ []
+    go true c = refl
+    go false true = refl
+    go false false = refl
+
+-- ---- the node of an alternative
+
+const-node : (os : List Owner) (n : Name) (v a : ℕ) (g : Registry) → build-alternative os n (Size.Const v) a g ≡ done (const-or-zero v a, g)
+unfolding build-alternative give
+const-node os n v a g = refl
+
+-- of variable size: the sum, aligned
+abbrev alignIf : ℕ → Outcome (IrNode × Registry) → Outcome (IrNode × Registry)
+alignIf a (done x) = done (align-node (x .0) a, x .1)
+alignIf a (refused q) = refused q
+
+variable-node : (os : List Owner) (n : Name) (a : ℕ) (g : Registry) (ps : List Name) → get n os ≡ some ps → build-alternative os n Size.Variable a g ≡ alignIf a (sum-refs n ps g)
+unfolding build-alternative sum-refs _>>=_ _andThen_ need give
+variable-node os n a g ps e = rw e (go (build-field-ref-nodes n ps g))
+  where
+    go : (o : Outcome (List IrNode × Registry)) → _andThen_ o (λ x. _andThen_ (combine-checked-add (x .0) (x .1)) (λ y. done (align-node (y .0) a, y .1))) ≡ alignIf a (_andThen_ o (λ x. combine-checked-add (x .0) (x .1)))
+    go (refused q) = refl
+    go (done x) = into (combine-checked-add (x .0) (x .1))
+      where
+        into : (o : Outcome (IrNode × Registry)) → _andThen_ o (λ y. done (align-node (y .0) a, y .1)) ≡ alignIf a o
+        into (done y) = refl
+        into (refused q) = refl
+
+missing-node : (os : List Owner) (n : Name) (a : ℕ) (g : Registry) → get n os ≡ none → build-alternative os n Size.Variable a g ≡ refused (plain MissingDynamicRefs)
+unfolding build-alternative _>>=_ _andThen_ need refuse
+missing-node os n a g e = rw e refl
+
+-- what the references of a name tell
+module _ {s : List ℕ} {references : ℕ} {f : Paths} {o : Name} (q : ℕ) (d : o ≡ nameAt s q) (p : (a : Accepted s 32 32 references) → PathsFound s o (ownersOf (tree a)) f) where
+  named-paths : (a : Accepted s 32 32 references) → PathsFound s (nameAt s q) (ownersOf (tree a)) f
+  named-paths a = subst (λ (z : Name). PathsFound s z (ownersOf (tree a)) f) d (p a)
+
+  no-paths : f ≡ Missing → (a : Accepted s 32 32 references) → get (nameAt s q) (ownersOf (tree a)) ≡ none
+  no-paths h a = go h (named-paths a)
+    where
+      go : {f : Paths} {os : List Owner} → f ≡ Missing → PathsFound s (nameAt s q) os f → get (nameAt s q) os ≡ none
+      go h (PathsFound.missing e) = e
+      go h (PathsFound.at b e) = let z : _≡_ {A = ℕ} 0 1 = cc in absurd (omega arith)
+
+  some-paths : {b : ℕ} → f ≡ At b → (a : Accepted s 32 32 references) → (y : PathsAt s b) × (get (nameAt s q) (ownersOf (tree a)) ≡ some (textsOf (y .list .got .0)))
+  some-paths {b} h a = go h (named-paths a)
+    where
+      go : {f : Paths} {os : List Owner} → f ≡ At b → PathsFound s (nameAt s q) os f → (y : PathsAt s b) × (get (nameAt s q) os ≡ some (textsOf (y .list .got .0)))
+      go {os} h (PathsFound.at {q = j} y e) =
+          let z : j ≡ b = cc in
+          (subst (λ (b : ℕ). (y : PathsAt s j) → get (nameAt s q) os ≡ some (textsOf (y .list .got .0)) → (y : PathsAt s b) × (get (nameAt s q) os ≡ some (textsOf (y .list .got .0)))) z (λ y e. (y, e))) y e
+      go h (PathsFound.missing e) = let z : _≡_ {A = ℕ} 0 1 = cc in absurd (omega arith)
+
+  pub paths-at : {b : ℕ} → f ≡ At b → Accepted s 32 32 references → PathsAt s b
+  paths-at h a = some-paths h a .0
+
+abbrev nodeOf : {s : List ℕ} {references : ℕ} → Accepted s 32 32 references → ℕ → Choice → Registry → Outcome (IrNode × Registry)
+nodeOf {s} a q x g = build-alternative (ownersOf (tree a)) (nameAt s q) (sized (x .variable) (x .size)) (x .alignment) g
+
+module _ {s xs ws : List ℕ} {at references : ℕ} (n q : ℕ) (x : Choice) where
+  pub node-const : {ys : List ℕ} {r : ℕ} → x .variable ≡ false → Wrote xs at (write (nodeTree (const-or-zero (x .size) (x .alignment)))) ys r → (a : Accepted s 32 32 references) →
+      Builds s xs at ws ys (record { at = r; count = n; no = 0 }) (nodeOf a q x (entriesOf s ws n))
+  node-const h w a = rw (h, const-node (ownersOf (tree a)) (nameAt s q) (x .size) (x .alignment) (entriesOf s ws n)) (Builds.made (const-or-zero (x .size) (x .alignment), entriesOf s ws n) refl refl w)
+
+  pub node-missing : {ys : List ℕ} {f : Paths} {o : Name} → x .variable ≡ true → o ≡ nameAt s q → ((a : Accepted s 32 32 references) → PathsFound s o (ownersOf (tree a)) f) → f ≡ Missing → (a : Accepted s 32 32 references) →
+      Builds s xs at ws ys (record { at = at; count = n; no = 11 }) (nodeOf a q x (entriesOf s ws n))
+  node-missing v d p h a = rw (v, missing-node (ownersOf (tree a)) (nameAt s q) (x .alignment) (entriesOf s ws n) (no-paths q d p h a)) (Builds.not 11 refl (omega arith))
+
+  module _ {f : Paths} {o : Name} {zs y : List ℕ} {b t : ℕ} {r : Built} (v : x .variable ≡ true) (d : o ≡ nameAt s q) (p : (a : Accepted s 32 32 references) → PathsFound s o (ownersOf (tree a)) f) (h : f ≡ At b)
+      (u : Wrote xs at (nodeStart 131 (x .alignment) ++ write (num 8 (x .alignment))) zs t) (m : (p : PathsAt s b) → Builds s zs t ws y r (sum-refs o (textsOf (p .list .got .0)) (entriesOf s ws n))) where
+    summed : (a : Accepted s 32 32 references) → Builds s zs t ws y r (sum-refs (nameAt s q) (textsOf (some-paths q d p h a .0 .list .got .0)) (entriesOf s ws n))
+    summed a = subst (λ (z : Name). Builds s zs t ws y r (sum-refs z (textsOf (some-paths q d p h a .0 .list .got .0)) (entriesOf s ws n))) d (m (some-paths q d p h a .0))
+
+    is-sum : (a : Accepted s 32 32 references) → nodeOf a q x (entriesOf s ws n) ≡ alignIf (x .alignment) (sum-refs (nameAt s q) (textsOf (some-paths q d p h a .0 .list .got .0)) (entriesOf s ws n))
+    is-sum a = rw v (variable-node (ownersOf (tree a)) (nameAt s q) (x .alignment) (entriesOf s ws n) (textsOf (some-paths q d p h a .0 .list .got .0)) (some-paths q d p h a .1))
+
+    pub node-stops : {ys : List ℕ} {i : ℕ} → (r .no ≡ 0 → ⊥) → (a : Accepted s 32 32 references) → Builds s xs at ws ys (record { at = at; count = i; no = r .no }) (nodeOf a q x (entriesOf s ws n))
+    node-stops {ys} {i} z a = rw (is-sum a) (go z (summed a))
+      where
+        go : {o : Outcome (IrNode × Registry)} → (r .no ≡ 0 → ⊥) → Builds s zs t ws y r o → Builds s xs at ws ys (record { at = at; count = i; no = r .no }) (alignIf (x .alignment) o)
+        go z (Builds.made w e f k) = absurd (z e)
+        go z (Builds.not k e l) = rw e (Builds.not k refl l)
+
+    pub node-done : {ys : List ℕ} {j : ℕ} → r .no ≡ 0 → Wrote y at (bytes 4 (r .at - at - 4)) ys j → (a : Accepted s 32 32 references) → Builds s xs at ws ys r (nodeOf a q x (entriesOf s ws n))
+    node-done {ys} z c a = rw (is-sum a) (go z (summed a))
+      where
+        go : {o : Outcome (IrNode × Registry)} → r .no ≡ 0 → Builds s zs t ws y r o → Builds s xs at ws ys r (alignIf (x .alignment) o)
+        go z (Builds.made w e f k) = Builds.made (align-node (w .0) (x .alignment), w .1) e f (align-closed (x .alignment) (w .0) u k c)
+        go z (Builds.not k e l) = absurd (omega arith)
+
+-- ---- a case
+
+abbrev caseTree : ℕ → IrNode → List IrParameter → Tree
+caseTree v n ps = block unplaced 163 (cons (num 8 v) (cons (nodeTree n) (cons (listTree parameterTree ps) nil)))
+
+-- the cases behind one whose node was built
+abbrev caseIf : Alternative → IrNode → List IrParameter → Outcome (SwitchCases × Registry) → Outcome (SwitchCases × Registry)
+caseIf x n ps (done y) = done (SwitchCases.case (x .tag) n ps (y .0), y .1)
+caseIf x n ps (refused q) = refused q
+
+abbrev casesIf : List Owner → Alternative → List Alternative → Outcome (IrNode × Registry) → Outcome (SwitchCases × Registry)
+casesIf os x xs (done y) = caseIf x (y .0) (owner-parameters (x .name) (y .1)) (build-cases os xs (y .1))
+casesIf os x xs (refused q) = refused q
+
+cases-are : (os : List Owner) (x : Alternative) (xs : List Alternative) (g : Registry) → build-cases os (x ∷ xs) g ≡ casesIf os x xs (build-alternative os (x .name) (x .size) (x .alignment) g)
+unfolding build-cases _>>=_ _andThen_ reads give
+cases-are os x xs g = go (build-alternative os (x .name) (x .size) (x .alignment) g)
+  where
+    into : (n : IrNode) (ps : List IrParameter) (z : Outcome (SwitchCases × Registry)) → _andThen_ z (λ w. done (SwitchCases.case (x .tag) n ps (w .0), w .1)) ≡ caseIf x n ps z
+    into n ps (done w) = refl
+    into n ps (refused q) = refl
+
+    go : (o : Outcome (IrNode × Registry)) → _andThen_ o (λ y. _andThen_ (build-cases os xs (y .1)) (λ w. done (SwitchCases.case (x .tag) (y .0) (owner-parameters (x .name) (y .1)) (w .0), w .1))) ≡ casesIf os x xs o
+    go (refused q) = refl
+    go (done y) = into (y .0) (owner-parameters (x .name) (y .1)) (build-cases os xs (y .1))
+
+no-cases : (os : List Owner) (g : Registry) → build-cases os [] g ≡ done (SwitchCases.noCase, g)
+unfolding build-cases give
+no-cases os g = refl
+
+abbrev alternativeAt : List ℕ → ℕ → Choice → Alternative
+alternativeAt s q x = alternativeOf (x .tag) (nameAt s (q + 6)) (sized (x .variable) (x .size)) (x .alignment)
+
+-- the node was refused, or it was built and the parameters of its name follow
+case-refused : {s xs at′ ws ys zs : List ℕ} {p at : ℕ} {r t : Built} (os : List Owner) (x : Alternative) (xs′ : List Alternative) (j : ℕ) {o : Outcome (IrNode × Registry)} → (r .no ≡ 0 → ⊥) → t .no ≡ r .no →
+    Builds s xs p ws ys r o → Cases s at′ at ws zs t j (casesIf os x xs′ o)
+case-refused os x xs′ j z e (Builds.made y f g w) = absurd (z f)
+case-refused os x xs′ j z e (Builds.not k f l) = Cases.not k (e ∙ f) l
+
+case-write : {xs x₁ x₂ x₃ x₄ ys : List ℕ} {at b p r u j : ℕ} (v : ℕ) (n : IrNode) (ps : List IrParameter) → Wrote xs at (opened 163) x₁ b → Wrote x₁ b (bytes 8 v) x₂ p → Wrote x₂ p (write (nodeTree n)) x₃ r →
+    Wrote x₃ r (write (listTree parameterTree ps)) x₄ u → Wrote x₄ at (bytes 4 (u - at - 4)) ys j → Wrote xs at (write (caseTree v n ps)) ys u
+unfolding write
+case-write {x₄} {u} v n ps w₁ w₂ w₃ w₄ w₅ =
+    closed 0 163 (cons (num 8 v) (cons (nodeTree n) (cons (listTree parameterTree ps) nil)))
+    (both w₁ (parts (num 8 v) (cons (nodeTree n) (cons (listTree parameterTree ps) nil)) w₂ (parts (nodeTree n) (cons (listTree parameterTree ps) nil) w₃ (parts (listTree parameterTree ps) nil w₄ (no-parts x₄ u))))) w₅
+
+one-case : {xs ys : List ℕ} {at u : ℕ} (v : ℕ) (n : IrNode) (ps : List IrParameter) → Wrote xs at (write (caseTree v n ps)) ys u → Wrote xs at (write (casesTree (SwitchCases.case v n ps SwitchCases.noCase))) ys u
+unfolding casesTree
+one-case {ys} {u} v n ps w = parts (caseTree v n ps) nil w (no-parts ys u)
+
+module _ {s xs ws x₁ x₂ x₃ : List ℕ} {k q i at b p references : ℕ} {x : Choice} {r : Built} (n : ℕ) (alt : (c : Accepted s k k q) → AltAt c i x) (w₁ : Wrote xs at (opened 163) x₁ b) (w₂ : Wrote x₁ b (bytes 8 (x .tag)) x₂ p)
+    (nd : (a : Accepted s 32 32 references) → Builds s x₂ p ws x₃ r (nodeOf a (q + 6) x (entriesOf s ws n))) where
+  pub case-stops : {ys : List ℕ} {j : ℕ} → (r .no ≡ 0 → ⊥) → (c : Accepted s k k q) (a : Accepted s 32 32 references) → CaseAt c i xs at ws ys (record { at = at; count = j; no = r .no }) (ownersOf (tree a)) (entriesOf s ws n)
+  case-stops z c a = record {
+    alternative = alternativeAt s q x;
+    is = alt c .is;
+    made = rw (cases-are (ownersOf (tree a)) (alternativeAt s q x) [] (entriesOf s ws n)) (case-refused (ownersOf (tree a)) (alternativeAt s q x) [] 1 z refl (nd a));
+  }
+
+  pub case-done : {ys x₄ : List ℕ} {u j : ℕ} {o : Name} → r .no ≡ 0 → o ≡ nameAt s (q + 6) → Wrote x₃ (r .at) (write (listTree parameterTree (owner-parameters o (entriesOf s ws (r .count))))) x₄ u → Wrote x₄ at (bytes 4 (u - at - 4)) ys j →
+      (c : Accepted s k k q) (a : Accepted s 32 32 references) → CaseAt c i xs at ws ys (record { at = u; count = r .count; no = 0 }) (ownersOf (tree a)) (entriesOf s ws n)
+  unfolding caseCount
+  case-done {ys} {x₄} {u} {o} z d w₃ w₄ c a = record {
+    alternative = alternativeAt s q x;
+    is = alt c .is;
+    made = rw (cases-are (ownersOf (tree a)) (alternativeAt s q x) [] (entriesOf s ws n)) (go (nd a));
+  }
+    where
+      go : {t : Outcome (IrNode × Registry)} → Builds s x₂ p ws x₃ r t → Cases s xs at ws ys (record { at = u; count = r .count; no = 0 }) 1 (casesIf (ownersOf (tree a)) (alternativeAt s q x) [] t)
+      go (Builds.made y e f w) =
+          let v : Wrote x₃ (r .at) (write (listTree parameterTree (owner-parameters (nameAt s (q + 6)) (y .1)))) x₄ u = subst (λ (g : Registry). Wrote x₃ (r .at) (write (listTree parameterTree (owner-parameters (nameAt s (q + 6)) g))) x₄ u) f (subst (λ (m : Name). Wrote x₃ (r .at) (write (listTree parameterTree (owner-parameters m (entriesOf s ws (r .count))))) x₄ u) d w₃) in
+          rw (no-cases (ownersOf (tree a)) (y .1))
+          (Cases.made (SwitchCases.case (x .tag) (y .0) (owner-parameters (nameAt s (q + 6)) (y .1)) SwitchCases.noCase, y .1) refl f (omega arith)
+          (one-case (x .tag) (y .0) (owner-parameters (nameAt s (q + 6)) (y .1)) (case-write (x .tag) (y .0) (owner-parameters (nameAt s (q + 6)) (y .1)) w₁ w₂ w v w₄)))
+      go (Builds.not h e l) = absurd (omega arith)
+
+-- ---- one case more
+
+first-case : {xs ys zs : List ℕ} {at p r : ℕ} (v : ℕ) (n : IrNode) (ps : List IrParameter) (cs : SwitchCases) → Wrote xs at (write (casesTree (SwitchCases.case v n ps SwitchCases.noCase))) ys p → Wrote ys p (write (casesTree cs)) zs r →
+    Wrote xs at (write (casesTree (SwitchCases.case v n ps cs))) zs r
+unfolding casesTree write
+first-case v n ps cs w u = both (rw append-nil at w) u
+
+case-more : {s xs ws ys zs : List ℕ} {at : ℕ} {r t : Built} (os : List Owner) (x : Alternative) (xs′ : List Alternative) (j : ℕ) (g : Registry) → r .no ≡ 0 → Cases s xs at ws ys r 1 (build-cases os (x ∷ []) g) →
+    Cases s ys (r .at) ws zs t j (build-cases os xs′ (entriesOf s ws (r .count))) → Cases s xs at ws zs t (suc j) (build-cases os (x ∷ xs′) g)
+unfolding caseCount
+case-more {s} {xs} {ws} {ys} {zs} {at} {r} {t} os x xs′ j g z c d =
+    rw (cases-are os x xs′ g) (go (build-alternative os (x .name) (x .size) (x .alignment) g) (rw (cases-are os x [] g) at c))
+  where
+    last : (n : IrNode) (ps : List IrParameter) (h : Registry) → entriesOf s ws (r .count) ≡ h → Wrote xs at (write (casesTree (SwitchCases.case (x .tag) n ps SwitchCases.noCase))) ys (r .at) → {o : Outcome (SwitchCases × Registry)} →
+        Cases s ys (r .at) ws zs t j o → Cases s xs at ws zs t (suc j) (caseIf x n ps o)
+    last n ps h e w (Cases.made y f l m v) = Cases.made (SwitchCases.case (x .tag) n ps (y .0), y .1) f l (omega arith) (first-case (x .tag) n ps (y .0) w v)
+    last n ps h e w (Cases.not k f l) = Cases.not k f l
+
+    told : (n : IrNode) (ps : List IrParameter) (h : Registry) {o : Outcome (SwitchCases × Registry)} → o ≡ done (SwitchCases.case (x .tag) n ps SwitchCases.noCase, h) → Cases s xs at ws ys r 1 o →
+        (entriesOf s ws (r .count) ≡ h) × Wrote xs at (write (casesTree (SwitchCases.case (x .tag) n ps SwitchCases.noCase))) ys (r .at)
+    told n ps h e (Cases.made y f l m v) = let q : y ≡ (SwitchCases.case (x .tag) n ps SwitchCases.noCase, h) = done-one e in
+        (l ∙ ap (λ (a : SwitchCases × Registry). a .1) q, subst (λ (a : SwitchCases × Registry). Wrote xs at (write (casesTree (a .0))) ys (r .at)) q v)
+    told n ps h e (Cases.not k f l) = absurd (omega arith)
+
+    go : (o : Outcome (IrNode × Registry)) → Cases s xs at ws ys r 1 (casesIf os x [] o) → Cases s xs at ws zs t (suc j) (casesIf os x xs′ o)
+    go (done y) c =
+        let b = told (y .0) (owner-parameters (x .name) (y .1)) (y .1) (ap (caseIf x (y .0) (owner-parameters (x .name) (y .1))) (no-cases os (y .1))) c in
+        last (y .0) (owner-parameters (x .name) (y .1)) (y .1) (b .0) (b .1) (subst (λ (h : Registry). Cases s ys (r .at) ws zs t j (build-cases os xs′ h)) (b .0) d)
+    go (refused q) c = absurd (never c)
+      where
+        never : {q : Refusal} → Cases s xs at ws ys r 1 (refused q) → ⊥
+        never (Cases.not k f l) = omega arith
+
+case-stop : {s xs ws ys zs : List ℕ} {at p : ℕ} {r t : Built} (os : List Owner) (x : Alternative) (xs′ : List Alternative) (j : ℕ) (g : Registry) → (r .no ≡ 0 → ⊥) → t .no ≡ r .no → Cases s xs at ws ys r 1 (build-cases os (x ∷ []) g) →
+    Cases s xs p ws zs t j (build-cases os (x ∷ xs′) g)
+case-stop {s} {xs} {ws} {ys} {zs} {at} {p} {r} {t} os x xs′ j g z e c = rw (cases-are os x xs′ g) (go (build-alternative os (x .name) (x .size) (x .alignment) g) (rw (cases-are os x [] g) at c))
+  where
+    go : (o : Outcome (IrNode × Registry)) → Cases s xs at ws ys r 1 (casesIf os x [] o) → Cases s xs p ws zs t j (casesIf os x xs′ o)
+    go (done y) c = absurd (never (ap (caseIf x (y .0) (owner-parameters (x .name) (y .1))) (no-cases os (y .1))) c)
+      where
+        never : {o : Outcome (SwitchCases × Registry)} → o ≡ done (SwitchCases.case (x .tag) (y .0) (owner-parameters (x .name) (y .1)) SwitchCases.noCase, y .1) → Cases s xs at ws ys r 1 o → ⊥
+        never e (Cases.made y f l m v) = z f
+        never e (Cases.not k f l) = not-done e
+    go (refused q) c = told c
+      where
+        told : {q : Refusal} → Cases s xs at ws ys r 1 (refused q) → Cases s xs p ws zs t j (refused q)
+        told (Cases.not k f l) = Cases.not k (e ∙ f) l
+
+-- ---- what the code asks on the way
+
+pub at-kind : {s : List ℕ} {k j q : ℕ} → k ≡ j → Accepted s k k q → Accepted s j j q
+at-kind {s} {q} e a = subst (λ (j : ℕ). Accepted s j j q) e a
+
+pub not-union : {k : ℕ} → Kind k → (k ≡ 33 → ⊥) → 34 ≤ k
+not-union h n = omega (arith, h .low)
+
+pub below-60 : (at : ℕ) → at < 2 ^ 56 + 2 ^ 27 → at < 2 ^ 60
+below-60 at h = omega arith
+
+-- where the cursor goes
+pub behind : {at p room more : ℕ} {r : Built} (d : ℕ) → p ≡ at + d → d + room ≤ more → Within p room r → Within at more r
+behind d e h w = record { low = omega (arith, w .low); high = omega (arith, w .high); count = w .count }
+
+pub ends-at : {at r more n no : ℕ} → at ≤ r → r ≤ at + more → n ≤ 512 → Within at more (record { at = r; count = n; no = no })
+ends-at l h c = record { low = l; high = h; count = c }
+
+-- ---- all the cases
+
+-- i of the cases are written up to p, and m is the count of entries: whatever writes the others makes the whole
+abbrev pub Goes : List ℕ → List ℕ → ℕ → List ℕ → ℕ → ℕ → ℕ → ℕ → ℕ → List ℕ → ℕ → ℕ → Tree → Tree → Type 0
+Goes s xs at ws n references k count i ys p m w u =
+    (a : Accepted s 32 32 references) (zs : List ℕ) (r : Built) → Cases s ys p ws zs r (count - i) (build-cases (ownersOf (tree a)) (alternatives k i u) (entriesOf s ws m)) →
+    Cases s xs at ws zs r count (build-cases (ownersOf (tree a)) (alternatives k 0 w) (entriesOf s ws n))
+
+pub record Written (s xs : List ℕ) (at : ℕ) (ws : List ℕ) (n references k count first i q : ℕ) (ys : List ℕ) (p m : ℕ) : Type 0 where
+  pub low : at ≤ p
+  pub high : p ≤ at + 540000 * i
+  pub within : i ≤ count
+  pub entries : m ≤ 512
+  pub long : length ys ≡ length xs
+  pub rest : Left (Goes s xs at ws n references k count i ys p m) s (Item.blocks k k) count first (count - i) q
+
+pub cases-begin : {s xs ws : List ℕ} {at n references k count first : ℕ} → n ≤ 512 → Listed s k k count first → Written s xs at ws n references k count first 0 first xs at n
+cases-begin {s} {xs} {ws} {at} {n} {references} {k} {count} {first} h l = record {
+  low = omega arith;
+  high = omega arith;
+  within = omega arith;
+  entries = h;
+  long = refl;
+  rest = subst (λ (j : ℕ). Left (λ w u. (a : Accepted s 32 32 references) (zs : List ℕ) (r : Built) → Cases s xs at ws zs r j (build-cases (ownersOf (tree a)) (alternatives k 0 u) (entriesOf s ws n)) →
+      Cases s xs at ws zs r count (build-cases (ownersOf (tree a)) (alternatives k 0 w) (entriesOf s ws n))) s (Item.blocks k k) count first j first) (let e : count ≡ count - 0 = omega arith in e) (starts (λ t a zs r c. c) l);
+}
+
+module _ {s xs ws : List ℕ} {at n references k count first i q : ℕ} {ys : List ℕ} {p m : ℕ} (h : i < count) (inv : Written s xs at ws n references k count first i q ys p m) where
+  left-over : 0 < count - i
+  left-over = omega arith
+
+  pub next-block : Accepted s k k q
+  next-block = block-entry (inv .rest .here) left-over .child
+
+  pub next-low : q + 4 + le4 s q ≤ length s
+  next-low = omega (arith, block-entry (inv .rest .here) left-over .after .inside, inv .rest .here .fits)
+
+  module _ {y : List ℕ} {r : Built} (put : (c : Accepted s k k q) (a : Accepted s 32 32 references) → CaseAt c i ys p ws y r (ownersOf (tree a)) (entriesOf s ws m)) where
+    pub cases-stop : {zs : List ℕ} {t : Built} → (r .no ≡ 0 → ⊥) → t .no ≡ r .no → (l : Listed s k k count first) (a : Accepted s 32 32 references) →
+        Cases s xs at ws zs t count (build-cases (ownersOf (tree a)) (alternatives k 0 (l .got .0)) (entriesOf s ws n))
+    cases-stop {zs} {t} z e l a =
+        let w = inv .rest .whole l in
+        let b = block-entry (w .0) left-over in
+        let c = put (b .child) a in
+        w .1 a zs t (rw (b .after .tree, c .is (b .after .rest .got .0)) (case-stop (ownersOf (tree a)) (c .alternative) (alternatives k (suc i) (b .after .rest .got .0)) (count - i) (entriesOf s ws m) z e (c .made)))
+
+    step : r .no ≡ 0 → (c : Accepted s k k q) (w u : Tree) → Goes s xs at ws n references k count i ys p m w (cons (tree c) u) → Goes s xs at ws n references k count (i + 1) y (r .at) (r .count) w u
+    step z c w u f a zs t d =
+        let x = put c a in
+        let j : suc (count - (i + 1)) ≡ count - i = omega arith in
+        f a zs t (rw (x .is u, ← add-one i, ← j) (case-more (ownersOf (tree a)) (x .alternative) (alternatives k (i + 1) u) (count - (i + 1)) (entriesOf s ws m) z (x .made) d))
+
+    pub cases-more : {v : ℕ} → r .no ≡ 0 → Within p 540000 r → length y ≡ length ys → v ≡ le4 s q → Written s xs at ws n references k count first (i + 1) (q + 4 + v) y (r .at) (r .count)
+    cases-more {v} z b e d =
+        let j : count - i - 1 ≡ count - (i + 1) = omega arith in
+        record {
+          low = omega (arith, b .low, inv .low);
+          high = omega (arith, b .high, inv .high);
+          within = omega arith;
+          entries = b .count;
+          long = e ∙ inv .long;
+          rest = rw (d, ← j) (steps (λ l. block-entry l left-over .child .got .0) (λ l. block-entry l left-over .after) (λ l w u. step z (block-entry l left-over .child) w u) (inv .rest));
+        }
+
+pub cases-end : {s xs ws : List ℕ} {at n references k count first i q : ℕ} {ys : List ℕ} {p m : ℕ} → count ≤ i → Written s xs at ws n references k count first i q ys p m →
+    (l : Listed s k k count first) (a : Accepted s 32 32 references) → Cases s xs at ws ys (record { at = p; count = m; no = 0 }) count (build-cases (ownersOf (tree a)) (alternatives k 0 (l .got .0)) (entriesOf s ws n))
+unfolding casesTree caseCount
+cases-end {s} {ws} {k} {count} {i} {ys} {p} {m} h inv l a =
+    let z : 0 ≡ count - i = omega (arith, inv .within) in
+    ended (omega arith) (inv .rest) l .0 a ys (record { at = p; count = m; no = 0 }) (rw (none-more k i, no-cases (ownersOf (tree a)) (entriesOf s ws m)) (Cases.made (SwitchCases.noCase, entriesOf s ws m) refl refl z (no-parts ys p)))
+
+pub start-60 : (at : ℕ) → at < 2 ^ 56 → at < 2 ^ 60
+start-60 at h = omega arith
+
+pub tag-59 : (at b : ℕ) → at < 2 ^ 56 → b ≡ at + 15 → b < 2 ^ 59
+tag-59 at b h e = omega arith

@@ -1,0 +1,44 @@
+-- `builder_switches::alternative` meets its contract. Assumes nothing.
+use borrow.Author.Needs.{needs}
+use native.Mathlib.Omega.{arith}
+use Rattle.builder_switches.proofs.Cases.{at-kind, not-union, alt-union, alt-enum, alt-sized}
+use Rattle.builder_switches.proofs.alternative.Statement.{statement}
+use Rattle.builder_switches.proofs.alternative.Tie as tie
+use Rattle.builder_switches.proofs.alternative.Reads as reads
+use Rattle.builder_switches.proofs.alternative.Lts as lts
+use Rattle.resolved_parts.proofs.field_parts.Reads as field-parts-reads
+use Rattle.resolved_parts.proofs.type_head.Reads as type-head-reads
+use Rattle.resolved_parts.proofs.variant_parts.Reads as variant-parts-reads
+
+field-parts-requires : tie.Need-field-parts-requires
+field-parts-requires c κs = search (needs, at-kind (c .if1 .taken) (c .before .before .pre .block))
+
+type-head-requires : tie.Need-type-head-requires
+type-head-requires c κs = search (needs, c .field-parts .ensures (at-kind (c .before .if1 .taken) (c .before .before .before .pre .block)) .type)
+
+returns : tie.Need-returns
+returns c = alt-union (c .before .before .if1 .taken) (c .before .field-parts .ensures) (c .type-head .ensures)
+
+variant-parts-requires : tie.Need-variant-parts-requires
+variant-parts-requires c κs = search (needs, not-union (c .before .before .pre .kind) (c .if1 .left))
+
+type-head-requires-2 : tie.Need-type-head-requires-2
+type-head-requires-2 c κs = search (needs, c .variant-parts .ensures (c .before .before .before .pre .block) .type)
+
+returns-2 : tie.Need-returns-2
+returns-2 c = alt-enum (c .before .before .variant-parts .ensures) (c .before .type-head2 .ensures) (c .if2 .taken)
+
+returns-3 : tie.Need-returns-3
+returns-3 c = alt-sized (c .before .before .variant-parts .ensures) (c .before .type-head2 .ensures) (omega (arith, c .before .before .before .before .before .pre .kind .low, c .before .before .before .before .before .pre .kind .high, c .before .before .before .if1 .left, c .if2 .left))
+
+pub alternative-spec : {M : Type 1} → statement M
+alternative-spec =
+    tie.close
+    (tie.spec
+    field-parts-requires
+    type-head-requires
+    returns
+    variant-parts-requires
+    type-head-requires-2
+    returns-2
+    returns-3)

@@ -1,0 +1,75 @@
+-- `builder_switches::put_cases` meets its contract. The loop's invariant: whatever writes the cases that are left makes the whole. Assumes nothing.
+use borrow.Author.Needs.{needs}
+use native.Mathlib.Omega.{arith}
+use mathlib.Core.Path.{refl}
+use Prim.Native.Nat.{_-_}
+use Rattle.builder_registry.proofs.Laws.{standing}
+use Rattle.builder_sums.proofs.Sums.{stopped}
+use Rattle.builder_switches.proofs.Cases.{ends-at, Written, cases-begin, next-block, next-low, cases-stop, cases-more, cases-end}
+use Rattle.builder_switches.proofs.put_cases.Statement.{statement}
+use Rattle.builder_switches.proofs.put_cases.Tie as tie
+use Rattle.builder_switches.proofs.put_cases.Reads as reads
+use Rattle.builder_switches.proofs.put_cases.Lts as lts
+use Rattle.wire.proofs.read4.Reads as read4-reads
+use Rattle.builder_switches.proofs.put_case.Reads as put-case-reads
+
+abbrev Inv-loop : tie.InvT-loop
+Inv-loop s words n references k count first out₀ at i₀ q₀ p₀ m₀ out i q p m = Written s out₀ at words n references k count first i q out p m
+
+abbrev μ-loop : tie.MeasureT-loop
+μ-loop s words n references k count first out₀ at i₀ q₀ p₀ m₀ out i q p m = count - i
+
+loop-holds : tie.Need-loop-holds Inv-loop μ-loop
+loop-holds c = cases-begin (c .before .before .before .pre .standing .count) (c .before .before .before .pre .list)
+
+put-case-requires : tie.Need-put-case-requires Inv-loop μ-loop
+put-case-requires c κs = record { standing = standing (c .before .before .before .before .before .before .pre .standing) refl (c .before .before .loop .inv .entries); references-at = c .before .before .before .before .before .before .pre .references-at; kind = c .before .before .before .before .before .before .pre .kind; block = next-block (c .before .loop-test .taken) (c .before .before .loop .inv); cursor = omega (arith, c .before .before .before .before .before .before .pre .cursor, c .before .before .before .before .before .before .pre .few, c .before .before .loop .inv .high, c .before .loop-test .taken) }
+
+same-length : tie.Need-same-length Inv-loop μ-loop
+same-length c = search needs
+
+returns : tie.Need-returns Inv-loop μ-loop
+returns c = (stopped (c .before .before .before .before .before .before .before .before .before .before .before .pre .standing .count), λ l a. cases-stop (c .before .before .before .before .before .before .loop-test .taken) (c .before .before .before .before .before .before .before .loop .inv) (c .before .before .before .before .put-case .ensures .1) (c .if1 .taken) refl l a)
+
+add-q : tie.Need-add-q Inv-loop μ-loop
+add-q c = omega (arith, next-low (c .before .before .before .before .before .before .loop-test .taken) (c .before .before .before .before .before .before .before .loop .inv))
+
+read4-requires : tie.Need-read4-requires Inv-loop μ-loop
+read4-requires c κs = omega (arith, next-low (c .before .before .before .before .before .before .loop-test .taken) (c .before .before .before .before .before .before .before .loop .inv))
+
+add-q-2 : tie.Need-add-q-2 Inv-loop μ-loop
+add-q-2 c = omega (arith, next-low (c .before .before .before .before .before .before .before .loop-test .taken) (c .before .before .before .before .before .before .before .before .loop .inv), c .read4 .ensures .0)
+
+add-i : tie.Need-add-i Inv-loop μ-loop
+add-i c = omega (arith, c .before .before .before .before .before .before .before .loop-test .taken)
+
+loop-less : tie.Need-loop-less Inv-loop μ-loop
+loop-less c = omega (arith, c .before .before .before .before .before .before .before .loop-test .taken)
+
+loop-again : tie.Need-loop-again Inv-loop μ-loop
+loop-again c = cases-more (c .before .before .before .before .before .before .before .loop-test .taken) (c .before .before .before .before .before .before .before .before .loop .inv) (c .before .before .before .before .before .put-case .ensures .1) (c .before .if1 .left) (c .before .before .before .before .before .put-case .ensures .0) (omega arith) (c .read4 .ensures .0)
+
+same-length-2 : tie.Need-same-length-2 Inv-loop μ-loop
+same-length-2 c = omega (arith, c .before .loop .inv .long)
+
+returns-2 : tie.Need-returns-2 Inv-loop μ-loop
+returns-2 c = (ends-at (c .before .loop .inv .low) (omega (arith, c .before .loop .inv .high, c .before .loop .inv .within)) (c .before .loop .inv .entries), λ l a. cases-end (c .loop-test .left) (c .before .loop .inv) l a)
+
+pub put-cases-spec : {M : Type 1} → statement M
+put-cases-spec =
+    tie.close
+    (tie.spec
+    Inv-loop
+    μ-loop
+    loop-holds
+    put-case-requires
+    same-length
+    returns
+    add-q
+    read4-requires
+    add-q-2
+    add-i
+    loop-less
+    loop-again
+    same-length-2
+    returns-2)

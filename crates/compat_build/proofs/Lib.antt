@@ -1,4 +1,0 @@
-pub mod Keeps
-pub mod Nodes
-pub mod Types
-pub mod Built

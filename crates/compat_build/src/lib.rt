@@ -1,1 +1,0 @@
-// Theorems on the definitions of builder and extended; it has no code.

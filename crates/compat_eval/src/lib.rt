@@ -1,1 +1,0 @@
-// The evaluator half of "Old and new layout" is in proofs/; there is no code.

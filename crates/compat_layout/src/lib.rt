@@ -1,1 +1,0 @@
-// Theorems on the definitions of ir and extended; it has no code.

@@ -1,1 +1,0 @@
-// The relations are in specs/; there is no code.

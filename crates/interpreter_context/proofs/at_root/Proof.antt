@@ -1,0 +1,102 @@
+-- `interpreter_context::at_root` meets its contract. Assumes nothing.
+use mathlib.Core.Path.{_≡_, refl, sym, _∙_, ap}
+use mathlib.Core.List.{List}
+use mathlib.Core.Bool.{Bool}
+use Prim.Native.Nat.{ℕ, _+_, _-_, _≤_}
+use native.Mathlib.Omega.{arith}
+use lib.ListN.{length}
+use Rattle.blocks.specs.Bytes.{le2, le4}
+use Rattle.blocks.specs.Name.{Name, same}
+use Rattle.accepted.specs.Accepted.{nameAt}
+use Rattle.interpreter_context.proofs.Names.{slice-is}
+use Rattle.interpreter.specs.Eval.{find}
+use Rattle.interpreter.specs.Validate.{with-buffer-size, valuesOf}
+use Rattle.accepted.specs.Accepted.{tree}
+use Rattle.interpreter_context.specs.Names.{heldOf}
+use Rattle.interpreter_context.proofs.Calls.{block-at, held-value, held-length, held-absent}
+use borrow.Author.Needs.{needs}
+use Rattle.interpreter_context.proofs.at_root.Statement.{statement}
+use Rattle.interpreter_context.proofs.at_root.Tie as tie
+use Rattle.interpreter_context.proofs.at_root.Reads as reads
+use Rattle.interpreter_context.proofs.at_root.Lts as lts
+use Rattle.wire.proofs.read2.Reads as read2-reads
+use Rattle.wire.proofs.read8.Reads as read8-reads
+use Rattle.wire.proofs.same_name.Reads as same-name-reads
+use Rattle.lookup.proofs.value_in.Reads as value-in-reads
+
+add-from : tie.Need-add-from
+add-from c = search needs
+
+read2-requires : tie.Need-read2-requires
+read2-requires c κs = search needs
+
+add-to : tie.Need-add-to
+add-to c = search needs
+
+sub-value-in : tie.Need-sub-value-in
+sub-value-in c = search needs
+
+part-value-in-start : tie.Need-part-value-in-start
+part-value-in-start c = search needs
+
+part-value-in-end : tie.Need-part-value-in-end
+part-value-in-end c = search needs
+
+value-in-requires : tie.Need-value-in-requires
+value-in-requires c κs = search needs
+
+enum-known-o : tie.Need-enum-known-o
+enum-known-o c = search needs
+
+read8-requires : tie.Need-read8-requires
+read8-requires c κs = block-at (c .before .o .given .1) (c .before .before .before .value-in .ensures (c .before .before .before .before .before .before .before .before .pre .1)) .0
+
+enum-told : tie.Need-enum-told
+enum-told c = search needs
+
+sub-same-name : tie.Need-sub-same-name
+sub-same-name c = search needs
+
+part-same-name-start : tie.Need-part-same-name-start
+part-same-name-start c = search needs
+
+part-same-name-end : tie.Need-part-same-name-end
+part-same-name-end c = search needs
+
+slice-aggregate-same-name : tie.Need-slice-aggregate-same-name
+slice-aggregate-same-name c = search needs
+
+same-name-requires : tie.Need-same-name-requires
+same-name-requires c κs = search needs
+
+returns : tie.Need-returns
+returns c = λ a. held-length _ (c .before .before .before .before .before .before .value-in .ensures a) (c .before .before .before .before .enum-told .given .1) (c .before .same-name .ensures) (c .if1 .taken) ∙ ap (λ (n : Name). heldOf (find n (with-buffer-size (c .before .before .before .before .before .before .before .before .before .before .before .args .len) (valuesOf (tree a))))) (slice-is _ _ _ (c .before .before .before .before .before .before .before .before .read2 .ensures .0))
+
+returns-2 : tie.Need-returns-2
+returns-2 c = λ a. held-value _ (c .before .before .before .before .value-in .ensures a) (c .before .before .o .given .1) (c .read8 .ensures) ∙ ap (λ (n : Name). heldOf (find n (with-buffer-size (c .before .before .before .before .before .before .before .before .before .args .len) (valuesOf (tree a))))) (slice-is _ _ _ (c .before .before .before .before .before .before .read2 .ensures .0))
+
+returns-3 : tie.Need-returns-3
+returns-3 c = λ a. held-absent _ (c .before .before .before .before .before .before .value-in .ensures a) (c .before .before .before .before .enum-told .given .1) (c .before .same-name .ensures) (c .if1 .left) ∙ ap (λ (n : Name). heldOf (find n (with-buffer-size (c .before .before .before .before .before .before .before .before .before .before .before .args .len) (valuesOf (tree a))))) (slice-is _ _ _ (c .before .before .before .before .before .before .before .before .read2 .ensures .0))
+
+pub at-root-spec : {M : Type 1} → statement M
+at-root-spec =
+    tie.close
+    (tie.spec
+    add-from
+    read2-requires
+    add-to
+    sub-value-in
+    part-value-in-start
+    part-value-in-end
+    value-in-requires
+    enum-known-o
+    read8-requires
+    enum-told
+    sub-same-name
+    part-same-name-start
+    part-same-name-end
+    slice-aggregate-same-name
+    same-name-requires
+    returns
+    returns-2
+    returns-3)

@@ -1,0 +1,51 @@
+-- `interpreter_context::callers_name` meets its contract. Assumes nothing.
+use mathlib.Core.Path.{_≡_, refl, sym, _∙_, ap}
+use mathlib.Core.List.{List}
+use mathlib.Core.Bool.{Bool}
+use Prim.Native.Nat.{ℕ, _+_, _-_, _≤_}
+use native.Mathlib.Omega.{arith}
+use lib.ListN.{length}
+use Rattle.blocks.specs.Bytes.{le2, le4}
+use Rattle.blocks.specs.Name.{Name, same}
+use Rattle.accepted.specs.Accepted.{nameAt}
+use Rattle.interpreter_context.proofs.Calls.{from-argument, from-parameter, from-nothing}
+use borrow.Author.Needs.{needs}
+use Rattle.interpreter_context.proofs.callers_name.Statement.{statement}
+use Rattle.interpreter_context.proofs.callers_name.Tie as tie
+use Rattle.interpreter_context.proofs.callers_name.Reads as reads
+use Rattle.interpreter_context.proofs.callers_name.Lts as lts
+use Rattle.interpreter_context.proofs.is_listed.Reads as is-listed-reads
+use Rattle.interpreter_context.proofs.last_argument.Reads as last-argument-reads
+
+last-argument-requires : tie.Need-last-argument-requires
+last-argument-requires c κs = (c .before .pre .0 .call, c .before .pre .0 .kind, c .before .pre .1)
+
+enum-known-q : tie.Need-enum-known-q
+enum-known-q c = search needs
+
+enum-told : tie.Need-enum-told
+enum-told c = search needs
+
+is-listed-requires : tie.Need-is-listed-requires
+is-listed-requires c κs = (c .before .before .before .before .pre .0 .type, c .before .before .before .before .pre .1)
+
+returns : tie.Need-returns
+returns c = λ p. from-parameter _ _ _ (c .before .before .before .before .last-argument .ensures (p .call)) (c .before .before .enum-told .given .1) (c .before .is-listed .ensures (p .type)) (c .if1 .taken) (c .before .before .before .before .before .before .pre .1) refl
+
+returns-2 : tie.Need-returns-2
+returns-2 c = λ p. from-argument _ _ _ (c .before .before .before .last-argument .ensures (p .call)) (c .before .q .given .1)
+
+returns-3 : tie.Need-returns-3
+returns-3 c = λ p. from-nothing _ _ _ (c .before .before .before .before .last-argument .ensures (p .call)) (c .before .before .enum-told .given .1) (c .before .is-listed .ensures (p .type)) (c .if1 .left)
+
+pub callers-name-spec : {M : Type 1} → statement M
+callers-name-spec =
+    tie.close
+    (tie.spec
+    last-argument-requires
+    enum-known-q
+    enum-told
+    is-listed-requires
+    returns
+    returns-2
+    returns-3)

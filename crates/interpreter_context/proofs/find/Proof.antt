@@ -1,0 +1,79 @@
+use borrow.Author.Needs.{needs}
+-- `interpreter_context::find` meets its contract. Assumes nothing.
+use mathlib.Core.Path.{_≡_, refl, sym, _∙_, ap}
+use mathlib.Core.List.{List}
+use mathlib.Core.Bool.{Bool}
+use Prim.Native.Nat.{ℕ, _+_, _-_, _≤_}
+use native.Mathlib.Omega.{arith}
+use lib.ListN.{length}
+use Rattle.blocks.specs.Bytes.{le2, le4}
+use Rattle.blocks.specs.Name.{Name, same}
+use Rattle.accepted.specs.Accepted.{nameAt}
+use Rattle.interpreter_context.proofs.Calls.{Wanted, asked, the-call, caller-has, caller-lacks, at-the-root, bottom}
+use Rattle.interpreter_context.proofs.find.Statement.{statement}
+use Rattle.interpreter_context.proofs.find.Tie as tie
+use Rattle.interpreter_context.proofs.find.Reads as reads
+use Rattle.interpreter_context.proofs.find.Lts as lts
+use Rattle.interpreter_context.proofs.at_root.Reads as at-root-reads
+use Rattle.interpreter_context.proofs.callers_name.Reads as callers-name-reads
+
+abbrev Inv-loop : tie.InvT-loop
+Inv-loop s name values block len words depth d₀ wanted₀ d wanted = Wanted s values block len words name depth wanted d
+
+abbrev μ-loop : tie.MeasureT-loop
+μ-loop s name values block len words depth d₀ wanted₀ d wanted = d
+
+loop-holds : tie.Need-loop-holds Inv-loop μ-loop
+loop-holds c = asked (c .before .before .before .pre .0)
+
+sub-d : tie.Need-sub-d Inv-loop μ-loop
+sub-d c = omega arith
+
+mul-word : tie.Need-mul-word Inv-loop μ-loop
+mul-word c = omega (arith, the-call (c .loop-test .taken) (c .before .loop .inv) (c .before .before .before .before .before .pre .1) .0)
+
+shared-slice-read-word : tie.Need-shared-slice-read-word Inv-loop μ-loop
+shared-slice-read-word c = the-call (c .before .loop-test .taken) (c .before .before .loop .inv) (c .before .before .before .before .before .before .pre .1) .0
+
+callers-name-requires : tie.Need-callers-name-requires Inv-loop μ-loop
+callers-name-requires c κs = (the-call (c .before .loop-test .taken) (c .before .before .loop .inv) (c .before .before .before .before .before .before .pre .1) .1, c .before .before .loop .inv .inside)
+
+enum-known-q : tie.Need-enum-known-q Inv-loop μ-loop
+enum-known-q c = search needs
+
+loop-less : tie.Need-loop-less Inv-loop μ-loop
+loop-less c = omega arith
+
+loop-again : tie.Need-loop-again Inv-loop μ-loop
+loop-again c = caller-has (c .before .before .before .before .before .loop-test .taken) (c .before .before .before .before .before .before .loop .inv) (c .before .before .before .callers-name .ensures) (c .before .before .before .before .before .before .before .before .before .before .pre .1) (c .before .q .given .1)
+
+enum-told : tie.Need-enum-told Inv-loop μ-loop
+enum-told c = search needs
+
+returns : tie.Need-returns Inv-loop μ-loop
+returns c = caller-lacks (c .before .before .before .before .loop-test .taken) (c .before .before .before .before .before .loop .inv) (c .before .before .callers-name .ensures) (c .enum-told .given .1)
+
+at-root-requires : tie.Need-at-root-requires Inv-loop μ-loop
+at-root-requires c κs = (c .before .loop .inv .inside, bottom (c .before .before .before .before .before .pre .1 .1))
+
+returns-2 : tie.Need-returns-2 Inv-loop μ-loop
+returns-2 c = at-the-root (c .before .loop-test .left) (c .before .before .loop .inv) (c .at-root .ensures)
+
+pub find-spec : {M : Type 1} → statement M
+find-spec =
+    tie.close
+    (tie.spec
+    Inv-loop
+    μ-loop
+    loop-holds
+    sub-d
+    mul-word
+    shared-slice-read-word
+    callers-name-requires
+    enum-known-q
+    loop-less
+    loop-again
+    enum-told
+    returns
+    at-root-requires
+    returns-2)

@@ -1,0 +1,112 @@
+-- `interpreter_context::is_listed` meets its contract. Assumes nothing.
+use mathlib.Core.Path.{_≡_, refl, sym, _∙_, ap}
+use mathlib.Core.List.{List}
+use mathlib.Core.Bool.{Bool}
+use Prim.Native.Nat.{ℕ, _+_, _-_, _≤_}
+use native.Mathlib.Omega.{arith}
+use lib.ListN.{length}
+use Rattle.blocks.specs.Bytes.{le2, le4}
+use Rattle.blocks.specs.Name.{Name, same}
+use Rattle.accepted.specs.Accepted.{nameAt}
+use Rattle.interpreter_context.proofs.Blocks.{parameter}
+use Rattle.interpreter_context.proofs.Lists.{Unlisted, start, next-parameter, another, ends, tree-of, parameters-at, listed-of, unlisted-of}
+use Rattle.interpreter_context.proofs.is_listed.Statement.{statement}
+use Rattle.interpreter_context.proofs.is_listed.Tie as tie
+use Rattle.interpreter_context.proofs.is_listed.Reads as reads
+use Rattle.interpreter_context.proofs.is_listed.Lts as lts
+use Rattle.interpreter_context.proofs.same_at.Reads as same-at-reads
+use Rattle.wire.proofs.read2.Reads as read2-reads
+use Rattle.wire.proofs.read4.Reads as read4-reads
+
+abbrev Inv-loop : tie.InvT-loop
+Inv-loop s callee name root list left₀ at₀ left at = Unlisted s (nameAt s name) (le2 s list) (list + 2) left at
+
+abbrev μ-loop : tie.MeasureT-loop
+μ-loop s callee name root list left₀ at₀ left at = left
+
+add-root : tie.Need-add-root Inv-loop μ-loop
+add-root c = omega (arith, tree-of (c .before .pre .0) refl .low)
+
+add-read2 : tie.Need-add-read2 Inv-loop μ-loop
+add-read2 c = omega (arith, tree-of (c .before .pre .0) refl .low)
+
+read2-requires : tie.Need-read2-requires Inv-loop μ-loop
+read2-requires c κs = omega (arith, tree-of (c .before .pre .0) refl .low)
+
+add-root-2 : tie.Need-add-root-2 Inv-loop μ-loop
+add-root-2 c = omega (arith, tree-of (c .before .before .pre .0) (c .read2 .ensures .0) .low)
+
+add-list : tie.Need-add-list Inv-loop μ-loop
+add-list c = omega (arith, tree-of (c .before .before .pre .0) (c .read2 .ensures .0) .low)
+
+read4-requires : tie.Need-read4-requires Inv-loop μ-loop
+read4-requires c κs = omega (arith, tree-of (c .before .before .pre .0) (c .read2 .ensures .0) .low)
+
+add-list-2 : tie.Need-add-list-2 Inv-loop μ-loop
+add-list-2 c = omega (arith, parameters-at (c .before .before .before .pre .0) (c .before .read2 .ensures .0) (c .read4 .ensures .0) .inside)
+
+read2-requires-2 : tie.Need-read2-requires-2 Inv-loop μ-loop
+read2-requires-2 c κs = parameters-at (c .before .before .before .pre .0) (c .before .read2 .ensures .0) (c .read4 .ensures .0) .inside
+
+add-at : tie.Need-add-at Inv-loop μ-loop
+add-at c = omega (arith, parameters-at (c .before .before .before .before .pre .0) (c .before .before .read2 .ensures .0) (c .before .read4 .ensures .0) .inside)
+
+loop-holds : tie.Need-loop-holds Inv-loop μ-loop
+loop-holds c = start (c .read22 .ensures .0)
+
+add-same-at : tie.Need-add-same-at Inv-loop μ-loop
+add-same-at c = omega (arith, ends (next-parameter (c .loop-test .taken) (c .before .loop .inv) (parameters-at (c .before .before .before .before .before .before .pre .0) (c .before .before .before .before .read2 .ensures .0) (c .before .before .before .read4 .ensures .0) .list)) .0)
+
+same-at-requires : tie.Need-same-at-requires Inv-loop μ-loop
+same-at-requires c κs = (c .before .before .before .before .before .before .pre .1, parameter (next-parameter (c .loop-test .taken) (c .before .loop .inv) (parameters-at (c .before .before .before .before .before .before .pre .0) (c .before .before .before .before .read2 .ensures .0) (c .before .before .before .read4 .ensures .0) .list)) .name)
+
+returns : tie.Need-returns Inv-loop μ-loop
+returns c = λ t. listed-of _ t (parameters-at t (c .before .before .before .before .before .before .read2 .ensures .0) (c .before .before .before .before .before .read4 .ensures .0)) (c .before .before .loop-test .taken) (c .before .same-at .ensures) (c .if1 .taken) (c .before .before .before .loop .inv)
+
+add-at-2 : tie.Need-add-at-2 Inv-loop μ-loop
+add-at-2 c = omega (arith, ends (next-parameter (c .before .before .loop-test .taken) (c .before .before .before .loop .inv) (parameters-at (c .before .before .before .before .before .before .before .before .pre .0) (c .before .before .before .before .before .before .read2 .ensures .0) (c .before .before .before .before .before .read4 .ensures .0) .list)) .0)
+
+read4-requires-2 : tie.Need-read4-requires-2 Inv-loop μ-loop
+read4-requires-2 c κs = omega (arith, ends (next-parameter (c .before .before .loop-test .taken) (c .before .before .before .loop .inv) (parameters-at (c .before .before .before .before .before .before .before .before .pre .0) (c .before .before .before .before .before .before .read2 .ensures .0) (c .before .before .before .before .before .read4 .ensures .0) .list)) .0)
+
+add-at-3 : tie.Need-add-at-3 Inv-loop μ-loop
+add-at-3 c = omega (arith, ends (next-parameter (c .before .before .before .loop-test .taken) (c .before .before .before .before .loop .inv) (parameters-at (c .before .before .before .before .before .before .before .before .before .pre .0) (c .before .before .before .before .before .before .before .read2 .ensures .0) (c .before .before .before .before .before .before .read4 .ensures .0) .list)) .1, c .read42 .ensures .0)
+
+sub-left : tie.Need-sub-left Inv-loop μ-loop
+sub-left c = omega arith
+
+loop-less : tie.Need-loop-less Inv-loop μ-loop
+loop-less c = omega arith
+
+loop-again : tie.Need-loop-again Inv-loop μ-loop
+loop-again c = another (c .before .before .before .loop-test .taken) (c .before .before .same-at .ensures) (c .before .if1 .left) (c .read42 .ensures .0) (c .before .before .before .before .loop .inv)
+
+returns-2 : tie.Need-returns-2 Inv-loop μ-loop
+returns-2 c = λ t. unlisted-of _ t (parameters-at t (c .before .before .before .before .read2 .ensures .0) (c .before .before .before .read4 .ensures .0)) (c .loop-test .left) (c .before .loop .inv)
+
+pub is-listed-spec : {M : Type 1} → statement M
+is-listed-spec =
+    tie.close
+    (tie.spec
+    Inv-loop
+    μ-loop
+    add-root
+    add-read2
+    read2-requires
+    add-root-2
+    add-list
+    read4-requires
+    add-list-2
+    read2-requires-2
+    add-at
+    loop-holds
+    add-same-at
+    same-at-requires
+    returns
+    add-at-2
+    read4-requires-2
+    add-at-3
+    sub-left
+    loop-less
+    loop-again
+    returns-2)

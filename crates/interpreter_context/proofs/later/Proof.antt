@@ -1,0 +1,54 @@
+-- `interpreter_context::later` meets its contract. Assumes nothing.
+use mathlib.Core.Path.{_≡_, refl, sym, _∙_, ap}
+use mathlib.Core.List.{List}
+use mathlib.Core.Bool.{Bool}
+use Prim.Native.Nat.{ℕ, _+_, _-_, _≤_}
+use native.Mathlib.Omega.{arith}
+use lib.ListN.{length}
+use Rattle.blocks.specs.Bytes.{le2, le4}
+use Rattle.blocks.specs.Name.{Name, same}
+use Rattle.accepted.specs.Accepted.{nameAt}
+use Rattle.interpreter_context.proofs.Lists.{arg, this-one, not-this}
+use Rattle.interpreter_context.proofs.later.Statement.{statement}
+use Rattle.interpreter_context.proofs.later.Tie as tie
+use Rattle.interpreter_context.proofs.later.Reads as reads
+use Rattle.interpreter_context.proofs.later.Lts as lts
+use Rattle.interpreter_context.proofs.same_at.Reads as same-at-reads
+use Rattle.wire.proofs.read2.Reads as read2-reads
+
+add-same-at : tie.Need-add-same-at
+add-same-at c = omega (arith, arg (c .before .pre .0) .name)
+
+same-at-requires : tie.Need-same-at-requires
+same-at-requires c κs = (c .before .pre .1, arg (c .before .pre .0) .name)
+
+add-t7 : tie.Need-add-t7
+add-t7 c = omega (arith, arg (c .before .before .before .pre .0) .name)
+
+add-read2 : tie.Need-add-read2
+add-read2 c = omega (arith, arg (c .before .before .before .pre .0) .name)
+
+read2-requires : tie.Need-read2-requires
+read2-requires c κs = omega (arith, arg (c .before .before .before .pre .0) .name)
+
+add-t10 : tie.Need-add-t10
+add-t10 c = omega (arith, arg (c .before .before .before .before .pre .0) .name, c .read2 .ensures .0)
+
+returns : tie.Need-returns
+returns c = this-one _ (c .before .before .same-at .ensures) (c .before .if1 .taken) (c .read2 .ensures .0)
+
+returns-2 : tie.Need-returns-2
+returns-2 c = not-this _ (c .before .same-at .ensures) (c .if1 .left)
+
+pub later-spec : {M : Type 1} → statement M
+later-spec =
+    tie.close
+    (tie.spec
+    add-same-at
+    same-at-requires
+    add-t7
+    add-read2
+    read2-requires
+    add-t10
+    returns
+    returns-2)

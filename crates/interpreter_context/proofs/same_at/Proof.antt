@@ -1,0 +1,55 @@
+-- `interpreter_context::same_at` meets its contract. Assumes nothing.
+use mathlib.Core.Path.{_≡_, refl, sym, _∙_, ap}
+use mathlib.Core.List.{List}
+use mathlib.Core.Bool.{Bool}
+use Prim.Native.Nat.{ℕ, _+_, _-_, _≤_}
+use native.Mathlib.Omega.{arith}
+use lib.ListN.{length}
+use Rattle.blocks.specs.Bytes.{le2, le4}
+use Rattle.blocks.specs.Name.{Name, same}
+use Rattle.accepted.specs.Accepted.{nameAt}
+use Rattle.interpreter_context.proofs.Names.{same-slice}
+use borrow.Author.Needs.{needs}
+use Rattle.interpreter_context.proofs.same_at.Statement.{statement}
+use Rattle.interpreter_context.proofs.same_at.Tie as tie
+use Rattle.interpreter_context.proofs.same_at.Reads as reads
+use Rattle.interpreter_context.proofs.same_at.Lts as lts
+use Rattle.wire.proofs.read2.Reads as read2-reads
+use Rattle.lookup.proofs.is_named.Reads as is-named-reads
+
+add-from : tie.Need-add-from
+add-from c = search needs
+
+read2-requires : tie.Need-read2-requires
+read2-requires c κs = search needs
+
+add-to : tie.Need-add-to
+add-to c = search needs
+
+sub-is-named : tie.Need-sub-is-named
+sub-is-named c = search needs
+
+part-is-named-start : tie.Need-part-is-named-start
+part-is-named-start c = search needs
+
+part-is-named-end : tie.Need-part-is-named-end
+part-is-named-end c = search needs
+
+is-named-requires : tie.Need-is-named-requires
+is-named-requires c κs = search needs
+
+returns : tie.Need-returns
+returns c = same-slice _ _ _ _ (c .before .before .read2 .ensures .0) (c .is-named .ensures)
+
+pub same-at-spec : {M : Type 1} → statement M
+same-at-spec =
+    tie.close
+    (tie.spec
+    add-from
+    read2-requires
+    add-to
+    sub-is-named
+    part-is-named-start
+    part-is-named-end
+    is-named-requires
+    returns)

@@ -1,0 +1,41 @@
+-- `interpreter_context::second_part` meets its contract. Assumes nothing.
+use borrow.Author.Needs.{needs}
+use native.Mathlib.Omega.{arith}
+use Rattle.interpreter_context.proofs.Laws.{kinds, stands, stands-next}
+use Rattle.interpreter_context.proofs.second_part.Statement.{statement}
+use Rattle.interpreter_context.proofs.second_part.Tie as tie
+use Rattle.interpreter_context.proofs.second_part.Reads as reads
+use Rattle.interpreter_context.proofs.second_part.Lts as lts
+use Rattle.wire.proofs.read2.Reads as read2-reads
+use Rattle.ir.proofs.node_part.Reads as node-part-reads
+use Rattle.interpreter_context.proofs.behind.Reads as behind-reads
+use Rattle.interpreter_context.proofs.first_part.Reads as first-part-reads
+
+add-read2 : tie.Need-add-read2
+add-read2 c = omega (arith, kinds (c .before .pre .0) .2, kinds (c .before .pre .0) .3)
+
+read2-requires : tie.Need-read2-requires
+read2-requires c κs = omega (arith, kinds (c .before .pre .0) .2, kinds (c .before .pre .0) .3)
+
+first-part-requires : tie.Need-first-part-requires
+first-part-requires c κs = search needs
+
+node-part-requires : tie.Need-node-part-requires
+node-part-requires c κs = (omega (arith, c .before .read2 .ensures .0, kinds (c .before .before .before .pre .0) .0), omega (arith, c .before .read2 .ensures .0, kinds (c .before .before .before .pre .0) .1), omega arith)
+
+behind-requires : tie.Need-behind-requires
+behind-requires c κs = stands (c .before .before .before .before .pre .0) (c .before .before .read2 .ensures .0) (c .node-part .ensures) (omega arith) (omega (arith, c .before .before .before .before .pre .1)) (c .before .first-part .ensures)
+
+returns : tie.Need-returns
+returns c = stands-next (c .before .before .before .read2 .ensures .0) (c .before .node-part .ensures) (omega arith) (omega (arith, c .before .before .before .before .before .pre .1)) (c .before .before .first-part .ensures) (c .behind .ensures)
+
+pub second-part-spec : {M : Type 1} → statement M
+second-part-spec =
+    tie.close
+    (tie.spec
+    add-read2
+    read2-requires
+    first-part-requires
+    node-part-requires
+    behind-requires
+    returns)

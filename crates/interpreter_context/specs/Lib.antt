@@ -1,0 +1,3 @@
+pub mod Located
+pub mod Names
+pub mod Context

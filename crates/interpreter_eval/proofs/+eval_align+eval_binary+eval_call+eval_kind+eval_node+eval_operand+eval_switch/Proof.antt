@@ -1,0 +1,479 @@
+-- The evaluator meets its contract. The measure: the calls that may still open, then the block's length. Assumes nothing.
+use mathlib.Core.Path.{refl, sym, _∙_}
+use lib.ListN.{length-set}
+use lib.Seq.{getD-set-other}
+use Rattle.blocks.specs.Bytes.{le4}
+use Rattle.ir.specs.Layout.{layoutOf}
+use Rattle.interpreter_context.proofs.Lists.{ends}
+use Rattle.interpreter_context.proofs.Calls.{context-same}
+use Rattle.interpreter_context.proofs.Laws.{kinds}
+use Rattle.interpreter_leaves.proofs.Told.{told-as}
+use Rattle.interpreter_leaves.proofs.Nodes.{enough, zero-is, sum-is}
+use Rattle.interpreter_leaves.proofs.Align.{align-number, align-child}
+use Rattle.interpreter_eval.proofs.Laws.{unwrapped-is, align-stops, align-goes, left-child, right-child, left-stops, right-stops, both-go, picked-node, switch-misses, switch-ends, switch-goes, found-at, bound-all, call-lacks, call-unknown, call-stops, call-ready, call-answers, still-ready, child-ready, leaf-answers}
+use borrow.Author.Needs.{needs}
+use native.Mathlib.Omega.{arith}
+use lib.ListN.{length}
+use Prim.Native.Nat.{ℕ, _<_, _+_, _*_}
+use borrow.Fn.Kinds.{In}
+use borrow.Fn.PlainCycle.{Measures, is, falls, and}
+use Rattle.interpreter_eval.proofs.eval_align.Reads as eval-align
+use Rattle.interpreter_eval.proofs.eval_align.Kinds as eval-align-kinds
+use Rattle.interpreter_eval.proofs.+eval_align+eval_binary+eval_call+eval_kind+eval_node+eval_operand+eval_switch.Lts-eval_align as eval-align-lts
+use Rattle.interpreter_eval.proofs.eval_binary.Reads as eval-binary
+use Rattle.interpreter_eval.proofs.eval_binary.Kinds as eval-binary-kinds
+use Rattle.interpreter_eval.proofs.+eval_align+eval_binary+eval_call+eval_kind+eval_node+eval_operand+eval_switch.Lts-eval_binary as eval-binary-lts
+use Rattle.interpreter_eval.proofs.eval_call.Reads as eval-call
+use Rattle.interpreter_eval.proofs.eval_call.Kinds as eval-call-kinds
+use Rattle.interpreter_eval.proofs.+eval_align+eval_binary+eval_call+eval_kind+eval_node+eval_operand+eval_switch.Lts-eval_call as eval-call-lts
+use Rattle.interpreter_eval.proofs.eval_kind.Reads as eval-kind
+use Rattle.interpreter_eval.proofs.eval_kind.Kinds as eval-kind-kinds
+use Rattle.interpreter_eval.proofs.+eval_align+eval_binary+eval_call+eval_kind+eval_node+eval_operand+eval_switch.Lts-eval_kind as eval-kind-lts
+use Rattle.interpreter_eval.proofs.eval_node.Reads as eval-node
+use Rattle.interpreter_eval.proofs.eval_node.Kinds as eval-node-kinds
+use Rattle.interpreter_eval.proofs.+eval_align+eval_binary+eval_call+eval_kind+eval_node+eval_operand+eval_switch.Lts-eval_node as eval-node-lts
+use Rattle.interpreter_eval.proofs.eval_operand.Reads as eval-operand
+use Rattle.interpreter_eval.proofs.eval_operand.Kinds as eval-operand-kinds
+use Rattle.interpreter_eval.proofs.+eval_align+eval_binary+eval_call+eval_kind+eval_node+eval_operand+eval_switch.Lts-eval_operand as eval-operand-lts
+use Rattle.interpreter_eval.proofs.eval_switch.Reads as eval-switch
+use Rattle.interpreter_eval.proofs.eval_switch.Kinds as eval-switch-kinds
+use Rattle.interpreter_eval.proofs.+eval_align+eval_binary+eval_call+eval_kind+eval_node+eval_operand+eval_switch.Lts-eval_switch as eval-switch-lts
+use Rattle.interpreter_arithmetic.proofs.align_up.Reads as align-up-reads
+use Rattle.interpreter_arithmetic.proofs.operate.Reads as operate-reads
+use Rattle.wire.proofs.read2.Reads as read2-reads
+use Rattle.wire.proofs.read8.Reads as read8-reads
+use Rattle.interpreter_leaves.proofs.called.Reads as called-reads
+use Rattle.interpreter_leaves.proofs.collect_arguments.Reads as collect-arguments-reads
+use Rattle.interpreter_leaves.proofs.constant.Reads as constant-reads
+use Rattle.interpreter_leaves.proofs.counted.Reads as counted-reads
+use Rattle.interpreter_leaves.proofs.field.Reads as field-reads
+use Rattle.interpreter_leaves.proofs.lifted.Reads as lifted-reads
+use Rattle.interpreter_leaves.proofs.refused.Reads as refused-reads
+use Rattle.interpreter_leaves.proofs.root.Reads as root-reads
+use Rattle.interpreter_leaves.proofs.selected.Reads as selected-reads
+use Rattle.interpreter_leaves.proofs.tag.Reads as tag-reads
+use Rattle.interpreter_leaves.proofs.unwrapped.Reads as unwrapped-reads
+use Rattle.interpreter_context.proofs.first_part.Reads as first-part-reads
+use Rattle.interpreter_context.proofs.second_part.Reads as second-part-reads
+use Rattle.interpreter_eval.proofs.+eval_align+eval_binary+eval_call+eval_kind+eval_node+eval_operand+eval_switch.{
+  statement,
+}
+use Rattle.interpreter_eval.proofs.+eval_align+eval_binary+eval_call+eval_kind+eval_node+eval_operand+eval_switch.Tie.{
+  close,
+}
+
+abbrev μ-eval-align : Measures 4 eval-align-kinds.ps ℕ
+μ-eval-align κs a = a .1 .1 .0 * 1048576 + 4 * le4 (a .0 .now) (a .1 .0) + 0
+
+abbrev μ-eval-binary : Measures 4 eval-binary-kinds.ps ℕ
+μ-eval-binary κs a = a .1 .1 .0 * 1048576 + 4 * le4 (a .0 .now) (a .1 .0) + 0
+
+abbrev μ-eval-call : Measures 4 eval-call-kinds.ps ℕ
+μ-eval-call κs a = a .1 .1 .0 * 1048576 + 4 * le4 (a .0 .now) (a .1 .0) + 0
+
+abbrev μ-eval-kind : Measures 4 eval-kind-kinds.ps ℕ
+μ-eval-kind κs a = a .1 .1 .0 * 1048576 + 4 * le4 (a .0 .now) (a .1 .0) + 1
+
+abbrev μ-eval-node : Measures 4 eval-node-kinds.ps ℕ
+μ-eval-node κs a = a .1 .1 .0 * 1048576 + 4 * le4 (a .0 .now) (a .1 .0) + 2
+
+abbrev μ-eval-operand : Measures 4 eval-operand-kinds.ps ℕ
+μ-eval-operand κs a = a .1 .1 .0 * 1048576 + 4 * le4 (a .0 .now) (a .1 .0) + 3
+
+abbrev μ-eval-switch : Measures 4 eval-switch-kinds.ps ℕ
+μ-eval-switch κs a = a .1 .1 .0 * 1048576 + 4 * le4 (a .0 .now) (a .1 .0) + 0
+
+abbrev eval-align-at : ℕ → In 4 eval-align-kinds.ps
+eval-align-at t =
+    and 4 eval-align-kinds.ps (is 4 eval-align-kinds.ps μ-eval-align t) eval-align.Pre
+
+abbrev eval-align-below : ℕ → In 4 eval-align-kinds.ps
+eval-align-below t =
+    and 4 eval-align-kinds.ps (falls 4 eval-align-kinds.ps _<_ μ-eval-align t) eval-align.Pre
+
+abbrev eval-binary-at : ℕ → In 4 eval-binary-kinds.ps
+eval-binary-at t =
+    and 4 eval-binary-kinds.ps (is 4 eval-binary-kinds.ps μ-eval-binary t) eval-binary.Pre
+
+abbrev eval-binary-below : ℕ → In 4 eval-binary-kinds.ps
+eval-binary-below t =
+    and 4 eval-binary-kinds.ps (falls 4 eval-binary-kinds.ps _<_ μ-eval-binary t) eval-binary.Pre
+
+abbrev eval-call-at : ℕ → In 4 eval-call-kinds.ps
+eval-call-at t = and 4 eval-call-kinds.ps (is 4 eval-call-kinds.ps μ-eval-call t) eval-call.Pre
+
+abbrev eval-call-below : ℕ → In 4 eval-call-kinds.ps
+eval-call-below t =
+    and 4 eval-call-kinds.ps (falls 4 eval-call-kinds.ps _<_ μ-eval-call t) eval-call.Pre
+
+abbrev eval-kind-at : ℕ → In 4 eval-kind-kinds.ps
+eval-kind-at t = and 4 eval-kind-kinds.ps (is 4 eval-kind-kinds.ps μ-eval-kind t) eval-kind.Pre
+
+abbrev eval-kind-below : ℕ → In 4 eval-kind-kinds.ps
+eval-kind-below t =
+    and 4 eval-kind-kinds.ps (falls 4 eval-kind-kinds.ps _<_ μ-eval-kind t) eval-kind.Pre
+
+abbrev eval-node-at : ℕ → In 4 eval-node-kinds.ps
+eval-node-at t = and 4 eval-node-kinds.ps (is 4 eval-node-kinds.ps μ-eval-node t) eval-node.Pre
+
+abbrev eval-node-below : ℕ → In 4 eval-node-kinds.ps
+eval-node-below t =
+    and 4 eval-node-kinds.ps (falls 4 eval-node-kinds.ps _<_ μ-eval-node t) eval-node.Pre
+
+abbrev eval-operand-at : ℕ → In 4 eval-operand-kinds.ps
+eval-operand-at t =
+    and 4 eval-operand-kinds.ps (is 4 eval-operand-kinds.ps μ-eval-operand t) eval-operand.Pre
+
+abbrev eval-operand-below : ℕ → In 4 eval-operand-kinds.ps
+eval-operand-below t =
+    and
+    4
+    eval-operand-kinds.ps
+    (falls 4 eval-operand-kinds.ps _<_ μ-eval-operand t)
+    eval-operand.Pre
+
+abbrev eval-switch-at : ℕ → In 4 eval-switch-kinds.ps
+eval-switch-at t =
+    and 4 eval-switch-kinds.ps (is 4 eval-switch-kinds.ps μ-eval-switch t) eval-switch.Pre
+
+abbrev eval-switch-below : ℕ → In 4 eval-switch-kinds.ps
+eval-switch-below t =
+    and 4 eval-switch-kinds.ps (falls 4 eval-switch-kinds.ps _<_ μ-eval-switch t) eval-switch.Pre
+
+abbrev eval-align-with : ℕ → eval-align-lts.Claims
+eval-align-with t = (first-part-reads.Asked, first-part-reads.Learnt, second-part-reads.Asked, second-part-reads.Learnt, eval-node-below t, eval-node.Post, read8-reads.Asked, read8-reads.Learnt, align-up-reads.Asked, align-up-reads.Learnt, lifted-reads.Asked, lifted-reads.Learnt)
+
+abbrev eval-binary-with : ℕ → eval-binary-lts.Claims
+eval-binary-with t = (read2-reads.Asked, read2-reads.Learnt, first-part-reads.Asked, first-part-reads.Learnt, second-part-reads.Asked, second-part-reads.Learnt, eval-operand-below t, eval-operand.Post, eval-node-below t, eval-node.Post, operate-reads.Asked, operate-reads.Learnt, lifted-reads.Asked, lifted-reads.Learnt)
+
+abbrev eval-call-with : ℕ → eval-call-lts.Claims
+eval-call-with t = (collect-arguments-reads.Asked, collect-arguments-reads.Learnt, refused-reads.Asked, refused-reads.Learnt, called-reads.Asked, called-reads.Learnt, root-reads.Asked, root-reads.Learnt, eval-node-below t, eval-node.Post)
+
+abbrev eval-kind-with : ℕ → eval-kind-lts.Claims
+eval-kind-with t = (read2-reads.Asked, read2-reads.Learnt, counted-reads.Asked, counted-reads.Learnt, constant-reads.Asked, constant-reads.Learnt, field-reads.Asked, field-reads.Learnt, eval-align-below t, eval-align.Post, eval-switch-below t, eval-switch.Post, eval-call-below t, eval-call.Post, refused-reads.Asked, refused-reads.Learnt, eval-binary-below t, eval-binary.Post)
+
+abbrev eval-node-with : ℕ → eval-node-lts.Claims
+eval-node-with t = (unwrapped-reads.Asked, unwrapped-reads.Learnt, eval-kind-below t, eval-kind.Post)
+
+abbrev eval-operand-with : ℕ → eval-operand-lts.Claims
+eval-operand-with t = (unwrapped-reads.Asked, unwrapped-reads.Learnt, read2-reads.Asked, read2-reads.Learnt, constant-reads.Asked, constant-reads.Learnt, eval-node-below t, eval-node.Post)
+
+abbrev eval-switch-with : ℕ → eval-switch-lts.Claims
+eval-switch-with t = (tag-reads.Asked, tag-reads.Learnt, refused-reads.Asked, refused-reads.Learnt, selected-reads.Asked, selected-reads.Learnt, eval-node-below t, eval-node.Post)
+
+eval-align-first-part-requires : (t : ℕ) → eval-align-lts.Need-first-part-requires (eval-align-with t) (eval-align-at t) eval-align.Post
+eval-align-first-part-requires t c κs = c .before .before .before .pre .1 .0 .node
+
+eval-align-second-part-requires : (t : ℕ) → eval-align-lts.Need-second-part-requires (eval-align-with t) (eval-align-at t) eval-align.Post
+eval-align-second-part-requires t c κs = (c .before .before .before .before .pre .1 .0 .node, enough _ _ (omega (arith, (c .before .before .before .before .pre .1 .1))) (omega (arith, (c .before .before .before .before .pre .1 .1))) (omega arith))
+
+eval-align-eval-node-requires : (t : ℕ) → eval-align-lts.Need-eval-node-requires (eval-align-with t) (eval-align-at t) eval-align.Post
+eval-align-eval-node-requires t c κs = (omega (arith, c .before .before .before .before .before .before .before .pre .0, align-child (c .before .before .second-part .ensures) (c .before .before .before .before .before .before .before .pre .1 .0 .node) (c .before .before .before .before .before .before .before .pre .1 .1) .2), child-ready (c .before .before .before .before .before .before .before .pre .1 .0) (align-child (c .before .before .second-part .ensures) (c .before .before .before .before .before .before .before .pre .1 .0 .node) (c .before .before .before .before .before .before .before .pre .1 .1) .0))
+
+eval-align-same-length : (t : ℕ) → eval-align-lts.Need-same-length (eval-align-with t) (eval-align-at t) eval-align.Post
+eval-align-same-length t c = search needs
+
+eval-align-returns : (t : ℕ) → eval-align-lts.Need-returns (eval-align-with t) (eval-align-at t) eval-align.Post
+eval-align-returns t c = (c .before .before .before .eval-node .ensures .0, λ γ x t rd a. align-stops (c .before .before .before .before .before .before .before .first-part .ensures) (c .before .before .before .before .before .before .second-part .ensures) (c .before .before .before .before .before .before .before .before .before .before .before .pre .1 .1) _ (layoutOf t) _ γ a (c .before .before .before .eval-node .ensures .1 γ x t rd) (c .if1 .taken))
+
+eval-align-element-copy-out-x : (t : ℕ) → eval-align-lts.Need-element-copy-out-x (eval-align-with t) (eval-align-at t) eval-align.Post
+eval-align-element-copy-out-x t c = search needs
+
+eval-align-read8-requires : (t : ℕ) → eval-align-lts.Need-read8-requires (eval-align-with t) (eval-align-at t) eval-align.Post
+eval-align-read8-requires t c κs = align-number (c .before .before .before .before .before .before .before .before .first-part .ensures) (c .before .before .before .before .before .before .before .before .before .before .before .before .pre .1 .0 .node) (c .before .before .before .before .before .before .before .before .before .before .before .before .pre .1 .1) .0
+
+eval-align-align-up-requires : (t : ℕ) → eval-align-lts.Need-align-up-requires (eval-align-with t) (eval-align-at t) eval-align.Post
+eval-align-align-up-requires t c κs = search needs
+
+eval-align-lifted-requires : (t : ℕ) → eval-align-lts.Need-lifted-requires (eval-align-with t) (eval-align-at t) eval-align.Post
+eval-align-lifted-requires t c κs = search needs
+
+eval-align-same-length-2 : (t : ℕ) → eval-align-lts.Need-same-length-2 (eval-align-with t) (eval-align-at t) eval-align.Post
+eval-align-same-length-2 t c = search needs
+
+eval-align-returns-2 : (t : ℕ) → eval-align-lts.Need-returns-2 (eval-align-with t) (eval-align-at t) eval-align.Post
+eval-align-returns-2 t c = (c .before .before .before .before .before .before .before .before .eval-node .ensures .0, λ γ x t rd a. align-goes (c .before .before .before .before .before .before .before .before .before .before .before .before .first-part .ensures) (c .before .before .before .before .before .before .before .before .before .before .before .second-part .ensures) (c .before .before .before .before .before .before .before .before .before .before .before .before .before .before .before .before .pre .1 .1) _ (layoutOf t) _ γ a (c .before .before .before .before .before .before .before .before .eval-node .ensures .1 γ x t rd) (c .before .before .before .before .before .if1 .left) (c .before .before .before .read8 .ensures) (c .before .before .align-up .ensures) (c .lifted .ensures))
+
+eval-binary-add-read2 : (t : ℕ) → eval-binary-lts.Need-add-read2 (eval-binary-with t) (eval-binary-at t) eval-binary.Post
+eval-binary-add-read2 t c = omega (arith, kinds (c .before .before .before .pre .1 .0 .node) .2, kinds (c .before .before .before .pre .1 .0 .node) .3)
+
+eval-binary-read2-requires : (t : ℕ) → eval-binary-lts.Need-read2-requires (eval-binary-with t) (eval-binary-at t) eval-binary.Post
+eval-binary-read2-requires t c κs = omega (arith, kinds (c .before .before .before .pre .1 .0 .node) .2, kinds (c .before .before .before .pre .1 .0 .node) .3)
+
+eval-binary-first-part-requires : (t : ℕ) → eval-binary-lts.Need-first-part-requires (eval-binary-with t) (eval-binary-at t) eval-binary.Post
+eval-binary-first-part-requires t c κs = c .before .before .before .before .pre .1 .0 .node
+
+eval-binary-second-part-requires : (t : ℕ) → eval-binary-lts.Need-second-part-requires (eval-binary-with t) (eval-binary-at t) eval-binary.Post
+eval-binary-second-part-requires t c κs = (c .before .before .before .before .before .pre .1 .0 .node, enough _ _ (omega (arith, (c .before .before .before .before .before .pre .1 .1 .0))) (omega (arith, (c .before .before .before .before .before .pre .1 .1 .1))) (omega arith))
+
+eval-binary-eval-operand-requires : (t : ℕ) → eval-binary-lts.Need-eval-operand-requires (eval-binary-with t) (eval-binary-at t) eval-binary.Post
+eval-binary-eval-operand-requires t c κs = (omega (arith, c .before .before .before .before .before .before .before .before .pre .0, left-child (c .before .before .before .before .before .before .before .before .pre .1 .0 .node) (c .before .before .before .before .before .before .before .before .pre .1 .1 .0) (c .before .before .before .before .before .before .before .before .pre .1 .1 .1) (c .before .before .before .first-part .ensures) .2), child-ready (c .before .before .before .before .before .before .before .before .pre .1 .0) (left-child (c .before .before .before .before .before .before .before .before .pre .1 .0 .node) (c .before .before .before .before .before .before .before .before .pre .1 .1 .0) (c .before .before .before .before .before .before .before .before .pre .1 .1 .1) (c .before .before .before .first-part .ensures) .0))
+
+eval-binary-same-length : (t : ℕ) → eval-binary-lts.Need-same-length (eval-binary-with t) (eval-binary-at t) eval-binary.Post
+eval-binary-same-length t c = search needs
+
+eval-binary-returns : (t : ℕ) → eval-binary-lts.Need-returns (eval-binary-with t) (eval-binary-at t) eval-binary.Post
+eval-binary-returns t c = (c .before .before .before .eval-operand .ensures .0, λ γ x t rd a. left-stops a (c .before .before .before .before .before .before .before .before .before .before .before .before .pre .1 .1 .0) (c .before .before .before .before .before .before .before .before .before .before .before .before .pre .1 .1 .1) (c .before .before .before .before .before .before .before .first-part .ensures) (c .before .before .before .before .before .before .second-part .ensures) _ (layoutOf t) _ γ (c .before .before .before .eval-operand .ensures .1 γ x t rd) (c .if1 .taken))
+
+eval-binary-element-copy-out-x : (t : ℕ) → eval-binary-lts.Need-element-copy-out-x (eval-binary-with t) (eval-binary-at t) eval-binary.Post
+eval-binary-element-copy-out-x t c = search needs
+
+eval-binary-eval-node-requires : (t : ℕ) → eval-binary-lts.Need-eval-node-requires (eval-binary-with t) (eval-binary-at t) eval-binary.Post
+eval-binary-eval-node-requires t c κs = (omega (arith, c .before .before .before .before .before .before .before .before .before .before .before .before .before .before .before .pre .0, right-child (c .before .before .before .before .before .before .before .before .before .before .before .before .before .before .before .pre .1 .0 .node) (c .before .before .before .before .before .before .before .before .before .before .before .before .before .before .before .pre .1 .1 .0) (c .before .before .before .before .before .before .before .before .before .before .before .before .before .before .before .pre .1 .1 .1) (c .before .before .before .before .before .before .before .before .before .second-part .ensures) .2), still-ready (c .before .before .before .before .before .before .before .before .before .before .before .before .before .before .before .pre .1 .0) (right-child (c .before .before .before .before .before .before .before .before .before .before .before .before .before .before .before .pre .1 .0 .node) (c .before .before .before .before .before .before .before .before .before .before .before .before .before .before .before .pre .1 .1 .0) (c .before .before .before .before .before .before .before .before .before .before .before .before .before .before .before .pre .1 .1 .1) (c .before .before .before .before .before .before .before .before .before .second-part .ensures) .0) (omega arith) (c .before .before .before .before .before .before .eval-operand .ensures .0))
+
+eval-binary-same-length-2 : (t : ℕ) → eval-binary-lts.Need-same-length-2 (eval-binary-with t) (eval-binary-at t) eval-binary.Post
+eval-binary-same-length-2 t c = search needs
+
+eval-binary-returns-2 : (t : ℕ) → eval-binary-lts.Need-returns-2 (eval-binary-with t) (eval-binary-at t) eval-binary.Post
+eval-binary-returns-2 t c = ((λ i h. c .before .before .before .eval-node .ensures .0 i h ∙ c .before .before .before .before .before .before .before .before .before .before .eval-operand .ensures .0 i h), λ γ x t rd a. right-stops a (c .before .before .before .before .before .before .before .before .before .before .before .before .before .before .before .before .before .before .before .pre .1 .1 .0) (c .before .before .before .before .before .before .before .before .before .before .before .before .before .before .before .before .before .before .before .pre .1 .1 .1) (c .before .before .before .before .before .before .before .before .before .before .before .before .before .before .first-part .ensures) (c .before .before .before .before .before .before .before .before .before .before .before .before .before .second-part .ensures) _ (layoutOf t) _ γ (c .before .before .before .before .before .before .before .before .before .before .eval-operand .ensures .1 γ x t rd) (c .before .before .before .eval-node .ensures .1 γ (context-same _ (omega arith) (omega arith) (c .before .before .before .before .before .before .before .before .before .before .eval-operand .ensures .0) x) t rd) (c .before .before .before .before .before .before .before .if1 .left) (c .if2 .taken))
+
+eval-binary-element-copy-out-y : (t : ℕ) → eval-binary-lts.Need-element-copy-out-y (eval-binary-with t) (eval-binary-at t) eval-binary.Post
+eval-binary-element-copy-out-y t c = search needs
+
+eval-binary-operate-requires : (t : ℕ) → eval-binary-lts.Need-operate-requires (eval-binary-with t) (eval-binary-at t) eval-binary.Post
+eval-binary-operate-requires t c κs = (omega (arith, c .before .before .before .before .before .before .before .before .before .before .before .before .before .before .before .before .read2 .ensures .0, (c .before .before .before .before .before .before .before .before .before .before .before .before .before .before .before .before .before .before .before .before .pre .1 .1 .0)), omega (arith, c .before .before .before .before .before .before .before .before .before .before .before .before .before .before .before .before .read2 .ensures .0, (c .before .before .before .before .before .before .before .before .before .before .before .before .before .before .before .before .before .before .before .before .pre .1 .1 .1)))
+
+eval-binary-lifted-requires : (t : ℕ) → eval-binary-lts.Need-lifted-requires (eval-binary-with t) (eval-binary-at t) eval-binary.Post
+eval-binary-lifted-requires t c κs = search needs
+
+eval-binary-same-length-3 : (t : ℕ) → eval-binary-lts.Need-same-length-3 (eval-binary-with t) (eval-binary-at t) eval-binary.Post
+eval-binary-same-length-3 t c = search needs
+
+eval-binary-returns-3 : (t : ℕ) → eval-binary-lts.Need-returns-3 (eval-binary-with t) (eval-binary-at t) eval-binary.Post
+eval-binary-returns-3 t c = ((λ i h. c .before .before .before .before .before .before .before .eval-node .ensures .0 i h ∙ c .before .before .before .before .before .before .before .before .before .before .before .before .before .before .eval-operand .ensures .0 i h), λ γ x t rd a. both-go a (c .before .before .before .before .before .before .before .before .before .before .before .before .before .before .before .before .before .before .before .before .before .before .before .pre .1 .1 .0) (c .before .before .before .before .before .before .before .before .before .before .before .before .before .before .before .before .before .before .before .before .before .before .before .pre .1 .1 .1) (c .before .before .before .before .before .before .before .before .before .before .before .before .before .before .before .before .before .before .first-part .ensures) (c .before .before .before .before .before .before .before .before .before .before .before .before .before .before .before .before .before .second-part .ensures) _ (layoutOf t) _ γ (c .before .before .before .before .before .before .before .before .before .before .before .before .before .before .eval-operand .ensures .1 γ x t rd) (c .before .before .before .before .before .before .before .eval-node .ensures .1 γ (context-same _ (omega arith) (omega arith) (c .before .before .before .before .before .before .before .before .before .before .before .before .before .before .eval-operand .ensures .0) x) t rd) (c .before .before .before .before .before .before .before .before .before .before .before .if1 .left) (c .before .before .before .before .if2 .left) (c .before .before .before .before .before .before .before .before .before .before .before .before .before .before .before .before .before .before .before .read2 .ensures .0) (c .before .before .operate .ensures) (c .lifted .ensures))
+
+eval-call-collect-arguments-requires : (t : ℕ) → eval-call-lts.Need-collect-arguments-requires (eval-call-with t) (eval-call-at t) eval-call.Post
+eval-call-collect-arguments-requires t c κs = (c .before .before .before .before .pre .1 .0 .node, (c .before .before .before .before .pre .1 .1), c .before .before .before .before .pre .1 .0 .context)
+
+eval-call-enum-known-q : (t : ℕ) → eval-call-lts.Need-enum-known-q (eval-call-with t) (eval-call-at t) eval-call.Post
+eval-call-enum-known-q t c = search needs
+
+eval-call-refused-requires : (t : ℕ) → eval-call-lts.Need-refused-requires (eval-call-with t) (eval-call-at t) eval-call.Post
+eval-call-refused-requires t c κs = search needs
+
+eval-call-enum-told : (t : ℕ) → eval-call-lts.Need-enum-told (eval-call-with t) (eval-call-at t) eval-call.Post
+eval-call-enum-told t c = search needs
+
+eval-call-called-requires : (t : ℕ) → eval-call-lts.Need-called-requires (eval-call-with t) (eval-call-at t) eval-call.Post
+eval-call-called-requires t c κs = (c .before .before .before .before .before .before .before .before .pre .1 .0 .node, (c .before .before .before .before .before .before .before .before .pre .1 .1), c .before .before .before .before .before .before .before .before .pre .1 .0 .layout, c .before .before .before .before .before .before .before .before .pre .1 .0 .here)
+
+eval-call-enum-told-2 : (t : ℕ) → eval-call-lts.Need-enum-told-2 (eval-call-with t) (eval-call-at t) eval-call.Post
+eval-call-enum-told-2 t c = search needs
+
+eval-call-refused-requires-2 : (t : ℕ) → eval-call-lts.Need-refused-requires-2 (eval-call-with t) (eval-call-at t) eval-call.Post
+eval-call-refused-requires-2 t c κs = search needs
+
+eval-call-enum-known-i : (t : ℕ) → eval-call-lts.Need-enum-known-i (eval-call-with t) (eval-call-at t) eval-call.Post
+eval-call-enum-known-i t c = search needs
+
+eval-call-refused-requires-3 : (t : ℕ) → eval-call-lts.Need-refused-requires-3 (eval-call-with t) (eval-call-at t) eval-call.Post
+eval-call-refused-requires-3 t c κs = search needs
+
+eval-call-same-length : (t : ℕ) → eval-call-lts.Need-same-length (eval-call-with t) (eval-call-at t) eval-call.Post
+eval-call-same-length t c = search needs
+
+eval-call-returns : (t : ℕ) → eval-call-lts.Need-returns (eval-call-with t) (eval-call-at t) eval-call.Post
+eval-call-returns t c = ((λ i h. refl), λ γ x t rd a. told-as (c .refused3 .ensures) (call-stops (c .before .before .before .before .before .before .before .before .before .before .before .before .before .before .before .pre .1 .1) _ (layoutOf t) _ γ a (bound-all (c .before .before .before .before .before .before .before .before .enum-told .given .1) (c .before .before .before .before .before .before .before .before .before .before .collect-arguments .ensures _ γ x a) .1) (found-at (c .before .before .before .before .i .given .1) (c .before .before .before .before .before .before .called .ensures t rd a) .1) (c .before .before .if1 .taken)))
+
+eval-call-root-requires : (t : ℕ) → eval-call-lts.Need-root-requires (eval-call-with t) (eval-call-at t) eval-call.Post
+eval-call-root-requires t c κs = found-at (c .before .before .i .given .1) (c .before .before .before .before .called .ensures (c .before .before .before .before .before .before .before .before .before .before .before .before .before .pre .1 .0 .layout .0) (c .before .before .before .before .before .before .before .before .before .before .before .before .before .pre .1 .0 .layout .1) (c .before .before .before .before .before .before .before .before .before .before .before .before .before .pre .1 .0 .node)) .0
+
+eval-call-mul-words : (t : ℕ) → eval-call-lts.Need-mul-words (eval-call-with t) (eval-call-at t) eval-call.Post
+eval-call-mul-words t c = omega (arith, ends (c .before .before .before .before .before .before .before .before .before .before .before .before .before .before .pre .1 .0 .node) .1, ends (found-at (c .before .before .before .i .given .1) (c .before .before .before .before .before .called .ensures (c .before .before .before .before .before .before .before .before .before .before .before .before .before .before .pre .1 .0 .layout .0) (c .before .before .before .before .before .before .before .before .before .before .before .before .before .before .pre .1 .0 .layout .1) (c .before .before .before .before .before .before .before .before .before .before .before .before .before .before .pre .1 .0 .node)) .0) .1, c .before .before .before .before .before .before .before .before .before .before .before .before .before .before .pre .1 .0 .small, c .before .before .before .before .before .before .before .before .before .before .before .before .before .before .pre .1 .0 .room, c .before .if1 .left)
+
+eval-call-add-words : (t : ℕ) → eval-call-lts.Need-add-words (eval-call-with t) (eval-call-at t) eval-call.Post
+eval-call-add-words t c = omega (arith, ends (c .before .before .before .before .before .before .before .before .before .before .before .before .before .before .pre .1 .0 .node) .1, ends (found-at (c .before .before .before .i .given .1) (c .before .before .before .before .before .called .ensures (c .before .before .before .before .before .before .before .before .before .before .before .before .before .before .pre .1 .0 .layout .0) (c .before .before .before .before .before .before .before .before .before .before .before .before .before .before .pre .1 .0 .layout .1) (c .before .before .before .before .before .before .before .before .before .before .before .before .before .before .pre .1 .0 .node)) .0) .1, c .before .before .before .before .before .before .before .before .before .before .before .before .before .before .pre .1 .0 .small, c .before .before .before .before .before .before .before .before .before .before .before .before .before .before .pre .1 .0 .room, c .before .if1 .left)
+
+eval-call-mul-words-2 : (t : ℕ) → eval-call-lts.Need-mul-words-2 (eval-call-with t) (eval-call-at t) eval-call.Post
+eval-call-mul-words-2 t c = omega (arith, ends (c .before .before .before .before .before .before .before .before .before .before .before .before .before .before .pre .1 .0 .node) .1, ends (found-at (c .before .before .before .i .given .1) (c .before .before .before .before .before .called .ensures (c .before .before .before .before .before .before .before .before .before .before .before .before .before .before .pre .1 .0 .layout .0) (c .before .before .before .before .before .before .before .before .before .before .before .before .before .before .pre .1 .0 .layout .1) (c .before .before .before .before .before .before .before .before .before .before .before .before .before .before .pre .1 .0 .node)) .0) .1, c .before .before .before .before .before .before .before .before .before .before .before .before .before .before .pre .1 .0 .small, c .before .before .before .before .before .before .before .before .before .before .before .before .before .before .pre .1 .0 .room, c .before .if1 .left)
+
+eval-call-slice-write-words : (t : ℕ) → eval-call-lts.Need-slice-write-words (eval-call-with t) (eval-call-at t) eval-call.Post
+eval-call-slice-write-words t c = omega (arith, ends (c .before .before .before .before .before .before .before .before .before .before .before .before .before .before .pre .1 .0 .node) .1, ends (found-at (c .before .before .before .i .given .1) (c .before .before .before .before .before .called .ensures (c .before .before .before .before .before .before .before .before .before .before .before .before .before .before .pre .1 .0 .layout .0) (c .before .before .before .before .before .before .before .before .before .before .before .before .before .before .pre .1 .0 .layout .1) (c .before .before .before .before .before .before .before .before .before .before .before .before .before .before .pre .1 .0 .node)) .0) .1, c .before .before .before .before .before .before .before .before .before .before .before .before .before .before .pre .1 .0 .small, c .before .before .before .before .before .before .before .before .before .before .before .before .before .before .pre .1 .0 .room, c .before .if1 .left)
+
+eval-call-sub-eval-node : (t : ℕ) → eval-call-lts.Need-sub-eval-node (eval-call-with t) (eval-call-at t) eval-call.Post
+eval-call-sub-eval-node t c = omega (arith, ends (c .before .before .before .before .before .before .before .before .before .before .before .before .before .before .pre .1 .0 .node) .1, ends (found-at (c .before .before .before .i .given .1) (c .before .before .before .before .before .called .ensures (c .before .before .before .before .before .before .before .before .before .before .before .before .before .before .pre .1 .0 .layout .0) (c .before .before .before .before .before .before .before .before .before .before .before .before .before .before .pre .1 .0 .layout .1) (c .before .before .before .before .before .before .before .before .before .before .before .before .before .before .pre .1 .0 .node)) .0) .1, c .before .before .before .before .before .before .before .before .before .before .before .before .before .before .pre .1 .0 .small, c .before .before .before .before .before .before .before .before .before .before .before .before .before .before .pre .1 .0 .room, c .before .if1 .left)
+
+eval-call-add-eval-node : (t : ℕ) → eval-call-lts.Need-add-eval-node (eval-call-with t) (eval-call-at t) eval-call.Post
+eval-call-add-eval-node t c = omega (arith, ends (c .before .before .before .before .before .before .before .before .before .before .before .before .before .before .before .pre .1 .0 .node) .1, ends (found-at (c .before .before .before .before .i .given .1) (c .before .before .before .before .before .before .called .ensures (c .before .before .before .before .before .before .before .before .before .before .before .before .before .before .before .pre .1 .0 .layout .0) (c .before .before .before .before .before .before .before .before .before .before .before .before .before .before .before .pre .1 .0 .layout .1) (c .before .before .before .before .before .before .before .before .before .before .before .before .before .before .before .pre .1 .0 .node)) .0) .1, c .before .before .before .before .before .before .before .before .before .before .before .before .before .before .before .pre .1 .0 .small, c .before .before .before .before .before .before .before .before .before .before .before .before .before .before .before .pre .1 .0 .room, c .before .before .if1 .left)
+
+eval-call-eval-node-requires : (t : ℕ) → eval-call-lts.Need-eval-node-requires (eval-call-with t) (eval-call-at t) eval-call.Post
+eval-call-eval-node-requires t c κs = (omega (arith, c .before .before .before .before .before .before .before .before .before .before .before .before .before .before .before .before .pre .0, ends (c .before .before .before .before .before .before .before .before .before .before .before .before .before .before .before .before .pre .1 .0 .node) .1, ends (found-at (c .before .before .before .before .before .i .given .1) (c .before .before .before .before .before .before .before .called .ensures (c .before .before .before .before .before .before .before .before .before .before .before .before .before .before .before .before .pre .1 .0 .layout .0) (c .before .before .before .before .before .before .before .before .before .before .before .before .before .before .before .before .pre .1 .0 .layout .1) (c .before .before .before .before .before .before .before .before .before .before .before .before .before .before .before .before .pre .1 .0 .node)) .0) .1, c .before .before .before .before .before .before .before .before .before .before .before .before .before .before .before .before .pre .1 .0 .small, c .before .before .before .before .before .before .before .before .before .before .before .before .before .before .before .before .pre .1 .0 .room, c .before .before .before .if1 .left, ends (c .before .before .root .ensures (found-at (c .before .before .before .before .before .i .given .1) (c .before .before .before .before .before .before .before .called .ensures (c .before .before .before .before .before .before .before .before .before .before .before .before .before .before .before .before .pre .1 .0 .layout .0) (c .before .before .before .before .before .before .before .before .before .before .before .before .before .before .before .before .pre .1 .0 .layout .1) (c .before .before .before .before .before .before .before .before .before .before .before .before .before .before .before .before .pre .1 .0 .node)) .0) .root) .1), call-ready (omega (arith, ends (c .before .before .before .before .before .before .before .before .before .before .before .before .before .before .before .before .pre .1 .0 .node) .1, ends (found-at (c .before .before .before .before .before .i .given .1) (c .before .before .before .before .before .before .before .called .ensures (c .before .before .before .before .before .before .before .before .before .before .before .before .before .before .before .before .pre .1 .0 .layout .0) (c .before .before .before .before .before .before .before .before .before .before .before .before .before .before .before .before .pre .1 .0 .layout .1) (c .before .before .before .before .before .before .before .before .before .before .before .before .before .before .before .before .pre .1 .0 .node)) .0) .1, c .before .before .before .before .before .before .before .before .before .before .before .before .before .before .before .before .pre .1 .0 .small, c .before .before .before .before .before .before .before .before .before .before .before .before .before .before .before .before .pre .1 .0 .room, c .before .before .before .if1 .left)) (omega (arith, ends (c .before .before .before .before .before .before .before .before .before .before .before .before .before .before .before .before .pre .1 .0 .node) .1, ends (found-at (c .before .before .before .before .before .i .given .1) (c .before .before .before .before .before .before .before .called .ensures (c .before .before .before .before .before .before .before .before .before .before .before .before .before .before .before .before .pre .1 .0 .layout .0) (c .before .before .before .before .before .before .before .before .before .before .before .before .before .before .before .before .pre .1 .0 .layout .1) (c .before .before .before .before .before .before .before .before .before .before .before .before .before .before .before .before .pre .1 .0 .node)) .0) .1, c .before .before .before .before .before .before .before .before .before .before .before .before .before .before .before .before .pre .1 .0 .small, c .before .before .before .before .before .before .before .before .before .before .before .before .before .before .before .before .pre .1 .0 .room, c .before .before .before .if1 .left)) refl (c .before .before .before .before .before .before .before .before .before .before .before .before .before .before .before .before .pre .1 .1) (c .before .before .before .before .before .before .before .before .before .enum-told .given .1) (c .before .before .before .before .before .i .given .1) (c .before .before .before .before .before .before .before .before .before .before .before .collect-arguments .ensures) (c .before .before .before .before .before .before .before .called .ensures) (c .before .before .root .ensures) (c .before .before .before .if1 .left) (c .before .before .before .before .before .before .before .before .before .before .before .before .before .before .before .before .pre .1 .0))
+
+eval-call-same-length-2 : (t : ℕ) → eval-call-lts.Need-same-length-2 (eval-call-with t) (eval-call-at t) eval-call.Post
+eval-call-same-length-2 t c = search needs
+
+eval-call-returns-2 : (t : ℕ) → eval-call-lts.Need-returns-2 (eval-call-with t) (eval-call-at t) eval-call.Post
+eval-call-returns-2 t c = ((λ i h. refl), λ γ x t rd a. told-as (c .refused .ensures) (call-lacks (c .before .before .before .before .before .before .before .before .before .before .pre .1 .1) _ (layoutOf t) _ γ a (c .before .before .before .q .given .1) (c .before .before .before .before .before .collect-arguments .ensures _ γ x a)))
+
+eval-call-same-length-3 : (t : ℕ) → eval-call-lts.Need-same-length-3 (eval-call-with t) (eval-call-at t) eval-call.Post
+eval-call-same-length-3 t c = search needs
+
+eval-call-returns-3 : (t : ℕ) → eval-call-lts.Need-returns-3 (eval-call-with t) (eval-call-at t) eval-call.Post
+eval-call-returns-3 t c = ((λ i h. refl), λ γ x t rd a. told-as (c .refused2 .ensures) (call-unknown (c .before .before .before .before .before .before .before .before .before .before .before .before .before .pre .1 .1) _ (layoutOf t) _ γ a (bound-all (c .before .before .before .before .before .before .enum-told .given .1) (c .before .before .before .before .before .before .before .before .collect-arguments .ensures _ γ x a) .1) (c .before .before .enum-told2 .given .1) (c .before .before .before .before .called .ensures t rd a)))
+
+eval-call-same-length-4 : (t : ℕ) → eval-call-lts.Need-same-length-4 (eval-call-with t) (eval-call-at t) eval-call.Post
+eval-call-same-length-4 t c = c .before .words .given ∙ length-set (c .before .before .before .before .before .before .before .before .before .before .before .before .before .before .before .before .before .before .before .args .words .now) (c .before .before .before .before .before .before .before .before .before .before .before .before .before .before .before .before .before .before .before .args .depth) _
+
+eval-call-returns-4 : (t : ℕ) → eval-call-lts.Need-returns-4 (eval-call-with t) (eval-call-at t) eval-call.Post
+eval-call-returns-4 t c = ((λ i h. c .before .before .eval-node .ensures .0 i (omega arith) ∙ getD-set-other (c .before .before .before .before .before .before .before .before .before .before .before .before .before .before .before .before .before .before .before .args .words .now) (c .before .before .before .before .before .before .before .before .before .before .before .before .before .before .before .before .before .before .before .args .depth) i _ 0 (λ f. absurd (omega arith))), call-answers (omega (arith, ends (c .before .before .before .before .before .before .before .before .before .before .before .before .before .before .before .before .before .before .before .pre .1 .0 .node) .1, ends (found-at (c .before .before .before .before .before .before .before .before .i .given .1) (c .before .before .before .before .before .before .before .before .before .before .called .ensures (c .before .before .before .before .before .before .before .before .before .before .before .before .before .before .before .before .before .before .before .pre .1 .0 .layout .0) (c .before .before .before .before .before .before .before .before .before .before .before .before .before .before .before .before .before .before .before .pre .1 .0 .layout .1) (c .before .before .before .before .before .before .before .before .before .before .before .before .before .before .before .before .before .before .before .pre .1 .0 .node)) .0) .1, c .before .before .before .before .before .before .before .before .before .before .before .before .before .before .before .before .before .before .before .pre .1 .0 .small, c .before .before .before .before .before .before .before .before .before .before .before .before .before .before .before .before .before .before .before .pre .1 .0 .room, c .before .before .before .before .before .before .if1 .left)) (omega (arith, ends (c .before .before .before .before .before .before .before .before .before .before .before .before .before .before .before .before .before .before .before .pre .1 .0 .node) .1, ends (found-at (c .before .before .before .before .before .before .before .before .i .given .1) (c .before .before .before .before .before .before .before .before .before .before .called .ensures (c .before .before .before .before .before .before .before .before .before .before .before .before .before .before .before .before .before .before .before .pre .1 .0 .layout .0) (c .before .before .before .before .before .before .before .before .before .before .before .before .before .before .before .before .before .before .before .pre .1 .0 .layout .1) (c .before .before .before .before .before .before .before .before .before .before .before .before .before .before .before .before .before .before .before .pre .1 .0 .node)) .0) .1, c .before .before .before .before .before .before .before .before .before .before .before .before .before .before .before .before .before .before .before .pre .1 .0 .small, c .before .before .before .before .before .before .before .before .before .before .before .before .before .before .before .before .before .before .before .pre .1 .0 .room, c .before .before .before .before .before .before .if1 .left)) refl (c .before .before .before .before .before .before .before .before .before .before .before .before .before .before .before .before .before .before .before .pre .1 .1) (c .before .before .before .before .before .before .before .before .before .before .before .before .enum-told .given .1) (c .before .before .before .before .before .before .before .before .i .given .1) (c .before .before .before .before .before .before .before .before .before .before .before .before .before .before .collect-arguments .ensures) (c .before .before .before .before .before .before .before .before .before .before .called .ensures) (c .before .before .before .before .before .root .ensures) (c .before .before .before .before .before .before .if1 .left) _ (c .before .before .eval-node .ensures .1))
+
+eval-kind-add-read2 : (t : ℕ) → eval-kind-lts.Need-add-read2 (eval-kind-with t) (eval-kind-at t) eval-kind.Post
+eval-kind-add-read2 t c = omega (arith, kinds (c .before .before .before .pre .1 .node) .2, kinds (c .before .before .before .pre .1 .node) .3)
+
+eval-kind-read2-requires : (t : ℕ) → eval-kind-lts.Need-read2-requires (eval-kind-with t) (eval-kind-at t) eval-kind.Post
+eval-kind-read2-requires t c κs = omega (arith, kinds (c .before .before .before .pre .1 .node) .2, kinds (c .before .before .before .pre .1 .node) .3)
+
+eval-kind-counted-requires : (t : ℕ) → eval-kind-lts.Need-counted-requires (eval-kind-with t) (eval-kind-at t) eval-kind.Post
+eval-kind-counted-requires t c κs = search needs
+
+eval-kind-constant-requires : (t : ℕ) → eval-kind-lts.Need-constant-requires (eval-kind-with t) (eval-kind-at t) eval-kind.Post
+eval-kind-constant-requires t c κs = (c .before .before .before .before .before .before .pre .1 .node, sym (c .before .before .read2 .ensures .0) ∙ c .before .match .keys2)
+
+eval-kind-field-requires : (t : ℕ) → eval-kind-lts.Need-field-requires (eval-kind-with t) (eval-kind-at t) eval-kind.Post
+eval-kind-field-requires t c κs = (c .before .before .before .before .before .before .before .pre .1 .node, sym (c .before .before .before .read2 .ensures .0) ∙ c .before .before .match .keys3, c .before .before .before .before .before .before .before .pre .1 .context)
+
+eval-kind-eval-align-requires : (t : ℕ) → eval-kind-lts.Need-eval-align-requires (eval-kind-with t) (eval-kind-at t) eval-kind.Post
+eval-kind-eval-align-requires t c κs = (omega (arith, c .before .before .before .before .before .before .before .pre .0), (c .before .before .before .before .before .before .before .pre .1, sym (c .before .before .before .read2 .ensures .0) ∙ c .before .before .match .keys4))
+
+eval-kind-eval-switch-requires : (t : ℕ) → eval-kind-lts.Need-eval-switch-requires (eval-kind-with t) (eval-kind-at t) eval-kind.Post
+eval-kind-eval-switch-requires t c κs = (omega (arith, c .before .before .before .before .before .before .before .pre .0), (c .before .before .before .before .before .before .before .pre .1, sym (c .before .before .before .read2 .ensures .0) ∙ c .before .before .match .keys5))
+
+eval-kind-eval-call-requires : (t : ℕ) → eval-kind-lts.Need-eval-call-requires (eval-kind-with t) (eval-kind-at t) eval-kind.Post
+eval-kind-eval-call-requires t c κs = (omega (arith, c .before .before .before .before .before .before .before .pre .0), (c .before .before .before .before .before .before .before .pre .1, sym (c .before .before .before .read2 .ensures .0) ∙ c .before .before .match .keys6))
+
+eval-kind-refused-requires : (t : ℕ) → eval-kind-lts.Need-refused-requires (eval-kind-with t) (eval-kind-at t) eval-kind.Post
+eval-kind-refused-requires t c κs = search needs
+
+eval-kind-eval-binary-requires : (t : ℕ) → eval-kind-lts.Need-eval-binary-requires (eval-kind-with t) (eval-kind-at t) eval-kind.Post
+eval-kind-eval-binary-requires t c κs = (omega (arith, c .before .before .before .before .before .before .before .pre .0), (c .before .before .before .before .before .before .before .pre .1, (omega (arith, kinds (c .before .before .before .before .before .before .before .pre .1 .node) .0, c .before .before .before .read2 .ensures .0, c .before .before .match .rest .0 .0 .0 .0 .0 .0 .1, c .before .before .match .rest .0 .0 .0 .0 .0 .1, c .before .before .match .rest .0 .0 .0 .0 .1, c .before .before .match .rest .0 .0 .0 .1, c .before .before .match .rest .0 .0 .1, c .before .before .match .rest .0 .1), omega (arith, kinds (c .before .before .before .before .before .before .before .pre .1 .node) .1, c .before .before .before .read2 .ensures .0, c .before .before .match .rest .1))))
+
+eval-kind-returns : (t : ℕ) → eval-kind-lts.Need-returns (eval-kind-with t) (eval-kind-at t) eval-kind.Post
+eval-kind-returns t c = ((λ i h. refl), λ γ x t rd a. leaf-answers _ (layoutOf t) _ γ a (λ k. told-as (c .counted .ensures) (zero-is (c .before .before .before .read2 .ensures .0) (c .before .before .match .keys1) k _ γ a)))
+
+eval-kind-returns-2 : (t : ℕ) → eval-kind-lts.Need-returns-2 (eval-kind-with t) (eval-kind-at t) eval-kind.Post
+eval-kind-returns-2 t c = ((λ i h. refl), λ γ x t rd a. leaf-answers _ (layoutOf t) _ γ a (λ k. c .constant .ensures k _ γ a))
+
+eval-kind-same-length : (t : ℕ) → eval-kind-lts.Need-same-length (eval-kind-with t) (eval-kind-at t) eval-kind.Post
+eval-kind-same-length t c = search needs
+
+eval-kind-returns-3 : (t : ℕ) → eval-kind-lts.Need-returns-3 (eval-kind-with t) (eval-kind-at t) eval-kind.Post
+eval-kind-returns-3 t c = ((λ i h. refl), λ γ x t rd a. leaf-answers _ (layoutOf t) _ γ a (λ k. c .field .ensures k γ x a))
+
+eval-kind-same-length-2 : (t : ℕ) → eval-kind-lts.Need-same-length-2 (eval-kind-with t) (eval-kind-at t) eval-kind.Post
+eval-kind-same-length-2 t c = search needs
+
+eval-kind-returns-4 : (t : ℕ) → eval-kind-lts.Need-returns-4 (eval-kind-with t) (eval-kind-at t) eval-kind.Post
+eval-kind-returns-4 t c = (c .before .before .eval-align .ensures .0, c .before .before .eval-align .ensures .1)
+
+eval-kind-same-length-3 : (t : ℕ) → eval-kind-lts.Need-same-length-3 (eval-kind-with t) (eval-kind-at t) eval-kind.Post
+eval-kind-same-length-3 t c = search needs
+
+eval-kind-returns-5 : (t : ℕ) → eval-kind-lts.Need-returns-5 (eval-kind-with t) (eval-kind-at t) eval-kind.Post
+eval-kind-returns-5 t c = (c .before .before .eval-switch .ensures .0, c .before .before .eval-switch .ensures .1)
+
+eval-kind-same-length-4 : (t : ℕ) → eval-kind-lts.Need-same-length-4 (eval-kind-with t) (eval-kind-at t) eval-kind.Post
+eval-kind-same-length-4 t c = search needs
+
+eval-kind-returns-6 : (t : ℕ) → eval-kind-lts.Need-returns-6 (eval-kind-with t) (eval-kind-at t) eval-kind.Post
+eval-kind-returns-6 t c = (c .before .before .eval-call .ensures .0, c .before .before .eval-call .ensures .1)
+
+eval-kind-returns-7 : (t : ℕ) → eval-kind-lts.Need-returns-7 (eval-kind-with t) (eval-kind-at t) eval-kind.Post
+eval-kind-returns-7 t c = ((λ i h. refl), λ γ x t rd a. leaf-answers _ (layoutOf t) _ γ a (λ k. told-as (c .refused .ensures) (sum-is (c .before .before .before .read2 .ensures .0) (c .before .before .match .keys7) k _ γ a)))
+
+eval-kind-same-length-5 : (t : ℕ) → eval-kind-lts.Need-same-length-5 (eval-kind-with t) (eval-kind-at t) eval-kind.Post
+eval-kind-same-length-5 t c = search needs
+
+eval-kind-returns-8 : (t : ℕ) → eval-kind-lts.Need-returns-8 (eval-kind-with t) (eval-kind-at t) eval-kind.Post
+eval-kind-returns-8 t c = (c .before .before .eval-binary .ensures .0, c .before .before .eval-binary .ensures .1)
+
+eval-node-unwrapped-requires : (t : ℕ) → eval-node-lts.Need-unwrapped-requires (eval-node-with t) (eval-node-at t) eval-node.Post
+eval-node-unwrapped-requires t c κs = c .before .before .before .pre .1 .node
+
+eval-node-eval-kind-requires : (t : ℕ) → eval-node-lts.Need-eval-kind-requires (eval-node-with t) (eval-node-at t) eval-node.Post
+eval-node-eval-kind-requires t c κs = let u = c .before .before .unwrapped .ensures (c .before .before .before .before .before .before .pre .1 .node) in (omega (arith, c .before .before .before .before .before .before .pre .0, u .short), child-ready (c .before .before .before .before .before .before .pre .1) (u .node))
+
+eval-node-same-length : (t : ℕ) → eval-node-lts.Need-same-length (eval-node-with t) (eval-node-at t) eval-node.Post
+eval-node-same-length t c = search needs
+
+eval-node-returns : (t : ℕ) → eval-node-lts.Need-returns (eval-node-with t) (eval-node-at t) eval-node.Post
+eval-node-returns t c = (c .before .before .eval-kind .ensures .0, λ γ x t rd a. unwrapped-is (c .before .before .before .before .before .unwrapped .ensures) _ (layoutOf t) _ γ (c .before .before .eval-kind .ensures .1 γ x t rd) a)
+
+eval-operand-unwrapped-requires : (t : ℕ) → eval-operand-lts.Need-unwrapped-requires (eval-operand-with t) (eval-operand-at t) eval-operand.Post
+eval-operand-unwrapped-requires t c κs = c .before .before .before .pre .1 .node
+
+eval-operand-add-read2 : (t : ℕ) → eval-operand-lts.Need-add-read2 (eval-operand-with t) (eval-operand-at t) eval-operand.Post
+eval-operand-add-read2 t c = omega (arith, kinds (c .unwrapped .ensures (c .before .before .before .before .pre .1 .node) .node) .2, kinds (c .unwrapped .ensures (c .before .before .before .before .pre .1 .node) .node) .3)
+
+eval-operand-read2-requires : (t : ℕ) → eval-operand-lts.Need-read2-requires (eval-operand-with t) (eval-operand-at t) eval-operand.Post
+eval-operand-read2-requires t c κs = omega (arith, kinds (c .unwrapped .ensures (c .before .before .before .before .pre .1 .node) .node) .2, kinds (c .unwrapped .ensures (c .before .before .before .before .pre .1 .node) .node) .3)
+
+eval-operand-constant-requires : (t : ℕ) → eval-operand-lts.Need-constant-requires (eval-operand-with t) (eval-operand-at t) eval-operand.Post
+eval-operand-constant-requires t c κs = (c .before .before .before .unwrapped .ensures (c .before .before .before .before .before .before .before .pre .1 .node) .node, sym (c .before .before .read2 .ensures .0) ∙ c .before .if1 .taken)
+
+eval-operand-returns : (t : ℕ) → eval-operand-lts.Need-returns (eval-operand-with t) (eval-operand-at t) eval-operand.Post
+eval-operand-returns t c = ((λ i h. refl), λ γ x t rd a. unwrapped-is (c .before .before .before .before .unwrapped .ensures) _ (layoutOf t) _ γ (λ b. leaf-answers _ (layoutOf t) _ γ b (λ k. c .constant .ensures k _ γ b)) a)
+
+eval-operand-eval-node-requires : (t : ℕ) → eval-operand-lts.Need-eval-node-requires (eval-operand-with t) (eval-operand-at t) eval-operand.Post
+eval-operand-eval-node-requires t c κs = let u = c .before .before .before .before .unwrapped .ensures (c .before .before .before .before .before .before .before .before .pre .1 .node) in (omega (arith, c .before .before .before .before .before .before .before .before .pre .0, u .short), child-ready (c .before .before .before .before .before .before .before .before .pre .1) (u .node))
+
+eval-operand-same-length : (t : ℕ) → eval-operand-lts.Need-same-length (eval-operand-with t) (eval-operand-at t) eval-operand.Post
+eval-operand-same-length t c = search needs
+
+eval-operand-returns-2 : (t : ℕ) → eval-operand-lts.Need-returns-2 (eval-operand-with t) (eval-operand-at t) eval-operand.Post
+eval-operand-returns-2 t c = (c .before .before .eval-node .ensures .0, λ γ x t rd a. unwrapped-is (c .before .before .before .before .before .before .before .unwrapped .ensures) _ (layoutOf t) _ γ (c .before .before .eval-node .ensures .1 γ x t rd) a)
+
+eval-switch-tag-requires : (t : ℕ) → eval-switch-lts.Need-tag-requires (eval-switch-with t) (eval-switch-at t) eval-switch.Post
+eval-switch-tag-requires t c κs = (c .before .before .before .before .pre .1 .0 .node, (c .before .before .before .before .pre .1 .1), c .before .before .before .before .pre .1 .0 .context)
+
+eval-switch-enum-told : (t : ℕ) → eval-switch-lts.Need-enum-told (eval-switch-with t) (eval-switch-at t) eval-switch.Post
+eval-switch-enum-told t c = search needs
+
+eval-switch-refused-requires : (t : ℕ) → eval-switch-lts.Need-refused-requires (eval-switch-with t) (eval-switch-at t) eval-switch.Post
+eval-switch-refused-requires t c κs = search needs
+
+eval-switch-enum-known-v : (t : ℕ) → eval-switch-lts.Need-enum-known-v (eval-switch-with t) (eval-switch-at t) eval-switch.Post
+eval-switch-enum-known-v t c = search needs
+
+eval-switch-selected-requires : (t : ℕ) → eval-switch-lts.Need-selected-requires (eval-switch-with t) (eval-switch-at t) eval-switch.Post
+eval-switch-selected-requires t c κs = (c .before .before .before .before .before .before .before .before .pre .1 .0 .node, (c .before .before .before .before .before .before .before .before .pre .1 .1))
+
+eval-switch-enum-known-q : (t : ℕ) → eval-switch-lts.Need-enum-known-q (eval-switch-with t) (eval-switch-at t) eval-switch.Post
+eval-switch-enum-known-q t c = search needs
+
+eval-switch-eval-node-requires : (t : ℕ) → eval-switch-lts.Need-eval-node-requires (eval-switch-with t) (eval-switch-at t) eval-switch.Post
+eval-switch-eval-node-requires t c κs = (omega (arith, c .before .before .before .before .before .before .before .before .before .before .before .before .before .before .pre .0, picked-node (c .before .before .before .q .given .1) (c .before .before .before .before .before .selected .ensures (c .before .before .before .before .before .before .before .before .before .before .before .before .before .before .pre .1 .0 .node)) .1), child-ready (c .before .before .before .before .before .before .before .before .before .before .before .before .before .before .pre .1 .0) (picked-node (c .before .before .before .q .given .1) (c .before .before .before .before .before .selected .ensures (c .before .before .before .before .before .before .before .before .before .before .before .before .before .before .pre .1 .0 .node)) .0))
+
+eval-switch-enum-told-2 : (t : ℕ) → eval-switch-lts.Need-enum-told-2 (eval-switch-with t) (eval-switch-at t) eval-switch.Post
+eval-switch-enum-told-2 t c = search needs
+
+eval-switch-refused-requires-2 : (t : ℕ) → eval-switch-lts.Need-refused-requires-2 (eval-switch-with t) (eval-switch-at t) eval-switch.Post
+eval-switch-refused-requires-2 t c κs = search needs
+
+eval-switch-same-length : (t : ℕ) → eval-switch-lts.Need-same-length (eval-switch-with t) (eval-switch-at t) eval-switch.Post
+eval-switch-same-length t c = search needs
+
+eval-switch-returns : (t : ℕ) → eval-switch-lts.Need-returns (eval-switch-with t) (eval-switch-at t) eval-switch.Post
+eval-switch-returns t c = ((λ i h. refl), λ γ x t rd a. told-as (c .refused .ensures) (switch-misses (c .before .before .before .before .before .before .before .before .before .pre .1 .1) _ (layoutOf t) _ γ a (c .before .before .before .before .tag .ensures γ x a) (c .before .before .enum-told .given .1)))
+
+eval-switch-same-length-2 : (t : ℕ) → eval-switch-lts.Need-same-length-2 (eval-switch-with t) (eval-switch-at t) eval-switch.Post
+eval-switch-same-length-2 t c = search needs
+
+eval-switch-returns-2 : (t : ℕ) → eval-switch-lts.Need-returns-2 (eval-switch-with t) (eval-switch-at t) eval-switch.Post
+eval-switch-returns-2 t c = (c .before .before .eval-node .ensures .0, λ γ x t rd a. switch-goes (c .before .before .before .before .before .before .before .before .before .before .before .before .before .before .before .before .before .pre .1 .1) _ (layoutOf t) _ γ a (c .before .before .before .before .before .before .before .before .before .before .before .before .tag .ensures γ x a) (c .before .before .before .before .before .before .before .before .before .before .v .given .1) (c .before .before .before .before .before .before .q .given .1) (c .before .before .before .before .before .before .before .before .selected .ensures a) (c .before .before .eval-node .ensures .1 γ x t rd))
+
+eval-switch-same-length-3 : (t : ℕ) → eval-switch-lts.Need-same-length-3 (eval-switch-with t) (eval-switch-at t) eval-switch.Post
+eval-switch-same-length-3 t c = search needs
+
+eval-switch-returns-3 : (t : ℕ) → eval-switch-lts.Need-returns-3 (eval-switch-with t) (eval-switch-at t) eval-switch.Post
+eval-switch-returns-3 t c = ((λ i h. refl), λ γ x t rd a. told-as (c .refused2 .ensures) (switch-ends (c .before .before .before .before .before .before .before .before .before .before .before .before .before .pre .1 .1) _ (layoutOf t) _ γ a (c .before .before .before .before .before .before .before .before .tag .ensures γ x a) (c .before .before .before .before .before .before .v .given .1) (c .before .before .enum-told2 .given .1) (c .before .before .before .before .selected .ensures a)))
+
+pub +eval-align+eval-binary+eval-call+eval-kind+eval-node+eval-operand+eval-switch-spec : {M : Type 1} → statement M
++eval-align+eval-binary+eval-call+eval-kind+eval-node+eval-operand+eval-switch-spec =
+    close μ-eval-align μ-eval-binary μ-eval-call μ-eval-kind μ-eval-node μ-eval-operand μ-eval-switch
+    (λ t. eval-align-lts.spec (eval-align-with t) (eval-align-at t) eval-align.Post (eval-align-first-part-requires t) (eval-align-second-part-requires t) (eval-align-eval-node-requires t) (eval-align-same-length t) (eval-align-returns t) (eval-align-element-copy-out-x t) (eval-align-read8-requires t) (eval-align-align-up-requires t) (eval-align-lifted-requires t) (eval-align-same-length-2 t) (eval-align-returns-2 t))
+    (λ t. eval-binary-lts.spec (eval-binary-with t) (eval-binary-at t) eval-binary.Post (eval-binary-add-read2 t) (eval-binary-read2-requires t) (eval-binary-first-part-requires t) (eval-binary-second-part-requires t) (eval-binary-eval-operand-requires t) (eval-binary-same-length t) (eval-binary-returns t) (eval-binary-element-copy-out-x t) (eval-binary-eval-node-requires t) (eval-binary-same-length-2 t) (eval-binary-returns-2 t) (eval-binary-element-copy-out-y t) (eval-binary-operate-requires t) (eval-binary-lifted-requires t) (eval-binary-same-length-3 t) (eval-binary-returns-3 t))
+    (λ t. eval-call-lts.spec (eval-call-with t) (eval-call-at t) eval-call.Post (eval-call-collect-arguments-requires t) (eval-call-enum-known-q t) (eval-call-refused-requires t) (eval-call-enum-told t) (eval-call-called-requires t) (eval-call-enum-told-2 t) (eval-call-refused-requires-2 t) (eval-call-enum-known-i t) (eval-call-refused-requires-3 t) (eval-call-same-length t) (eval-call-returns t) (eval-call-root-requires t) (eval-call-mul-words t) (eval-call-add-words t) (eval-call-mul-words-2 t) (eval-call-slice-write-words t) (eval-call-sub-eval-node t) (eval-call-add-eval-node t) (eval-call-eval-node-requires t) (eval-call-same-length-2 t) (eval-call-returns-2 t) (eval-call-same-length-3 t) (eval-call-returns-3 t) (eval-call-same-length-4 t) (eval-call-returns-4 t))
+    (λ t. eval-kind-lts.spec (eval-kind-with t) (eval-kind-at t) eval-kind.Post (eval-kind-add-read2 t) (eval-kind-read2-requires t) (eval-kind-counted-requires t) (eval-kind-constant-requires t) (eval-kind-field-requires t) (eval-kind-eval-align-requires t) (eval-kind-eval-switch-requires t) (eval-kind-eval-call-requires t) (eval-kind-refused-requires t) (eval-kind-eval-binary-requires t) (eval-kind-returns t) (eval-kind-returns-2 t) (eval-kind-same-length t) (eval-kind-returns-3 t) (eval-kind-same-length-2 t) (eval-kind-returns-4 t) (eval-kind-same-length-3 t) (eval-kind-returns-5 t) (eval-kind-same-length-4 t) (eval-kind-returns-6 t) (eval-kind-returns-7 t) (eval-kind-same-length-5 t) (eval-kind-returns-8 t))
+    (λ t. eval-node-lts.spec (eval-node-with t) (eval-node-at t) eval-node.Post (eval-node-unwrapped-requires t) (eval-node-eval-kind-requires t) (eval-node-same-length t) (eval-node-returns t))
+    (λ t. eval-operand-lts.spec (eval-operand-with t) (eval-operand-at t) eval-operand.Post (eval-operand-unwrapped-requires t) (eval-operand-add-read2 t) (eval-operand-read2-requires t) (eval-operand-constant-requires t) (eval-operand-returns t) (eval-operand-eval-node-requires t) (eval-operand-same-length t) (eval-operand-returns-2 t))
+    (λ t. eval-switch-lts.spec (eval-switch-with t) (eval-switch-at t) eval-switch.Post (eval-switch-tag-requires t) (eval-switch-enum-told t) (eval-switch-refused-requires t) (eval-switch-enum-known-v t) (eval-switch-selected-requires t) (eval-switch-enum-known-q t) (eval-switch-eval-node-requires t) (eval-switch-enum-told-2 t) (eval-switch-refused-requires-2 t) (eval-switch-same-length t) (eval-switch-returns t) (eval-switch-same-length-2 t) (eval-switch-returns-2 t) (eval-switch-same-length-3 t) (eval-switch-returns-3 t))

@@ -1,0 +1,341 @@
+-- What the code returns for each kind of node is what the node evaluates to; premises as the code's places have them.
+use mathlib.Core.Path.{_≡_, refl, sym, _∙_, ap, subst, fun-ext}
+use mathlib.Core.Bool.{Bool, true, false, not, cond}
+use mathlib.Core.List.{List, [], _∷_, _++_}
+use mathlib.Core.Option.{Option, some, none}
+use Prim.Native.Nat.{ℕ, zero, suc, _+_, _-_, _*_, _≤_, _<_}
+use native.Mathlib.Numerals.{add-one, sub-one}
+use native.Mathlib.Omega.{arith}
+use lib.Dec.{eqb}
+use lib.ListN.{length, getD, set, drop, length-set}
+use lib.Seq.{getD-set-same, getD-set-other}
+use borrow.Author.Tests.{ne-eqb, le-leb}
+use Rattle.errors.specs.Refusal.{Outcome, done, refused, _>>=_, Refusal, plain, UnknownType, MissingIrParameter, InvalidTagValue}
+use Rattle.blocks.specs.Bytes.{le2, le4, le8}
+use Rattle.blocks.specs.Name.{Name}
+use Rattle.blocks.specs.Grammar.{partsOf, nodeTable}
+use Rattle.blocks.specs.Tree.{Tree, text, body, part, view, partView}
+use Rattle.blocks.specs.Read.{readLayout}
+use Rattle.blocks.specs.declared.Part.{Part}
+use Rattle.blocks.specs.declared.Part.the-variants.{Block}
+use Rattle.ir.specs.Ir.{BinaryOp, IrNode, IrArgument, SwitchCases, DefaultNode, TypeIr}
+use Rattle.ir.specs.Layout.{Form, formOf, makeThing, thingOf, nodeIn, defaultIn, nodeOf, layoutOf, typeIrOf, operations}
+use Rattle.accepted.specs.Accepted.{Accepted, tree}
+use Rattle.accepted.proofs.Laws.{each}
+use Rattle.interpreter.specs.Arithmetic.{Result, operate, align-up}
+use Rattle.interpreter.specs.Eval.{Calls, ParamMap, find, at as refusal, valueOr, lift, eval-node, eval-cases, eval-default, collect-arguments, inherited, lookup-type, eval-call, eval-within}
+use Rattle.interpreter_context.proofs.Laws.{Standing}
+use Rattle.interpreter_context.proofs.Shape.{bodyOf, child-at, node-is, node-in, cases-in, default-in, located}
+use Rattle.interpreter_arithmetic.specs.declared.Num.{Num}
+use Rattle.interpreter_arithmetic.specs.Num.{numOf}
+use Rattle.lookup.specs.declared.Place.{Place}
+use Rattle.lookup.specs.declared.Place.the-variants.{At as PlaceAt, Missing as PlaceNone}
+use Rattle.lookup.specs.Named.{Placed}
+use Rattle.lookup.specs.Found.{TreeFound}
+use Rattle.interpreter_context.specs.declared.Held.{Held}
+use Rattle.interpreter_context.specs.declared.Held.the-variants.{Value, Absent}
+use Rattle.interpreter_context.specs.Names.{heldOf}
+use Rattle.interpreter_context.specs.Context.{Context, Pair, Open, callAt, treeAt, argumentsOf, parametersOf, Same}
+use Rattle.interpreter_context.proofs.Calls.{context-same}
+use Rattle.interpreter_leaves.specs.declared.Choice.{Choice}
+use Rattle.interpreter_leaves.specs.declared.Choice.the-variants.{Node, Nothing}
+use Rattle.interpreter_leaves.specs.declared.Arguments.{Arguments}
+use Rattle.interpreter_leaves.specs.declared.Arguments.the-variants.{All, Lacking}
+use Rattle.interpreter_leaves.specs.Outcome.{Tells}
+use Rattle.interpreter_leaves.specs.Steps.{Rooted, pick, casesOf, defaultOf, Picked, Bound, Unwrapped}
+use Rattle.interpreter_leaves.proofs.Align.{align-child, align-node}
+use Rattle.interpreter_leaves.proofs.Told.{told-as, then-stops, then-goes}
+use Rattle.interpreter_leaves.proofs.Nodes.{held-is, absent-is}
+use Rattle.interpreter_eval.specs.Evaluates.{Ready, Evaluates}
+
+-- ---- the allowance of open calls
+
+abbrev entering : ℕ → List TypeIr → ℕ → ParamMap → ℕ → ℕ → ParamMap → IrNode → Outcome ℕ
+entering zero types p γ a i δ root = refused (refusal p a 27 0)
+entering (suc left) types p γ a i δ root = eval-within left types i δ root
+
+-- what a call does with so many calls left
+abbrev pub callsAt : ℕ → List TypeIr → Calls
+callsAt left types = eval-call (entering left types) types
+
+pub within-is : (left : ℕ) (types : List TypeIr) (p : ℕ) (γ : ParamMap) (n : IrNode) → eval-within left types p γ n ≡ eval-node (callsAt left types) p γ n
+unfolding eval-within
+within-is zero types p γ n = refl
+within-is (suc left) types p γ n = refl
+
+opens : (left : ℕ) → (left ≡ 0 → ⊥) → (types : List TypeIr) (p : ℕ) (γ : ParamMap) (a i : ℕ) (δ : ParamMap) (n : IrNode) → entering left types p γ a i δ n ≡ eval-within (left - 1) types i δ n
+opens zero h types p γ a i δ n = absurd (h refl)
+opens (suc left) h types p γ a i δ n = ap (λ (l : ℕ). eval-within l types i δ n) (sym (sub-one (suc left)))
+
+-- ---- AlignUp
+
+-- without those that change nothing
+pub unwrapped-is : {s : List ℕ} {at q : ℕ} → ((a : Accepted s 128 144 at) → Unwrapped a q) → (left : ℕ) (types : List TypeIr) (pl : ℕ) (γ : ParamMap) {r : Bool} {ws us : List ℕ} → ((c : Accepted s 128 144 q) → Tells r ws us (eval-within left types pl γ (nodeOf (tree c))))
+    → (a : Accepted s 128 144 at) → Tells r ws us (eval-within left types pl γ (nodeOf (tree a)))
+unwrapped-is f left types pl γ e a =
+    let u = f a in
+    told-as (e (u .node)) (within-is left types pl γ (nodeOf (tree (u .node))) ∙ sym (u .same (callsAt left types) pl γ) ∙ sym (within-is left types pl γ (nodeOf (tree a))))
+
+module _ {s : List ℕ} {at p q : ℕ} (st : Standing s at 2 p) (su : Standing s at 3 q) (k : le2 s (at + 4) ≡ 131) (left : ℕ) (types : List TypeIr) (pl : ℕ) (γ : ParamMap) (a : Accepted s 128 144 at) where
+  align-is : eval-within left types pl γ (nodeOf (tree a)) ≡ (eval-within left types pl γ (nodeOf (tree (align-child su a k .0))) >>= (λ v. lift pl at (align-up v (le8 s p))))
+  align-is =
+      within-is left types pl γ (nodeOf (tree a)) ∙ align-node st su k (callsAt left types) pl γ a
+      ∙ ap (λ (o : Outcome ℕ). o >>= (λ v. lift pl at (align-up v (le8 s p)))) (sym (within-is left types pl γ (nodeOf (tree (align-child su a k .0)))))
+
+  module _ {r : Bool} {ws us : List ℕ} (e : (c : Accepted s 128 144 q) → Tells r ws us (eval-within left types pl γ (nodeOf (tree c)))) where
+    pub align-stops : not r ≡ true → Tells false ws us (eval-within left types pl γ (nodeOf (tree a)))
+    align-stops f = told-as (then-stops _ _ (e (align-child su a k .0)) f) (sym align-is)
+
+    pub align-goes : {m : ℕ} {z : Num} {b : Bool} {vs : List ℕ} → not r ≡ false → m ≡ le8 s p → z ≡ numOf (align-up (getD us 0 0) m) → ((x : Result) → z ≡ numOf x → Tells b us vs (lift pl at x)) → Tells b ws vs (eval-within left types pl γ (nodeOf (tree a)))
+    align-goes f em ez eo = told-as (then-goes _ _ (e (align-child su a k .0)) f (eo (align-up (getD us 0 0) (le8 s p)) (ez ∙ ap (λ (m : ℕ). numOf (align-up (getD us 0 0) m)) em))) (sym align-is)
+
+-- ---- two operands
+
+abbrev opOf : ℕ → BinaryOp
+opOf k = getD operations (k - 134) BinaryOp.AddChecked
+
+binary-form : (k : ℕ) → 134 ≤ k → k ≤ 143 → formOf k ≡ Form.binary (opOf k)
+unfolding formOf
+binary-form k lo hi =
+    rw (ne-eqb k 128 (λ e. absurd (omega arith)), ne-eqb k 129 (λ e. absurd (omega arith)), ne-eqb k 130 (λ e. absurd (omega arith)), ne-eqb k 131 (λ e. absurd (omega arith)), ne-eqb k 132 (λ e. absurd (omega arith)), ne-eqb k 133 (λ e. absurd (omega arith)), le-leb 134 k lo, le-leb k 143 hi)
+
+two-nodes : ℕ → Type 0
+two-nodes k = (drop 2 (partsOf k) ≡ Block 128 144 ∷ Block 128 144 ∷ []) × (drop 3 (partsOf k) ≡ Block 128 144 ∷ [])
+
+binary-parts : (k : ℕ) → 134 ≤ k → k ≤ 143 → two-nodes k
+unfolding partsOf nodeTable two-nodes
+binary-parts k lo hi =
+    each two-nodes 10 134 ((refl, refl), ((refl, refl), ((refl, refl), ((refl, refl), ((refl, refl), ((refl, refl), ((refl, refl), ((refl, refl), ((refl, refl), ((refl, refl), tt)))))))))) k lo (omega arith)
+
+abbrev pub Child : {s : List ℕ} {at : ℕ} → Accepted s 128 144 at → ℕ → ℕ → Type 0
+Child {s} {at} a i q = (c : Accepted s 128 144 q) × (nodeOf (part i (bodyOf a)) ≡ nodeOf (tree c)) × (le4 s q < le4 s at) × (q + 4 + le4 s q ≤ length s)
+
+module _ {s : List ℕ} {at : ℕ} (a : Accepted s 128 144 at) (lo : 134 ≤ le2 s (at + 4)) (hi : le2 s (at + 4) ≤ 143) where
+  pub left-child : {q : ℕ} → Standing s at 2 q → Child a 2 q
+  unfolding two-nodes
+  left-child st = child-at (located 2 st a refl (binary-parts (le2 s (at + 4)) lo hi .0))
+
+  pub right-child : {q : ℕ} → Standing s at 3 q → Child a 3 q
+  unfolding two-nodes
+  right-child st = child-at (located 3 st a refl (binary-parts (le2 s (at + 4)) lo hi .1))
+
+  module _ {p q : ℕ} (st : Standing s at 2 p) (su : Standing s at 3 q) (left : ℕ) (types : List TypeIr) (pl : ℕ) (γ : ParamMap) where
+    abbrev run : {q : ℕ} → Accepted s 128 144 q → Outcome ℕ
+    run c = eval-within left types pl γ (nodeOf (tree c))
+
+    binary-is : run a ≡ (run (left-child st .0) >>= (λ x. run (right-child su .0) >>= (λ y. lift pl at (operate (opOf (le2 s (at + 4))) x y))))
+    unfolding makeThing eval-node
+    binary-is =
+        let call = callsAt left types in
+        let op = opOf (le2 s (at + 4)) in
+        within-is left types pl γ (nodeOf (tree a)) ∙ ap (eval-node call pl γ) (node-is a refl (binary-form (le2 s (at + 4)) lo hi))
+        ∙ ap (λ (n : IrNode). eval-node call pl γ n >>= (λ x. eval-node call pl γ (nodeIn 3 (view thingOf (bodyOf a))) >>= (λ y. lift pl at (operate op x y)))) (node-in 2 (bodyOf a) ∙ left-child st .1)
+        ∙ ap (λ (n : IrNode). eval-node call pl γ (nodeOf (tree (left-child st .0))) >>= (λ x. eval-node call pl γ n >>= (λ y. lift pl at (operate op x y)))) (node-in 3 (bodyOf a) ∙ right-child su .1)
+        ∙ ap (λ (o : Outcome ℕ). o >>= (λ x. eval-node call pl γ (nodeOf (tree (right-child su .0))) >>= (λ y. lift pl at (operate op x y)))) (sym (within-is left types pl γ (nodeOf (tree (left-child st .0)))))
+        ∙ ap (λ (o : Outcome ℕ). run (left-child st .0) >>= (λ x. o >>= (λ y. lift pl at (operate op x y)))) (sym (within-is left types pl γ (nodeOf (tree (right-child su .0)))))
+
+    module _ {r : Bool} {ws us : List ℕ} (e : (c : Accepted s 128 144 p) → Tells r ws us (run c)) where
+      pub left-stops : not r ≡ true → Tells false ws us (run a)
+      left-stops f = told-as (then-stops _ _ (e (left-child st .0)) f) (sym binary-is)
+
+      module _ {b : Bool} {vs : List ℕ} (g : (c : Accepted s 128 144 q) → Tells b us vs (run c)) (f : not r ≡ false) where
+        pub right-stops : not b ≡ true → Tells false ws vs (run a)
+        right-stops h = told-as (then-goes _ _ (e (left-child st .0)) f (then-stops _ _ (g (right-child su .0)) h)) (sym binary-is)
+
+        pub both-go : {k : ℕ} {z : Num} {d : Bool} {xs : List ℕ} → not b ≡ false → k ≡ le2 s (at + 4) → z ≡ numOf (operate (opOf k) (getD us 0 0) (getD vs 0 0)) → ((x : Result) → z ≡ numOf x → Tells d vs xs (lift pl at x)) → Tells d ws xs (run a)
+        both-go h ek ez eo =
+            let x = eo (operate (opOf (le2 s (at + 4))) (getD us 0 0) (getD vs 0 0)) (ez ∙ ap (λ (k : ℕ). numOf (operate (opOf k) (getD us 0 0) (getD vs 0 0))) ek) in
+            told-as (then-goes _ _ (e (left-child st .0)) f (then-goes _ _ (g (right-child su .0)) h x)) (sym binary-is)
+
+-- ---- Switch
+
+picking : Calls → ℕ → ParamMap → ℕ → ℕ → Option IrNode → Outcome ℕ
+picking call p γ a v none = refused (refusal p a InvalidTagValue v)
+picking call p γ a v (some n) = eval-node call p γ n
+
+pick-is : (call : Calls) (p : ℕ) (γ : ParamMap) (a v : ℕ) (cs : SwitchCases) (d : DefaultNode) → eval-cases call p γ v cs (eval-default call p γ a v d) ≡ picking call p γ a v (pick v cs d)
+unfolding eval-node eval-cases eval-default pick picking
+pick-is call p γ a v SwitchCases.noCase DefaultNode.noDefault = refl
+pick-is call p γ a v SwitchCases.noCase (DefaultNode.orElse n) = refl
+pick-is call p γ a v (SwitchCases.case t n ps cs) d = go (eqb t v) (pick-is call p γ a v cs d)
+  where
+    go : (b : Bool) → eval-cases call p γ v cs (eval-default call p γ a v d) ≡ picking call p γ a v (pick v cs d) → elim b [ true ↦ eval-node call p γ n | false ↦ eval-cases call p γ v cs (eval-default call p γ a v d) ] ≡ picking call p γ a v (cond b (some n) (pick v cs d))
+    go true h = refl
+    go false h = h
+
+pub picked-node : {s : List ℕ} {at v q : ℕ} {a : Accepted s 128 144 at} {c : Choice} → c ≡ Node q → Picked a v c → (x : Accepted s 128 144 q) × (le4 s q < le4 s at) × (pick v (casesOf (bodyOf a)) (defaultOf (bodyOf a)) ≡ some (nodeOf (tree x)))
+picked-node {s} {at} {v} {q} {a} e (Picked.node {q = r} x h g) = let f : r ≡ q = cc in subst (λ (q : ℕ). (x : Accepted s 128 144 q) × (le4 s q < le4 s at) × (pick v (casesOf (bodyOf a)) (defaultOf (bodyOf a)) ≡ some (nodeOf (tree x)))) f (x, h, g)
+picked-node e (Picked.nothing g) = let z : _≡_ {A = ℕ} 0 1 = cc in absurd (omega arith)
+
+picked-none : {s : List ℕ} {at v : ℕ} {a : Accepted s 128 144 at} {c : Choice} → c ≡ Nothing → Picked a v c → pick v (casesOf (bodyOf a)) (defaultOf (bodyOf a)) ≡ none
+picked-none e (Picked.node x h g) = let z : _≡_ {A = ℕ} 0 1 = cc in absurd (omega arith)
+picked-none e (Picked.nothing g) = g
+
+module _ {s : List ℕ} {at : ℕ} (k : le2 s (at + 4) ≡ 132) (left : ℕ) (types : List TypeIr) (pl : ℕ) (γ : ParamMap) (a : Accepted s 128 144 at) where
+  missed : Refusal
+  missed = refusal pl at MissingIrParameter 0
+
+  switch-is : eval-within left types pl γ (nodeOf (tree a)) ≡ (valueOr missed (find (text (part 2 (bodyOf a))) γ) >>= (λ v. picking (callsAt left types) pl γ at v (pick v (casesOf (bodyOf a)) (defaultOf (bodyOf a)))))
+  unfolding formOf makeThing eval-node missed
+  switch-is =
+      let call = callsAt left types in
+      let o = valueOr missed (find (text (part 2 (bodyOf a))) γ) in
+      within-is left types pl γ (nodeOf (tree a)) ∙ ap (eval-node call pl γ) (node-is a k refl)
+      ∙ ap (λ (cs : SwitchCases). o >>= (λ v. eval-cases call pl γ v cs (eval-default call pl γ at v (defaultIn (part 4 (bodyOf a)) (partView 4 (view thingOf (bodyOf a))))))) (cases-in 3 (bodyOf a))
+      ∙ ap (λ (d : DefaultNode). o >>= (λ v. eval-cases call pl γ v (casesOf (bodyOf a)) (eval-default call pl γ at v d))) (default-in 4 (bodyOf a))
+      ∙ ap (λ (f : ℕ → Outcome ℕ). o >>= f) (fun-ext (λ v. pick-is call pl γ at v (casesOf (bodyOf a)) (defaultOf (bodyOf a))))
+
+  module _ {r : Held} (er : r ≡ heldOf (find (text (part 2 (bodyOf a))) γ)) where
+    pub switch-misses : r ≡ Absent → refused (refusal pl at 21 0) ≡ eval-within left types pl γ (nodeOf (tree a))
+    unfolding valueOr _>>=_ missed
+    switch-misses f = sym (switch-is ∙ ap (λ (o : Option ℕ). valueOr missed o >>= (λ v. picking (callsAt left types) pl γ at v (pick v (casesOf (bodyOf a)) (defaultOf (bodyOf a))))) (absent-is {o = find (text (part 2 (bodyOf a))) γ} er f))
+
+    module _ {v : ℕ} (f : r ≡ Value v) where
+      switch-picks : eval-within left types pl γ (nodeOf (tree a)) ≡ picking (callsAt left types) pl γ at v (pick v (casesOf (bodyOf a)) (defaultOf (bodyOf a)))
+      unfolding valueOr _>>=_
+      switch-picks = switch-is ∙ ap (λ (o : Option ℕ). valueOr missed o >>= (λ v. picking (callsAt left types) pl γ at v (pick v (casesOf (bodyOf a)) (defaultOf (bodyOf a))))) (held-is {o = find (text (part 2 (bodyOf a))) γ} er f)
+
+      pub switch-ends : {c : Choice} → c ≡ Nothing → Picked a v c → refused (refusal pl at 22 v) ≡ eval-within left types pl γ (nodeOf (tree a))
+      unfolding picking
+      switch-ends g p = sym (switch-picks ∙ ap (picking (callsAt left types) pl γ at v) (picked-none g p))
+
+      pub switch-goes : {c : Choice} {q : ℕ} {b : Bool} {ws us : List ℕ} → c ≡ Node q → Picked a v c → ((x : Accepted s 128 144 q) → Tells b ws us (eval-within left types pl γ (nodeOf (tree x)))) → Tells b ws us (eval-within left types pl γ (nodeOf (tree a)))
+      unfolding picking
+      switch-goes g p e = let x = picked-node g p in told-as (e (x .0)) (within-is left types pl γ (nodeOf (tree (x .0))) ∙ sym (switch-picks ∙ ap (picking (callsAt left types) pl γ at v) (x .2)))
+
+-- ---- CallNested
+
+-- a type that was found, or not
+pub found-at : {s : List ℕ} {n : Name} {ts : List TypeIr} {r : Place} {i o : ℕ} → r ≡ PlaceAt i o → TreeFound s n ts r → (c : Accepted s 161 161 o) × (lookup-type 0 n ts ≡ done (i, typeIrOf (tree c))) × Placed s i o
+found-at {s} {n} {ts} {i} {o} e (TreeFound.at {i = j} {o = q} a l h) =
+    let ej : j ≡ i = cc in
+    let eq : q ≡ o = cc in
+    move eq (a, h ∙ ap (λ (j : ℕ). done (j, typeIrOf (tree a))) ej, subst (λ (j : ℕ). Placed s j q) ej l)
+  where
+    move : {q : ℕ} → q ≡ o → ((c : Accepted s 161 161 q) × (lookup-type 0 n ts ≡ done (i, typeIrOf (tree c))) × Placed s i q) → (c : Accepted s 161 161 o) × (lookup-type 0 n ts ≡ done (i, typeIrOf (tree c))) × Placed s i o
+    move e x = subst (λ (q : ℕ). (c : Accepted s 161 161 q) × (lookup-type 0 n ts ≡ done (i, typeIrOf (tree c))) × Placed s i q) e x
+found-at e (TreeFound.missing h) = let z : _≡_ {A = ℕ} 0 1 = cc in absurd (omega arith)
+
+pub found-none : {s : List ℕ} {n : Name} {ts : List TypeIr} {r : Place} → r ≡ PlaceNone → TreeFound s n ts r → lookup-type 0 n ts ≡ refused (plain UnknownType)
+found-none e (TreeFound.at a l h) = let z : _≡_ {A = ℕ} 0 1 = cc in absurd (omega arith)
+found-none e (TreeFound.missing h) = h
+
+bound-lacks : {p : ℕ} {γ : ParamMap} {xs : List IrArgument} {r : Arguments} {q : ℕ} → r ≡ Lacking q → Bound p γ xs r → collect-arguments p γ xs [] ≡ refused (refusal p q MissingIrParameter 0)
+bound-lacks e (Bound.all δ h) = let z : _≡_ {A = ℕ} 0 1 = cc in absurd (omega arith)
+bound-lacks {p} {q} e (Bound.lacking {q = r} h) = let f : r ≡ q = cc in h ∙ ap (λ (q : ℕ). refused (refusal p q MissingIrParameter 0)) f
+
+pub bound-all : {p : ℕ} {γ : ParamMap} {xs : List IrArgument} {r : Arguments} → r ≡ All → Bound p γ xs r → (δ : ParamMap) × (collect-arguments p γ xs [] ≡ done δ)
+bound-all e (Bound.all δ h) = (δ, h)
+bound-all e (Bound.lacking h) = let z : _≡_ {A = ℕ} 0 1 = cc in absurd (omega arith)
+
+module _ {s : List ℕ} {at : ℕ} (k : le2 s (at + 4) ≡ 133) (left : ℕ) (types : List TypeIr) (pl : ℕ) (γ : ParamMap) (a : Accepted s 128 144 at) where
+  call-is : eval-within left types pl γ (nodeOf (tree a)) ≡ eval-call (entering left types) types pl γ at (text (part 2 (bodyOf a))) (argumentsOf (tree a))
+  unfolding formOf makeThing eval-node
+  call-is = within-is left types pl γ (nodeOf (tree a)) ∙ ap (eval-node (callsAt left types) pl γ) (node-is a k refl)
+
+  pub call-lacks : {r : Arguments} {q : ℕ} → r ≡ Lacking q → Bound pl γ (argumentsOf (tree a)) r → refused (refusal pl q 21 0) ≡ eval-within left types pl γ (nodeOf (tree a))
+  unfolding eval-call _>>=_
+  call-lacks e b = sym (call-is ∙ ap (λ (o : Outcome ParamMap). o >>= (λ δ. lookup-type 0 (text (part 2 (bodyOf a))) types >>= (λ t. entering left types pl γ at (t .0) (δ ++ inherited γ (t .1 .parameters)) (t .1 .root)))) (bound-lacks e b))
+
+  module _ {δ : ParamMap} (b : collect-arguments pl γ (argumentsOf (tree a)) [] ≡ done δ) where
+    looked-up : eval-within left types pl γ (nodeOf (tree a)) ≡ (lookup-type 0 (text (part 2 (bodyOf a))) types >>= (λ t. entering left types pl γ at (t .0) (δ ++ inherited γ (t .1 .parameters)) (t .1 .root)))
+    unfolding eval-call _>>=_
+    looked-up = call-is ∙ ap (λ (o : Outcome ParamMap). o >>= (λ δ. lookup-type 0 (text (part 2 (bodyOf a))) types >>= (λ t. entering left types pl γ at (t .0) (δ ++ inherited γ (t .1 .parameters)) (t .1 .root)))) b
+
+    pub call-unknown : {r : Place} → r ≡ PlaceNone → TreeFound s (text (part 2 (bodyOf a))) types r → refused (refusal 65535 0 20 0) ≡ eval-within left types pl γ (nodeOf (tree a))
+    unfolding _>>=_
+    call-unknown e f = sym (looked-up ∙ ap (λ (o : Outcome (ℕ × TypeIr)). o >>= (λ t. entering left types pl γ at (t .0) (δ ++ inherited γ (t .1 .parameters)) (t .1 .root))) (found-none e f))
+
+    module _ {i : ℕ} {t : TypeIr} (f : lookup-type 0 (text (part 2 (bodyOf a))) types ≡ done (i, t)) where
+      call-enters : eval-within left types pl γ (nodeOf (tree a)) ≡ entering left types pl γ at i (δ ++ inherited γ (t .parameters)) (t .root)
+      unfolding _>>=_
+      call-enters = looked-up ∙ ap (λ (o : Outcome (ℕ × TypeIr)). o >>= (λ t. entering left types pl γ at (t .0) (δ ++ inherited γ (t .1 .parameters)) (t .1 .root))) f
+
+      pub call-stops : left ≡ 0 → refused (refusal pl at 27 0) ≡ eval-within left types pl γ (nodeOf (tree a))
+      call-stops z = sym (call-enters ∙ ap (λ (l : ℕ). entering l types pl γ at i (δ ++ inherited γ (t .parameters)) (t .root)) z)
+
+      call-goes : (left ≡ 0 → ⊥) → eval-within (left - 1) types i (δ ++ inherited γ (t .parameters)) (t .root) ≡ eval-within left types pl γ (nodeOf (tree a))
+      call-goes n = sym (call-enters ∙ opens left n types pl γ at i (δ ++ inherited γ (t .parameters)) (t .root))
+
+-- ---- words
+
+-- what is ready stays ready where the words of the open calls are kept
+pub still-ready : {s values : List ℕ} {block len : ℕ} {ws us : List ℕ} {left depth place at q : ℕ} → Ready s values block len ws left depth place at → Accepted s 128 144 q → length us ≡ length ws → Same depth ws us → Ready s values block len us left depth place q
+still-ready {s} {us = us} {depth = depth} {place = place} r c l e = record {
+  node = c;
+  layout = r .layout;
+  context = (r .context .0, context-same depth (omega arith) l e (r .context .1));
+  here = λ d f. let w = r .here d f in (omega (arith, w .0), subst (λ (v : ℕ). Placed s place (treeAt v)) (sym (e d (omega arith))) (w .1));
+  room = omega (arith, r .room);
+  small = r .small;
+}
+
+pub child-ready : {s values : List ℕ} {block len : ℕ} {ws : List ℕ} {left depth place at q : ℕ} → Ready s values block len ws left depth place at → Accepted s 128 144 q → Ready s values block len ws left depth place q
+child-ready r c = record { node = c; layout = r .layout; context = r .context; here = r .here; room = r .room; small = r .small }
+
+-- the word of a call
+pub packed : (call callee : ℕ) → call < 4294967296 → (callAt (call + callee * 4294967296) ≡ call) × (treeAt (call + callee * 4294967296) ≡ callee)
+packed call callee h = (omega arith, omega arith)
+
+-- the word of a call that opens
+open-word : {s : List ℕ} {at callee : ℕ} {γ δ : ParamMap} (p w : ℕ) → callAt w ≡ at → treeAt w ≡ callee → (a : Accepted s 128 144 at) → le2 s (at + 4) ≡ 133 → (t : Accepted s 161 161 callee) → collect-arguments p γ (argumentsOf (tree a)) [] ≡ done δ → Open s w γ (δ ++ inherited γ (parametersOf (tree t)))
+open-word {s} {at} {callee} {γ} {δ} p w f g a k t e = record { pair = z .0; place = p; arguments = δ; collected = z .1; is = z .2 }
+  where
+    ε : ParamMap
+    ε = δ ++ inherited γ (parametersOf (tree t))
+
+    Held-by : ℕ → ℕ → Type 0
+    Held-by x y = (pr : Pair s x y) × (collect-arguments p γ (argumentsOf (tree (pr .call))) [] ≡ done δ) × (ε ≡ δ ++ inherited γ (parametersOf (tree (pr .type))))
+
+    z : Held-by (callAt w) (treeAt w)
+    z = subst (λ (x : ℕ). Held-by x (treeAt w)) (sym f) (subst (λ (y : ℕ). Held-by at y) (sym g) (record { call = a; kind = k; type = t }, e, refl))
+
+-- the context of a call that opens
+pub opened-call : {s values : List ℕ} {block len : ℕ} {ws : List ℕ} {depth at callee w : ℕ} {γ δ : ParamMap} (p : ℕ) → depth < length ws → at < 4294967296 → w ≡ at + callee * 4294967296 → Context s values block len ws depth γ →
+    (a : Accepted s 128 144 at) → le2 s (at + 4) ≡ 133 → (t : Accepted s 161 161 callee) → collect-arguments p γ (argumentsOf (tree a)) [] ≡ done δ → Context s values block len (set ws depth w) (depth + 1) (δ ++ inherited γ (parametersOf (tree t)))
+opened-call {s} {values} {block} {len} {ws} {depth} {at} {callee} {w} {γ} {δ} p h l ew c a k t e =
+    let x = packed at callee l in
+    let ε : ParamMap = δ ++ inherited γ (parametersOf (tree t)) in
+    let o : Open s w γ ε = open-word p w (ap callAt ew ∙ x .0) (ap treeAt ew ∙ x .1) a k t e in
+    let u : Open s (getD (set ws depth w) depth 0) γ ε = subst (λ (v : ℕ). Open s v γ ε) (sym (getD-set-same ws depth w 0 h)) o in
+    let m : Context s values block len (set ws depth w) depth γ = context-same depth (omega arith) (length-set ws depth w) (λ i g. getD-set-other ws depth i w 0 (λ e. absurd (omega arith))) c in
+    let n : depth < length (set ws depth w) = subst (λ (z : ℕ). depth < z) (sym (length-set ws depth w)) h in
+    subst (λ (z : ℕ). Context s values block len (set ws depth w) z ε) (sym (add-one depth)) (Context.call m n u)
+
+module _ {s values : List ℕ} {block len : ℕ} {ws : List ℕ} {left depth at callee w q : ℕ} (h : depth < length ws) (l : at < 4294967296) (ew : w ≡ at + callee * 4294967296) (k : le2 s (at + 4) ≡ 133) {r : Arguments} {f : Place} {i : ℕ} (er : r ≡ All) (ef : f ≡ PlaceAt i callee)
+    (b : (p : ℕ) (γ : ParamMap) → Context s values block len ws depth γ → (a : Accepted s 128 144 at) → Bound p γ (argumentsOf (tree a)) r)
+    (d : (t : Tree) → readLayout s ≡ done t → (a : Accepted s 128 144 at) → TreeFound s (text (part 2 (body (tree a)))) (layoutOf t) f)
+    (e : (t : Accepted s 161 161 callee) → Rooted t q) (n : left ≡ 0 → ⊥) where
+  pub call-ready : {pl : ℕ} → Ready s values block len ws left depth pl at → Ready s values block len (set ws depth w) (left - 1) (depth + 1) i q
+  call-ready {pl} x =
+      let t = found-at ef (d (x .layout .0) (x .layout .1) (x .node)) in
+      let y = bound-all er (b 0 (x .context .0) (x .context .1) (x .node)) in
+      record {
+        node = e (t .0) .root;
+        layout = x .layout;
+        context = (_, opened-call 0 h l ew (x .context .1) (x .node) k (t .0) (y .1));
+        here = λ d f. here (t .2) d (omega arith);
+        room = subst (λ (z : ℕ). depth + 1 + (left - 1) ≤ z) (sym (length-set ws depth w)) (room x);
+        small = x .small;
+      }
+    where
+      room : Ready s values block len ws left depth pl at → depth + 1 + (left - 1) ≤ length ws
+      room x = omega (arith, x .room)
+
+      here : Placed s i callee → (d : ℕ) → d ≡ depth → (d < length (set ws depth w)) × Placed s i (treeAt (getD (set ws depth w) d 0))
+      here p d f =
+          let v : getD (set ws depth w) d 0 ≡ w = ap (λ (d : ℕ). getD (set ws depth w) d 0) f ∙ getD-set-same ws depth w 0 h in
+          let t : treeAt (getD (set ws depth w) d 0) ≡ callee = ap treeAt (v ∙ ew) ∙ packed at callee l .1 in
+          (omega (arith, length-set ws depth w), subst (λ (o : ℕ). Placed s i o) (sym t) p)
+
+  pub call-answers : {o : Bool} {us vs : List ℕ} (pl : ℕ) → Evaluates s values block len (set ws depth w) (left - 1) (depth + 1) i q o us vs → Evaluates s values block len ws left depth pl at o us vs
+  call-answers pl ev γ x t rd a =
+      let c = found-at ef (d t rd a) in
+      let y = bound-all er (b pl γ x a) in
+      let z = e (c .0) in
+      told-as (ev (y .0 ++ inherited γ (parametersOf (tree (c .0)))) (opened-call pl h l ew x a k (c .0) (y .1)) t rd (z .root))
+      (ap (eval-within (left - 1) (layoutOf t) i (y .0 ++ inherited γ (parametersOf (tree (c .0))))) (sym (z .is)) ∙ call-goes k left (layoutOf t) pl γ a (y .1) (c .1) n)
+
+-- a node that holds none
+pub leaf-answers : {b : Bool} {ws us : List ℕ} {s : List ℕ} {at : ℕ} (left : ℕ) (types : List TypeIr) (pl : ℕ) (γ : ParamMap) (a : Accepted s 128 144 at) → ((call : Calls) → Tells b ws us (eval-node call pl γ (nodeOf (tree a)))) → Tells b ws us (eval-within left types pl γ (nodeOf (tree a)))
+leaf-answers left types pl γ a e = told-as (e (callsAt left types)) (sym (within-is left types pl γ (nodeOf (tree a))))

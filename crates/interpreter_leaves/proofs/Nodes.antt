@@ -1,0 +1,150 @@
+-- The nodes that hold no node, the tag of a switch, and the root of a type.
+use mathlib.Core.Path.{_≡_, refl, sym, _∙_, ap, subst}
+use mathlib.Core.Bool.{true}
+use mathlib.Core.List.{List}
+use mathlib.Core.Option.{Option, some, none}
+use Prim.Native.Nat.{ℕ, _+_, _-_, _≤_, _<_}
+use native.Mathlib.Omega.{arith}
+use lib.Dec.{leb}
+use lib.ListN.{length, getD, take, drop, getD-replicate}
+use borrow.Author.Tests.{leb-true}
+use Rattle.ir.proofs.Table.{entry}
+use Rattle.errors.specs.Refusal.{done, refused, MissingIrParameter}
+use Rattle.blocks.specs.Bytes.{le2, le8}
+use Rattle.blocks.specs.Name.{Name}
+use Rattle.blocks.specs.Grammar.{partsOf, nodeTable}
+use Rattle.blocks.specs.Tree.{Tree, text, number, body, part}
+use Rattle.blocks.specs.declared.Part.{Part}
+use Rattle.ir.specs.Layout.{formOf, makeThing, nodeOf, layoutOf}
+use Rattle.accepted.specs.Accepted.{Accepted, tree, nameAt}
+use Rattle.interpreter.specs.Arithmetic.{Result, value, fault}
+use Rattle.interpreter.specs.Eval.{Calls, ParamMap, find, at as refusal, valueOr, lift, chosen, eval-node}
+use Rattle.interpreter_context.proofs.Laws.{Standing}
+use Rattle.interpreter_context.proofs.Shape.{bodyOf, text-at, number-at, MaybeText, maybe-text, node-is, located}
+use Rattle.interpreter_arithmetic.specs.declared.Num.{Num}
+use Rattle.interpreter_arithmetic.specs.declared.Num.the-variants.{Value as NumValue, Fault}
+use Rattle.interpreter_arithmetic.specs.Num.{numOf}
+use Rattle.lookup.specs.declared.Place.{Place}
+use Rattle.lookup.specs.Named.{Placed}
+use Rattle.lookup.specs.Found.{TreeFound}
+use Rattle.interpreter_context.specs.declared.Held.{Held}
+use Rattle.interpreter_context.specs.declared.Held.the-variants.{Value, Absent}
+use Rattle.interpreter_context.specs.Names.{heldOf}
+use Rattle.interpreter_context.specs.Context.{Context, Here, treeAt}
+use Rattle.interpreter_context.proofs.Names.{slice-is}
+use Rattle.interpreter_leaves.specs.Steps.{FieldName}
+
+-- ---- arithmetic
+
+pub lifted-value : (p a v : ℕ) (n : Num) → n ≡ NumValue v → (x : Result) → n ≡ numOf x → done v ≡ lift p a x
+unfolding lift
+lifted-value p a v n e (value w) f = let h : v ≡ w = cc in ap done h
+lifted-value p a v n e (fault q) f = let z : _≡_ {A = ℕ} 0 1 = cc in absurd (omega arith)
+
+pub lifted-fault : (p a q : ℕ) (n : Num) → n ≡ Fault q → (x : Result) → n ≡ numOf x → refused (refusal p a q 0) ≡ lift p a x
+unfolding lift
+lifted-fault p a q n e (value w) f = let z : _≡_ {A = ℕ} 0 1 = cc in absurd (omega arith)
+lifted-fault p a q n e (fault r) f = let h : q ≡ r = cc in ap (λ (q : ℕ). refused (refusal p a q 0)) h
+
+-- ---- Const
+
+pub const-at : {s : List ℕ} {at p : ℕ} → Standing s at 2 p → (a : Accepted s 128 144 at) → le2 s (at + 4) ≡ 129 → (p + 8 ≤ length s) × (number (part 2 (bodyOf a)) ≡ le8 s p)
+unfolding partsOf nodeTable
+const-at st a k = number-at (located 2 st a k refl)
+
+pub const-is : {s : List ℕ} {at p v : ℕ} → Standing s at 2 p → le2 s (at + 4) ≡ 129 → v ≡ le8 s p → (call : Calls) (pl : ℕ) (γ : ParamMap) (a : Accepted s 128 144 at) → done v ≡ eval-node call pl γ (nodeOf (tree a))
+unfolding formOf makeThing eval-node
+const-is st k ev call pl γ a = sym (ap (eval-node call pl γ) (node-is a k refl) ∙ ap done (const-at st a k .1 ∙ sym ev))
+
+-- ---- FieldRef
+
+ref-two : {s : List ℕ} {at p : ℕ} → Standing s at 2 p → (a : Accepted s 128 144 at) → le2 s (at + 4) ≡ 130 → (p + 2 + le2 s p ≤ length s) × (text (part 2 (bodyOf a)) ≡ nameAt s p)
+unfolding partsOf nodeTable
+ref-two st a k = text-at (located 2 st a k refl)
+
+pub ref-three : {s : List ℕ} {at q : ℕ} → Standing s at 3 q → (a : Accepted s 128 144 at) → le2 s (at + 4) ≡ 130 → MaybeText a 3 q
+unfolding partsOf nodeTable
+ref-three st a k = maybe-text (located 3 st a k refl)
+
+module _ {s : List ℕ} {at p q : ℕ} (st : Standing s at 2 p) (su : Standing s at 3 q) (k : le2 s (at + 4) ≡ 130) (a : Accepted s 128 144 at) where
+  pub by-parameter : getD s q 0 ≡ 1 → FieldName s at (q + 1)
+  by-parameter h = record {
+    inside = ref-three su a k .given h .0;
+    is = λ b. ap (chosen (text (part 2 (bodyOf b)))) (ref-three su b k .given h .1);
+  }
+
+  pub by-path : (getD s q 0 ≡ 1 → ⊥) → FieldName s at p
+  by-path h = record {
+    inside = ref-two st a k .0;
+    is = λ b. ap (chosen (text (part 2 (bodyOf b)))) (ref-three su b k .plain h) ∙ ref-two st b k .1;
+  }
+
+held-value : (o : Option ℕ) (r : Held) (v : ℕ) → r ≡ heldOf o → r ≡ Value v → o ≡ some v
+held-value none r v e f = let z : _≡_ {A = ℕ} 0 1 = cc in absurd (omega arith)
+held-value (some w) r v e f = let h : w ≡ v = cc in ap some h
+
+pub held-is : {o : Option ℕ} {r : Held} {v : ℕ} → r ≡ heldOf o → r ≡ Value v → o ≡ some v
+held-is {o} {r} {v} e f = held-value o r v e f
+
+absent-none : (o : Option ℕ) (r : Held) → r ≡ heldOf o → r ≡ Absent → o ≡ none
+absent-none none r e f = refl
+absent-none (some w) r e f = let z : _≡_ {A = ℕ} 0 1 = cc in absurd (omega arith)
+
+pub absent-is : {o : Option ℕ} {r : Held} → r ≡ heldOf o → r ≡ Absent → o ≡ none
+absent-is {o} {r} e f = absent-none o r e f
+
+ref-is : {s : List ℕ} {at q : ℕ} → FieldName s at q → le2 s (at + 4) ≡ 130 → (call : Calls) (pl : ℕ) (γ : ParamMap) (a : Accepted s 128 144 at) → eval-node call pl γ (nodeOf (tree a)) ≡ valueOr (refusal pl at MissingIrParameter 0) (find (nameAt s q) γ)
+unfolding formOf makeThing eval-node
+ref-is {at} n k call pl γ a = ap (eval-node call pl γ) (node-is a k refl) ∙ ap (λ (m : Name). valueOr (refusal pl at MissingIrParameter 0) (find m γ)) (n .is a)
+
+module _ {s values : List ℕ} {block len : ℕ} {words : List ℕ} {depth at q : ℕ} {r : Held} (pl : ℕ) (n : FieldName s at q) (k : le2 s (at + 4) ≡ 130) (e : (γ : ParamMap) → Context s values block len words depth γ → r ≡ heldOf (find (nameAt s q) γ)) (call : Calls) (γ : ParamMap) (c : Context s values block len words depth γ) (a : Accepted s 128 144 at) where
+  pub ref-found : {v : ℕ} → r ≡ Value v → done v ≡ eval-node call pl γ (nodeOf (tree a))
+  unfolding valueOr
+  ref-found f = sym (ref-is n k call pl γ a ∙ ap (valueOr (refusal pl at MissingIrParameter 0)) (held-value (find (nameAt s q) γ) r _ (e γ c) f))
+
+  pub ref-absent : r ≡ Absent → refused (refusal pl at 21 0) ≡ eval-node call pl γ (nodeOf (tree a))
+  unfolding valueOr
+  ref-absent f = sym (ref-is n k call pl γ a ∙ ap (valueOr (refusal pl at MissingIrParameter 0)) (absent-none (find (nameAt s q) γ) r (e γ c) f))
+
+-- ---- ZeroSize, SumOverArray
+
+pub zero-is : {s : List ℕ} {at k : ℕ} → k ≡ le2 s (at + 4) → k ≡ 128 → (call : Calls) (pl : ℕ) (γ : ParamMap) (a : Accepted s 128 144 at) → done 0 ≡ eval-node call pl γ (nodeOf (tree a))
+unfolding formOf makeThing eval-node
+zero-is ek k call pl γ a = sym (ap (eval-node call pl γ) (node-is a (sym ek ∙ k) refl))
+
+pub sum-is : {s : List ℕ} {at k : ℕ} → k ≡ le2 s (at + 4) → k ≡ 144 → (call : Calls) (pl : ℕ) (γ : ParamMap) (a : Accepted s 128 144 at) → refused (refusal pl at 24 0) ≡ eval-node call pl γ (nodeOf (tree a))
+unfolding formOf makeThing eval-node
+sum-is ek k call pl γ a = sym (ap (eval-node call pl γ) (node-is a (sym ek ∙ k) refl))
+
+-- ---- the tag of a Switch, the type of a CallNested
+
+pub switch-tag : {s : List ℕ} {at p : ℕ} → Standing s at 2 p → (a : Accepted s 128 144 at) → le2 s (at + 4) ≡ 132 → (p + 2 + le2 s p ≤ length s) × (text (part 2 (bodyOf a)) ≡ nameAt s p)
+unfolding partsOf nodeTable
+switch-tag st a k = text-at (located 2 st a k refl)
+
+pub call-type : {s : List ℕ} {at p : ℕ} → Standing s at 2 p → (a : Accepted s 128 144 at) → le2 s (at + 4) ≡ 133 → (p + 2 + le2 s p ≤ length s) × (text (part 2 (bodyOf a)) ≡ nameAt s p)
+unfolding partsOf nodeTable
+call-type st a k = text-at (located 2 st a k refl)
+
+pub tag-is : {s values : List ℕ} {block len : ℕ} {words : List ℕ} {depth at p : ℕ} {r : Held} → Standing s at 2 p → le2 s (at + 4) ≡ 132 → ((γ : ParamMap) → Context s values block len words depth γ → r ≡ heldOf (find (nameAt s p) γ)) →
+    (γ : ParamMap) → Context s values block len words depth γ → (a : Accepted s 128 144 at) → r ≡ heldOf (find (text (part 2 (body (tree a)))) γ)
+tag-is st k e γ c a = e γ c ∙ ap (λ (n : Name). heldOf (find n γ)) (sym (switch-tag st a k .1))
+
+pub type-is : {s : List ℕ} {at p u : ℕ} {r : Place} → Standing s at 2 p → le2 s (at + 4) ≡ 133 → u ≡ le2 s p → (t : Tree) → TreeFound s (take (p + 2 + u - (p + 2)) (drop (p + 2) s)) (layoutOf t) r → (a : Accepted s 128 144 at) → TreeFound s (text (part 2 (body (tree a)))) (layoutOf t) r
+type-is {s} {p} {u} {r} st k eu t f a = subst (λ (n : Name). TreeFound s n (layoutOf t) r) (slice-is s p u eu ∙ sym (call-type st a k .1)) f
+
+-- the type that holds a node, where a call has opened it
+pub held-here : (s words : List ℕ) (depth place : ℕ) → Here s words depth place → (depth ≡ 0 → ⊥) → (depth - 1 < length words) × Placed s place (treeAt (getD words (depth - 1) 0))
+held-here s words depth place f h = f (depth - 1) (omega arith)
+
+-- ---- how many parts a kind has
+
+-- every kind but ZeroSize has three or more
+pub enough : (j i : ℕ) → 129 ≤ j → j ≤ 144 → i ≤ 3 → i ≤ length (partsOf j)
+unfolding partsOf nodeTable
+enough j i lo hi h =
+    let e : 129 + (j - 129) ≡ j = omega arith in
+    let g : j - 129 < 16 = omega arith in
+    let t = sym (entry 16 (λ k. leb 3 (length (partsOf (129 + k)))) (j - 129) true g) ∙ getD-replicate 16 (j - 129) true true g in
+    let u = leb-true 3 (length (partsOf j)) (rw e at t) in
+    omega arith

@@ -1,0 +1,46 @@
+-- `interpreter_leaves::field` meets its contract. Assumes nothing.
+use mathlib.Core.Path.{_≡_, refl, sym, _∙_, ap}
+use mathlib.Core.List.{List}
+use Prim.Native.Nat.{ℕ, _+_, _-_, _≤_}
+use native.Mathlib.Omega.{arith}
+use lib.ListN.{length}
+use Rattle.blocks.specs.Bytes.{le2, le4}
+use Rattle.accepted.specs.Accepted.{nameAt}
+use Rattle.interpreter_leaves.proofs.Told.{told-as}
+use Rattle.interpreter_leaves.proofs.Nodes.{enough}
+use Rattle.interpreter_leaves.proofs.Nodes.{ref-found, ref-absent}
+use borrow.Author.Needs.{needs}
+use Rattle.interpreter_leaves.proofs.field.Statement.{statement}
+use Rattle.interpreter_leaves.proofs.field.Tie as tie
+use Rattle.interpreter_leaves.proofs.field.Reads as reads
+use Rattle.interpreter_leaves.proofs.field.Lts as lts
+use Rattle.interpreter_context.proofs.find.Reads as find-reads
+use Rattle.interpreter_leaves.proofs.field_name.Reads as field-name-reads
+
+field-name-requires : tie.Need-field-name-requires
+field-name-requires c κs = (c .before .before .before .pre .0, c .before .before .before .pre .1)
+
+find-requires : tie.Need-find-requires
+find-requires c κs = (c .field-name .ensures .inside, c .before .before .before .before .pre .2)
+
+enum-known-v : tie.Need-enum-known-v
+enum-known-v c = search needs
+
+counted-requires : tie.Need-counted-requires
+counted-requires c κs = search needs
+
+enum-told : tie.Need-enum-told
+enum-told c = search needs
+
+refused-requires : tie.Need-refused-requires
+refused-requires c κs = search needs
+
+returns : tie.Need-returns
+returns c = λ k γ x a. told-as (c .counted .ensures) (ref-found _ (c .before .before .before .before .before .before .field-name .ensures) (c .before .before .before .before .before .before .before .before .before .before .pre .1) (c .before .before .before .before .before .find .ensures) k γ x a (c .before .before .before .v .given .1))
+
+returns-2 : tie.Need-returns-2
+returns-2 c = λ k γ x a. told-as (c .refused .ensures) (ref-absent _ (c .before .before .before .before .before .field-name .ensures) (c .before .before .before .before .before .before .before .before .before .pre .1) (c .before .before .before .before .find .ensures) k γ x a (c .before .before .enum-told .given .1))
+
+pub field-spec : {M : Type 1} → statement M
+field-spec =
+    tie.close (tie.spec field-name-requires find-requires enum-known-v counted-requires enum-told refused-requires returns returns-2)

@@ -1,0 +1,33 @@
+-- `interpreter_leaves::field_name` meets its contract. Assumes nothing.
+use native.Mathlib.Omega.{arith}
+use Rattle.interpreter_leaves.proofs.Nodes.{enough}
+use Rattle.interpreter_leaves.proofs.Nodes.{ref-three, by-parameter, by-path}
+use Rattle.interpreter_leaves.proofs.field_name.Statement.{statement}
+use Rattle.interpreter_leaves.proofs.field_name.Tie as tie
+use Rattle.interpreter_leaves.proofs.field_name.Reads as reads
+use Rattle.interpreter_leaves.proofs.field_name.Lts as lts
+use Rattle.interpreter_context.proofs.first_part.Reads as first-part-reads
+use Rattle.interpreter_context.proofs.second_part.Reads as second-part-reads
+
+first-part-requires : tie.Need-first-part-requires
+first-part-requires c κs = c .before .pre .0
+
+second-part-requires : tie.Need-second-part-requires
+second-part-requires c κs = (c .before .before .pre .0, enough _ _ (omega (arith, c .before .before .pre .1)) (omega (arith, c .before .before .pre .1)) (omega arith))
+
+shared-slice-read-b : tie.Need-shared-slice-read-b
+shared-slice-read-b c = omega (arith, ref-three (c .before .second-part .ensures) (c .before .before .before .before .pre .0) (c .before .before .before .before .pre .1) .flag)
+
+add-result : tie.Need-add-result
+add-result c = omega (arith, ref-three (c .before .before .second-part .ensures) (c .before .before .before .before .before .pre .0) (c .before .before .before .before .before .pre .1) .flag)
+
+returns : tie.Need-returns
+returns c = by-parameter (c .before .before .before .first-part .ensures) (c .before .before .second-part .ensures) (c .before .before .before .before .before .pre .1) (c .before .before .before .before .before .pre .0) (c .if1 .taken)
+
+returns-2 : tie.Need-returns-2
+returns-2 c = by-path (c .before .before .before .first-part .ensures) (c .before .before .second-part .ensures) (c .before .before .before .before .before .pre .1) (c .before .before .before .before .before .pre .0) (c .if1 .left)
+
+pub field-name-spec : {M : Type 1} → statement M
+field-name-spec =
+    tie.close
+    (tie.spec first-part-requires second-part-requires shared-slice-read-b add-result returns returns-2)

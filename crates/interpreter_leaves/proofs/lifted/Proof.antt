@@ -1,0 +1,32 @@
+-- `interpreter_leaves::lifted` meets its contract. Assumes nothing.
+use Rattle.interpreter_leaves.proofs.Told.{told-as}
+use Rattle.interpreter_leaves.proofs.Nodes.{lifted-value, lifted-fault}
+use borrow.Author.Needs.{needs}
+use Rattle.interpreter_leaves.proofs.lifted.Statement.{statement}
+use Rattle.interpreter_leaves.proofs.lifted.Tie as tie
+use Rattle.interpreter_leaves.proofs.lifted.Reads as reads
+use Rattle.interpreter_leaves.proofs.lifted.Lts as lts
+use Rattle.interpreter_leaves.proofs.counted.Reads as counted-reads
+use Rattle.interpreter_leaves.proofs.refused.Reads as refused-reads
+
+enum-known-n : tie.Need-enum-known-n
+enum-known-n c = search needs
+
+counted-requires : tie.Need-counted-requires
+counted-requires c κs = search needs
+
+enum-known-n-2 : tie.Need-enum-known-n-2
+enum-known-n-2 c = search needs
+
+refused-requires : tie.Need-refused-requires
+refused-requires c κs = search needs
+
+returns : tie.Need-returns
+returns c = λ x e. told-as (c .counted .ensures) (lifted-value _ _ _ _ (c .before .before .before .n .given .1) x e)
+
+returns-2 : tie.Need-returns-2
+returns-2 c = λ x e. told-as (c .refused .ensures) (lifted-fault _ _ _ _ (c .before .before .before .n2 .given .1) x e)
+
+pub lifted-spec : {M : Type 1} → statement M
+lifted-spec =
+    tie.close (tie.spec enum-known-n counted-requires enum-known-n-2 refused-requires returns returns-2)

@@ -1,0 +1,20 @@
+-- `interpreter_leaves::tag` meets its contract. Assumes nothing.
+use Rattle.interpreter_leaves.proofs.Nodes.{switch-tag, tag-is}
+use Rattle.interpreter_leaves.proofs.tag.Statement.{statement}
+use Rattle.interpreter_leaves.proofs.tag.Tie as tie
+use Rattle.interpreter_leaves.proofs.tag.Reads as reads
+use Rattle.interpreter_leaves.proofs.tag.Lts as lts
+use Rattle.interpreter_context.proofs.find.Reads as find-reads
+use Rattle.interpreter_context.proofs.first_part.Reads as first-part-reads
+
+first-part-requires : tie.Need-first-part-requires
+first-part-requires c κs = c .before .before .before .pre .0
+
+find-requires : tie.Need-find-requires
+find-requires c κs = (switch-tag (c .first-part .ensures) (c .before .before .before .before .pre .0) (c .before .before .before .before .pre .1) .0, c .before .before .before .before .pre .2)
+
+returns : tie.Need-returns
+returns c = tag-is (c .before .first-part .ensures) (c .before .before .before .before .before .pre .1) (c .find .ensures)
+
+pub tag-spec : {M : Type 1} → statement M
+tag-spec = tie.close (tie.spec first-part-requires find-requires returns)

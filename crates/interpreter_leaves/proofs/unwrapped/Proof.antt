@@ -1,0 +1,70 @@
+-- `interpreter_leaves::unwrapped` meets its contract. The loop's invariant: the node at p is what the first comes to. Assumes nothing.
+use mathlib.Core.Path.{sym, _∙_}
+use native.Mathlib.Omega.{arith}
+use Rattle.blocks.specs.Bytes.{le4}
+use Rattle.accepted.specs.Accepted.{Accepted}
+use Rattle.interpreter_context.proofs.Laws.{kinds}
+use Rattle.interpreter_leaves.specs.Steps.{Unwrapped}
+use Rattle.interpreter_leaves.proofs.Nodes.{enough}
+use Rattle.interpreter_leaves.proofs.Align.{align-number, align-child, whole, inner}
+use Rattle.interpreter_leaves.proofs.unwrapped.Statement.{statement}
+use Rattle.interpreter_leaves.proofs.unwrapped.Tie as tie
+use Rattle.interpreter_leaves.proofs.unwrapped.Reads as reads
+use Rattle.interpreter_leaves.proofs.unwrapped.Lts as lts
+use Rattle.wire.proofs.read2.Reads as read2-reads
+use Rattle.wire.proofs.read8.Reads as read8-reads
+use Rattle.interpreter_context.proofs.first_part.Reads as first-part-reads
+use Rattle.interpreter_context.proofs.second_part.Reads as second-part-reads
+
+abbrev Inv-loop : tie.InvT-loop
+Inv-loop s at p₀ p = (a : Accepted s 128 144 at) → Unwrapped a p
+
+abbrev μ-loop : tie.MeasureT-loop
+μ-loop s at p₀ p = le4 s p
+
+loop-holds : tie.Need-loop-holds Inv-loop μ-loop
+loop-holds c = whole
+
+add-read2 : tie.Need-add-read2 Inv-loop μ-loop
+add-read2 c = omega (arith, kinds (c .loop .inv (c .before .before .pre) .node) .2, kinds (c .loop .inv (c .before .before .pre) .node) .3)
+
+read2-requires : tie.Need-read2-requires Inv-loop μ-loop
+read2-requires c κs = omega (arith, kinds (c .loop .inv (c .before .before .pre) .node) .2, kinds (c .loop .inv (c .before .before .pre) .node) .3)
+
+first-part-requires : tie.Need-first-part-requires Inv-loop μ-loop
+first-part-requires c κs = c .before .before .loop .inv (c .before .before .before .before .pre) .node
+
+read8-requires : tie.Need-read8-requires Inv-loop μ-loop
+read8-requires c κs = align-number (c .first-part .ensures) (c .before .before .before .loop .inv (c .before .before .before .before .before .pre) .node) (sym (c .before .before .read2 .ensures .0) ∙ c .before .if1 .taken) .0
+
+returns : tie.Need-returns Inv-loop μ-loop
+returns c = c .before .before .before .before .before .loop .inv
+
+second-part-requires : tie.Need-second-part-requires Inv-loop μ-loop
+second-part-requires c κs = (c .before .before .before .before .before .loop .inv (c .before .before .before .before .before .before .before .pre) .node, enough _ _ (omega (arith, (sym (c .before .before .before .before .read2 .ensures .0) ∙ c .before .before .before .if1 .taken))) (omega (arith, (sym (c .before .before .before .before .read2 .ensures .0) ∙ c .before .before .before .if1 .taken))) (omega arith))
+
+loop-less : tie.Need-loop-less Inv-loop μ-loop
+loop-less c = align-child (c .second-part .ensures) (c .before .before .before .before .before .before .loop .inv (c .before .before .before .before .before .before .before .before .pre) .node) (sym (c .before .before .before .before .before .read2 .ensures .0) ∙ c .before .before .before .before .if1 .taken) .2
+
+loop-again : tie.Need-loop-again Inv-loop μ-loop
+loop-again c = λ a. inner (c .before .before .before .first-part .ensures) (c .second-part .ensures) (sym (c .before .before .before .before .before .read2 .ensures .0) ∙ c .before .before .before .before .if1 .taken) (c .before .before .read8 .ensures) (omega (arith, c .before .if2 .left)) (c .before .before .before .before .before .before .loop .inv a)
+
+returns-2 : tie.Need-returns-2 Inv-loop μ-loop
+returns-2 c = c .before .before .loop .inv
+
+pub unwrapped-spec : {M : Type 1} → statement M
+unwrapped-spec =
+    tie.close
+    (tie.spec
+    Inv-loop
+    μ-loop
+    loop-holds
+    add-read2
+    read2-requires
+    first-part-requires
+    read8-requires
+    returns
+    second-part-requires
+    loop-less
+    loop-again
+    returns-2)

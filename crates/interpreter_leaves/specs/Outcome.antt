@@ -1,0 +1,24 @@
+-- What each answer of the code says in document 01's terms: the count, or the refusal's number, place, offset and value.
+use Prim.Native.Nat.{ℕ}
+use mathlib.Core.Path.{_≡_}
+use mathlib.Core.Bool.{Bool}
+use mathlib.Core.List.{List, [], _∷_}
+use lib.ListN.{getD}
+use Rattle.errors.specs.Refusal.{Outcome, done, refused, answered}
+use Rattle.interpreter.specs.Eval.{at}
+use Rattle.interpreter_leaves.specs.declared.Answer.{Answer}
+use Rattle.interpreter_leaves.specs.declared.Answer.the-variants.{Count, Refused}
+
+abbrev pub outcomeOf : Answer → Outcome ℕ
+outcomeOf (Count n) = done n
+outcomeOf (Refused q p o v) = refused (at p o q v)
+
+-- what an outcome leaves of four words: a count in the first, the others as they were; a refusal in all of them
+abbrev pub leftIn : List ℕ → Outcome ℕ → List ℕ
+leftIn before (done n) = n ∷ getD before 1 0 ∷ getD before 2 0 ∷ getD before 3 0 ∷ []
+leftIn before (refused r) = r .number ∷ r .place ∷ r .offset ∷ r .value ∷ []
+
+-- whether it is a count, and the words after it
+pub record Tells (ok : Bool) (before after : List ℕ) (o : Outcome ℕ) : Type 0 where
+  pub which : ok ≡ answered o
+  pub left : after ≡ leftIn before o

@@ -1,0 +1,90 @@
+-- `interpreter_runs::answer_all` meets its contract. The loop's invariant: whatever writes the words of the answers that are left makes all words. Assumes nothing.
+use Prim.Native.Nat.{_-_}
+use mathlib.Core.Path.{_≡_, refl, _∙_}
+use borrow.Author.Needs.{needs}
+use native.Mathlib.Omega.{arith}
+use lib.ListN.{length}
+use Rattle.interpreter.specs.Validate.{validate-run}
+use Rattle.interpreter_runs.specs.Runs.{validate-runs}
+use Rattle.interpreter_runs.proofs.Loop.{Answering, answering-start, answering-end, answering-full, answering-more}
+use Rattle.interpreter_runs.proofs.answer_all.Statement.{statement}
+use Rattle.interpreter_runs.proofs.answer_all.Tie as tie
+
+abbrev Inv-loop : tie.InvT-loop
+Inv-loop n layout read s calls₀ out₀ i₀ at₀ calls out i at = (length calls ≡ length calls₀) × Answering (validate-run n layout) s out₀ out i at
+
+abbrev μ-loop : tie.MeasureT-loop
+μ-loop n layout read s calls₀ out₀ i₀ at₀ calls out i at = length s - i
+
+loop-holds : tie.Need-loop-holds Inv-loop μ-loop
+loop-holds c = (refl, answering-start _ _ _)
+
+sub-if1 : tie.Need-sub-if1 Inv-loop μ-loop
+sub-if1 c = omega (arith, c .before .loop .inv .1 .same, c .before .loop .inv .1 .fits)
+
+same-length : tie.Need-same-length Inv-loop μ-loop
+same-length c = search needs
+
+same-length-2 : tie.Need-same-length-2 Inv-loop μ-loop
+same-length-2 c = search needs
+
+returns : tie.Need-returns Inv-loop μ-loop
+unfolding validate-runs
+returns c = (c .before .before .loop .inv .0, answering-full (c .before .before .loop .inv .1) (c .if1 .taken))
+
+run-end-requires : tie.Need-run-end-requires Inv-loop μ-loop
+run-end-requires c κs = search needs
+
+sub-answer : tie.Need-sub-answer Inv-loop μ-loop
+sub-answer c = omega (arith, c .run-end .ensures .more)
+
+part-answer-start : tie.Need-part-answer-start Inv-loop μ-loop
+part-answer-start c = omega (arith, c .run-end .ensures .more)
+
+part-answer-end : tie.Need-part-answer-end Inv-loop μ-loop
+part-answer-end c = omega (arith, c .run-end .ensures .inside)
+
+answer-requires : tie.Need-answer-requires Inv-loop μ-loop
+answer-requires c κs = (c .before .before .before .before .before .before .before .before .before .before .pre .0, λ h. omega (arith, c .before .before .before .before .before .loop .inv .0, c .before .before .before .before .before .before .before .before .before .before .pre .1 h))
+
+put-answer-requires : tie.Need-put-answer-requires Inv-loop μ-loop
+put-answer-requires c κs = omega (arith, c .before .before .before .before .before .before .before .if1 .left)
+
+loop-less : tie.Need-loop-less Inv-loop μ-loop
+loop-less c = omega (arith, c .before .before .before .before .before .before .before .before .before .run-end .ensures .more, c .before .before .before .before .before .before .before .before .before .run-end .ensures .inside)
+
+loop-again : tie.Need-loop-again Inv-loop μ-loop
+loop-again c = (c .before .before .before .before .before .before .answer .ensures .0 ∙ c .before .before .before .before .before .before .before .before .before .before .before .before .loop .inv .0, answering-more (c .before .before .before .before .before .before .before .before .before .before .before .before .loop .inv .1) (c .before .before .before .before .before .before .before .before .before .before .before .loop-test .taken) (c .before .before .before .before .before .before .before .before .before .before .if1 .left) (c .before .before .before .before .before .before .before .before .before .run-end .ensures) (c .before .before .before .before .before .before .answer .ensures .1) (c .before .before .put-answer .ensures))
+
+same-length-3 : tie.Need-same-length-3 Inv-loop μ-loop
+same-length-3 c = search needs
+
+same-length-4 : tie.Need-same-length-4 Inv-loop μ-loop
+same-length-4 c = search needs
+
+returns-2 : tie.Need-returns-2 Inv-loop μ-loop
+unfolding validate-runs
+returns-2 c = (c .before .loop .inv .0, answering-end (c .before .loop .inv .1) (c .loop-test .left))
+
+pub answer-all-spec : {M : Type 1} → statement M
+answer-all-spec =
+    tie.close
+    (tie.spec
+    Inv-loop
+    μ-loop
+    loop-holds
+    sub-if1
+    same-length
+    same-length-2
+    returns
+    run-end-requires
+    sub-answer
+    part-answer-start
+    part-answer-end
+    answer-requires
+    put-answer-requires
+    loop-less
+    loop-again
+    same-length-3
+    same-length-4
+    returns-2)

@@ -1,0 +1,31 @@
+-- `interpreter_runs::run_end` meets its contract. Assumes nothing.
+use Rattle.interpreter_runs.proofs.Laws.{ends-short, ends-cut, ends-inside}
+use borrow.Author.Needs.{needs}
+use Rattle.interpreter_runs.proofs.run_end.Statement.{statement}
+use Rattle.interpreter_runs.proofs.run_end.Tie as tie
+
+sub-left : tie.Need-sub-left
+sub-left c = search needs
+
+returns : tie.Need-returns
+returns c = ends-short _ _ (c .before .before .pre) (c .if1 .taken)
+
+read4-requires : tie.Need-read4-requires
+read4-requires c κs = search needs
+
+returns-2 : tie.Need-returns-2
+returns-2 c = ends-cut (c .before .before .before .before .args .s .now) _ (c .before .before .before .before .pre) (c .before .read4 .ensures .0) (c .before .before .if1 .left) (c .if2 .taken)
+
+add-result : tie.Need-add-result
+add-result c = search needs
+
+add-result-2 : tie.Need-add-result-2
+add-result-2 c = search needs
+
+returns-3 : tie.Need-returns-3
+returns-3 c = ends-inside (c .before .before .before .before .args .s .now) _ (c .before .before .before .before .pre) (c .before .read4 .ensures .0) (c .before .before .if1 .left) (c .if2 .left)
+
+pub run-end-spec : {M : Type 1} → statement M
+run-end-spec =
+    tie.close
+    (tie.spec sub-left returns read4-requires returns-2 add-result add-result-2 returns-3)

@@ -1,0 +1,55 @@
+-- `interpreter_runs::validate_runs` meets its contract. Assumes nothing.
+use mathlib.Core.Path.{ap, _∙_}
+use Prim.Native.Nat.{ℕ}
+use native.Mathlib.Omega.{arith}
+use lib.ListN.{replicate}
+use Rattle.interpreter_runs.proofs.Laws.{lent, lent-cleared}
+use Rattle.interpreter_runs.proofs.Loop.{answers-told, answers-stand}
+use borrow.Author.Needs.{needs}
+use Rattle.interpreter_runs.proofs.validate_runs.Statement.{statement}
+use Rattle.interpreter_runs.proofs.validate_runs.Tie as tie
+
+clear-words-requires : tie.Need-clear-words-requires
+clear-words-requires c κs = search needs
+
+held-requires : tie.Need-held-requires
+held-requires c κs = search needs
+
+few-requires : tie.Need-few-requires
+few-requires c κs = search needs
+
+slice-relend-prefix-calls : tie.Need-slice-relend-prefix-calls
+slice-relend-prefix-calls c = search needs
+
+slice-aggregate-calls : tie.Need-slice-aggregate-calls
+slice-aggregate-calls c = lent _ _ (c .before .before .before .before .before .clear-words .last .0) (c .before .before .before .before .before .clear-words .ensures) (c .before .few .ensures .0)
+
+answer-all-requires : tie.Need-answer-all-requires
+answer-all-requires c κs = (c .before .before .before .before .held .ensures, λ h. omega (arith, lent _ _ (c .before .before .before .before .before .before .before .clear-words .last .0) (c .before .before .before .before .before .before .before .clear-words .ensures) (c .before .before .before .few .ensures .0), c .before .before .before .few .ensures .1 h))
+
+clear-words-requires-2 : tie.Need-clear-words-requires-2
+clear-words-requires-2 c κs = search needs
+
+same-length : tie.Need-same-length
+same-length c = search needs
+
+same-length-2 : tie.Need-same-length-2
+same-length-2 c = search needs
+
+returns : tie.Need-returns
+returns c = (answers-told _ (c .before .before .before .before .before .before .before .answer-all .ensures .1), (answers-stand _ (c .before .before .before .before .before .before .before .answer-all .ensures .1), lent-cleared _ _ (c .before .before .before .before .before .before .before .before .before .before .before .before .before .before .before .clear-words .last .0) (c .before .before .before .before .before .before .before .before .before .before .before .before .before .before .before .clear-words .ensures) (c .before .before .before .before .before .before .before .before .before .before .before .few .ensures .0) (c .before .before .clear-words2 .ensures ∙ ap (λ (n : ℕ). replicate n 0) (c .before .before .before .before .before .before .before .answer-all .ensures .0))))
+
+pub validate-runs-spec : {M : Type 1} → statement M
+validate-runs-spec =
+    tie.close
+    (tie.spec
+    clear-words-requires
+    held-requires
+    few-requires
+    slice-relend-prefix-calls
+    slice-aggregate-calls
+    answer-all-requires
+    clear-words-requires-2
+    same-length
+    same-length-2
+    returns)

@@ -1,0 +1,324 @@
+-- What a call answers, question by question; then what a type of an accepted layout comes to.
+use mathlib.Core.Path.{_≡_, refl, sym, _∙_, ap}
+use mathlib.Core.Bool.{Bool, true, false}
+use mathlib.Core.List.{List, [], _∷_}
+use Prim.Native.Nat.{ℕ, _+_, _-_, _<_, _≤_}
+use native.Mathlib.Omega.{arith}
+use lib.Dec.{leb}
+use lib.ListN.{length, take, drop, replicate, length-replicate}
+use lib.Seq.{length-take-le}
+use borrow.Author.Tests.{le-leb, lt-leb, leb-true}
+use Rattle.errors.specs.Refusal.{Outcome, done, refused, _>>=_, ask, enough, unread}
+use Rattle.errors.proofs.Laws.{asked, bound, bound-done}
+use Rattle.blocks.specs.Name.{Name}
+use Rattle.blocks.specs.Tree.{Tree, name, num, block, cons, body, part}
+use Rattle.blocks.specs.Read.{small, readInput, readLayout, readRun}
+use Rattle.blocks.proofs.Refusals.{Unread, input-unread}
+use Rattle.ir.specs.Layout.{layoutOf}
+use Rattle.blocks.specs.Bytes.{le2, le8}
+use Rattle.blocks.specs.Grammar.{partsOf, findRow, grammar}
+use Rattle.blocks.specs.declared.Part.the-variants.{Text, Number, Block}
+use Rattle.accepted.specs.Accepted.{Accepted, tree, Parts, nameAt}
+use Rattle.accepted.proofs.Laws.{input, opened, text-part, number-part, block-part, behind-at}
+use Rattle.reader_leaf.specs.declared.Read.{Read}
+use Rattle.reader_leaf.specs.declared.Read.the-variants.{Ok, Refused}
+use Rattle.reader.specs.Input.{inputOf}
+use Rattle.lookup.specs.declared.Place.{Place}
+use Rattle.lookup.specs.declared.Place.the-variants.{At as PlaceAt, Missing as PlaceNone}
+use Rattle.lookup.specs.Found.{TreeFound}
+use Rattle.interpreter.specs.Eval.{ParamMap, eval-within}
+use Rattle.interpreter.specs.Validate.{with-buffer-size, valuesOf, validate-type, validate, validate-run, runOf}
+use Rattle.interpreter_context.specs.Context.{Context}
+use Rattle.interpreter_context.proofs.Names.{slice-is}
+use Rattle.interpreter_leaves.specs.declared.Answer.{Answer}
+use Rattle.interpreter_leaves.specs.declared.Answer.the-variants as answer
+use Rattle.interpreter_leaves.specs.Outcome.{outcomeOf, Tells}
+use Rattle.interpreter_leaves.specs.Steps.{Rooted}
+use Rattle.interpreter_eval.specs.Evaluates.{Ready, Evaluates}
+use Rattle.interpreter_eval.proofs.Laws.{found-at, found-none}
+use Rattle.interpreter_validate.specs.declared.Judgement.{Judgement}
+use Rattle.interpreter_validate.specs.declared.Judgement.the-variants as judgement
+use Rattle.interpreter_validate.specs.Validator.{judge, judgementOf, outcomeIn, fitted, Given, GivenRun}
+
+-- ---- the questions before evaluating
+
+-- both inputs
+abbrev pair : Outcome Tree → Outcome Tree → Outcome (Tree × Tree)
+pair x y = x >>= (λ l. y >>= (λ v. done (l, v)))
+
+first-no : (n : ℕ) (x y : Outcome Tree) {q o : ℕ} → inputOf n x ≡ Refused q o → judgement.Unread q o ≡ judgementOf (pair x y)
+unfolding inputOf judgementOf _>>=_
+first-no n (done t) y e = let z : _≡_ {A = ℕ} 0 1 = cc in absurd (omega arith)
+first-no n (refused r) y e = cc
+
+second-no : (n m : ℕ) (x y : Outcome Tree) {i q o : ℕ} → inputOf n x ≡ Ok i → inputOf m y ≡ Refused q o → judgement.Unread q o ≡ judgementOf (pair x y)
+unfolding inputOf judgementOf _>>=_
+second-no n m (done t) y d e = first-no m y (done t) e ∙ same y
+  where
+    same : (y : Outcome Tree) → judgementOf (pair y (done t)) ≡ judgementOf (pair (done t) y)
+    same (done u) = refl
+    same (refused r) = refl
+second-no n m (refused r) y d e = let z : _≡_ {A = ℕ} 0 1 = cc in absurd (omega arith)
+
+both-yes : (n m : ℕ) (x y : Outcome Tree) {i j : ℕ} → inputOf n x ≡ Ok i → inputOf m y ≡ Ok j → judgement.Read ≡ judgementOf (pair x y)
+unfolding inputOf judgementOf _>>=_
+both-yes n m (done t) (done u) d e = refl
+both-yes n m (done t) (refused r) d e = let z : _≡_ {A = ℕ} 0 1 = cc in absurd (omega arith)
+both-yes n m (refused r) y d e = let z : _≡_ {A = ℕ} 0 1 = cc in absurd (omega arith)
+
+module _ (n : ℕ) (s v : List ℕ) (k : ℕ) where
+  pub judge-19 : n < 8192 → judgement.Unread 19 0 ≡ judgementOf (judge n s v k)
+  unfolding judge judgementOf enough _>>=_ ask
+  judge-19 h = rw (lt-leb _ _ h)
+
+  module _ (h : 8192 ≤ n) where
+    pub judge-1 : 65536 < length s → judgement.Unread 1 0 ≡ judgementOf (judge n s v k)
+    unfolding judge judgementOf enough small _>>=_ ask
+    judge-1 g = rw (le-leb _ _ h, lt-leb _ _ g)
+
+    module _ (g : length s ≤ 65536) where
+      pub judge-1-too : 65536 < length v → judgement.Unread 1 0 ≡ judgementOf (judge n s v k)
+      unfolding judge judgementOf enough small _>>=_ ask
+      judge-1-too f = rw (le-leb _ _ h, le-leb _ _ g, lt-leb _ _ f)
+
+      module _ (f : length v ≤ 65536) where
+        reads : judge n s v k ≡ pair (readLayout s) (readInput 2 k v)
+        unfolding judge enough small _>>=_ ask
+        reads = rw (le-leb _ _ h, le-leb _ _ g, le-leb _ _ f)
+
+        module _ {x : Read} (ex : x ≡ inputOf (length s) (readInput 256 160 s)) where
+          pub layout-no : {q o : ℕ} → x ≡ Refused q o → judgement.Unread q o ≡ judgementOf (judge n s v k)
+          layout-no e = first-no (length s) (readLayout s) (readInput 2 k v) (sym ex ∙ e) ∙ ap judgementOf (sym reads)
+
+          module _ {y : Read} (ey : y ≡ inputOf (length v) (readInput 2 k v)) {i : ℕ} (d : x ≡ Ok i) where
+            pub values-no : {q o : ℕ} → y ≡ Refused q o → judgement.Unread q o ≡ judgementOf (judge n s v k)
+            values-no e = second-no (length s) (length v) (readLayout s) (readInput 2 k v) (sym ex ∙ d) (sym ey ∙ e) ∙ ap judgementOf (sym reads)
+
+            pub both-read : {j : ℕ} → y ≡ Ok j → judgement.Read ≡ judgementOf (judge n s v k)
+            both-read e = both-yes (length s) (length v) (readLayout s) (readInput 2 k v) (sym ex ∙ d) (sym ey ∙ e) ∙ ap judgementOf (sym reads)
+
+-- ---- a refusal before evaluating has no place and no value
+
+module _ {A B : Type 0} where
+  both : {o : Outcome A} {k : A → Outcome B} → Unread o → ((a : A) → Unread (k a)) → Unread (o >>= k)
+  unfolding _>>=_
+  both (Unread.given a) g = g a
+  both (Unread.at-offset q o) g = Unread.at-offset q o
+
+asks : (b : Bool) (q o : ℕ) → Unread (ask b (unread q o))
+unfolding ask
+asks true q o = Unread.given tt
+asks false q o = Unread.at-offset q o
+
+judge-unread : (n : ℕ) (s v : List ℕ) (k : ℕ) → Unread (judge n s v k)
+unfolding judge enough small
+judge-unread n s v k = both (asks _ 19 0) (λ a. both (asks _ 1 0) (λ b. both (asks _ 1 0) (λ c. both (input-unread 256 160 s) (λ l. both (input-unread 2 k v) (λ t. Unread.given (l, t))))))
+
+unread-is : {o : Outcome (Tree × Tree)} {q p : ℕ} → Unread o → judgement.Unread q p ≡ judgementOf o → o ≡ refused (unread q p)
+unfolding judgementOf
+unread-is (Unread.given x) e = let z : _≡_ {A = ℕ} 0 1 = cc in absurd (omega arith)
+unread-is {q} {p} (Unread.at-offset r o) e =
+    let a : r ≡ q = cc in
+    let b : o ≡ p = cc in
+    ap (λ (z : ℕ). refused (unread z o)) a ∙ ap (λ (z : ℕ). refused (unread q z)) b
+
+read-is : (o : Outcome (Tree × Tree)) → judgement.Read ≡ judgementOf o → (x : Tree × Tree) × (o ≡ done x)
+unfolding judgementOf
+read-is (done x) e = (x, refl)
+read-is (refused r) e = let z : _≡_ {A = ℕ} 0 1 = cc in absurd (omega arith)
+
+-- ---- what was read
+
+pub record Judged (n : ℕ) (s v : List ℕ) (k : ℕ) : Type 0 where
+  pub layout : Tree
+  pub other : Tree
+  pub is : judge n s v k ≡ done (layout, other)
+  pub words : 8192 ≤ n
+  pub small-layout : length s ≤ 65536
+  pub layout-read : readLayout s ≡ done layout
+  pub other-read : readInput 2 k v ≡ done other
+
+judged-as : (n : ℕ) (s v : List ℕ) (k : ℕ) (x : Tree × Tree) → judge n s v k ≡ done x → Judged n s v k
+unfolding judge enough small
+judged-as n s v k x e =
+    let a = asked (leb 8192 n) _ _ _ e in
+    let b = asked (leb (length s) 65536) _ _ _ (a .1) in
+    let c = asked (leb (length v) 65536) _ _ _ (b .1) in
+    last (leb-true _ _ (a .0)) (leb-true _ _ (b .0)) (c .1)
+  where
+    last : 8192 ≤ n → length s ≤ 65536 → pair (readLayout s) (readInput 2 k v) ≡ done x → Judged n s v k
+    last h g f =
+        let l = bound (readLayout s) _ _ f in
+        let t = bound (readInput 2 k v) _ _ (l .2) in
+        record { layout = l .0; other = t .0; is = e ∙ sym (t .2); words = h; small-layout = g; layout-read = l .1; other-read = t .1 }
+
+pub judged : {n : ℕ} {s v : List ℕ} {k : ℕ} → judgement.Read ≡ judgementOf (judge n s v k) → Judged n s v k
+judged {n} {s} {v} {k} e = let x = read-is (judge n s v k) e in judged-as n s v k (x .0) (x .1)
+
+-- ---- validate
+
+after-judging : (a b c : Outcome Unit) (x y : Outcome Tree) (g : Tree → Tree → Outcome ℕ) →
+    (a >>= (λ u. b >>= (λ v. c >>= (λ w. x >>= (λ l. y >>= (λ t. g l t)))))) ≡ ((a >>= (λ u. b >>= (λ v. c >>= (λ w. pair x y)))) >>= (λ z. g (z .0) (z .1)))
+unfolding _>>=_
+after-judging (refused r) b c x y g = refl
+after-judging (done u) (refused r) c x y g = refl
+after-judging (done u) (done v) (refused r) x y g = refl
+after-judging (done u) (done v) (done w) (refused r) y g = refl
+after-judging (done u) (done v) (done w) (done l) (refused r) g = refl
+after-judging (done u) (done v) (done w) (done l) (done t) g = refl
+
+module _ (n : ℕ) (s : List ℕ) (name : Name) (v : List ℕ) (len : ℕ) where
+  validate-is : validate n s name v len ≡ (judge n s v 192 >>= (λ z. validate-type (layoutOf (z .0)) name len (valuesOf (z .1))))
+  unfolding validate judge
+  validate-is = after-judging (enough n) (small s) (small v) (readLayout s) (readInput 2 192 v) (λ l t. validate-type (layoutOf l) name len (valuesOf t))
+
+  pub stops : {q p : ℕ} → judgement.Unread q p ≡ judgementOf (judge n s v 192) → outcomeOf (answer.Refused q 65535 p 0) ≡ validate n s name v len
+  unfolding _>>=_
+  stops e = sym (validate-is ∙ ap (λ (o : Outcome (Tree × Tree)). o >>= (λ z. validate-type (layoutOf (z .0)) name len (valuesOf (z .1)))) (unread-is (judge-unread n s v 192) e))
+
+  pub goes : (r : Answer) → judgement.Read ≡ judgementOf (judge n s v 192) → ((t : Tree) → readLayout s ≡ done t → (a : Accepted v 192 192 0) → outcomeOf r ≡ validate-type (layoutOf t) name len (valuesOf (tree a))) → outcomeOf r ≡ validate n s name v len
+  unfolding _>>=_
+  goes r e f = last (judged e)
+    where
+      last : Judged n s v 192 → outcomeOf r ≡ validate n s name v len
+      last j =
+          let a = input 2 192 v (j .other-read) in
+          f (j .layout) (j .layout-read) (a .0)
+          ∙ ap (λ (z : Tree × ℕ). validate-type (layoutOf (j .layout)) name len (valuesOf (z .0))) (a .1)
+          ∙ sym (validate-is ∙ ap (λ (o : Outcome (Tree × Tree)). o >>= (λ z. validate-type (layoutOf (z .0)) name len (valuesOf (z .1)))) (j .is))
+
+-- the words lent to the open calls, of n words that are zero
+module _ (n : ℕ) (s v : List ℕ) (k : ℕ) {us : List ℕ} (e : us ≡ replicate n 0) (r : judgement.Read ≡ judgementOf (judge n s v k)) where
+  pub roomy : 16 ≤ length us
+  roomy = let l : length us ≡ n = ap length e ∙ length-replicate n 0 in omega (arith, judged r .words)
+
+  pub lent : 16 ≤ length (take 16 us)
+  lent = omega (arith, length-take-le 16 us roomy)
+
+pub given : (n : ℕ) (s v : List ℕ) {ws : List ℕ} → 16 ≤ length ws → judgement.Read ≡ judgementOf (judge n s v 192) → Given s v 0 ws
+given n s v h r =
+    let j = judged r in
+    record { layout = (j .layout, j .layout-read); values-read = input 2 192 v (j .other-read) .0; room = h; small = j .small-layout }
+
+-- ---- a type of an accepted layout
+
+-- the words tell no other outcome
+tells-one : {ok : Bool} {ws us : List ℕ} (o : Outcome ℕ) → Tells ok ws us o → outcomeIn ok us ≡ o
+tells-one (done n) t = rw (t .which, t .left)
+tells-one (refused r) t = rw (t .which, t .left)
+
+module _ {s : List ℕ} {name : Name} {r : Place} (f : (t : Tree) → readLayout s ≡ done t → TreeFound s name (layoutOf t) r) where
+  pub type-unknown : r ≡ PlaceNone → (t : Tree) → readLayout s ≡ done t → (len : ℕ) (γ : ParamMap) → outcomeOf (answer.Refused 20 65535 0 0) ≡ validate-type (layoutOf t) name len γ
+  unfolding validate-type _>>=_
+  type-unknown e t rd len γ = rw (found-none e (f t rd))
+
+  module _ {i o : ℕ} (e : r ≡ PlaceAt i o) where
+    pub type-tree : {v ws : List ℕ} {block : ℕ} → Given s v block ws → Accepted s 161 161 o
+    type-tree g = found-at e (f (g .layout .0) (g .layout .1)) .0
+
+    module _ {q : ℕ} (rooted : (c : Accepted s 161 161 o) → Rooted c q) where
+      pub root-ready : {v ws : List ℕ} {block left : ℕ} (len : ℕ) → Given s v block ws → left ≤ 16 → Ready s v block len ws left 0 i q
+      root-ready len g few = record { node = rooted (type-tree g) .root; layout = g .layout; context = (_, Context.root (g .values-read)); here = λ d e. absurd (omega arith); room = omega (arith, g .room, few); small = g .small }
+
+      pub type-goes : {v ws : List ℕ} {block len : ℕ} {ok : Bool} {before out : List ℕ} (w z : Answer) → Evaluates s v block len ws 16 0 i q ok before out → outcomeOf w ≡ outcomeIn ok out → outcomeOf z ≡ fitted i len (outcomeOf w) →
+          (t : Tree) → readLayout s ≡ done t → (a : Accepted v 192 192 block) → outcomeOf z ≡ validate-type (layoutOf t) name len (valuesOf (tree a))
+      unfolding validate-type fitted
+      type-goes {len} w z ev is fit t rd a =
+          let c = found-at e (f t rd) in
+          let k = rooted (c .0) in
+          let γ : ParamMap = with-buffer-size len (valuesOf (tree a)) in
+          fit
+          ∙ ap (fitted i len) (is ∙ tells-one _ (ev γ (Context.root a) t rd (k .root)) ∙ ap (eval-within 16 (layoutOf t) i γ) (sym (k .is)))
+          ∙ sym (bound-done _ (c .1))
+
+-- ---- a run
+
+module _ (n : ℕ) (s v : List ℕ) where
+  run-is : validate-run n s v ≡ (judge n s v 193 >>= (λ z. validate-type (layoutOf (z .0)) (runOf (z .1) .type-name) (runOf (z .1) .buffer-length) (runOf (z .1) .values)))
+  unfolding validate-run judge
+  run-is = after-judging (enough n) (small s) (small v) (readLayout s) (readInput 2 193 v) (λ l t. validate-type (layoutOf l) (runOf t .type-name) (runOf t .buffer-length) (runOf t .values))
+
+  pub run-stops : {q p : ℕ} → judgement.Unread q p ≡ judgementOf (judge n s v 193) → outcomeOf (answer.Refused q 65535 p 0) ≡ validate-run n s v
+  unfolding _>>=_
+  run-stops e = sym (run-is ∙ ap (λ (o : Outcome (Tree × Tree)). o >>= (λ z. validate-type (layoutOf (z .0)) (runOf (z .1) .type-name) (runOf (z .1) .buffer-length) (runOf (z .1) .values))) (unread-is (judge-unread n s v 193) e))
+
+  pub run-goes : (r : Answer) → judgement.Read ≡ judgementOf (judge n s v 193) → ((t : Tree) → readLayout s ≡ done t → (u : Tree) → readRun v ≡ done u → outcomeOf r ≡ validate-type (layoutOf t) (runOf u .type-name) (runOf u .buffer-length) (runOf u .values)) → outcomeOf r ≡ validate-run n s v
+  unfolding _>>=_
+  run-goes r e f = last (judged e)
+    where
+      last : Judged n s v 193 → outcomeOf r ≡ validate-run n s v
+      last j =
+          f (j .layout) (j .layout-read) (j .other) (j .other-read)
+          ∙ sym (run-is ∙ ap (λ (o : Outcome (Tree × Tree)). o >>= (λ z. validate-type (layoutOf (z .0)) (runOf (z .1) .type-name) (runOf (z .1) .buffer-length) (runOf (z .1) .values))) (j .is))
+
+pub given-run : (n : ℕ) (s v : List ℕ) {ws : List ℕ} → 16 ≤ length ws → judgement.Read ≡ judgementOf (judge n s v 193) → GivenRun s v ws
+given-run n s v h r =
+    let j = judged r in
+    record { layout = (j .layout, j .layout-read); run-read = (j .other, j .other-read); room = h; small = j .small-layout }
+
+-- where a run's name, buffer length and values stand
+pub record RunAt (s : List ℕ) (u : ℕ) (t : Tree) : Type 0 where
+  pub inside : 8 + u + 8 ≤ length s
+  pub named : runOf t .type-name ≡ nameAt s 6
+  pub long : runOf t .buffer-length ≡ le8 s (8 + u)
+  pub block : Accepted s 192 192 (8 + u + 8)
+  pub is : part 2 (body t) ≡ tree block
+
+run-name : (t b y : Tree) (m : Name) → t ≡ block 0 193 (cons (name m) (cons b y)) → runOf t .type-name ≡ m
+unfolding part
+run-name t b y m e = rw e
+
+run-length : (t a y : Tree) (w : ℕ) → t ≡ block 0 193 (cons a (cons (num 8 w) y)) → runOf t .buffer-length ≡ w
+unfolding part
+run-length t a y w e = rw e
+
+run-values : (t a b y d m : Tree) → t ≡ block 0 193 (cons a (cons b y)) → y ≡ cons d m → part 2 (body t) ≡ d
+unfolding part
+run-values t a b y d m e f = rw (e, f)
+
+run-third : {s : List ℕ} {u : ℕ} (t : Tree) (c : Parts s (Block 192 192 ∷ []) (8 + u + 8)) → 8 + u + 8 ≤ length s → t ≡ block 0 193 (cons (name (nameAt s 6)) (cons (num 8 (le8 s (8 + u))) (c .got .0))) → RunAt s u t
+run-third t c h et =
+    let k = block-part c in
+    record { inside = h; named = run-name t _ _ _ et; long = run-length t _ _ _ et; block = k .child; is = run-values t _ _ _ _ _ et (k .behind .tree) }
+
+run-second : {s : List ℕ} {u : ℕ} (t : Tree) (c : Parts s (Number ∷ Block 192 192 ∷ []) (8 + u)) → t ≡ block 0 193 (cons (name (nameAt s 6)) (c .got .0)) → RunAt s u t
+run-second {s} {u} t c et =
+    let k = number-part c in
+    run-third t (k .rest) (omega (arith, k .inside, c .fits)) (et ∙ ap (λ (z : Tree). block 0 193 (cons (name (nameAt s 6)) z)) (k .tree))
+
+run-first : {s : List ℕ} {u : ℕ} (t : Tree) (c : Parts s (Text ∷ Number ∷ Block 192 192 ∷ []) 6) → u ≡ le2 s 6 → t ≡ block 0 193 (c .got .0) → RunAt s u t
+run-first {s} {u} t c eu et =
+    let e : 6 + 2 + le2 s 6 ≡ 8 + u = omega (arith, eu) in
+    let k = behind-at e (text-part c .1) in
+    run-second t (k .rest) (et ∙ ap (block 0 193) (k .tree))
+
+pub run-at : {s : List ℕ} {u : ℕ} {t : Tree} → readRun s ≡ done t → u ≡ le2 s 6 → RunAt s u t
+unfolding partsOf findRow grammar
+run-at {s} {u} {t} e eu = go (input 2 193 s e)
+  where
+    go : ((a : Accepted s 193 193 0) × (a .got ≡ (t, length s))) → RunAt s u t
+    go (a, g) =
+        let o = opened a refl refl in
+        let k : le2 s 4 ≡ 193 = omega (arith, o .least, o .most) in
+        let p = opened {k = 193} {ps = Text ∷ Number ∷ Block 192 192 ∷ []} a k refl in
+        run-first t (p .parts) eu (sym (ap (λ (z : Tree × ℕ). z .0) g) ∙ p .tree)
+
+pub run-six : {s v ws : List ℕ} → GivenRun s v ws → 8 ≤ length v
+run-six {v} g = omega (arith, run-at {s = v} {u = le2 v 6} (g .run-read .1) refl .inside)
+
+pub run-inside : {s v ws : List ℕ} {u : ℕ} → GivenRun s v ws → u ≡ le2 v 6 → 8 + u + 8 ≤ length v
+run-inside g eu = run-at (g .run-read .1) eu .inside
+
+module _ {s v ws : List ℕ} {u : ℕ} (g : GivenRun s v ws) (eu : u ≡ le2 v 6) where
+  pub run-given : Given s v (8 + u + 8) ws
+  run-given = record { layout = g .layout; values-read = run-at (g .run-read .1) eu .block; room = g .room; small = g .small }
+
+  pub run-answers : (r : Answer) (len : ℕ) → len ≡ le8 v (8 + u) →
+      ((t : Tree) → readLayout s ≡ done t → (a : Accepted v 192 192 (8 + u + 8)) → outcomeOf r ≡ validate-type (layoutOf t) (take (8 + u - 8) (drop 8 v)) len (valuesOf (tree a))) →
+      (t : Tree) → readLayout s ≡ done t → (x : Tree) → readRun v ≡ done x → outcomeOf r ≡ validate-type (layoutOf t) (runOf x .type-name) (runOf x .buffer-length) (runOf x .values)
+  run-answers r len el f t rd x rx =
+      let k = run-at rx eu in
+      f t rd (k .block)
+      ∙ ap (λ (z : Name). validate-type (layoutOf t) z len (valuesOf (tree (k .block)))) (slice-is v 6 u eu ∙ sym (k .named))
+      ∙ ap (λ (z : ℕ). validate-type (layoutOf t) (runOf x .type-name) z (valuesOf (tree (k .block)))) (el ∙ sym (k .long))
+      ∙ ap (λ (z : Tree). validate-type (layoutOf t) (runOf x .type-name) (runOf x .buffer-length) (valuesOf z)) (sym (k .is))

@@ -1,0 +1,51 @@
+-- `interpreter_validate::evaluated` meets its contract. Assumes nothing.
+use Rattle.interpreter_validate.proofs.Laws.{type-unknown, type-tree, root-ready, type-goes}
+use native.Mathlib.Omega.{arith}
+use borrow.Author.Needs.{needs}
+use Rattle.interpreter_validate.proofs.evaluated.Statement.{statement}
+use Rattle.interpreter_validate.proofs.evaluated.Tie as tie
+
+lookup-type-requires : tie.Need-lookup-type-requires
+lookup-type-requires c κs = search needs
+
+enum-told : tie.Need-enum-told
+enum-told c = search needs
+
+enum-known-i : tie.Need-enum-known-i
+enum-known-i c = search needs
+
+root-requires : tie.Need-root-requires
+root-requires c κs = type-tree (c .before .before .before .lookup-type .ensures) (c .before .i .given .1) (c .before .before .before .before .before .before .before .before .pre)
+
+eval-node-requires : tie.Need-eval-node-requires
+eval-node-requires c κs = root-ready (c .before .before .before .before .before .before .lookup-type .ensures) (c .before .before .before .before .i .given .1) (c .before .before .root .ensures) _ (c .before .before .before .before .before .before .before .before .before .before .before .pre) (omega arith)
+
+answered-requires : tie.Need-answered-requires
+answered-requires c κs = search needs
+
+fitting-requires : tie.Need-fitting-requires
+fitting-requires c κs = search needs
+
+returns : tie.Need-returns
+returns c = (omega arith, λ t rd a. type-unknown (c .before .before .lookup-type .ensures) (c .enum-told .given .1) t rd _ _)
+
+same-length : tie.Need-same-length
+same-length c = search needs
+
+returns-2 : tie.Need-returns-2
+returns-2 c = (omega arith, type-goes (c .before .before .before .before .before .before .before .before .before .before .before .before .lookup-type .ensures) (c .before .before .before .before .before .before .before .before .before .before .i .given .1) (c .before .before .before .before .before .before .before .before .root .ensures) (c .before .answered .result) (c .fitting .result) (c .before .before .before .before .before .eval-node .ensures .1) (c .before .answered .ensures) (c .fitting .ensures))
+
+pub evaluated-spec : {M : Type 1} → statement M
+evaluated-spec =
+    tie.close
+    (tie.spec
+    lookup-type-requires
+    enum-told
+    enum-known-i
+    root-requires
+    eval-node-requires
+    answered-requires
+    fitting-requires
+    returns
+    same-length
+    returns-2)

@@ -1,0 +1,28 @@
+-- `interpreter_validate::fitting` meets its contract. Assumes nothing.
+use borrow.Author.Tests.{le-leb, lt-leb}
+use Rattle.errors.specs.Refusal.{_>>=_}
+use Rattle.interpreter_validate.specs.Validator.{fitted}
+use borrow.Author.Needs.{needs}
+use Rattle.interpreter_validate.proofs.fitting.Statement.{statement}
+use Rattle.interpreter_validate.proofs.fitting.Tie as tie
+
+enum-known-a : tie.Need-enum-known-a
+enum-known-a c = search needs
+
+enum-known-a-2 : tie.Need-enum-known-a-2
+enum-known-a-2 c = search needs
+
+returns : tie.Need-returns
+unfolding fitted _>>=_
+returns c = rw (c .before .before .a .given .1, le-leb _ _ (c .if1 .taken))
+
+returns-2 : tie.Need-returns-2
+unfolding fitted _>>=_
+returns-2 c = rw (c .before .before .a .given .1, lt-leb _ _ (c .if1 .left))
+
+returns-3 : tie.Need-returns-3
+unfolding fitted _>>=_
+returns-3 c = rw (c .before .a2 .given .1)
+
+pub fitting-spec : {M : Type 1} → statement M
+fitting-spec = tie.close (tie.spec enum-known-a enum-known-a-2 returns returns-2 returns-3)

@@ -1,0 +1,31 @@
+-- `interpreter_validate::length_of` meets its contract. Assumes nothing.
+use mathlib.Core.Path.{sym, _∙_}
+use native.Mathlib.Omega.{arith}
+use Rattle.interpreter_validate.proofs.Laws.{stops, goes, given}
+use borrow.Author.Needs.{needs}
+use Rattle.interpreter_validate.proofs.length_of.Statement.{statement}
+use Rattle.interpreter_validate.proofs.length_of.Tie as tie
+
+judged-requires : tie.Need-judged-requires
+judged-requires c κs = search needs
+
+enum-known-q : tie.Need-enum-known-q
+enum-known-q c = search needs
+
+enum-told : tie.Need-enum-told
+enum-told c = search needs
+
+slice-aggregate-evaluated : tie.Need-slice-aggregate-evaluated
+slice-aggregate-evaluated c = search needs
+
+evaluated-requires : tie.Need-evaluated-requires
+evaluated-requires c κs = given _ _ _ (omega arith) (sym (c .before .enum-told .given .1) ∙ c .before .before .before .judged .ensures)
+
+returns : tie.Need-returns
+returns c = stops _ _ _ _ _ (sym (c .before .q .given .1) ∙ c .before .before .before .judged .ensures)
+
+returns-2 : tie.Need-returns-2
+returns-2 c = goes _ _ _ _ _ (c .before .evaluated .result) (sym (c .before .before .before .enum-told .given .1) ∙ c .before .before .before .before .before .judged .ensures) (c .before .evaluated .ensures .1)
+
+pub length-of-spec : {M : Type 1} → statement M
+length-of-spec = tie.close (tie.spec judged-requires enum-known-q enum-told slice-aggregate-evaluated evaluated-requires returns returns-2)

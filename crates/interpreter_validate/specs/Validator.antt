@@ -1,0 +1,51 @@
+-- The questions before evaluating and what the code answers of them; what evaluating a type asks for; 25, at the end.
+use Prim.Native.Nat.{ℕ, _≤_}
+use mathlib.Core.Path.{_≡_}
+use mathlib.Core.Bool.{Bool, true, false}
+use mathlib.Core.List.{List}
+use lib.ListN.{length, getD}
+use Rattle.errors.specs.Refusal.{Outcome, done, refused, _>>=_, enough}
+use Rattle.blocks.specs.Tree.{Tree}
+use Rattle.blocks.specs.Read.{small, readInput, readLayout, readRun}
+use Rattle.accepted.specs.Accepted.{Accepted}
+use Rattle.interpreter.specs.Eval.{at}
+use Rattle.interpreter.specs.Validate.{fits-buffer}
+use Rattle.interpreter_validate.specs.declared.Judgement.{Judgement}
+use Rattle.interpreter_validate.specs.declared.Judgement.the-variants.{Read, Unread}
+
+-- with so many working words: a layout, and an input of this kind
+unfoldable pub judge : ℕ → List ℕ → List ℕ → ℕ → Outcome (Tree × Tree)
+judge words layout input kind = do
+  _ ← enough words
+  _ ← small layout
+  _ ← small input
+  l ← readLayout layout
+  v ← readInput 2 kind input
+  done (l, v)
+
+unfoldable pub judgementOf : Outcome (Tree × Tree) → Judgement
+judgementOf (done x) = Read
+judgementOf (refused r) = Unread (r .number) (r .offset)
+
+-- what evaluating left: whether it is a count, then the first word, or a refusal's number, place, offset and value
+abbrev pub outcomeIn : Bool → List ℕ → Outcome ℕ
+outcomeIn true out = done (getD out 0 0)
+outcomeIn false out = refused (at (getD out 1 0) (getD out 2 0) (getD out 0 0) (getD out 3 0))
+
+-- an outcome, and 25 of its count
+unfoldable pub fitted : ℕ → ℕ → Outcome ℕ → Outcome ℕ
+fitted place len o = o >>= fits-buffer place len
+
+-- an accepted layout, accepted values at an offset, and room for the open calls
+pub record Given (s values : List ℕ) (block : ℕ) (words : List ℕ) : Type 0 where
+  pub layout : (t : Tree) × (readLayout s ≡ done t)
+  pub values-read : Accepted values 192 192 block
+  pub room : 16 ≤ length words
+  pub small : length s ≤ 65536
+
+-- an accepted layout, an accepted run, and room for the open calls
+pub record GivenRun (s run words : List ℕ) : Type 0 where
+  pub layout : (t : Tree) × (readLayout s ≡ done t)
+  pub run-read : (t : Tree) × (readRun run ≡ done t)
+  pub room : 16 ≤ length words
+  pub small : length s ≤ 65536

@@ -1,0 +1,202 @@
+-- The laws of the lines. Assumes nothing.
+use mathlib.Core.Path.{_≡_, refl, sym, ap, _∙_}
+use mathlib.Core.Bool.{Bool, true, false, cond}
+use mathlib.Core.List.{List, [], _∷_, _++_, append-assoc}
+use Prim.Native.Nat.{ℕ, zero, suc, _+_, _-_, _*_, _/_, _%_, _<_, _≤_}
+use native.Mathlib.Numerals.{sub-one}
+use native.Mathlib.Nat.{add-mul, mul-left-comm, div-eq-of-lt-le}
+use native.Mathlib.Omega.{arith}
+use borrow.Author.Tests.{lt-ltb, le-ltb, eq-eqb, ne-eqb, le-leb, lt-leb, leb-true}
+use lib.Dec.{leb}
+use lib.ListN.{length, take, length-take}
+use lib.Seq.{getD-take}
+use Rattle.errors.specs.Refusal.{done, refused, _>>=_, ask, plain, enough, BufferTooSmall}
+use Rattle.errors.proofs.Laws.{done-one, not-done, asked, bound}
+use Rattle.blocks.specs.Bytes.{le2, le4, le8}
+use Rattle.blocks.specs.Name.{Name}
+use Rattle.blocks.specs.Tree.{Tree}
+use Rattle.blocks.specs.Read.{small, readLayout, readRun}
+use Rattle.ir.specs.Ir.{TypeIr}
+use Rattle.ir.specs.Layout.{layoutOf}
+use Rattle.interpreter.specs.Eval.{ParamMap, at, lookup-type, eval-within}
+use Rattle.interpreter.specs.Validate.{with-buffer-size, fits-buffer, validate-type, validate-run, runOf}
+use Rattle.wire.specs.Poke.{Wrote}
+use Rattle.wire.proofs.Laws.{both, none}
+use Rattle.interpreter_leaves.specs.declared.Answer.{Answer}
+use Rattle.interpreter_leaves.specs.declared.Answer.the-variants as answer
+use Rattle.interpreter_leaves.specs.Outcome.{outcomeOf}
+use Rattle.interpreter_validate.proofs.Laws.{run-at}
+use Rattle.lengths_definition.specs.Lengths.{digits, decimal, fill, line, stopped, next-block, run-length, answer-lines}
+use Rattle.lengths_lines.specs.declared.Header.the-variants as header
+use Rattle.lengths_lines.specs.declared.Printed.the-variants as printed
+use Rattle.lengths_lines.specs.Lines.{from-header, Answered, AcceptedRun}
+
+-- ---- decimal
+
+pub digits-none : (xs : List ℕ) (at k n : ℕ) → k ≡ 0 → Wrote xs at (digits k n) xs at
+unfolding digits
+digits-none xs at zero n h = none xs at
+digits-none xs at (suc k) n h = absurd (let z : ⊥ = omega arith in z)
+
+pub digits-one : (xs ys : List ℕ) (at k n r : ℕ) → (k ≡ 0 → ⊥) → n < 10 → Wrote xs at ((0x30 + n) ∷ []) ys r → Wrote xs at (digits k n) ys r
+unfolding digits
+digits-one xs ys at zero n r h g w = absurd (h refl)
+digits-one xs ys at (suc k) n r h g w = rw (lt-ltb _ _ g, digits) w
+
+pub digits-more : (xs ys zs : List ℕ) (at p k n r : ℕ) → (k ≡ 0 → ⊥) → 10 ≤ n → Wrote xs at (digits (k - 1) (n / 10)) ys p → Wrote ys p ((0x30 + n % 10) ∷ []) zs r → Wrote xs at (digits k n) zs r
+unfolding digits
+digits-more xs ys zs at p zero n r h g w v = absurd (h refl)
+digits-more xs ys zs at p (suc k) n r h g w v = rw (le-ltb _ _ g, digits) (both (rw sub-one at w) v)
+
+-- ---- lines
+
+pub line-puts : {xs ys zs us vs : List ℕ} {at a b c d : ℕ} (run q v f : ℕ) →
+    Wrote xs at (decimal run ++ (0x20 ∷ [])) ys a → Wrote ys a (decimal q ++ (0x20 ∷ [])) zs b → Wrote zs b (decimal v ++ (0x20 ∷ [])) us c → Wrote us c (decimal f ++ (0x0A ∷ [])) vs d → Wrote xs at (line run q v f) vs d
+unfolding line
+line-puts run q v f g h i j = simp append-assoc at (both g (both h (both i j)))
+
+pub stopped-puts : {xs ys zs us : List ℕ} {at a b c : ℕ} (q : ℕ) → Wrote xs at (0x53 ∷ []) ys a → Wrote ys a (0x20 ∷ []) zs b → Wrote zs b (decimal q ++ (0x0A ∷ [])) us c → Wrote xs at (stopped (plain q)) us c
+unfolding stopped
+stopped-puts q g h i = both g (both h i)
+
+-- ---- fill
+
+-- i counts come to so many whole lengths and a rest
+pub record Filled (count len i whole rest : ℕ) : Type 0 where
+  pub turns : i ≤ 100
+  pub few : whole ≤ i
+  pub below : rest < len
+  pub is : i * count ≡ whole * len + rest
+
+module _ {count len i whole rest : ℕ} (t : i < 100) (f : Filled count len i whole rest) where
+  pub fill-in : {w r : ℕ} → rest < len - count → w ≡ whole → r ≡ rest + count → Filled count len (i + 1) w r
+  fill-in h ew er =
+      record { turns = omega arith; few = omega (arith, f .few); below = omega arith; is = rw (ew, er) (omega (arith, add-mul i 1 count, f .is)) }
+
+  pub fill-over : {w r : ℕ} → count ≤ len → len - count ≤ rest → w ≡ whole + 1 → r ≡ rest - (len - count) → Filled count len (i + 1) w r
+  fill-over l h ew er =
+      record { turns = omega arith; few = omega (arith, f .few); below = omega (arith, f .below); is = rw (ew, er) (omega (arith, add-mul i 1 count, add-mul whole 1 len, f .is)) }
+
+pub fill-none : (count len : ℕ) → len ≡ 0 → 0 ≡ fill count len
+unfolding fill
+fill-none count len h = rw (eq-eqb len 0 h)
+
+filled : (count len q : ℕ) → (len ≡ 0 → ⊥) → q * (2 * len) ≤ 200 * count + len → 200 * count + len < (q + 1) * (2 * len) → q ≡ fill count len
+unfolding fill
+filled count len q h a b = rw (ne-eqb len 0 h) (sym (div-eq-of-lt-le (2 * len) a b))
+
+twice : (q len : ℕ) → q * (2 * len) ≡ 2 * (q * len)
+twice q len = mul-left-comm q 2 len
+
+module _ {count len i whole rest : ℕ} (h : len ≡ 0 → ⊥) (t : 100 ≤ i) (f : Filled count len i whole rest) where
+  hundred : 100 * count ≡ whole * len + rest
+  hundred = let e : i ≡ 100 = omega (arith, f .turns) in rw e at (f .is)
+
+  pub fill-down : rest < len - rest → whole ≡ fill count len
+  fill-down g =
+      filled count len whole h (omega (arith, twice whole len, hundred)) (omega (arith, twice (whole + 1) len, add-mul whole 1 len, hundred))
+
+  pub fill-up : len - rest ≤ rest → whole + 1 ≡ fill count len
+  fill-up g =
+      filled count len (whole + 1) h (omega (arith, twice (whole + 1) len, add-mul whole 1 len, hundred)) (omega (arith, twice (whole + 1 + 1) len, add-mul (whole + 1) 1 len, add-mul whole 1 len, hundred, f .below))
+
+-- ---- the first bytes of a block
+
+module _ (h s : List ℕ) (e : take 4 s ≡ take 4 h) where
+  same-length : length h < 4 → length s < 4
+  same-length g = omega (arith, length-take 4 s, length-take 4 h, ap length e)
+
+  long-enough : 4 ≤ length h → 4 ≤ length s
+  long-enough g = omega (arith, length-take 4 s, length-take 4 h, ap length e)
+
+  same-number : le4 h 0 ≡ le4 s 0
+  same-number = sym (first-four h) ∙ ap (λ (z : List ℕ). le4 z 0) (sym e) ∙ first-four s
+    where
+      first-four : (z : List ℕ) → le4 (take 4 z) 0 ≡ le4 z 0
+      first-four z = rw (getD-take 4 z 0 0 (omega arith), getD-take 4 z 1 0 (omega arith), getD-take 4 z 2 0 (omega arith), getD-take 4 z 3 0 (omega arith))
+
+pub header-cut : (h : List ℕ) → length h < 4 → (s : List ℕ) → take 4 s ≡ take 4 h → next-block s ≡ from-header (header.Refused 2) s
+unfolding next-block from-header ask _>>=_
+header-cut h g s e = rw (lt-leb _ _ (same-length h s e g))
+
+pub header-large : (h : List ℕ) {n : ℕ} → 4 ≤ length h → n ≡ le4 h 0 → 65536 < 4 + n → (s : List ℕ) → take 4 s ≡ take 4 h → next-block s ≡ from-header (header.Refused 1) s
+unfolding next-block from-header ask _>>=_
+header-large h g en f s e = let l : 65536 < 4 + le4 s 0 = omega (arith, same-number h s e) in rw (le-leb _ _ (long-enough h s e g), lt-leb _ _ l)
+
+pub header-fits : (h : List ℕ) {n : ℕ} → 4 ≤ length h → n ≡ le4 h 0 → 4 + n ≤ 65536 → (s : List ℕ) → take 4 s ≡ take 4 h → next-block s ≡ from-header (header.Fits (4 + n)) s
+unfolding next-block from-header ask _>>=_
+header-fits h {n} g en f s e =
+    let k : 4 + n ≡ 4 + le4 s 0 = omega (arith, same-number h s e) in
+    let l : 4 + le4 s 0 ≤ 65536 = omega arith in
+    rw (k, le-leb _ _ (long-enough h s e g), le-leb _ _ l)
+
+-- ---- a run's buffer length
+
+pub length-inside : {s : List ℕ} {n : ℕ} → AcceptedRun s → n ≡ le2 s 6 → 8 + n + 8 ≤ length s
+length-inside a e = run-at (a .read) e .inside
+
+pub length-name : {s : List ℕ} → AcceptedRun s → 8 ≤ length s
+length-name {s} a = omega (arith, length-inside {s = s} {n = le2 s 6} a refl)
+
+length-of : (s : List ℕ) {t : Tree} → readRun s ≡ done t → run-length s ≡ runOf t .buffer-length
+unfolding run-length _>>=_
+length-of s e = rw e
+
+pub length-is : {s : List ℕ} {n r : ℕ} → AcceptedRun s → n ≡ le2 s 6 → r ≡ le8 s (8 + n) → r ≡ run-length s
+length-is {s} a e f = f ∙ sym (length-of s (a .read) ∙ run-at (a .read) e .long)
+
+-- ---- what an accepted run says
+
+counted-within : (p len count c : ℕ) → fits-buffer p len count ≡ done c → c ≤ len
+counted-within p len count c e = go (leb count len) refl e
+  where
+    go : (b : Bool) → leb count len ≡ b → cond b (done count) (refused (at p 0 BufferTooSmall count)) ≡ done c → c ≤ len
+    go true h d = omega (arith, done-one d, leb-true count len h)
+    go false h d = absurd (not-done d)
+
+counted-type : (ts : List TypeIr) (m : Name) (len : ℕ) (γ : ParamMap) (c : ℕ) → validate-type ts m len γ ≡ done c → c ≤ len
+unfolding validate-type
+counted-type ts m len γ c e =
+    let l = bound (lookup-type 0 m ts) _ _ e in
+    let v = bound (eval-within 16 ts (l .0 .0) (with-buffer-size len γ) (l .0 .1 .root)) _ _ (l .2) in
+    counted-within (l .0 .0) len (v .0) c (v .2)
+
+counted : (n : ℕ) (s v : List ℕ) (c : ℕ) → validate-run n s v ≡ done c → (a : AcceptedRun v) × (c ≤ run-length v)
+unfolding validate-run enough small
+counted n s v c e =
+    let a = asked (leb 8192 n) _ _ _ e in
+    let b = asked (leb (length s) 65536) _ _ _ (a .1) in
+    let d = asked (leb (length v) 65536) _ _ _ (b .1) in
+    let l = bound (readLayout s) _ _ (d .1) in
+    last (l .0) (l .2)
+  where
+    last : (t : Tree) → (readRun v >>= (λ r. validate-type (layoutOf t) (runOf r .type-name) (runOf r .buffer-length) (runOf r .values))) ≡ done c → (a : AcceptedRun v) × (c ≤ run-length v)
+    last t f =
+        let r = bound (readRun v) _ _ f in
+        (record { tree = r .0; read = r .1 }, rw (length-of v (r .1)) (counted-type (layoutOf t) _ _ _ c (r .2)))
+
+module _ (n : ℕ) (s v : List ℕ) {a : Answer} {c : ℕ} (e : outcomeOf a ≡ validate-run n s v) (f : a ≡ answer.Count c) where
+  is-done : validate-run n s v ≡ done c
+  is-done = sym e ∙ ap outcomeOf f
+
+  pub run-accepted : AcceptedRun v
+  run-accepted = counted n s v c is-done .0
+
+  pub run-within : {len : ℕ} → len ≡ run-length v → c ≤ len
+  run-within h = rw h (counted n s v c is-done .1)
+
+  pub answers-count : (run : ℕ) {len p c₀ r : ℕ} {xs ys : List ℕ} → len ≡ run-length v → p ≡ fill c len → Wrote xs c₀ (line run 0 c p) ys r → Answered (answer-lines run (run-length v) (validate-run n s v)) xs c₀ ys (printed.Line r)
+  unfolding answer-lines
+  answers-count run h g w = rw (is-done) (Answered.line w (λ more. rw (g, h)))
+
+module _ (n : ℕ) (s v : List ℕ) {a : Answer} {q p o x : ℕ} (e : outcomeOf a ≡ validate-run n s v) (f : a ≡ answer.Refused q p o x) where
+  is-refused : validate-run n s v ≡ refused (at p o q x)
+  is-refused = sym e ∙ ap outcomeOf f
+
+  pub answers-stop : (run : ℕ) {c r : ℕ} {xs ys : List ℕ} → q ≤ 6 → Wrote xs c (stopped (plain q)) ys r → Answered (answer-lines run (run-length v) (validate-run n s v)) xs c ys (printed.Last r)
+  unfolding answer-lines stopped
+  answers-stop run h w = rw is-refused (Answered.last w (λ more. rw (le-leb _ _ h)))
+
+  pub answers-refused : (run : ℕ) {c r : ℕ} {xs ys : List ℕ} → 6 < q → Wrote xs c (line run q x 0) ys r → Answered (answer-lines run (run-length v) (validate-run n s v)) xs c ys (printed.Line r)
+  unfolding answer-lines
+  answers-refused run h w = rw is-refused (Answered.line w (λ more. rw (lt-leb _ _ h)))

@@ -1,0 +1,79 @@
+-- `lengths_lines::answer_at` meets its contract: a count is at most the buffer length, so the fill is that of the definition. Assumes nothing.
+use borrow.Author.Needs.{needs}
+use native.Mathlib.Omega.{arith}
+use Rattle.lengths_lines.proofs.Laws.{run-accepted, run-within, answers-count, answers-stop, answers-refused}
+use Rattle.lengths_lines.proofs.answer_at.Statement.{statement}
+use Rattle.lengths_lines.proofs.answer_at.Tie as tie
+
+validate-run-requires : tie.Need-validate-run-requires
+validate-run-requires c κs = search needs
+
+enum-known-n : tie.Need-enum-known-n
+enum-known-n c = search needs
+
+run-length-requires : tie.Need-run-length-requires
+run-length-requires c κs = run-accepted _ _ _ (c .before .before .before .before .before .validate-run .ensures .0) (c .before .n .given .1)
+
+fill-requires : tie.Need-fill-requires
+fill-requires c κs = run-within _ _ _ (c .before .before .before .before .before .before .validate-run .ensures .0) (c .before .before .n .given .1) (c .run-length .ensures)
+
+put-line-requires : tie.Need-put-line-requires
+put-line-requires c κs = search needs
+
+enum-known-number : tie.Need-enum-known-number
+enum-known-number c = search needs
+
+put-stopped-requires : tie.Need-put-stopped-requires
+put-stopped-requires c κs = search needs
+
+same-length : tie.Need-same-length
+same-length c = search needs
+
+same-length-2 : tie.Need-same-length-2
+same-length-2 c = search needs
+
+returns : tie.Need-returns
+returns c = (answers-stop _ _ _ (c .before .before .before .before .before .before .before .before .before .before .validate-run .ensures .0) (c .before .before .before .before .before .before .number .given .1) _ (c .before .before .before .before .if1 .taken) (c .before .before .put-stopped .ensures .0), (c .before .before .before .before .before .before .before .before .before .before .validate-run .ensures .1, omega arith))
+
+put-line-requires-2 : tie.Need-put-line-requires-2
+put-line-requires-2 c κs = search needs
+
+same-length-3 : tie.Need-same-length-3
+same-length-3 c = search needs
+
+same-length-4 : tie.Need-same-length-4
+same-length-4 c = search needs
+
+returns-2 : tie.Need-returns-2
+returns-2 c = (answers-count _ _ _ (c .before .before .before .before .before .before .before .before .before .before .before .validate-run .ensures .0) (c .before .before .before .before .before .before .before .n .given .1) _ (c .before .before .before .before .before .run-length .ensures) (c .before .before .before .before .fill .ensures) (c .before .before .put-line .ensures .0), (c .before .before .before .before .before .before .before .before .before .before .before .validate-run .ensures .1, omega arith))
+
+same-length-5 : tie.Need-same-length-5
+same-length-5 c = search needs
+
+same-length-6 : tie.Need-same-length-6
+same-length-6 c = search needs
+
+returns-3 : tie.Need-returns-3
+returns-3 c = (answers-refused _ _ _ (c .before .before .before .before .before .before .before .before .before .before .validate-run .ensures .0) (c .before .before .before .before .before .before .number .given .1) _ (c .before .before .before .before .if1 .left) (c .before .before .put-line2 .ensures .0), (c .before .before .before .before .before .before .before .before .before .before .validate-run .ensures .1, omega arith))
+
+pub answer-at-spec : {M : Type 1} → statement M
+answer-at-spec =
+    tie.close
+    (tie.spec
+    validate-run-requires
+    enum-known-n
+    run-length-requires
+    fill-requires
+    put-line-requires
+    enum-known-number
+    put-stopped-requires
+    same-length
+    same-length-2
+    returns
+    put-line-requires-2
+    same-length-3
+    same-length-4
+    returns-2
+    same-length-5
+    same-length-6
+    returns-3)

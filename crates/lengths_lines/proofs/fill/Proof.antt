@@ -1,0 +1,68 @@
+-- `lengths_lines::fill` meets its contract. The loop's invariant: i counts are the whole lengths and the rest. Assumes nothing.
+use Prim.Native.Nat.{_-_}
+use mathlib.Core.Logic.{⊎-elim}
+use borrow.Author.Needs.{needs}
+use Rattle.lengths_lines.proofs.Laws.{Filled, fill-none, fill-in, fill-over, fill-down, fill-up}
+use Rattle.lengths_lines.proofs.fill.Statement.{statement}
+use Rattle.lengths_lines.proofs.fill.Tie as tie
+
+abbrev Inv-loop : tie.InvT-loop
+Inv-loop count len short whole₀ rest₀ i₀ whole rest i = Filled count len i whole rest
+
+abbrev μ-loop : tie.MeasureT-loop
+μ-loop count len short whole₀ rest₀ i₀ whole rest i = 100 - i
+
+returns : tie.Need-returns Inv-loop μ-loop
+returns c = fill-none _ _ (c .if1 .taken)
+
+sub-short : tie.Need-sub-short Inv-loop μ-loop
+sub-short c = search needs
+
+loop-holds : tie.Need-loop-holds Inv-loop μ-loop
+loop-holds c = search needs
+
+add-rest : tie.Need-add-rest Inv-loop μ-loop
+add-rest c = search needs
+
+add-whole : tie.Need-add-whole Inv-loop μ-loop
+add-whole c = search needs
+
+add-i : tie.Need-add-i Inv-loop μ-loop
+add-i c = search needs
+
+loop-less : tie.Need-loop-less Inv-loop μ-loop
+loop-less c = search needs
+
+loop-again : tie.Need-loop-again Inv-loop μ-loop
+loop-again c = ⊎-elim (λ w. fill-in (c .before .loop-test .taken) (c .before .before .loop .inv) (w .0 .taken) (w .1) (w .2)) (λ w. fill-over (c .before .loop-test .taken) (c .before .before .loop .inv) (c .before .before .before .before .pre) (w .0 .left) (w .1) (w .2)) (c .if2 .came)
+
+sub-if3 : tie.Need-sub-if3 Inv-loop μ-loop
+sub-if3 c = search needs
+
+returns-2 : tie.Need-returns-2 Inv-loop μ-loop
+returns-2 c = fill-down (c .before .before .before .if1 .left) (c .before .loop-test .left) (c .before .before .loop .inv) (c .if3 .taken)
+
+add-result : tie.Need-add-result Inv-loop μ-loop
+add-result c = search needs
+
+returns-3 : tie.Need-returns-3 Inv-loop μ-loop
+returns-3 c = fill-up (c .before .before .before .if1 .left) (c .before .loop-test .left) (c .before .before .loop .inv) (c .if3 .left)
+
+pub fill-spec : {M : Type 1} → statement M
+fill-spec =
+    tie.close
+    (tie.spec
+    Inv-loop
+    μ-loop
+    returns
+    sub-short
+    loop-holds
+    add-rest
+    add-whole
+    add-i
+    loop-less
+    loop-again
+    sub-if3
+    returns-2
+    add-result
+    returns-3)

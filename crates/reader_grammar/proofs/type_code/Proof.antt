@@ -1,0 +1,107 @@
+-- `reader_grammar::type_code` meets its contract: the row of each kind that it names, and no other kind below 64 has one.
+use mathlib.Core.Path.{refl}
+use mathlib.Core.List.{[], _∷_}
+use native.Mathlib.Omega.{arith}
+use borrow.Author.Needs.{needs}
+use Rattle.blocks.specs.Grammar.{grammar, findRow}
+use Rattle.reader_grammar.proofs.Rows.{named, missing}
+use Rattle.reader_grammar.proofs.type_code.Statement.{statement}
+use Rattle.reader_grammar.proofs.type_code.Tie as tie
+
+typed-requires : tie.Need-typed-requires
+typed-requires c κs = search needs
+
+typed-requires-2 : tie.Need-typed-requires-2
+typed-requires-2 c κs = search needs
+
+typed-requires-3 : tie.Need-typed-requires-3
+typed-requires-3 c κs = search needs
+
+typed-requires-4 : tie.Need-typed-requires-4
+typed-requires-4 c κs = search needs
+
+typed-requires-5 : tie.Need-typed-requires-5
+typed-requires-5 c κs = search needs
+
+typed-requires-6 : tie.Need-typed-requires-6
+typed-requires-6 c κs = search needs
+
+typed-requires-7 : tie.Need-typed-requires-7
+typed-requires-7 c κs = search needs
+
+few-requires : tie.Need-few-requires
+few-requires c κs = search needs
+
+few-requires-2 : tie.Need-few-requires-2
+few-requires-2 c κs = search needs
+
+few-requires-3 : tie.Need-few-requires-3
+few-requires-3 c κs = search needs
+
+few-requires-4 : tie.Need-few-requires-4
+few-requires-4 c κs = search needs
+
+few-requires-5 : tie.Need-few-requires-5
+few-requires-5 c κs = search needs
+
+few-requires-6 : tie.Need-few-requires-6
+few-requires-6 c κs = search needs
+
+returns : tie.Need-returns
+unfolding findRow grammar
+returns c = named 1 3 (c .before .before .args .i) (c .before .match .keys1) (c .typed .ensures)
+
+returns-2 : tie.Need-returns-2
+unfolding findRow grammar
+returns-2 c = named 2 2 (c .before .before .args .i) (c .before .match .keys2) (c .typed2 .ensures)
+
+returns-3 : tie.Need-returns-3
+unfolding findRow grammar
+returns-3 c = named 3 2 (c .before .before .args .i) (c .before .match .keys3) (c .typed3 .ensures)
+
+returns-4 : tie.Need-returns-4
+unfolding findRow grammar
+returns-4 c = named 4 1 (c .before .before .args .i) (c .before .match .keys4) (c .typed4 .ensures)
+
+returns-5 : tie.Need-returns-5
+unfolding findRow grammar
+returns-5 c = named 5 0 (c .before .before .args .i) (c .before .match .keys5) (c .typed5 .ensures)
+
+returns-6 : tie.Need-returns-6
+unfolding findRow grammar
+returns-6 c = named 6 2 (c .before .before .args .i) (c .before .match .keys6) (c .typed6 .ensures)
+
+returns-7 : tie.Need-returns-7
+unfolding findRow grammar
+returns-7 c = named 7 2 (c .before .before .args .i) (c .before .match .keys7) (c .typed7 .ensures)
+
+returns-8 : tie.Need-returns-8
+unfolding findRow grammar
+returns-8 c = named 32 3 (c .before .before .args .i) (c .before .match .keys8) (c .few .ensures)
+
+returns-9 : tie.Need-returns-9
+unfolding findRow grammar
+returns-9 c = named 33 1 (c .before .before .args .i) (c .before .match .keys9) (c .few2 .ensures)
+
+returns-10 : tie.Need-returns-10
+unfolding findRow grammar
+returns-10 c = named 34 1 (c .before .before .args .i) (c .before .match .keys10) (c .few3 .ensures)
+
+returns-11 : tie.Need-returns-11
+unfolding findRow grammar
+returns-11 c = named 35 1 (c .before .before .args .i) (c .before .match .keys11) (c .few4 .ensures)
+
+returns-12 : tie.Need-returns-12
+unfolding findRow grammar
+returns-12 c = named 36 3 (c .before .before .args .i) (c .before .match .keys12) (c .few5 .ensures)
+
+returns-13 : tie.Need-returns-13
+unfolding findRow grammar
+returns-13 c = named 37 2 (c .before .before .args .i) (c .before .match .keys13) (c .few6 .ensures)
+
+returns-14 : tie.Need-returns-14
+unfolding findRow grammar
+returns-14 c = missing (37 ∷ 36 ∷ 35 ∷ 34 ∷ 33 ∷ 32 ∷ 7 ∷ 6 ∷ 5 ∷ 4 ∷ 3 ∷ 2 ∷ 1 ∷ []) 0 64 (c .before .args .i) refl (c .match .rest) (omega arith) (omega arith)
+
+pub type-code-spec : {M : Type 1} → statement M
+type-code-spec = tie.close (tie.spec typed-requires typed-requires-2 typed-requires-3 typed-requires-4 typed-requires-5 typed-requires-6 typed-requires-7 few-requires few-requires-2 few-requires-3 few-requires-4 few-requires-5 few-requires-6 returns returns-2 returns-3 returns-4 returns-5 returns-6 returns-7 returns-8 returns-9 returns-10 returns-11 returns-12 returns-13 returns-14)

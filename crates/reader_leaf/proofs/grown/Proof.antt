@@ -1,0 +1,87 @@
+-- `reader_leaf::grown` meets its contract: case by case.
+use native.Mathlib.Omega.{arith}
+use borrow.Author.Needs.{needs}
+use Rattle.reader_leaf.specs.Seen.{Grows, grownOf}
+use Rattle.reader_leaf.proofs.grown.Statement.{statement}
+use Rattle.reader_leaf.proofs.grown.Tie as tie
+
+enum-told : tie.Need-enum-told
+enum-told c = search needs
+
+enum-known-seen : tie.Need-enum-known-seen
+enum-known-seen c = search needs
+
+add-name : tie.Need-add-name
+unfolding Grows
+add-name c = let g = rw (c .before .seen .given .1) at (c .before .before .before .before .pre) in omega arith
+
+read2-requires : tie.Need-read2-requires
+unfolding Grows
+read2-requires c κs = let g = rw (c .before .seen .given .1) at (c .before .before .before .before .pre) in omega arith
+
+add-read2 : tie.Need-add-read2
+unfolding Grows
+add-read2 c = let g = rw (c .before .before .seen .given .1) at (c .before .before .before .before .before .pre) in omega arith
+
+add-read2-2 : tie.Need-add-read2-2
+unfolding Grows
+add-read2-2 c = let g = rw (c .before .before .seen .given .1) at (c .before .before .before .before .before .pre) in omega arith
+
+read2-requires-2 : tie.Need-read2-requires-2
+unfolding Grows
+read2-requires-2 c κs = let g = rw (c .before .before .seen .given .1) at (c .before .before .before .before .before .pre) in omega arith
+
+add-more : tie.Need-add-more
+unfolding Grows
+add-more c = let g = rw (c .before .before .before .seen .given .1) at (c .before .before .before .before .before .before .pre) in omega arith
+
+add-all : tie.Need-add-all
+unfolding Grows
+add-all c = let g = rw (c .before .before .before .seen .given .1) at (c .before .before .before .before .before .before .pre) in omega arith
+
+enum-known-seen-2 : tie.Need-enum-known-seen-2
+enum-known-seen-2 c = search needs
+
+add-more-2 : tie.Need-add-more-2
+unfolding Grows
+add-more-2 c = let g = rw (c .before .seen2 .given .1) at (c .before .before .before .before .pre) in omega arith
+
+enum-known-seen-3 : tie.Need-enum-known-seen-3
+enum-known-seen-3 c = search needs
+
+returns : tie.Need-returns
+unfolding grownOf
+returns c = rw (c .enum-told .given .1)
+
+returns-2 : tie.Need-returns-2
+unfolding grownOf
+returns-2 c = rw (c .before .before .before .seen .given .1, ← c .before .read2 .ensures .0, ← c .read22 .ensures .0)
+
+returns-3 : tie.Need-returns-3
+unfolding grownOf
+returns-3 c = rw (c .before .seen2 .given .1)
+
+returns-4 : tie.Need-returns-4
+unfolding grownOf
+returns-4 c = rw (c .before .seen3 .given .1)
+
+pub grown-spec : {M : Type 1} → statement M
+grown-spec =
+    tie.close
+    (tie.spec
+    enum-told
+    enum-known-seen
+    add-name
+    read2-requires
+    add-read2
+    add-read2-2
+    read2-requires-2
+    add-more
+    add-all
+    enum-known-seen-2
+    add-more-2
+    enum-known-seen-3
+    returns
+    returns-2
+    returns-3
+    returns-4)

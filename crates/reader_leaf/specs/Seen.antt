@@ -1,0 +1,102 @@
+-- What the code keeps of a list's entries before the one that it reads, and what of the definition that stands for.
+use Prim.Native.Nat.{ℕ, zero, suc, _+_, _≤_, _<_}
+use mathlib.Core.Path.{_≡_}
+use mathlib.Core.Bool.{Bool, true, false, cond}
+use mathlib.Core.List.{List, [], _∷_}
+use lib.Dec.{eqb}
+use lib.ListN.{length}
+use Rattle.blocks.specs.Bytes.{le2, le4}
+pub use Rattle.blocks.specs.Bytes.{nameAt}
+use Rattle.blocks.specs.Name.{Name, less, same}
+use Rattle.blocks.specs.Read.{Earlier}
+use Rattle.blocks.specs.declared.Part.{Part}
+use Rattle.blocks.specs.declared.Part.the-variants.{Text, Key, Number, Flag, Size, OptNumber, OptText, Literal, Block, OptBlock, Blocks, Ascending, Distinct, Names, Paths, Values}
+use Rattle.reader_leaf.specs.declared.Seen.{Seen}
+use Rattle.reader_leaf.specs.declared.Seen.the-variants.{Nothing, Owners, Types, After}
+
+-- the two ways in which names are compared
+abbrev pub comparison : Bool → Name → Name → Bool
+comparison true = less
+comparison false = same
+
+abbrev pub NameIn : List ℕ → ℕ → Type 0
+NameIn s at = at + 2 + le2 s at ≤ length s
+
+-- the offset behind n blocks
+unfoldable pub behind : List ℕ → ℕ → ℕ → ℕ
+behind s first zero = first
+behind s first (suc n) = behind s first n + 4 + le4 s (behind s first n)
+
+-- the names with which n blocks begin, the last first
+unfoldable pub namesBefore : List ℕ → ℕ → ℕ → List Name
+namesBefore s first zero = []
+namesBefore s first (suc n) = nameAt s (behind s first n + 6) ∷ namesBefore s first n
+
+-- the offset of the last of these names; 0 if there is none
+unfoldable pub lastOf : List ℕ → ℕ → ℕ → ℕ
+lastOf s first zero = 0
+lastOf s first (suc n) = behind s first n + 6
+
+-- the name at an offset, if it is not 0
+unfoldable pub lastName : List ℕ → ℕ → List Name
+lastName s last = cond (eqb last 0) [] (nameAt s last ∷ [])
+
+abbrev pub LastIn : List ℕ → ℕ → Type 0
+LastIn s last = 0 < last → NameIn s last
+
+unfoldable pub earlierOf : List ℕ → Seen → Earlier
+earlierOf s Nothing = Earlier.any
+earlierOf s (Owners first count last paths) = Earlier.ascending (namesBefore s first count) paths
+earlierOf s (Types first count) = Earlier.distinct (namesBefore s first count)
+earlierOf s (After last) = Earlier.ascending (lastName s last) 0
+
+-- how many paths the owners before have
+unfoldable pub seenPaths : Seen → ℕ
+seenPaths Nothing = 0
+seenPaths (Owners first count last paths) = paths
+seenPaths (Types first count) = 0
+seenPaths (After last) = 0
+
+-- the names with which n blocks begin lie inside the input
+unfoldable pub Stand : List ℕ → ℕ → ℕ → Type 0
+Stand s first n = (k : ℕ) → k < n → NameIn s (behind s first k + 6)
+
+-- what is kept is so
+unfoldable pub Valid : List ℕ → Seen → Type 0
+Valid s Nothing = Unit
+Valid s (Owners first count last paths) = Stand s first count × (last ≡ lastOf s first count) × (paths ≤ 64)
+Valid s (Types first count) = Stand s first count
+Valid s (After last) = LastIn s last
+
+-- a part that holds no block
+unfoldable pub Plain : Part → Type 0
+Plain Text = Unit
+Plain Key = Unit
+Plain Number = Unit
+Plain Flag = Unit
+Plain Size = Unit
+Plain OptNumber = Unit
+Plain OptText = Unit
+Plain Literal = Unit
+Plain (Block lo hi) = ⊥
+Plain (OptBlock lo hi) = ⊥
+Plain (Blocks lo hi limit) = ⊥
+Plain (Ascending lo hi limit) = ⊥
+Plain (Distinct lo hi limit) = ⊥
+Plain (Names limit) = Unit
+Plain (Paths limit) = Unit
+Plain (Values limit) = Unit
+
+-- one block more, that at an offset: an owner's paths are counted behind its name
+unfoldable pub grownOf : List ℕ → Seen → ℕ → Seen
+grownOf s Nothing at = Nothing
+grownOf s (Owners first count last paths) at = Owners first (count + 1) (at + 6) (paths + le2 s (at + 6 + 2 + le2 s (at + 6)))
+grownOf s (Types first count) at = Types first (count + 1)
+grownOf s (After last) at = After last
+
+-- that block's name, and an owner's count, lie inside the input
+unfoldable pub Grows : List ℕ → Seen → ℕ → Type 0
+Grows s Nothing at = Unit
+Grows s (Owners first count last paths) at = (count ≤ at) × (at + 6 + 2 + le2 s (at + 6) + 2 ≤ length s) × (paths ≤ 64)
+Grows s (Types first count) at = (count ≤ at) × NameIn s (at + 6)
+Grows s (After last) at = Unit

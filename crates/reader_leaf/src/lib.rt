@@ -1,0 +1,395 @@
+// The parts of a block that hold no block, and a block's first six bytes.
+use blocks::Part;
+ghost use mathlib.Core.Path.{_≡_};
+ghost use mathlib.Core.Bool.{not, _||_};
+ghost use mathlib.Core.List.{[]};
+ghost use Prim.Native.Nat.{ℕ, _+_, _-_, _≤_, _<_};
+ghost use lib.Dec.{ltb, leb};
+ghost use lib.ListN.{length};
+ghost use Rattle.blocks.specs.Name.{among};
+ghost use Rattle.blocks.specs.Read.{Earlier, inOrder, inType, readText, readKey, readNumber, readFlag, readOptional, readLiteral, readCount, readList, readHeader, Reader, readPart};
+ghost use Rattle.reader_leaf.specs.Answer.{forget, headOf, countOf, announced, readEntry, Inside, TextIn, EntryIn, WideIn, HeadIn, CountIn};
+ghost use Rattle.reader_leaf.specs.Seen.{nameAt, NameIn, comparison, LastIn, lastName, namesBefore, Stand, Valid, earlierOf, seenPaths, Plain, grownOf, Grows};
+
+// The offset behind what was read, or number and offset of a refusal.
+pub enum Read {
+    Ok(usize),
+    Refused(u64, usize),
+}
+
+// A block's kind and end.
+pub enum Head {
+    Found(usize, usize),
+    No(u64, usize),
+}
+
+pub enum Count {
+    Of(usize),
+    Bad(u64, usize),
+}
+
+// What question 6 asks of a block's name, and the blocks of its list before it.
+pub enum Seen {
+    // nothing is asked
+    Nothing,
+    // the names ascend: the first block's offset, how many blocks, the offset of the last name (0 if there is none), how
+    // many paths
+    Owners(usize, usize, usize, usize),
+    // the names are distinct: the first block's offset, how many blocks
+    Types(usize, usize),
+    // the names of a list of names ascend: the offset of the last name (0 if there is none)
+    After(usize),
+}
+
+// A name or a text.
+pub fn text(s: &[u8], start: usize, at: usize, end: usize) -> Read
+    requires { ⌜ (at ≤ end) × (end ≤ length (now s)) ⌝ }
+    ensures { λ r. ⌜ (r ≡ forget (readText (now (s .entry)) start end at)) × (TextIn r (now (s .entry)) at end) ⌝ }
+{
+    if end < at + 2 {
+        return Read::Refused(2, start);
+    }
+    let n = wire::read2(s, at);
+    if end < at + 2 + n {
+        return Read::Refused(2, start);
+    }
+    let from = at + 2;
+    let to = at + 2 + n;
+    if wire::is_text(&s[from..to]) {
+        Read::Ok(to)
+    } else {
+        Read::Refused(3, start)
+    }
+}
+
+pub fn number(s: &[u8], start: usize, at: usize, end: usize) -> Read
+    requires { ⌜ (at ≤ end) × (end ≤ length (now s)) ⌝ }
+    ensures { λ r. ⌜ (r ≡ forget (readNumber (now (s .entry)) start end at)) × (WideIn r 8 at end) ⌝ }
+{
+    if end < at + 8 {
+        return Read::Refused(2, start);
+    }
+    Read::Ok(at + 8)
+}
+
+pub fn flag(s: &[u8], start: usize, at: usize, end: usize) -> Read
+    requires { ⌜ (at ≤ end) × (end ≤ length (now s)) ⌝ }
+    ensures { λ r. ⌜ (r ≡ forget (readFlag (now (s .entry)) start end at)) × (WideIn r 1 at end) ⌝ }
+{
+    if end < at + 1 {
+        return Read::Refused(2, start);
+    }
+    let b = s[at];
+    if 1 < b {
+        return Read::Refused(5, start);
+    }
+    Read::Ok(at + 1)
+}
+
+// A flag, and behind it a number or a text if the flag is `on`.
+pub fn optional(s: &[u8], on: u8, numeric: bool, start: usize, at: usize, end: usize) -> Read
+    requires { ⌜ (at ≤ end) × (end ≤ length (now s)) ⌝ }
+    ensures { λ r. ⌜ (r ≡ forget (readOptional (announced numeric (now (s .entry)) start end) on (now (s .entry)) start end at)) × (Inside r end) ⌝ }
+{
+    match flag(s, start, at, end) {
+        Read::Refused(q, o) => Read::Refused(q, o),
+        Read::Ok(next) => {
+            if s[at] != on {
+                return Read::Ok(next);
+            }
+            if numeric {
+                number(s, start, next, end)
+            } else {
+                text(s, start, next, end)
+            }
+        }
+    }
+}
+
+// Below the one, or not below the other.
+fn outside(v: usize, low: usize, high: usize) -> bool
+    ensures { λ r. ⌜ r ≡ (ltb v low || leb high v) ⌝ }
+{
+    if v < low {
+        return true;
+    }
+    high <= v
+}
+
+// Whether a literal's number is one of its type's.
+fn in_type(code: u8, v: usize) -> bool
+    ensures { λ r. ⌜ r ≡ inType code v ⌝ }
+{
+    match code {
+        0 => true,
+        1 => v < 0x1_0000_0000,
+        2 => v < 0x1_0000,
+        3 => v < 0x100,
+        4 => outside(v, 0x8000_0000_0000_0000, 0x8000_0000_0000_0000),
+        5 => outside(v, 0x8000_0000, 0xFFFF_FFFF_8000_0000),
+        6 => outside(v, 0x8000, 0xFFFF_FFFF_FFFF_8000),
+        7 => outside(v, 0x80, 0xFFFF_FFFF_FFFF_FF80),
+        _ => false,
+    }
+}
+
+// A code and a number.
+pub fn literal(s: &[u8], start: usize, at: usize, end: usize) -> Read
+    requires { ⌜ (at ≤ end) × (end ≤ length (now s)) ⌝ }
+    ensures { λ r. ⌜ (r ≡ forget (readLiteral (now (s .entry)) start end at)) × (Inside r end) ⌝ }
+{
+    if end < at + 1 {
+        return Read::Refused(2, start);
+    }
+    let code = s[at];
+    if 7 < code {
+        return Read::Refused(5, start);
+    }
+    if end < at + 1 + 8 {
+        return Read::Refused(2, start);
+    }
+    let v = wire::read8(s, at + 1);
+    if in_type(code, v) {
+        Read::Ok(at + 1 + 8)
+    } else {
+        Read::Refused(5, start)
+    }
+}
+
+pub fn counted(s: &[u8], limit: usize, start: usize, at: usize, end: usize) -> Count
+    requires { ⌜ (at ≤ end) × (end ≤ length (now s)) ⌝ }
+    ensures { λ r. ⌜ (r ≡ countOf (readCount limit (now (s .entry)) start end at)) × (CountIn r at end) ⌝ }
+{
+    if end < at + 2 {
+        return Count::Bad(2, start);
+    }
+    let n = wire::read2(s, at);
+    if limit < n {
+        return Count::Bad(4, start);
+    }
+    Count::Of(n)
+}
+
+pub fn heading(s: &[u8], lo: usize, hi: usize, at: usize, end: usize) -> Head
+    requires { ⌜ (at ≤ end) × (end ≤ length (now s)) ⌝ }
+    ensures { λ r. ⌜ (r ≡ headOf (readHeader (now (s .entry)) lo hi at end)) × (HeadIn r at end) ⌝ }
+{
+    if end < at + 6 {
+        return Head::No(2, at);
+    }
+    let n = wire::read4(s, at);
+    if n < 2 {
+        return Head::No(2, at);
+    }
+    if end < at + 4 + n {
+        return Head::No(2, at);
+    }
+    let k = wire::read2(s, at + 4);
+    if k < lo {
+        return Head::No(2, at);
+    }
+    if hi < k {
+        return Head::No(2, at);
+    }
+    Head::Found(k, at + 4 + n)
+}
+
+// Compares the names at `one` and `two`: whether the first stands before the second, or whether they are the same.
+fn compared(s: &[u8], one: usize, two: usize, order: bool) -> bool
+    requires { ⌜ (NameIn (now s) one) × (NameIn (now s) two) ⌝ }
+    ensures { λ r. ⌜ r ≡ comparison order (nameAt (now (s .entry)) one) (nameAt (now (s .entry)) two) ⌝ }
+{
+    let a = one + 2;
+    let b = one + 2 + wire::read2(s, one);
+    let c = two + 2;
+    let d = two + 2 + wire::read2(s, two);
+    if order {
+        return wire::less_name(&s[a..b], &s[c..d]);
+    }
+    wire::same_name(&s[a..b], &s[c..d])
+}
+
+// Whether the name at `at` ascends from the one at `last`, if there is one.
+fn ascends(s: &[u8], last: usize, at: usize) -> bool
+    requires { ⌜ (LastIn (now s) last) × (NameIn (now s) at) ⌝ }
+    ensures { λ r. ⌜ r ≡ inOrder (Earlier.ascending (lastName (now (s .entry)) last) 0) (nameAt (now (s .entry)) at) ⌝ }
+{
+    if last == 0 {
+        return true;
+    }
+    compared(s, last, at, true)
+}
+
+// Whether the name at `at` is not among those with which these blocks begin.
+pub fn differs(s: &[u8], first: usize, count: usize, at: usize) -> bool
+    requires { ⌜ (Stand (now s) first count) × (NameIn (now s) at) ⌝ }
+    ensures { λ r. ⌜ r ≡ not (among (nameAt (now (s .entry)) at) (namesBefore (now (s .entry)) first count)) ⌝ }
+{
+    let mut i = first;
+    let mut k = 0;
+    while k < count {
+        if compared(s, at, i + 6, false) {
+            return false;
+        }
+        i = i + 4 + wire::read4(s, i);
+        k += 1;
+    }
+    true
+}
+
+// Question 6 on the name at `at`.
+fn in_order(s: &[u8], seen: Seen, at: usize) -> bool
+    requires { ⌜ (Valid (now s) seen) × (NameIn (now s) at) ⌝ }
+    ensures { λ r. ⌜ r ≡ inOrder (earlierOf (now (s .entry)) seen) (nameAt (now (s .entry)) at) ⌝ }
+{
+    match seen {
+        Seen::Nothing => true,
+        Seen::Owners(_, _, last, _) => ascends(s, last, at),
+        Seen::Types(first, count) => differs(s, first, count, at),
+        Seen::After(last) => ascends(s, last, at),
+    }
+}
+
+// A block's name, then question 6.
+pub fn key(s: &[u8], seen: Seen, start: usize, at: usize, end: usize) -> Read
+    requires { ⌜ (at ≤ end) × (end ≤ length (now s)) × (Valid (now s) seen) ⌝ }
+    ensures { λ r. ⌜ (r ≡ forget (readKey (now (s .entry)) start end (earlierOf (now (s .entry)) seen) at)) × (TextIn r (now (s .entry)) at end) ⌝ }
+{
+    match text(s, start, at, end) {
+        Read::Refused(q, o) => Read::Refused(q, o),
+        Read::Ok(next) => {
+            if in_order(s, seen, at) {
+                Read::Ok(next)
+            } else {
+                Read::Refused(6, start)
+            }
+        }
+    }
+}
+
+// A count and names, of which nothing is asked.
+pub fn names(s: &[u8], limit: usize, start: usize, at: usize, end: usize) -> Read
+    requires { ⌜ (at ≤ end) × (end ≤ length (now s)) ⌝ }
+    ensures { λ r. ⌜ (r ≡ forget (readList (readKey (now (s .entry)) start end) Earlier.any limit (now (s .entry)) start end at)) × (Inside r end) ⌝ }
+{
+    match counted(s, limit, start, at, end) {
+        Count::Bad(q, o) => Read::Refused(q, o),
+        Count::Of(n) => {
+            let mut i = at + 2;
+            let mut left = n;
+            while 0 < left {
+                match text(s, start, i, end) {
+                    Read::Ok(next) => {
+                        i = next;
+                    }
+                    Read::Refused(q, o) => {
+                        return Read::Refused(q, o);
+                    }
+                }
+                left -= 1;
+            }
+            Read::Ok(i)
+        }
+    }
+}
+
+// A name that ascends from the one at `last`, if there is one, and behind it a number if `pairs` is set.
+fn next_entry(s: &[u8], pairs: bool, last: usize, start: usize, at: usize, end: usize) -> Read
+    requires { ⌜ (at ≤ end) × (end ≤ length (now s)) × (LastIn (now s) last) ⌝ }
+    ensures { λ r. ⌜ (r ≡ forget (readEntry pairs (now (s .entry)) start end (Earlier.ascending (lastName (now (s .entry)) last) 0) at)) × (EntryIn r (now (s .entry)) at end) ⌝ }
+{
+    match key(s, Seen::After(last), start, at, end) {
+        Read::Refused(q, o) => Read::Refused(q, o),
+        Read::Ok(next) => {
+            if pairs {
+                number(s, start, next, end)
+            } else {
+                Read::Ok(next)
+            }
+        }
+    }
+}
+
+// A count and names that ascend, each with a number behind it if `pairs` is set.
+pub fn entries(s: &[u8], pairs: bool, limit: usize, start: usize, at: usize, end: usize) -> Read
+    requires { ⌜ (at ≤ end) × (end ≤ length (now s)) ⌝ }
+    ensures { λ r. ⌜ (r ≡ forget (readList (readEntry pairs (now (s .entry)) start end) (Earlier.ascending [] 0) limit (now (s .entry)) start end at)) × (Inside r end) ⌝ }
+{
+    match counted(s, limit, start, at, end) {
+        Count::Bad(q, o) => Read::Refused(q, o),
+        Count::Of(n) => {
+            let mut i = at + 2;
+            let mut last = 0;
+            let mut left = n;
+            while 0 < left {
+                match next_entry(s, pairs, last, start, i, end) {
+                    Read::Ok(next) => {
+                        last = i;
+                        i = next;
+                    }
+                    Read::Refused(q, o) => {
+                        return Read::Refused(q, o);
+                    }
+                }
+                left -= 1;
+            }
+            Read::Ok(i)
+        }
+    }
+}
+
+// How many more paths a references block may have.
+fn remaining(limit: usize, seen: Seen) -> usize
+    ensures { λ r. ⌜ r ≡ limit - seenPaths seen ⌝ }
+{
+    match seen {
+        Seen::Owners(_, _, _, paths) => { if limit < paths { 0 } else { limit - paths } }
+        Seen::Nothing => limit,
+        Seen::Types(_, _) => limit,
+        Seen::After(_) => limit,
+    }
+}
+
+// A part that holds no block.
+pub fn plain(s: &[u8], seen: Seen, p: Part, start: usize, at: usize, end: usize) -> Read
+    requires { ⌜ (at ≤ end) × (end ≤ length (now s)) × (Valid (now s) seen) × (Plain p) ⌝ }
+    ensures { λ r. ⌜ ((rb : Reader) → r ≡ forget (readPart rb (now (s .entry)) (earlierOf (now (s .entry)) seen) start end p at)) × (Inside r end) ⌝ }
+{
+    match p {
+        Part::Text => text(s, start, at, end),
+        Part::Key => key(s, seen, start, at, end),
+        Part::Flag => flag(s, start, at, end),
+        Part::Size => optional(s, 0, true, start, at, end),
+        Part::OptNumber => optional(s, 1, true, start, at, end),
+        Part::OptText => optional(s, 1, false, start, at, end),
+        Part::Literal => literal(s, start, at, end),
+        Part::Names(limit) => names(s, limit as usize, start, at, end),
+        Part::Paths(limit) => { entries(s, false, remaining(limit as usize, seen), start, at, end) }
+        Part::Values(limit) => entries(s, true, limit as usize, start, at, end),
+        // what is left is a number
+        _ => number(s, start, at, end),
+    }
+}
+
+// What stands before the next block of a list, once the block at `at` is read.
+pub fn grown(s: &[u8], seen: Seen, at: usize) -> Seen
+    requires { ⌜ Grows (now s) seen at ⌝ }
+    ensures { λ r. ⌜ r ≡ grownOf (now (s .entry)) seen at ⌝ }
+{
+    match seen {
+        Seen::Nothing => Seen::Nothing,
+        Seen::Owners(first, count, _, paths) => {
+            let name = at + 6;
+            let n = wire::read2(s, name);
+            let m = wire::read2(s, name + 2 + n);
+            let more = count + 1;
+            let all = paths + m;
+            Seen::Owners(first, more, name, all)
+        }
+        Seen::Types(first, count) => {
+            let more = count + 1;
+            Seen::Types(first, more)
+        }
+        Seen::After(last) => Seen::After(last),
+    }
+}

@@ -1,0 +1,79 @@
+-- `reader_quick::entries` meets its contract. The loop's invariant: the whole list reads as what is left of it. Assumes nothing.
+use mathlib.Core.Path.{_≡_, _∙_}
+use Prim.Native.Nat.{ℕ, _<_, _≤_}
+use native.Mathlib.Omega.{arith}
+use Rattle.blocks.specs.Read.{Earlier, readList, readEntries, readBlock}
+use Rattle.reader_leaf.specs.Answer.{forget}
+use Rattle.reader_leaf.proofs.Lists.{entries-none, any-go}
+use Rattle.reader_quick.proofs.Laws.{list-yes}
+use Rattle.reader_quick.proofs.entries.Statement.{statement}
+use Rattle.reader_quick.proofs.entries.Tie as tie
+
+abbrev Inv-loop : tie.InvT-loop
+Inv-loop s kind at end n i₀ left₀ i left = (i ≤ end) × ((room start : ℕ) → 0 < room → forget (readList (λ f a. readBlock room s f kind kind a end) Earlier.any 512 s start end at) ≡ forget (readEntries (λ f a. readBlock room s f kind kind a end) Earlier.any left i))
+
+abbrev μ-loop : tie.MeasureT-loop
+μ-loop s kind at end n i₀ left₀ i left = left
+
+add-if1 : tie.Need-add-if1 Inv-loop μ-loop
+add-if1 c = omega arith
+
+returns : tie.Need-returns Inv-loop μ-loop
+returns c = (λ room start h z. absurd (omega arith), omega arith)
+
+read2-requires : tie.Need-read2-requires Inv-loop μ-loop
+read2-requires c κs = omega arith
+
+add-result : tie.Need-add-result Inv-loop μ-loop
+add-result c = omega arith
+
+returns-2 : tie.Need-returns-2 Inv-loop μ-loop
+returns-2 c = (λ room start h z. list-yes _ _ _ _ _ _ start _ (c .before .before .if1 .left) (c .before .read2 .ensures .0) (omega (arith, c .if2 .taken)) ∙ entries-none _ _ _ _ (omega (arith, c .if2 .taken)), c .before .before .if1 .left)
+
+returns-3 : tie.Need-returns-3 Inv-loop μ-loop
+returns-3 c = (λ room start h z. absurd (omega arith), omega arith)
+
+add-i : tie.Need-add-i Inv-loop μ-loop
+add-i c = omega arith
+
+loop-holds : tie.Need-loop-holds Inv-loop μ-loop
+loop-holds c = (omega arith, λ room start h. list-yes _ _ _ _ _ _ start _ (c .before .before .before .if1 .left) (c .before .before .read2 .ensures .0) (c .if3 .left))
+
+entry-requires : tie.Need-entry-requires Inv-loop μ-loop
+entry-requires c κs = (c .before .loop .inv .0, omega arith)
+
+returns-4 : tie.Need-returns-4 Inv-loop μ-loop
+returns-4 c = (λ room start h z. absurd (omega arith), omega arith)
+
+sub-left : tie.Need-sub-left Inv-loop μ-loop
+sub-left c = omega arith
+
+loop-less : tie.Need-loop-less Inv-loop μ-loop
+loop-less c = omega arith
+
+loop-again : tie.Need-loop-again Inv-loop μ-loop
+loop-again c = (c .before .entry .ensures .1, λ room start h. c .before .before .before .loop .inv .1 room start h ∙ any-go _ _ _ (c .before .before .loop-test .taken) (c .before .entry .ensures .0 room Earlier.any h (omega (arith, c .if4 .left))))
+
+returns-5 : tie.Need-returns-5 Inv-loop μ-loop
+returns-5 c = (λ room start h z. c .before .loop .inv .1 room start h ∙ entries-none _ _ _ _ (c .loop-test .left), c .before .loop .inv .0)
+
+pub entries-spec : {M : Type 1} → statement M
+entries-spec =
+    tie.close
+    (tie.spec
+    Inv-loop
+    μ-loop
+    add-if1
+    returns
+    read2-requires
+    add-result
+    returns-2
+    returns-3
+    add-i
+    loop-holds
+    entry-requires
+    returns-4
+    sub-left
+    loop-less
+    loop-again
+    returns-5)

@@ -1,0 +1,64 @@
+-- `reader_quick::few_trees` meets its contract. The loop's invariant: the whole list reads as what is left of it. Assumes nothing.
+use mathlib.Core.Path.{refl}
+use Prim.Native.Nat.{_-_}
+use native.Mathlib.Omega.{arith}
+use Rattle.reader_quick.proofs.Listed.{Going, going-first, going-stand, going-next, going-last, fresh-asked, not-not}
+use Rattle.reader_quick.proofs.few_trees.Statement.{statement}
+use Rattle.reader_quick.proofs.few_trees.Tie as tie
+
+abbrev Inv-loop : tie.InvT-loop
+Inv-loop s room at n end first i₀ count₀ i count = Going room s end at n first count i
+
+abbrev μ-loop : tie.MeasureT-loop
+μ-loop s room at n end first i₀ count₀ i count = n - count
+
+add-first : tie.Need-add-first Inv-loop μ-loop
+add-first c = omega arith
+
+loop-holds : tie.Need-loop-holds Inv-loop μ-loop
+loop-holds c = let h = c .before .pre in going-first _ _ _ _ _ _ refl (h .0) (h .2) (h .3)
+
+tree-requires : tie.Need-tree-requires Inv-loop μ-loop
+tree-requires c κs = (c .before .loop .inv .inside, c .before .before .before .pre .1)
+
+returns : tie.Need-returns Inv-loop μ-loop
+returns c = (λ start z. absurd (omega arith), omega arith)
+
+add-differs : tie.Need-add-differs Inv-loop μ-loop
+add-differs c = let h = c .before .tree .ensures .2 (omega (arith, c .if1 .left)) in omega (arith, h)
+
+differs-requires : tie.Need-differs-requires Inv-loop μ-loop
+differs-requires c κs = (going-stand _ _ _ (c .before .before .before .before .before .pre .1) (c .before .before .before .loop .inv), c .before .tree .ensures .2 (omega (arith, c .if1 .left)))
+
+returns-2 : tie.Need-returns-2 Inv-loop μ-loop
+returns-2 c = (λ start z. absurd (omega arith), omega arith)
+
+add-count : tie.Need-add-count Inv-loop μ-loop
+add-count c = omega (arith, c .before .before .before .before .loop-test .taken)
+
+loop-less : tie.Need-loop-less Inv-loop μ-loop
+loop-less c = omega (arith, c .before .before .before .before .loop-test .taken)
+
+loop-again : tie.Need-loop-again Inv-loop μ-loop
+loop-again c = going-next _ _ _ (c .before .before .before .before .before .before .before .pre .1) (c .before .before .before .before .before .loop .inv) (c .before .before .before .before .loop-test .taken) (omega (arith, c .before .before .if1 .left)) (c .before .before .before .tree .ensures .1) (c .before .before .before .tree .ensures .0) (fresh-asked _ _ (c .before .differs .ensures) (not-not _ (c .if2 .left)))
+
+returns-3 : tie.Need-returns-3 Inv-loop μ-loop
+returns-3 c = (λ start z. going-last _ _ _ (c .before .before .before .pre .1) (c .before .loop .inv) (c .loop-test .left) start, c .before .loop .inv .inside)
+
+pub few-trees-spec : {M : Type 1} → statement M
+few-trees-spec =
+    tie.close
+    (tie.spec
+    Inv-loop
+    μ-loop
+    add-first
+    loop-holds
+    tree-requires
+    returns
+    add-differs
+    differs-requires
+    returns-2
+    add-count
+    loop-less
+    loop-again
+    returns-3)

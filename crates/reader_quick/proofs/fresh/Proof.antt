@@ -1,0 +1,63 @@
+-- `reader_quick::fresh` meets its contract. Assumes nothing.
+use native.Mathlib.Omega.{arith}
+use borrow.Author.Needs.{needs}
+use Rattle.reader_quick.proofs.Listed.{fresh-mark, fresh-new, fresh-asked}
+use Rattle.reader_quick.proofs.fresh.Statement.{statement}
+use Rattle.reader_quick.proofs.fresh.Tie as tie
+
+read2-requires : tie.Need-read2-requires
+read2-requires c κs = omega (arith, c .before .pre .1)
+
+add-from : tie.Need-add-from
+add-from c = omega (arith, c .before .before .pre .1)
+
+add-to : tie.Need-add-to
+add-to c = omega (arith, c .before .before .pre .1)
+
+add-to-2 : tie.Need-add-to-2
+add-to-2 c = omega (arith, c .read2 .ensures .0, c .before .before .pre .1)
+
+sub-place : tie.Need-sub-place
+sub-place c = omega (arith, c .read2 .ensures .0, c .before .before .pre .1)
+
+part-place-start : tie.Need-part-place-start
+part-place-start c = omega (arith, c .read2 .ensures .0, c .before .before .pre .1)
+
+part-place-end : tie.Need-part-place-end
+part-place-end c = omega (arith, c .read2 .ensures .0, c .before .before .pre .1)
+
+place-requires : tie.Need-place-requires
+place-requires c κs = search needs
+
+element-copy-out-old : tie.Need-element-copy-out-old
+element-copy-out-old c = omega (arith, c .place .ensures .1)
+
+element-write-marks : tie.Need-element-write-marks
+element-write-marks c = omega (arith, c .before .place .ensures .1)
+
+returns : tie.Need-returns
+returns c = (λ z. fresh-new (c .before .before .before .before .before .before .args .marks .now) (c .before .before .before .before .before .before .args .s .now) _ _ _ (c .before .before .before .before .read2 .ensures .0) (c .before .before .place .ensures .0) _ _ (c .before .before .before .before .before .before .pre .2) (c .if1 .taken), fresh-mark (c .before .before .before .before .before .before .args .marks .now) (c .before .before .before .before .before .before .args .s .now) _ _ _ (c .before .before .before .before .read2 .ensures .0) (c .before .before .place .ensures .0))
+
+differs-requires : tie.Need-differs-requires
+differs-requires c κs = (c .before .before .before .before .before .before .pre .0, c .before .before .before .before .before .before .pre .1)
+
+returns-2 : tie.Need-returns-2
+returns-2 c = (λ z. fresh-asked _ _ (c .differs .ensures) z, fresh-mark (c .before .before .before .before .before .before .before .args .marks .now) (c .before .before .before .before .before .before .before .args .s .now) _ _ _ (c .before .before .before .before .before .read2 .ensures .0) (c .before .before .before .place .ensures .0))
+
+pub fresh-spec : {M : Type 1} → statement M
+fresh-spec =
+    tie.close
+    (tie.spec
+    read2-requires
+    add-from
+    add-to
+    add-to-2
+    sub-place
+    part-place-start
+    part-place-end
+    place-requires
+    element-copy-out-old
+    element-write-marks
+    returns
+    differs-requires
+    returns-2)

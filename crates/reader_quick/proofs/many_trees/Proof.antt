@@ -1,0 +1,66 @@
+-- `reader_quick::many_trees` meets its contract. The loop's invariant: the whole list reads as what is left of it. Assumes nothing.
+use mathlib.Core.Path.{_≡_, refl}
+use Prim.Native.Nat.{_-_}
+use native.Mathlib.Omega.{arith}
+use lib.ListN.{length}
+use Rattle.reader_quick.specs.Quick.{Marked}
+use Rattle.reader_quick.proofs.Listed.{Going, going-first, going-stand, going-here, going-next, going-last, marked-long, marks-long, marked-more, not-not}
+use Rattle.reader_quick.proofs.many_trees.Statement.{statement}
+use Rattle.reader_quick.proofs.many_trees.Tie as tie
+
+abbrev Inv-loop : tie.InvT-loop
+Inv-loop s room at n end first marks₀ i₀ count₀ marks i count = (Going room s end at n first count i × Marked marks s first count) × (length marks ≡ 4096)
+
+abbrev μ-loop : tie.MeasureT-loop
+μ-loop s room at n end first marks₀ i₀ count₀ marks i count = n - count
+
+add-first : tie.Need-add-first Inv-loop μ-loop
+add-first c = omega arith
+
+loop-holds : tie.Need-loop-holds Inv-loop μ-loop
+loop-holds c = let h = c .before .pre in ((going-first _ _ _ _ _ _ refl (h .0) (h .2) (h .3), λ k l. absurd (omega arith)), refl)
+
+tree-requires : tie.Need-tree-requires Inv-loop μ-loop
+tree-requires c κs = (c .before .loop .inv .0 .0 .inside, c .before .before .before .pre .1)
+
+returns : tie.Need-returns Inv-loop μ-loop
+returns c = (λ start z. absurd (omega arith), omega arith)
+
+add-fresh : tie.Need-add-fresh Inv-loop μ-loop
+add-fresh c = let h = c .before .before .tree .ensures .2 (omega (arith, c .before .if1 .left)) in omega (arith, h)
+
+fresh-requires : tie.Need-fresh-requires Inv-loop μ-loop
+fresh-requires c κs = (going-stand _ _ _ (c .before .before .before .before .before .before .pre .1) (c .before .before .before .before .loop .inv .0 .0), c .before .before .tree .ensures .2 (omega (arith, c .before .if1 .left)), c .before .before .before .before .loop .inv .0 .1)
+
+returns-2 : tie.Need-returns-2 Inv-loop μ-loop
+returns-2 c = (λ start z. absurd (omega arith), omega arith)
+
+add-count : tie.Need-add-count Inv-loop μ-loop
+add-count c = omega (arith, c .before .before .before .before .before .loop-test .taken)
+
+loop-less : tie.Need-loop-less Inv-loop μ-loop
+loop-less c = omega (arith, c .before .before .before .before .before .loop-test .taken)
+
+loop-again : tie.Need-loop-again Inv-loop μ-loop
+loop-again c = ((going-next _ _ _ (c .before .before .before .before .before .before .before .before .pre .1) (c .before .before .before .before .before .before .loop .inv .0 .0) (c .before .before .before .before .before .loop-test .taken) (omega (arith, c .before .before .before .if1 .left)) (c .before .before .before .before .tree .ensures .1) (c .before .before .before .before .tree .ensures .0) (c .before .fresh .ensures .0 (not-not _ (c .if2 .left))), marked-more (c .before .before .before .before .before .before .loop .marks) (c .before .before .before .before .before .before .before .before .args .s .now) _ _ _ (c .before .fresh .ensures .1) (marked-long _ (c .before .before .before .before .before .before .loop .marks) (c .before .before .before .before .before .before .loop .inv .1)) (going-here _ _ _ (c .before .before .before .before .before .before .before .before .pre .1) (c .before .before .before .before .before .before .loop .inv .0 .0)) (c .before .before .before .before .before .before .loop .inv .0 .1)), marks-long (c .before .before .before .before .before .before .loop .marks) _ (c .before .fresh .ensures .1) (c .before .before .before .before .before .before .loop .inv .1))
+
+returns-3 : tie.Need-returns-3 Inv-loop μ-loop
+returns-3 c = (λ start z. going-last _ _ _ (c .before .before .before .pre .1) (c .before .loop .inv .0 .0) (c .loop-test .left) start, c .before .loop .inv .0 .0 .inside)
+
+pub many-trees-spec : {M : Type 1} → statement M
+many-trees-spec =
+    tie.close
+    (tie.spec
+    Inv-loop
+    μ-loop
+    add-first
+    loop-holds
+    tree-requires
+    returns
+    add-fresh
+    fresh-requires
+    returns-2
+    add-count
+    loop-less
+    loop-again
+    returns-3)

@@ -1,0 +1,84 @@
+-- `reader_quick::tree` meets its contract. Assumes nothing.
+use native.Mathlib.Omega.{arith}
+use Rattle.reader_quick.proofs.Laws.{ends}
+use Rattle.reader_quick.proofs.Listed.{name-in, tree-yes}
+use borrow.Author.Needs.{needs}
+use Rattle.reader_quick.proofs.tree.Statement.{statement}
+use Rattle.reader_quick.proofs.tree.Tie as tie
+
+sized-requires : tie.Need-sized-requires
+sized-requires c κs = search needs
+
+returns : tie.Need-returns
+returns c = (λ e o z. absurd (omega arith), omega arith, λ z. absurd (omega arith))
+
+add-read2 : tie.Need-add-read2
+add-read2 c = search needs
+
+read2-requires : tie.Need-read2-requires
+read2-requires c κs = let w = ends (c .before .before .before .args .s .now) _ _ _ (c .before .sized .ensures) (c .if1 .left) in omega (arith, w .0, w .1)
+
+returns-2 : tie.Need-returns-2
+returns-2 c = (λ e o z. absurd (omega arith), omega arith, λ z. absurd (omega arith))
+
+returns-3 : tie.Need-returns-3
+returns-3 c = (λ e o z. absurd (omega arith), omega arith, λ z. absurd (omega arith))
+
+add-text : tie.Need-add-text
+add-text c = search needs
+
+text-requires : tie.Need-text-requires
+text-requires c κs = let w = ends (c .before .before .before .before .before .before .args .s .now) _ _ _ (c .before .before .before .before .sized .ensures) (c .before .before .before .if1 .left) in (w .0, omega (arith, w .1))
+
+returns-4 : tie.Need-returns-4
+returns-4 c = (λ e o z. absurd (omega arith), omega arith, λ z. absurd (omega arith))
+
+add-if5 : tie.Need-add-if5
+add-if5 c = let w = ends (c .before .before .before .before .before .before .before .before .args .s .now) _ _ _ (c .before .before .before .before .before .before .sized .ensures) (c .before .before .before .before .before .if1 .left) in omega (arith, w .1, c .before .text .ensures .1)
+
+returns-5 : tie.Need-returns-5
+returns-5 c = (λ e o z. absurd (omega arith), omega arith, λ z. absurd (omega arith))
+
+sub-node : tie.Need-sub-node
+sub-node c = search needs
+
+add-node : tie.Need-add-node
+add-node c = search needs
+
+node-requires : tie.Need-node-requires
+node-requires c κs = let w = ends (c .before .before .before .before .before .before .before .before .before .args .s .now) _ _ _ (c .before .before .before .before .before .before .before .sized .ensures) (c .before .before .before .before .before .before .if1 .left) in (c .if5 .left, omega (arith, w .1))
+
+returns-6 : tie.Need-returns-6
+returns-6 c = (λ e o z. absurd (omega arith), omega arith, λ z. absurd (omega arith))
+
+entries-requires : tie.Need-entries-requires
+entries-requires c κs = let w = ends (c .before .before .before .before .before .before .before .before .before .before .before .args .s .now) _ _ _ (c .before .before .before .before .before .before .before .before .before .sized .ensures) (c .before .before .before .before .before .before .before .before .if1 .left) in (c .before .node .ensures .1, omega (arith, w .1))
+
+closed-requires : tie.Need-closed-requires
+closed-requires c κs = search needs
+
+returns-7 : tie.Need-returns-7
+returns-7 c = let w = ends (c .before .before .before .before .before .before .before .before .before .before .before .before .before .args .s .now) _ _ _ (c .before .before .before .before .before .before .before .before .before .before .before .sized .ensures) (c .before .before .before .before .before .before .before .before .before .before .if1 .left) in (tree-yes _ _ _ _ _ (c .before .before .before .before .before .before .before .before .before .before .before .sized .ensures) (omega (arith, c .before .before .before .before .before .before .before .before .before .before .if1 .left)) (c .before .before .before .before .before .before .before .before .before .read2 .ensures .0) (c .before .before .before .before .before .before .before .before .if2 .left) (c .before .before .before .before .before .before .before .if3 .left) (omega (arith, c .before .before .before .before .before .if4 .left)) (c .before .before .before .before .before .before .text .ensures .0) (c .before .before .before .before .if5 .left) (omega (arith, c .before .before .if6 .left)) (c .before .before .before .node .ensures .0) (c .before .entries .ensures .0) (c .closed .ensures .0), omega (arith, w .1, c .closed .ensures .1), λ z. name-in (c .before .before .before .before .before .before .before .before .before .before .before .before .before .args .s .now) _ _ (omega (arith, c .before .before .before .before .before .if4 .left)) (c .before .before .before .before .before .before .text .ensures .0) (omega (arith, w .1, c .before .before .before .before .before .before .text .ensures .1)))
+
+pub tree-spec : {M : Type 1} → statement M
+tree-spec =
+    tie.close
+    (tie.spec
+    sized-requires
+    returns
+    add-read2
+    read2-requires
+    returns-2
+    returns-3
+    add-text
+    text-requires
+    returns-4
+    add-if5
+    returns-5
+    sub-node
+    add-node
+    node-requires
+    returns-6
+    entries-requires
+    closed-requires
+    returns-7)

@@ -1,0 +1,50 @@
+-- What an accepted block says of itself: where it ends, how long it is, its kind; and of a name that it begins with.
+use mathlib.Core.Path.{_≡_, refl, ap}
+use mathlib.Core.Bool.{true}
+use mathlib.Core.List.{List}
+use Prim.Native.Nat.{ℕ, _+_, _-_, _≤_}
+use native.Mathlib.Omega.{arith}
+use lib.ListN.{length, take, drop, length-drop}
+use lib.Seq.{length-take-le}
+use borrow.Author.Tests.{leb-true}
+use Rattle.blocks.specs.Bytes.{le2, le4}
+use Rattle.blocks.specs.Name.{isText}
+use Rattle.blocks.specs.Tree.{Tree, block, view}
+use Rattle.blocks.proofs.Name.{and-left}
+use Rattle.resolved.specs.Resolved.{ResolvedTypeKind, kindOf}
+use Rattle.resolved.specs.Set.{typeOf, thingOf, makeThing, formOf}
+use Rattle.accepted.specs.Accepted.{Accepted, tree, nameAt}
+use Rattle.accepted.proofs.Laws.{opened}
+use Rattle.resolved_parts.specs.Types.{Named}
+
+module _ {s : List ℕ} {lo hi at : ℕ} (a : Accepted s lo hi at) where
+  pub inside : at + 4 + le4 s at ≤ length s
+  inside = omega (arith, opened a refl refl .high, a .fits)
+
+  pub long : 2 ≤ le4 s at
+  long = opened a refl refl .long
+
+  pub kind-of : (lo ≤ le2 s (at + 4)) × (le2 s (at + 4) ≤ hi)
+  kind-of = let o = opened a refl refl in (o .least, o .most)
+
+-- the kind is known
+pub sole-kind : {s : List ℕ} {k at : ℕ} (a : Accepted s k k at) → le2 s (at + 4) ≡ k
+sole-kind a = let o = kind-of a in omega (arith, o .0, o .1)
+
+pub primitive : {s : List ℕ} {at : ℕ} (a : Accepted s 1 7 at) → le2 s (at + 4) ≡ 1 → kindOf (typeOf (tree a)) ≡ ResolvedTypeKind.Primitive
+unfolding typeOf view thingOf makeThing formOf
+primitive a e = ap (λ (z : Tree). kindOf (typeOf z)) (opened a e refl .tree)
+
+-- a text that was read is a name inside the bytes
+pub named : {s : List ℕ} {at : ℕ} → at + 2 + le2 s at ≤ length s → isText (nameAt s at) ≡ true → Named s at
+unfolding isText
+named {s} {at} h t =
+    let l : length (nameAt s at) ≡ le2 s at = length-take-le (le2 s at) (drop (at + 2) s) (rw length-drop (omega arith)) in
+    let b = leb-true (length (nameAt s at)) 255 (and-left _ _ t) in
+    record { inside = h; short = omega (arith, l, b) }
+
+-- the part of the bytes that is the name
+pub whole : (s : List ℕ) (at : ℕ) {u : ℕ} → u ≡ le2 s at → take (at + 2 + u - (at + 2)) (drop (at + 2) s) ≡ nameAt s at
+whole s at {u} e =
+    let f : at + 2 + u - (at + 2) ≡ le2 s at = omega arith in
+    ap (λ (k : ℕ). take k (drop (at + 2) s)) f

@@ -1,0 +1,40 @@
+-- `array_parts` meets its contract.
+use borrow.Author.Needs.{needs}
+use mathlib.Core.Path.{refl}
+use native.Mathlib.Omega.{arith}
+use Rattle.resolved_parts.proofs.Each.{array-inside, array-at}
+use Rattle.resolved_parts.proofs.array_parts.Statement.{statement}
+use Rattle.resolved_parts.proofs.array_parts.Tie as tie
+
+behind-head-requires : tie.Need-behind-head-requires
+behind-head-requires c κs = search needs
+
+shared-slice-read-b : tie.Need-shared-slice-read-b
+shared-slice-read-b c = omega (arith, array-inside (c .before .before .before .pre .0) (c .before .before .before .pre .1) (c .before .behind-head .ensures))
+
+add-element : tie.Need-add-element
+add-element c = omega (arith, array-inside (c .before .before .before .pre .0) (c .before .before .before .pre .1) (c .before .behind-head .ensures))
+
+add-t9 : tie.Need-add-t9
+add-t9 c = omega (arith, array-inside (c .before .before .before .pre .0) (c .before .before .before .pre .1) (c .before .behind-head .ensures))
+
+read4-requires : tie.Need-read4-requires
+read4-requires c κs = omega (arith, array-inside (c .before .before .before .pre .0) (c .before .before .before .pre .1) (c .before .behind-head .ensures))
+
+add-t11 : tie.Need-add-t11
+add-t11 c = omega (arith, array-inside (c .before .before .before .before .pre .0) (c .before .before .before .before .pre .1) (c .before .before .behind-head .ensures), c .read4 .ensures .0)
+
+returns : tie.Need-returns
+returns c = array-at (c .before .before .before .before .pre .1) (c .before .before .behind-head .ensures) refl (c .read4 .ensures .0)
+
+pub array-parts-spec : {M : Type 1} → statement M
+array-parts-spec =
+    tie.close
+    (tie.spec
+    behind-head-requires
+    shared-slice-read-b
+    add-element
+    add-t9
+    read4-requires
+    add-t11
+    returns)

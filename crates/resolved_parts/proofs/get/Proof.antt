@@ -1,0 +1,89 @@
+-- `get` meets its contract. The invariant: none of the owners that were passed has the name. The measure is the owners that
+-- are left.
+use borrow.Author.Needs.{needs}
+use native.Mathlib.Omega.{arith}
+use Rattle.resolved_parts.proofs.Laws.{inside}
+use Rattle.resolved_parts.proofs.Owners.{Search, references-inside, begin, next-one, next-name, go-on, hit, no-more}
+use Rattle.resolved_parts.proofs.get.Statement.{statement}
+use Rattle.resolved_parts.proofs.get.Tie as tie
+
+abbrev Inv-loop : tie.InvT-loop
+Inv-loop s references name left₀ at₀ left at = Search s references name left at
+
+abbrev μ-loop : tie.MeasureT-loop
+μ-loop s references name left₀ at₀ left at = left
+
+add-read2 : tie.Need-add-read2 Inv-loop μ-loop
+add-read2 c = omega (arith, references-inside (c .before .before .pre))
+
+read2-requires : tie.Need-read2-requires Inv-loop μ-loop
+read2-requires c κs = omega (arith, references-inside (c .before .before .pre))
+
+add-at : tie.Need-add-at Inv-loop μ-loop
+add-at c = omega (arith, references-inside (c .before .before .before .pre))
+
+add-at-2 : tie.Need-add-at-2 Inv-loop μ-loop
+add-at-2 c = omega (arith, references-inside (c .before .before .before .pre))
+
+loop-holds : tie.Need-loop-holds Inv-loop μ-loop
+loop-holds c = begin (c .before .before .before .pre) (c .read2 .ensures .0)
+
+add-name-at : tie.Need-add-name-at Inv-loop μ-loop
+add-name-at c = omega (arith, next-name _ (c .loop-test .taken) (c .before .loop .inv) .inside)
+
+name-at-requires : tie.Need-name-at-requires Inv-loop μ-loop
+name-at-requires c κs = next-name _ (c .loop-test .taken) (c .before .loop .inv)
+
+same-name-requires : tie.Need-same-name-requires Inv-loop μ-loop
+same-name-requires c κs = search needs
+
+owner-paths-requires : tie.Need-owner-paths-requires Inv-loop μ-loop
+owner-paths-requires c κs = next-one _ (c .before .before .before .loop-test .taken) (c .before .before .before .before .loop .inv)
+
+returns : tie.Need-returns Inv-loop μ-loop
+returns c = hit _ (c .before .before .before .before .loop-test .taken) (c .before .before .before .name-at .ensures) (c .before .before .same-name .ensures) (c .before .if1 .taken) (c .owner-paths .ensures) (c .before .before .before .before .before .loop .inv)
+
+add-at-3 : tie.Need-add-at-3 Inv-loop μ-loop
+add-at-3 c = omega (arith, inside (next-one _ (c .before .before .before .loop-test .taken) (c .before .before .before .before .loop .inv)))
+
+read4-requires : tie.Need-read4-requires Inv-loop μ-loop
+read4-requires c κs = omega (arith, inside (next-one _ (c .before .before .before .loop-test .taken) (c .before .before .before .before .loop .inv)))
+
+add-at-4 : tie.Need-add-at-4 Inv-loop μ-loop
+add-at-4 c = omega (arith, inside (next-one _ (c .before .before .before .before .loop-test .taken) (c .before .before .before .before .before .loop .inv)), c .read4 .ensures .0)
+
+sub-left : tie.Need-sub-left Inv-loop μ-loop
+sub-left c = omega arith
+
+loop-less : tie.Need-loop-less Inv-loop μ-loop
+loop-less c = omega arith
+
+loop-again : tie.Need-loop-again Inv-loop μ-loop
+loop-again c = go-on _ (c .before .before .before .before .loop-test .taken) (c .before .before .before .name-at .ensures) (c .before .before .same-name .ensures) (c .before .if1 .left) (c .read4 .ensures .0) (c .before .before .before .before .before .loop .inv)
+
+returns-2 : tie.Need-returns-2 Inv-loop μ-loop
+returns-2 c = no-more _ (c .loop-test .left) (c .before .loop .inv)
+
+pub get-spec : {M : Type 1} → statement M
+get-spec =
+    tie.close
+    (tie.spec
+    Inv-loop
+    μ-loop
+    add-read2
+    read2-requires
+    add-at
+    add-at-2
+    loop-holds
+    add-name-at
+    name-at-requires
+    same-name-requires
+    owner-paths-requires
+    returns
+    add-at-3
+    read4-requires
+    add-at-4
+    sub-left
+    loop-less
+    loop-again
+    returns-2)

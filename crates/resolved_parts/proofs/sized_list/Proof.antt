@@ -1,0 +1,21 @@
+-- `sized_list` meets its contract.
+use borrow.Author.Needs.{needs}
+use native.Mathlib.Omega.{arith}
+use Rattle.resolved_parts.proofs.Each.{sized-held, sized-at}
+use Rattle.resolved_parts.proofs.sized_list.Statement.{statement}
+use Rattle.resolved_parts.proofs.sized_list.Tie as tie
+
+behind-head-requires : tie.Need-behind-head-requires
+behind-head-requires c κs = search needs
+
+read2-requires : tie.Need-read2-requires
+read2-requires c κs = omega (arith, sized-held (c .before .before .pre .1) (c .before .before .pre .0) .inside, c .behind-head .ensures)
+
+add-t5 : tie.Need-add-t5
+add-t5 c = omega (arith, sized-held (c .before .before .before .pre .1) (c .before .before .before .pre .0) .inside, c .before .behind-head .ensures)
+
+returns : tie.Need-returns
+returns c = sized-at (c .before .behind-head .ensures) (c .read2 .ensures .0) (c .before .before .before .pre .1)
+
+pub sized-list-spec : {M : Type 1} → statement M
+sized-list-spec = tie.close (tie.spec behind-head-requires read2-requires add-t5 returns)

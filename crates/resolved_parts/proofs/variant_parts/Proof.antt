@@ -1,0 +1,20 @@
+-- `variant_parts` meets its contract.
+use native.Mathlib.Omega.{arith}
+use Rattle.resolved_parts.proofs.Fields.{variant-inside, variant-at}
+use Rattle.resolved_parts.proofs.variant_parts.Statement.{statement}
+use Rattle.resolved_parts.proofs.variant_parts.Tie as tie
+
+behind-name-requires : tie.Need-behind-name-requires
+behind-name-requires c κs = omega (arith, variant-inside (c .before .pre .1 .0) (c .before .pre .1 .1) (c .before .pre .0))
+
+read8-requires : tie.Need-read8-requires
+read8-requires c κs = omega (arith, variant-inside (c .before .before .pre .1 .0) (c .before .before .pre .1 .1) (c .before .before .pre .0), c .behind-name .ensures)
+
+add-t7 : tie.Need-add-t7
+add-t7 c = omega (arith, variant-inside (c .before .before .before .pre .1 .0) (c .before .before .before .pre .1 .1) (c .before .before .before .pre .0), c .before .behind-name .ensures)
+
+returns : tie.Need-returns
+returns c = variant-at (c .before .before .before .pre .1 .0) (c .before .before .before .pre .1 .1) (c .before .behind-name .ensures) (c .read8 .ensures)
+
+pub variant-parts-spec : {M : Type 1} → statement M
+variant-parts-spec = tie.close (tie.spec behind-name-requires read8-requires add-t7 returns)

@@ -1,0 +1,3 @@
+pub mod Names
+mod Texts
+pub mod Laws

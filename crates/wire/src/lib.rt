@@ -1,0 +1,300 @@
+// Numbers, texts, names and blocks in a slice of bytes: read, compared, written, cleared.
+ghost use mathlib.Core.Path.{_≡_};
+ghost use mathlib.Core.Bool.{cond};
+ghost use mathlib.Core.List.{[], _∷_};
+ghost use Prim.Native.Nat.{_+_, _*_, _^_, _≤_, _<_, _-_};
+ghost use lib.ListN.{length, drop, replicate};
+ghost use Rattle.blocks.specs.Bytes.{le2, le4, le8, bytes};
+ghost use Rattle.blocks.specs.Name.{printable, isText, same, less};
+ghost use Rattle.blocks.specs.Tree.{name, num};
+ghost use Rattle.blocks.specs.Write.{write};
+ghost use Rattle.wire.specs.Clear.{clear1, clear2, clear4, clear8};
+ghost use Rattle.wire.specs.Poke.{Wrote, opened};
+
+// A byte as a length or an offset.
+pub fn wide(x: u8) -> usize
+    ensures { λ r. ⌜ (r ≡ x) × (r < 256) ⌝ }
+{
+    x as usize
+}
+
+pub fn read2(s: &[u8], at: usize) -> usize
+    requires { ⌜ at + 2 ≤ length (now s) ⌝ }
+    ensures { λ r. ⌜ (r ≡ le2 (now (s .entry)) at) × (r < 65536) ⌝ }
+{
+    let b = at + 1;
+    wide(s[at]) + 256 * wide(s[b])
+}
+
+pub fn read4(s: &[u8], at: usize) -> usize
+    requires { ⌜ at + 4 ≤ length (now s) ⌝ }
+    ensures { λ r. ⌜ (r ≡ le4 (now (s .entry)) at) × (r < 4294967296) ⌝ }
+{
+    read2(s, at) + 65536 * read2(s, at + 2)
+}
+
+pub fn read8(s: &[u8], at: usize) -> usize
+    requires { ⌜ at + 8 ≤ length (now s) ⌝ }
+    ensures { λ r. ⌜ r ≡ le8 (now (s .entry)) at ⌝ }
+{
+    read4(s, at) + 4294967296 * read4(s, at + 4)
+}
+
+// Whether the byte at `at`, and the 2, 4 or 8 from there on, may stand in a text. No byte ends the question early, so that
+// eight are compared at once.
+fn clear(s: &[u8], at: usize) -> bool
+    requires { ⌜ at + 1 ≤ length (now s) ⌝ }
+    ensures { λ r. ⌜ r ≡ clear1 (now (s .entry)) at ⌝ }
+{
+    let b = s[at];
+    (0x20 <= b) & (b <= 0x7E)
+}
+
+fn clear_2(s: &[u8], at: usize) -> bool
+    requires { ⌜ at + 2 ≤ length (now s) ⌝ }
+    ensures { λ r. ⌜ r ≡ clear2 (now (s .entry)) at ⌝ }
+{
+    clear(s, at) & clear(s, at + 1)
+}
+
+fn clear_4(s: &[u8], at: usize) -> bool
+    requires { ⌜ at + 4 ≤ length (now s) ⌝ }
+    ensures { λ r. ⌜ r ≡ clear4 (now (s .entry)) at ⌝ }
+{
+    clear_2(s, at) & clear_2(s, at + 2)
+}
+
+fn clear_8(s: &[u8], at: usize) -> bool
+    requires { ⌜ at + 8 ≤ length (now s) ⌝ }
+    ensures { λ r. ⌜ r ≡ clear8 (now (s .entry)) at ⌝ }
+{
+    clear_4(s, at) & clear_4(s, at + 4)
+}
+
+// The same for all bytes of eight or more. The last eight may be asked twice.
+fn clear_all(s: &[u8]) -> bool
+    requires { ⌜ 8 ≤ length (now s) ⌝ }
+    ensures { λ r. ⌜ r ≡ printable (now (s .entry)) ⌝ }
+{
+    let last = s.len() - 8;
+    let mut i = 0;
+    while i < last {
+        if !clear_8(s, i) {
+            return false;
+        }
+        i += 8;
+    }
+    clear_8(s, last)
+}
+
+// Question 3.
+pub fn is_text(s: &[u8]) -> bool
+    ensures { λ r. ⌜ r ≡ isText (now (s .entry)) ⌝ }
+{
+    let n = s.len();
+    if 255 < n {
+        return false;
+    }
+    if 8 <= n {
+        return clear_all(s);
+    }
+    if 4 <= n {
+        return clear_4(s, 0) & clear_4(s, n - 4);
+    }
+    if 2 <= n {
+        return clear_2(s, 0) & clear_2(s, n - 2);
+    }
+    if n == 1 {
+        return clear(s, 0);
+    }
+    true
+}
+
+// Names are compared by their bytes, the last one first: names that differ mostly do so at their end, and there the loop ends.
+pub fn same_name(a: &[u8], b: &[u8]) -> bool
+    ensures { λ r. ⌜ r ≡ same (now (a .entry)) (now (b .entry)) ⌝ }
+{
+    if a.len() != b.len() {
+        return false;
+    }
+    let mut i = a.len();
+    while 0 < i {
+        i -= 1;
+        if a[i] != b[i] {
+            return false;
+        }
+    }
+    true
+}
+
+// Whether a stands before b in byte order.
+pub fn less_name(a: &[u8], b: &[u8]) -> bool
+    ensures { λ r. ⌜ r ≡ less (now (a .entry)) (now (b .entry)) ⌝ }
+{
+    let mut i = 0;
+    while i < a.len() {
+        if b.len() <= i {
+            return false;
+        }
+        let x = a[i];
+        let y = b[i];
+        if x < y {
+            return true;
+        }
+        if y < x {
+            return false;
+        }
+        i += 1;
+    }
+    a.len() < b.len()
+}
+
+// Bytes written into a slice that the caller lends, at a cursor that goes on counting where the slice is full.
+
+pub fn put_byte(out: &mut [u8], at: usize, b: u8) -> usize
+    requires { ⌜ at < 2 ^ 62 ⌝ }
+    ensures { λ r. ⌜ Wrote (now (out .entry)) at (b ∷ []) (now (out .exit)) r ⌝ }
+    ensures { λ r. ⌜ r ≡ at + 1 ⌝ }
+{
+    if at < out.len() {
+        out[at] = b;
+        return at + 1;
+    }
+    at + 1
+}
+
+// The low k bytes of v, the low byte first.
+pub fn put_le(out: &mut [u8], at: usize, k: usize, v: u64) -> usize
+    requires { ⌜ at + k < 2 ^ 62 ⌝ }
+    ensures { λ r. ⌜ Wrote (now (out .entry)) at (bytes k v) (now (out .exit)) r ⌝ }
+    ensures { λ r. ⌜ r ≡ at + k ⌝ }
+{
+    let mut p = at;
+    let mut left = k;
+    let mut rest = v;
+    while 0 < left {
+        p = put_byte(out, p, (rest % 256) as u8);
+        rest = rest / 256;
+        left -= 1;
+    }
+    p
+}
+
+// The bytes of s from i on.
+pub fn put_from(out: &mut [u8], at: usize, s: &[u8], i: usize) -> usize
+    requires { ⌜ at + length (now s) < 2 ^ 61 + i ⌝ }
+    ensures { λ r. ⌜ Wrote (now (out .entry)) at (drop i (now (s .entry))) (now (out .exit)) r ⌝ }
+    ensures { λ r. ⌜ r ≡ at + (length (now (s .entry)) - i) ⌝ }
+{
+    let mut p = at;
+    let mut j = i;
+    while j < s.len() {
+        p = put_byte(out, p, s[j]);
+        j += 1;
+    }
+    p
+}
+
+// A name or a text: its length in two bytes, and its bytes.
+pub fn put_name(out: &mut [u8], at: usize, s: &[u8]) -> usize
+    requires { ⌜ at + length (now s) < 2 ^ 60 ⌝ }
+    ensures { λ r. ⌜ Wrote (now (out .entry)) at (write (name (now (s .entry)))) (now (out .exit)) r ⌝ }
+    ensures { λ r. ⌜ r ≡ at + (2 + length (now (s .entry))) ⌝ }
+{
+    let p = put_le(out, at, 2, s.len() as u64);
+    put_from(out, p, s, 0)
+}
+
+// A flag, in one byte.
+pub fn put_flag(out: &mut [u8], at: usize, on: bool) -> usize
+    requires { ⌜ at < 2 ^ 62 ⌝ }
+    ensures { λ r. ⌜ Wrote (now (out .entry)) at (write (num 1 (cond on 1 0))) (now (out .exit)) r ⌝ }
+    ensures { λ r. ⌜ r ≡ at + 1 ⌝ }
+{
+    if on {
+        return put_byte(out, at, 1);
+    }
+    put_byte(out, at, 0)
+}
+
+// A block of the kind, as far as its body; its length is written once the body is.
+pub fn open_block(out: &mut [u8], at: usize, kind: u64) -> usize
+    requires { ⌜ at < 2 ^ 61 ⌝ }
+    ensures { λ r. ⌜ Wrote (now (out .entry)) at (opened kind) (now (out .exit)) r ⌝ }
+    ensures { λ r. ⌜ r ≡ at + 6 ⌝ }
+{
+    let p = put_le(out, at, 4, 0);
+    put_le(out, p, 2, kind)
+}
+
+// The length of the block that starts at `at` and ends at `end`.
+pub fn close_block(out: &mut [u8], at: usize, end: usize) -> usize
+    requires { ⌜ (at + 4 ≤ end) × (end < 2 ^ 61) ⌝ }
+    ensures { λ r. ⌜ Wrote (now (out .entry)) at (bytes 4 (end - at - 4)) (now (out .exit)) r ⌝ }
+    ensures { λ r. ⌜ r ≡ at + 4 ⌝ }
+{
+    put_le(out, at, 4, (end - at - 4) as u64)
+}
+
+// Every byte is 0 after it.
+pub fn clear_bytes(out: &mut [u8])
+    ensures { λ _. ⌜ now (out .exit) ≡ replicate (length (now (out .entry))) 0 ⌝ }
+{
+    let mut i = 0;
+    while i < out.len() {
+        out[i] = 0;
+        i += 1;
+    }
+}
+
+// The words' bits together: 0 only where every word is 0.
+fn few_bits(words: &[u64]) -> u64
+    ensures { λ r. ⌜ (r ≡ 0 → now (words .entry) ≡ replicate (length (now (words .entry))) 0) ⌝ }
+{
+    let mut bits = 0;
+    let mut i = 0;
+    while i < words.len() {
+        bits |= words[i];
+        i += 1;
+    }
+    bits
+}
+
+// The same, faster for many words: five fifths are read side by side, so that the processor fetches from five places at once.
+fn any_bits(words: &[u64]) -> u64
+    ensures { λ r. ⌜ (r ≡ 0 → now (words .entry) ≡ replicate (length (now (words .entry))) 0) ⌝ }
+{
+    let fifth = words.len() / 5;
+    let mut bits = 0;
+    let mut i = 0;
+    while i < fifth {
+        let b = fifth + i;
+        let c = 2 * fifth + i;
+        let d = 3 * fifth + i;
+        let e = 4 * fifth + i;
+        bits |= words[i] | words[b] | words[c] | words[d] | words[e];
+        i += 1;
+    }
+    let rest = 5 * fifth;
+    bits | few_bits(&words[rest..])
+}
+
+// Every word is 0 after it.
+fn zero_words(words: &mut [u64])
+    ensures { λ _. ⌜ now (words .exit) ≡ replicate (length (now (words .entry))) 0 ⌝ }
+{
+    let mut i = 0;
+    while i < words.len() {
+        words[i] = 0;
+        i += 1;
+    }
+}
+
+// Every word is 0 after it. Most callers lend zeros, and these are read faster than they are written.
+pub fn clear_words(words: &mut [u64])
+    ensures { λ _. ⌜ now (words .exit) ≡ replicate (length (now (words .entry))) 0 ⌝ }
+{
+    if any_bits(words) != 0 {
+        zero_words(words);
+    }
+}
