@@ -1,6 +1,6 @@
 -- What reading accepted, by the place where it begins: a block, the parts of a block, the entries of a list. A walk over
 -- accepted bytes asks for one of these, and says its answer of the tree that each holds.
-use Prim.Native.Nat.{ℕ, _+_, _≤_}
+use Prim.Native.Nat.{ℕ, _≤_}
 use mathlib.Core.Path.{_≡_}
 use mathlib.Core.List.{List, []}
 use lib.ListN.{length}

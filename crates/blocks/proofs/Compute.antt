@@ -4,8 +4,8 @@ use Rattle.blocks.specs.Name.{printable, isText, same, less, among}
 use Rattle.blocks.specs.Grammar.{grammar, nodeTable, findRow, partsOf}
 use Rattle.blocks.specs.Tree.{part, entries, view, partOr, partView}
 use Rattle.blocks.specs.Read.{inOrder, nameOf, readText, readKey, readNumber, readFlag, readIf, readOptional, inType, readLiteral, readCount, readEntries, readList, readValue, readPart, readParts, readHeader, readBlock, small, readInput}
-use Rattle.blocks.specs.Write.{write, placed}
+use Rattle.blocks.specs.Write.{write}
 
 unfoldable pub compute : Unit {0}
-unfolding bytes printable isText same less among grammar nodeTable findRow partsOf part entries view partOr partView inOrder nameOf readText readKey readNumber readFlag readIf readOptional inType readLiteral readCount readEntries readList readValue readPart readParts readHeader readBlock small readInput write placed
+unfolding bytes printable isText same less among grammar nodeTable findRow partsOf part entries view partOr partView inOrder nameOf readText readKey readNumber readFlag readIf readOptional inType readLiteral readCount readEntries readList readValue readPart readParts readHeader readBlock small readInput write
 compute = tt

@@ -1,8 +1,8 @@
 -- Names and texts: what question 3 asks of one, and how two are compared.
 use Prim.Native.Nat.{ℕ}
 use Prim.Native.String.{String, [] as empty, _∷_ as _then_}
-use Prim.Native.Char.{Char, code}
-use mathlib.Core.Bool.{Bool, true, false, _&&_, _||_, not}
+use Prim.Native.Char.{code}
+use mathlib.Core.Bool.{Bool, true, false, _&&_, _||_}
 use mathlib.Core.List.{List, [], _∷_}
 use lib.Dec.{leb, ltb, eqb}
 use lib.ListN.{length}
@@ -12,9 +12,9 @@ abbrev pub Name : Type 0
 Name = List ℕ
 
 -- a text of these papers or of the Rust, as bytes
-abbrev pub text : String → Name
-text empty = []
-text (c then s) = code c ∷ text s
+abbrev pub ascii : String → Name
+ascii empty = []
+ascii (c then s) = code c ∷ ascii s
 
 -- "each 0x20 to 0x7E"
 unfoldable pub printable : List ℕ → Bool

@@ -1,6 +1,6 @@
 -- Writing: the bytes of a tree.
-use Prim.Native.Nat.{ℕ, zero, suc, _+_}
-use mathlib.Core.List.{List, [], _∷_, _++_}
+use Prim.Native.Nat.{ℕ, _+_}
+use mathlib.Core.List.{List, [], _++_}
 use lib.ListN.{length}
 use Rattle.blocks.specs.Bytes.{bytes}
 use Rattle.blocks.specs.Tree.{Tree, name, num, block, nil, cons}
@@ -13,11 +13,3 @@ write (num w v) = bytes w v
 write (block at k t) = bytes 4 (2 + length (write t)) ++ (bytes 2 k ++ write t)
 write nil = []
 write (cons a b) = write a ++ write b
-
--- the same tree, with the offsets that its blocks have where it is written from `at` on
-unfoldable pub placed : ℕ → Tree → Tree
-placed at (name n) = name n
-placed at (num w v) = num w v
-placed at (block o k t) = block at k (placed (at + 6) t)
-placed at nil = nil
-placed at (cons a b) = cons (placed at a) (placed (at + length (write a)) b)

@@ -3,7 +3,7 @@ use mathlib.Core.Path.{_≡_, refl}
 use mathlib.Core.Bool.{Bool, true, false}
 use mathlib.Core.Option.{Option, some, none}
 use Prim.Native.Nat.{ℕ}
-use Rattle.errors.specs.Refusal.{Refusal, Outcome, done, refused, plain}
+use Rattle.errors.specs.Refusal.{Refusal, done, refused, plain}
 use Rattle.errors.specs.Refusal.{_>>=_ as _andThen_}
 use Rattle.builder.specs.Registry.{Registry, Build, _>>=_, give, refuse, require, need, reads, change}
 

@@ -1,66 +1,19 @@
 -- builder.rs, `build_type`, and the call that builds every type of a set in set order.
-use Prim.Native.Nat.{ℕ, zero, suc}
-use mathlib.Core.Bool.{Bool, true, false, _&&_, _||_, not, cond}
+use Prim.Native.Nat.{ℕ, suc}
+use mathlib.Core.Bool.{Bool, _&&_}
 use mathlib.Core.List.{List, [], _∷_, _++_}
-use mathlib.Core.Option.{Option, some, none}
 use lib.Dec.{leb}
 use lib.ListN.{length, drop, replicate}
 use Rattle.errors.specs.Refusal.{Outcome, done, refused, _>>=_, ask, answered, atType, plain, enough}
-use Rattle.blocks.specs.Name.{Name, same}
-use Rattle.blocks.specs.Tree.{Tree}
 use Rattle.blocks.specs.Read.{small, readSet, readLayout}
 use Rattle.blocks.specs.Write.{write}
-use Rattle.resolved.specs.Resolved.{ResolvedType, ResolvedTypeKind, Fields, ResolvedField, head, kindOf, fields, jaggedOf}
+use Rattle.resolved.specs.Resolved.{ResolvedType}
 use Rattle.resolved.specs.Set.{typesOf}
-use Rattle.ir.specs.Ir.{IrParameter, TypeIr}
+use Rattle.ir.specs.Ir.{TypeIr}
 use Rattle.ir.specs.Layout.{layoutTree}
-use Rattle.builder.specs.Names.{replace-colons, split, before-element, orElse}
-use Rattle.builder.specs.Registry.{Registry, Build, give, reads, extend-with, into-parameters}
-use Rattle.builder.specs.Registry.{_>>=_ as _andThen_}
-use Rattle.builder.specs.Nodes.{node-from-resolved}
+use Rattle.builder.specs.Type.{build-type-ir}
 
 -- ---- one type
-
-abbrev pub fieldsOf : ResolvedTypeKind → List ResolvedField
-fieldsOf ResolvedTypeKind.Primitive = []
-fieldsOf (ResolvedTypeKind.Struct fs) = fields fs
-fieldsOf (ResolvedTypeKind.Union fs) = []
-fieldsOf (ResolvedTypeKind.Enum e vs) = []
-fieldsOf (ResolvedTypeKind.Array t e j) = []
-fieldsOf (ResolvedTypeKind.SizeDiscriminatedUnion vs) = []
-fieldsOf (ResolvedTypeKind.TypeRef n) = []
-
--- whether a struct has a jagged array of this name
-unfoldable pub has-jagged : Name → List ResolvedField → Bool
-has-jagged n [] = false
-has-jagged n (f ∷ fs) = (same (f .name) n && orElse false (jaggedOf (kindOf (f .field-type)))) || has-jagged n fs
-
-abbrev pub jagged-before : List ResolvedField → Option Name → Bool
-jagged-before fs none = false
-jagged-before fs (some n) = has-jagged n fs
-
--- `is_jagged_element_parameter`
-unfoldable pub is-jagged-element-parameter : ResolvedType → Name → Bool
-is-jagged-element-parameter t n = jagged-before (fieldsOf (kindOf t)) (before-element (split (replace-colons n)))
-
--- `filter_jagged_element_parameters`
-unfoldable pub filter-jagged-element-parameters : ResolvedType → List IrParameter → List IrParameter
-filter-jagged-element-parameters t [] = []
-filter-jagged-element-parameters t (p ∷ ps) =
-    cond (is-jagged-element-parameter t (p .name)) (filter-jagged-element-parameters t ps) (p ∷ filter-jagged-element-parameters t ps)
-
--- "Owners' references enter the registry first, in byte order."
-unfoldable pub build-type-ir : List ResolvedType → ResolvedType → Build TypeIr
-build-type-ir types t =
-    _andThen_ (extend-with (head t .dynamic-params)) (λ _.
-    _andThen_ (node-from-resolved types t) (λ root.
-    _andThen_ (reads into-parameters) (λ parameters.
-    give (record {
-      type-name = head t .name;
-      alignment = head t .alignment;
-      root = root;
-      parameters = filter-jagged-element-parameters t parameters;
-    }))))
 
 -- `build_type`, from an empty registry
 unfoldable pub build-type : List ResolvedType → ResolvedType → Outcome TypeIr
@@ -104,7 +57,3 @@ build-set words out set = do
 unfoldable pub output-after : List ℕ → Outcome (List ℕ) → List ℕ
 output-after out (done bs) = bs ++ drop (length bs) out
 output-after out (refused r) = replicate (length out) 0
-
--- working words are zero after every call
-abbrev pub words-after : List ℕ → List ℕ
-words-after words = replicate (length words) 0

@@ -1,10 +1,10 @@
 -- builder.rs, names: `canonical_name`, `normalize_path`, aliases, `qualify_parent_path`, and the texts that nodes take.
 use Prim.Native.Nat.{ℕ}
-use mathlib.Core.Bool.{Bool, true, false, _&&_, _||_, not, cond}
+use mathlib.Core.Bool.{Bool, true, false, _&&_, _||_, cond}
 use mathlib.Core.List.{List, [], _∷_, _++_}
 use mathlib.Core.Option.{Option, some, none}
 use lib.Dec.{eqb}
-use Rattle.blocks.specs.Name.{Name, text, same}
+use Rattle.blocks.specs.Name.{Name, ascii, same}
 
 abbrev pub isEmpty : Name → Bool
 isEmpty [] = true
@@ -18,7 +18,7 @@ strip-prefix (p ∷ ps) (x ∷ xs) = elim (eqb p x) [ true ↦ strip-prefix ps x
 
 -- "Stripping an owner gives back the rest of the caller's own path."
 abbrev pub strip-owner : Name → Name → Option Name
-strip-owner owner path = strip-prefix (owner ++ text ".") path
+strip-owner owner path = strip-prefix (owner ++ ascii ".") path
 
 abbrev pub orElse : {A : Type 0} → A → Option A → A
 orElse d none = d
@@ -34,7 +34,7 @@ normalize-path owner path = cond (same path owner) [] (orElse path (strip-owner 
 
 -- `canonical_name`
 unfoldable pub canonical-name : Name → Name → Name
-canonical-name owner path = cond (isEmpty path || same path owner) owner (owner ++ (text "." ++ orElse path (strip-owner owner path)))
+canonical-name owner path = cond (isEmpty path || same path owner) owner (owner ++ (ascii "." ++ orElse path (strip-owner owner path)))
 
 -- `rsplit_once("::")`: what stands before and behind the last `::`
 abbrev pub behind : Option Name → Option (Name × Name)
@@ -43,7 +43,7 @@ behind (some r) = some ([], r)
 
 unfoldable pub rsplit-once : Name → Option (Name × Name)
 rsplit-once [] = none
-rsplit-once (x ∷ xs) = elim (rsplit-once xs) [ none ↦ behind (strip-prefix (text "::") (x ∷ xs)) | some p ↦ some (x ∷ p .0, p .1) ]
+rsplit-once (x ∷ xs) = elim (rsplit-once xs) [ none ↦ behind (strip-prefix (ascii "::") (x ∷ xs)) | some p ↦ some (x ∷ p .0, p .1) ]
 
 -- `alternate_owner_aliases`: what stands behind the last `::` of a path, unless it is empty or the normal path
 abbrev pub aliasUnless : Name → Option (Name × Name) → List Name
@@ -56,7 +56,7 @@ alternate-owner-aliases path normal = aliasUnless normal (rsplit-once path)
 -- `qualify_parent_path`
 abbrev pub qualified : Name → Option (Name × Name) → Option Name
 qualified path none = none
-qualified path (some p) = some (p .0 ++ (text "::" ++ path))
+qualified path (some p) = some (p .0 ++ (ascii "::" ++ path))
 
 unfoldable pub qualify-parent-path : Name → Name → Option Name
 qualify-parent-path owner path = qualified path (rsplit-once owner)
@@ -65,7 +65,7 @@ qualify-parent-path owner path = qualified path (rsplit-once owner)
 unfoldable pub join : List Name → Name
 join [] = []
 join (x ∷ []) = x
-join (x ∷ (y ∷ ys)) = x ++ (text "." ++ join (y ∷ ys))
+join (x ∷ (y ∷ ys)) = x ++ (ascii "." ++ join (y ∷ ys))
 
 -- `ends_with`
 unfoldable pub ends-with : Name → Name → Bool
@@ -79,7 +79,7 @@ trim-end (x ∷ xs) = cond (isEmpty (trim-end xs) && eqb x 0x2E) [] (x ∷ trim-
 
 -- `extend_element_prefix`: "with `element.` put before paths"
 abbrev pub extend-element-prefix : Name → Name
-extend-element-prefix prefix = prefix ++ text "element."
+extend-element-prefix prefix = prefix ++ ascii "element."
 
 -- `apply_path_prefix`
 unfoldable pub apply-path-prefix : Name → Name → Name
@@ -103,8 +103,8 @@ split (x ∷ xs) = cond (eqb x 0x2E) ([] ∷ split xs) (onto x (split xs))
 -- the segment before the first segment `element`, if there is one
 unfoldable pub before : Name → List Name → Option Name
 before p [] = none
-before p (s ∷ ss) = elim (same s (text "element")) [ true ↦ some p | false ↦ before s ss ]
+before p (s ∷ ss) = elim (same s (ascii "element")) [ true ↦ some p | false ↦ before s ss ]
 
 unfoldable pub before-element : List Name → Option Name
 before-element [] = none
-before-element (s ∷ ss) = elim (same s (text "element")) [ true ↦ none | false ↦ before s ss ]
+before-element (s ∷ ss) = elim (same s (ascii "element")) [ true ↦ none | false ↦ before s ss ]

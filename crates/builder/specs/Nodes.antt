@@ -1,16 +1,16 @@
 -- builder.rs, the nodes, in the Rust's order of functions where one does not need another.
-use Prim.Native.Nat.{ℕ, zero, suc, _+_, _-_, _^_}
-use mathlib.Core.Bool.{Bool, true, false, _&&_, _||_, not, cond}
+use Prim.Native.Nat.{ℕ, suc, _+_, _-_, _^_}
+use mathlib.Core.Bool.{Bool, true, false, _&&_, cond}
 use mathlib.Core.List.{List, [], _∷_, _++_}
 use mathlib.Core.Option.{Option, some, none}
-use lib.Dec.{leb, ltb, eqb}
+use lib.Dec.{ltb, eqb}
 use lib.ListN.{length, getD}
 use Rattle.errors.specs.Refusal.{UnsupportedSize, MissingDynamicRefs, MissingParameter, UnsupportedArrayElement, UnsupportedExpression, MissingType}
-use Rattle.blocks.specs.Name.{Name, text, same}
+use Rattle.blocks.specs.Name.{Name, ascii, same}
 use Rattle.blocks.specs.Grammar.{within}
-use Rattle.expr.specs.Expr.{ExprKind, LiteralExpr, literal-to-u64}
+use Rattle.expr.specs.Expr.{ExprKind, literal-to-u64}
 use Rattle.resolved.specs.Resolved.{Owner, Size, Head, ResolvedType, ResolvedTypeKind, Fields, Variants, ResolvedField, ResolvedVariant, head, kindOf, fields, variants, get, get-type-info, targetOf, jaggedOf}
-use Rattle.ir.specs.Ir.{NodeMetadata, IrParameter, IrArgument, BinaryOp, IrNode, SwitchCases, DefaultNode, aligned, default-alignment, default-metadata, unplaced}
+use Rattle.ir.specs.Ir.{IrArgument, BinaryOp, IrNode, SwitchCases, DefaultNode, aligned, default-alignment, default-metadata, unplaced}
 use Rattle.ir.specs.Layout.{operations}
 use Rattle.builder.specs.Names.{canonical-name, qualify-parent-path, rsplit-once, join, ends-with, extend-element-prefix, apply-path-prefix, orElse, isSome}
 use Rattle.builder.specs.Registry.{Registry, Build, _>>=_, give, refuse, require, need, reads, change, short, ensure, extend-with, lookup-name, owner-parameters, add-synthetic, mark-derived}
@@ -44,7 +44,7 @@ combine-checked-add (n ∷ ns) = give (add-all n ns)
 
 -- `build_field_ref_nodes`; the size text is `owner:path`
 abbrev pub refText : Name → Name → Name
-refText owner path = owner ++ (text ":" ++ path)
+refText owner path = owner ++ (ascii ":" ++ path)
 
 unfoldable pub build-field-ref-nodes : Name → List Name → Build (List IrNode)
 build-field-ref-nodes owner [] = give []
@@ -54,6 +54,12 @@ build-field-ref-nodes owner (path ∷ ps) = do
   _ ← require (short (refText owner path)) 17
   nodes ← build-field-ref-nodes owner ps
   give (IrNode.FieldRef unplaced (record { alignment = default-alignment; size-expr = some (refText owner path) }) path (some parameter) ∷ nodes)
+
+-- the references of an owner, summed
+unfoldable pub sum-refs : Name → List Name → Build IrNode
+sum-refs owner paths = do
+  nodes ← build-field-ref-nodes owner paths
+  combine-checked-add nodes
 
 -- ---- size expressions
 
@@ -66,7 +72,7 @@ operationOf k =
 
 -- "for a field reference the path is compared with the thirteen bytes `__buffer_size`; that one takes no parameter"
 abbrev pub buffer-size : Name
-buffer-size = text "__buffer_size"
+buffer-size = ascii "__buffer_size"
 
 -- "a path that is looked up is measured once it is found"
 unfoldable pub build-path : Name → Name → Build IrNode
@@ -174,7 +180,7 @@ unfoldable mutual
 -- `select_array_owner`: the part behind the last `::` of the type's name (else `array`), then the type's name, then the
 -- first owner
 abbrev pub fieldKey : Option (Name × Name) → Name
-fieldKey none = text "array"
+fieldKey none = ascii "array"
 fieldKey (some p) = p .1
 
 abbrev pub has : Name → List Owner → Bool
@@ -206,8 +212,7 @@ unfoldable pub build-alternative : List Owner → Name → Size → ℕ → Buil
 build-alternative refs n (Size.Const v) a = give (const-or-zero v a)
 build-alternative refs n Size.Variable a = do
   paths ← need (get n refs) MissingDynamicRefs
-  nodes ← build-field-ref-nodes n paths
-  sum ← combine-checked-add nodes
+  sum ← sum-refs n paths
   give (align-node sum a)
 
 unfoldable pub build-cases : List Owner → List Alternative → Build SwitchCases
@@ -252,8 +257,8 @@ tag-lookup owner path r = first-of (lookup-name owner path r) (lookupQualified o
 unfoldable pub computed-tag : Name → ExprKind → Build Name
 computed-tag owner e = do
   _ ← change (mark-all owner (field-refs e))
-  add-synthetic owner (text "__computed_tag")
-      (record { name = owner ++ text ".computed_tag"; description = some (text "Computed enum tag expression"); derived = true })
+  add-synthetic owner (ascii "__computed_tag")
+      (record { name = owner ++ ascii ".computed_tag"; description = some (ascii "Computed enum tag expression"); derived = true })
 
 unfoldable pub enum-tag-parameter : Name → ExprKind → Build Name
 enum-tag-parameter owner (ExprKind.Literal l) = computed-tag owner (ExprKind.Literal l)
@@ -287,8 +292,8 @@ union-alternatives i (f ∷ fs) =
 unfoldable pub build-union-node : Head → Fields → Build IrNode
 build-union-node h fs = do
   _ ← extend-with (h .dynamic-params)
-  tag ← add-synthetic (h .name) (text "__variant")
-      (record { name = h .name ++ text ".variant"; description = some (text "Active union variant selector"); derived = false })
+  tag ← add-synthetic (h .name) (ascii "__variant")
+      (record { name = h .name ++ ascii ".variant"; description = some (ascii "Active union variant selector"); derived = false })
   build-switch h tag (union-alternatives 0 (fields fs))
 
 -- `build_size_discriminated_union_node`: tag and size of a variant are its expected size
@@ -305,25 +310,19 @@ unfoldable pub build-size-discriminated-union-node : Head → Variants → Build
 build-size-discriminated-union-node h vs = do
   _ ← extend-with (h .dynamic-params)
   _ ← require (notEmpty vs) UnsupportedSize
-  tag ← add-synthetic (h .name) (text "__payload_size")
+  tag ← add-synthetic (h .name) (ascii "__payload_size")
       (record {
-        name = h .name ++ text ".payload_size";
-        description = some (text "Runtime payload size (bytes) selecting size-discriminated variant");
+        name = h .name ++ ascii ".payload_size";
+        description = some (ascii "Runtime payload size (bytes) selecting size-discriminated variant");
         derived = false;
       })
   build-switch h tag (sized-alternatives (variants vs))
 
 -- ---- structs
 
--- the references of a struct for a field, summed
-unfoldable pub sum-refs : Name → List Name → Build IrNode
-sum-refs owner paths = do
-  nodes ← build-field-ref-nodes owner paths
-  combine-checked-add nodes
-
 unfoldable pub payload-paths : List Name → List Name
 payload-paths [] = []
-payload-paths (p ∷ ps) = cond (ends-with (text ".payload_size") p) (p ∷ payload-paths ps) (payload-paths ps)
+payload-paths (p ∷ ps) = cond (ends-with (ascii ".payload_size") p) (p ∷ payload-paths ps) (payload-paths ps)
 
 -- An enum as a field: where the struct's references for it have a path that ends in `.payload_size`, the sum of those.
 -- "Payload-size enums and type references of variable size enter none that way."

@@ -1,11 +1,11 @@
 -- builder.rs, `ParameterRegistry`, as one list of entries in order of entry, and building as actions on it.
 use Prim.Native.Nat.{ℕ}
-use mathlib.Core.Bool.{Bool, true, false, _&&_, _||_, not, cond}
-use mathlib.Core.List.{List, [], _∷_, _++_, map}
+use mathlib.Core.Bool.{Bool, true, false, _&&_, cond}
+use mathlib.Core.List.{List, [], _∷_, _++_}
 use mathlib.Core.Option.{Option, some, none}
 use lib.Dec.{leb, ltb}
 use lib.ListN.{length}
-use Rattle.errors.specs.Refusal.{Outcome, done, refused, ask, plain}
+use Rattle.errors.specs.Refusal.{Outcome, done, refused, plain}
 use Rattle.errors.specs.Refusal.{_>>=_ as _andThen_}
 use Rattle.blocks.specs.Name.{Name, same, among}
 use Rattle.resolved.specs.Resolved.{Owner}
@@ -61,13 +61,13 @@ short n = leb (length n) 255
 
 -- ---- the registry
 
-abbrev pub holds : Name → Name → Entry → Bool
-holds owner key e = same owner (e .owner) && among key (e .keys)
+abbrev pub keyedBy : Name → Name → Entry → Bool
+keyedBy owner key e = same owner (e .owner) && among key (e .keys)
 
 -- `lookup.get(&key)`
-unfoldable pub find : Name → Name → Registry → Option IrParameter
-find owner key [] = none
-find owner key (e ∷ es) = elim (holds owner key e) [ true ↦ some (e .parameter) | false ↦ find owner key es ]
+unfoldable pub findKey : Name → Name → Registry → Option IrParameter
+findKey owner key [] = none
+findKey owner key (e ∷ es) = elim (keyedBy owner key e) [ true ↦ some (e .parameter) | false ↦ findKey owner key es ]
 
 -- a new entry; 17: "at most 512 registry entries"
 unfoldable pub enter : Entry → Build Unit
@@ -91,7 +91,7 @@ unlessFound e none = enter e
 
 unfoldable pub ensure : Name → Name → Build Unit
 ensure owner path = do
-  p ← reads (find owner (normalize-path owner path))
+  p ← reads (findKey owner (normalize-path owner path))
   unlessFound (entryOf owner path) p
 
 unfoldable pub ensure-all : Name → List Name → Build Unit
@@ -108,12 +108,12 @@ extend-with (o ∷ os) = do
   extend-with os
 
 -- `lookup_name`
-abbrev pub nameOf : Option IrParameter → Option Name
-nameOf none = none
-nameOf (some p) = some (p .name)
+abbrev pub parameterName : Option IrParameter → Option Name
+parameterName none = none
+parameterName (some p) = some (p .name)
 
 unfoldable pub lookup-name : Name → Name → Registry → Option Name
-lookup-name owner path r = nameOf (find owner (normalize-path owner path) r)
+lookup-name owner path r = parameterName (findKey owner (normalize-path owner path) r)
 
 -- `owner_parameters`
 unfoldable pub owner-parameters : Name → Registry → List IrParameter
@@ -129,7 +129,7 @@ namedOr e none = do
 
 unfoldable pub add-synthetic : Name → Name → IrParameter → Build Name
 add-synthetic owner path parameter = do
-  p ← reads (find owner (normalize-path owner path))
+  p ← reads (findKey owner (normalize-path owner path))
   namedOr (record { owner = owner; keys = normalize-path owner path ∷ []; parameter = parameter }) p
 
 -- `mark_derived`
@@ -142,7 +142,7 @@ derivedEntry e = record {
 
 unfoldable pub mark : Name → Name → Registry → Registry
 mark owner key [] = []
-mark owner key (e ∷ es) = cond (holds owner key e) (derivedEntry e ∷ es) (e ∷ mark owner key es)
+mark owner key (e ∷ es) = cond (keyedBy owner key e) (derivedEntry e ∷ es) (e ∷ mark owner key es)
 
 unfoldable pub mark-derived : Name → Name → Registry → Registry
 mark-derived owner path = mark owner (normalize-path owner path)

@@ -2,31 +2,29 @@
 use mathlib.Core.Path.{_≡_, refl, sym, _∙_, ap, subst}
 use mathlib.Core.Bool.{Bool, true, false, _&&_}
 use mathlib.Core.List.{List, _++_}
-use mathlib.Core.Option.{some, none}
 use Prim.Native.Nat.{ℕ, _+_, _-_, _*_, _^_, _≤_, _<_}
 use native.Mathlib.Omega.{arith}
 use lib.ListN.{length, length-take}
 use Rattle.errors.specs.Refusal.{Outcome, done, refused, plain}
-use Rattle.blocks.specs.Bytes.{bytes, le2, le4}
+use Rattle.blocks.specs.Bytes.{le2, le4}
 use Rattle.blocks.specs.Name.{Name}
 use Rattle.blocks.specs.Tree.{name, num, nil, cons}
 use Rattle.blocks.specs.Write.{write}
 use Rattle.accepted.specs.Accepted.{Accepted, tree, nameAt}
 use Rattle.expr.specs.Expr.{ExprKind, exprOf}
-use Rattle.resolved.specs.Resolved.{Owner, Size, Head, ResolvedType, ResolvedTypeKind, head, kindOf, targetOf, jaggedOf}
+use Rattle.resolved.specs.Resolved.{Owner, Size, Head, head, kindOf, targetOf}
 use Rattle.resolved.specs.Set.{typeOf}
 use Rattle.resolved_parts.specs.Types.{Named, HeadAt, ArrayAt, TargetAt, sized, ownersOf}
 use Rattle.resolved_parts.specs.declared.TypeHead.{TypeHead}
 use Rattle.resolved_parts.specs.declared.ArrayParts.{ArrayParts}
 use Rattle.ir.specs.Ir.{BinaryOp, IrNode, aligned, unplaced}
 use Rattle.ir.specs.Layout.{nodeTree}
-use Rattle.builder.specs.Names.{extend-element-prefix}
 use Rattle.builder.specs.Registry.{Registry, Build, _>>=_, give, extend-with}
-use Rattle.builder.specs.Nodes.{align-node, product, isVariable, build-expr-ir, build-element, build-array-node-with-prefix}
+use Rattle.builder.specs.Nodes.{align-node, product, isVariable, build-expr-ir, build-array-node-with-prefix}
 use Rattle.builder.proofs.Steps.{step-done, step-refused}
 use Rattle.wire.specs.Poke.{Wrote}
 use Rattle.wire.proofs.Laws.{parts, no-parts}
-use Rattle.builder_registry.specs.Words.{Standing, Kept, entriesOf}
+use Rattle.builder_registry.specs.Words.{Kept, entriesOf}
 use Rattle.builder_registry.specs.declared.Held.{Held}
 use Rattle.builder_registry.proofs.Laws.{standing}
 use Rattle.builder_paths.specs.Joined.{prefixOf}
@@ -36,7 +34,7 @@ use Rattle.builder_nodes.proofs.Laws.{node-closed, align-closed}
 use Rattle.builder_expressions.specs.Ready.{Ready as ReadyCount}
 use Rattle.builder_expressions.proofs.Laws.{makes, refuses, stays, wider, two-written}
 use Rattle.builder_arrays.specs.declared.Shape.{Shape}
-use Rattle.builder_arrays.specs.Ready.{Ready, ReadyInside}
+use Rattle.builder_arrays.specs.Ready.{ReadyInside}
 use Rattle.builder_arrays.specs.Begun.{Begun, Begins, counted, summed, Closed, Finished}
 use Rattle.builder_arrays.specs.Shapes.{ShapeAt}
 use Rattle.builder_arrays.proofs.Steps.{elementOf, array-sums, array-multiplies, element-constant, element-inside, element-refused, deeper, sum-stops, sum-refused, sum-gives, is-array, not-target, not-array}
@@ -77,17 +75,17 @@ begins {xs} {x₁} {x₂} {at} {q} kind alignment e w v (Builds.made x z g c) =
 begins kind alignment e w v (Builds.not k z l) = Begins.not k z l
 
 module _ {s xs us ys : List ℕ} {at kind alignment : ℕ} {r : Built} where
-  pub begun : {x : Outcome (IrNode × Registry)} → r .no ≡ 0 → Begins s xs at us kind alignment ys r x →
+  pub begun : {x : Outcome (IrNode × Registry)} → r .number ≡ 0 → Begins s xs at us kind alignment ys r x →
       (y : IrNode × Registry) × (x ≡ done y) × (entriesOf s us (r .count) ≡ y .1) × Begun xs at kind alignment (y .0) ys (r .at)
   begun z (Begins.begun y e g w) = (y, refl, g, w)
   begun z (Begins.not k e l) = absurd (let z : ⊥ = omega arith in z)
 
-  pub not-begun : {x : Outcome (IrNode × Registry)} → (r .no ≡ 0 → ⊥) → Begins s xs at us kind alignment ys r x → (x ≡ refused (plain (r .no))) × (0 < r .no)
+  pub not-begun : {x : Outcome (IrNode × Registry)} → (r .number ≡ 0 → ⊥) → Begins s xs at us kind alignment ys r x → (x ≡ refused (plain (r .number))) × (0 < r .number)
   not-begun z (Begins.begun y e g w) = absurd (z e)
   not-begun z (Begins.not k e l) = (ap (λ (q : ℕ). refused (plain q)) (sym e), omega arith)
 
 -- the count was refused
-pub count-stops : {s xs ws us ys : List ℕ} {at alignment : ℕ} {c : Built} (owner prefix : Name) (x : ExprKind) (os : List Owner) (g : Registry) → (c .no ≡ 0 → ⊥) →
+pub count-stops : {s xs ws us ys : List ℕ} {at alignment : ℕ} {c : Built} (owner prefix : Name) (x : ExprKind) (os : List Owner) (g : Registry) → (c .number ≡ 0 → ⊥) →
     Begins s xs at ws 136 alignment ys c (build-expr-ir owner prefix x g) → Begins s xs at us 136 alignment ys c (counted owner prefix x os g)
 unfolding counted
 count-stops owner prefix x os g z b =
@@ -97,16 +95,16 @@ count-stops owner prefix x os g z b =
 -- what entering the references leaves
 count-entered : {s xs us ys : List ℕ} {at alignment : ℕ} (c : Built) {k : Held} (owner prefix : Name) (x : ExprKind) (os : List Owner) (g : Registry) {y : IrNode × Registry} {o : Outcome (Unit × Registry)} →
     build-expr-ir owner prefix x g ≡ done y → Begun xs at 136 alignment (y .0) ys (c .at) → extend-with os (y .1) ≡ o → Kept s us k o →
-    Begins s xs at us 136 alignment ys (record { at = c .at; count = k .count; no = k .no }) (counted owner prefix x os g)
+    Begins s xs at us 136 alignment ys (record { at = c .at; count = k .count; number = k .number }) (counted owner prefix x os g)
 unfolding counted give
 count-entered c owner prefix x os g {y} e w f (Kept.kept h z i) =
     rw (step-done (build-expr-ir owner prefix x) _ g e, step-done (extend-with os) _ (y .1) f) (Begins.begun (y .0, h) z i w)
 count-entered c owner prefix x os g {y} e w f (Kept.not q z l) =
     rw (step-done (build-expr-ir owner prefix x) _ g e, step-refused (extend-with os) _ (y .1) f) (Begins.not q z l)
 
-pub count-goes : {s xs ws us ys : List ℕ} {at alignment : ℕ} {c : Built} {k : Held} (owner prefix : Name) (x : ExprKind) (os : List Owner) (g : Registry) → c .no ≡ 0 →
+pub count-goes : {s xs ws us ys : List ℕ} {at alignment : ℕ} {c : Built} {k : Held} (owner prefix : Name) (x : ExprKind) (os : List Owner) (g : Registry) → c .number ≡ 0 →
     Begins s xs at ws 136 alignment ys c (build-expr-ir owner prefix x g) → Kept s us k (extend-with os (entriesOf s ws (c .count))) →
-    Begins s xs at us 136 alignment ys (record { at = c .at; count = k .count; no = k .no }) (counted owner prefix x os g)
+    Begins s xs at us 136 alignment ys (record { at = c .at; count = k .count; number = k .number }) (counted owner prefix x os g)
 count-goes {c} owner prefix x os g z b h =
     let i = begun z b in
     count-entered c owner prefix x os g (i .1) (i .3) (ap (extend-with os) (sym (i .2))) h
@@ -144,12 +142,12 @@ module _ {s xs y₁ : List ℕ} {at alignment : ℕ} (h : Head) (m e : Build IrN
   finished c a w f (Builds.not k q l) (Finished.closed p t) = absurd (let j : ⊥ = omega arith in j)
   finished c {y} a w f (Builds.not k q l) (Finished.stopped p) = rw (step-done m _ g a, step-refused e _ (y .1) f) (Builds.not k q l)
 
-  module _ {ws : List ℕ} {c : Built} (z : c .no ≡ 0) (i : Begins s xs at ws 136 alignment y₁ c (m g)) where
+  module _ {ws : List ℕ} {c : Built} (z : c .number ≡ 0) (i : Begins s xs at ws 136 alignment y₁ c (m g)) where
     multiplies : {us y₂ ys : List ℕ} {n : ℕ} {b r : Built} → Builds s y₁ (c .at) us y₂ b (e (entriesOf s ws (c .count))) → Finished y₂ at n b ys r → Builds s xs at us ys r (Multiplied h m e g)
     multiplies k f = let j = begun z i in finished c (j .1) (j .3) (ap e (sym (j .2))) k f
 
     -- the element is refused
-    multiplies-not : {us ys : List ℕ} {q u v : ℕ} → 0 < q → e (entriesOf s ws (c .count)) ≡ refused (plain q) → Builds s xs at us ys (record { at = u; count = v; no = q }) (Multiplied h m e g)
+    multiplies-not : {us ys : List ℕ} {q u v : ℕ} → 0 < q → e (entriesOf s ws (c .count)) ≡ refused (plain q) → Builds s xs at us ys (record { at = u; count = v; number = q }) (Multiplied h m e g)
     multiplies-not {q} l k =
         let j = begun z i in
         refuses q refl l (step-done m _ g (j .1) ∙ step-refused e _ (j .0 .1) (ap e (sym (j .2)) ∙ k))
@@ -191,14 +189,14 @@ module _ {s : List ℕ} {array : ℕ} {p : Shape} (owner : Name) (depth : ℕ) (
     counts a = rw (sh a .owners) (k (sh a .size) (sh a .references))
 
     -- the count, or the references, were refused
-    pub counted-stops : {us ys : List ℕ} {u v : ℕ} → (c .no ≡ 0 → ⊥) → Leaves s xs at us ys (record { at = u; count = v; no = c .no }) owner depth array g
+    pub counted-stops : {us ys : List ℕ} {u v : ℕ} → (c .number ≡ 0 → ⊥) → Leaves s xs at us ys (record { at = u; count = v; number = c .number }) owner depth array g
     counted-stops z a =
         let i = not-begun z (counts a) in
-        refuses (c .no) refl (i .1) (multiplied a ∙ step-refused (countAt a) _ g (i .0))
+        refuses (c .number) refl (i .1) (multiplied a ∙ step-refused (countAt a) _ g (i .0))
 
-    module _ (z : c .no ≡ 0) where
+    module _ (z : c .number ≡ 0) where
       -- an element of variable size that is no array
-      pub element-stops : {us ys : List ℕ} {u v : ℕ} → p .variable ≡ true → (le2 s (p .element + 4) ≡ 5 → ⊥) → Leaves s xs at us ys (record { at = u; count = v; no = 13 }) owner depth array g
+      pub element-stops : {us ys : List ℕ} {u v : ℕ} → p .variable ≡ true → (le2 s (p .element + 4) ≡ 5 → ⊥) → Leaves s xs at us ys (record { at = u; count = v; number = 13 }) owner depth array g
       element-stops e f a =
           let q = sh a in
           rw (multiplied a)
@@ -210,7 +208,7 @@ module _ {s : List ℕ} {array : ℕ} {p : Shape} (owner : Name) (depth : ℕ) (
           let x : elementAt a (entriesOf s ws (c .count)) ≡ build-array-node-with-prefix owner (prefixOf (depth + 1)) (typeOf (tree (q .element))) (entriesOf s ws (c .count)) = rw (deeper depth) (element-inside _ _ _ _ (q .inner-size ∙ rw e) (is-array (q .element) f .1)) in
           rw (multiplied a) (multiplies (head (typeOf (tree a))) (countAt a) (elementAt a) g (q .alignment) z (counts a) (rw x (w (q .element))) h)
 
-      pub element-made : {y₂ ys : List ℕ} {n u : ℕ} {r : Built} → p .variable ≡ false → Wrote y₁ (c .at) (write (nodeTree (IrNode.Const unplaced (aligned (p .inner)) (p .constant)))) y₂ u → Finished y₂ at n (record { at = u; count = c .count; no = 0 }) ys r → Leaves s xs at ws ys r owner depth array g
+      pub element-made : {y₂ ys : List ℕ} {n u : ℕ} {r : Built} → p .variable ≡ false → Wrote y₁ (c .at) (write (nodeTree (IrNode.Const unplaced (aligned (p .inner)) (p .constant)))) y₂ u → Finished y₂ at n (record { at = u; count = c .count; number = 0 }) ys r → Leaves s xs at ws ys r owner depth array g
       element-made e w h a =
           let q = sh a in
           let k : head (typeOf (tree (q .element))) .size ≡ Size.Const (p .constant) = q .inner-size ∙ rw e in
@@ -220,18 +218,18 @@ module _ {s : List ℕ} {array : ℕ} {p : Shape} (owner : Name) (depth : ℕ) (
 -- ---- a sum over an array
 
 module _ {s xs ws y₁ : List ℕ} {at : ℕ} {c : Built} (owner : Name) (depth alignment : ℕ) {size element : ℕ} (g : Registry) (k : (e : Accepted s 64 91 size) → Begins s xs at ws 144 alignment y₁ c (build-expr-ir owner (prefixOf depth) (exprOf (tree e)) g)) where
-  pub sum-count-stops : {us ys : List ℕ} {u v : ℕ} → (c .no ≡ 0 → ⊥) → SumLeft s xs at us ys (record { at = u; count = v; no = c .no }) owner depth alignment size element g
+  pub sum-count-stops : {us ys : List ℕ} {u v : ℕ} → (c .number ≡ 0 → ⊥) → SumLeft s xs at us ys (record { at = u; count = v; number = c .number }) owner depth alignment size element g
   sum-count-stops z e t h d =
       let i = not-begun z (k e) in
-      refuses (c .no) refl (i .1) (sum-stops h owner (prefixOf depth) _ _ g (i .0))
+      refuses (c .number) refl (i .1) (sum-stops h owner (prefixOf depth) _ _ g (i .0))
 
-  module _ (z : c .no ≡ 0) where
-    pub sum-element-stops : {us ys : List ℕ} {w u v : ℕ} → w ≡ le2 s (element + 4) → (w ≡ 7 → ⊥) → SumLeft s xs at us ys (record { at = u; count = v; no = 13 }) owner depth alignment size element g
+  module _ (z : c .number ≡ 0) where
+    pub sum-element-stops : {us ys : List ℕ} {w u v : ℕ} → w ≡ le2 s (element + 4) → (w ≡ 7 → ⊥) → SumLeft s xs at us ys (record { at = u; count = v; number = 13 }) owner depth alignment size element g
     sum-element-stops x y e t h d =
         let i = begun z (k e) in
         refuses 13 refl (omega arith) (sum-refused h owner (prefixOf depth) _ _ g (i .1) (not-target t (rw x at y)))
 
-    pub sum-made : {y₂ y₃ ys : List ℕ} {v w q : ℕ} {n : Name} → ((t : Accepted s 1 7 element) → TargetAt t q) → n ≡ nameAt s q → Wrote y₁ (c .at) (write (name n)) y₂ v → Wrote y₂ v (write (name owner)) y₃ w → Closed y₃ at w ys → SumLeft s xs at ws ys (record { at = w; count = c .count; no = 0 }) owner depth alignment size element g
+    pub sum-made : {y₂ y₃ ys : List ℕ} {v w q : ℕ} {n : Name} → ((t : Accepted s 1 7 element) → TargetAt t q) → n ≡ nameAt s q → Wrote y₁ (c .at) (write (name n)) y₂ v → Wrote y₂ v (write (name owner)) y₃ w → Closed y₃ at w ys → SumLeft s xs at ws ys (record { at = w; count = c .count; number = 0 }) owner depth alignment size element g
     sum-made x y a b f e t h d =
         let i = begun z (k e) in
         rw (sum-gives h owner (prefixOf depth) _ _ g (i .1) (ap targetOf (x t .is)))
@@ -278,5 +276,5 @@ module _ {s ws : List ℕ} {n depth array at : ℕ} {owner : Name} {p : Shape} (
       finish-within (Finished.stopped z) = stays (r .ready .standing .count)
 
 -- a constant is short
-pub constant-within : {at n u room : ℕ} → n ≤ 512 → u ≡ at + 23 → 23 ≤ room → Within at room (record { at = u; count = n; no = 0 })
+pub constant-within : {at n u room : ℕ} → n ≤ 512 → u ≡ at + 23 → 23 ≤ room → Within at room (record { at = u; count = n; number = 0 })
 constant-within h e f = record { low = omega arith; high = omega arith; count = h }

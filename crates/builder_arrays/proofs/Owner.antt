@@ -2,19 +2,19 @@
 use mathlib.Core.Path.{_≡_, refl, sym, ap, subst, _∙_}
 use mathlib.Core.Bool.{Bool, true, false, cond}
 use mathlib.Core.List.{List, [], _∷_}
-use mathlib.Core.Option.{Option, some, none}
-use Prim.Native.Nat.{ℕ, _+_, _-_, _*_, _≤_, _<_}
+use mathlib.Core.Option.{some}
+use Prim.Native.Nat.{ℕ, _+_, _-_, _≤_, _<_}
 use native.Mathlib.Omega.{arith}
 use lib.ListN.{length, take, drop, length-drop}
 use lib.Seq.{length-take-le, take-all}
-use Rattle.errors.specs.Refusal.{Outcome, refused, plain, MissingDynamicRefs}
-use Rattle.blocks.specs.Bytes.{le2, le4}
-use Rattle.blocks.specs.Name.{Name, text}
+use Rattle.errors.specs.Refusal.{refused, plain, MissingDynamicRefs}
+use Rattle.blocks.specs.Bytes.{le2}
+use Rattle.blocks.specs.Name.{Name, ascii}
 use Rattle.blocks.specs.Grammar.{partsOf, findRow, grammar, nodeTable}
-use Rattle.blocks.specs.Tree.{Tree, body, part, rest, entries, listed}
+use Rattle.blocks.specs.Tree.{Tree, rest, entries}
 use Rattle.accepted.specs.Accepted.{Accepted, tree, nameAt, Counted}
 use Rattle.accepted.proofs.Laws.{sole, block-entry, none-left}
-use Rattle.resolved.specs.Resolved.{Owner, Head, ResolvedType, head, get}
+use Rattle.resolved.specs.Resolved.{Owner, Head, ResolvedType, head}
 use Rattle.resolved.specs.Set.{ownerOf, typeOf}
 use Rattle.builder.specs.Names.{rsplit-once}
 use Rattle.builder.specs.Registry.{Registry}
@@ -29,10 +29,8 @@ use Rattle.resolved_parts.specs.declared.Paths.the-variants.{At, Missing}
 use Rattle.resolved_parts.specs.Types.{Named, HeadAt, PathsFound, ownersOf}
 use Rattle.resolved_parts.proofs.Laws.{inside}
 use Rattle.resolved_parts.proofs.Fields.{owner-named, owner-at}
-use Rattle.resolved_parts.specs.Places.{nameEnd}
 use Rattle.builder_paths.specs.Joined.{prefixOf}
 use Rattle.builder_nodes.specs.declared.Built.{Built}
-use Rattle.builder_registry.specs.Words.{entriesOf}
 use Rattle.builder_nodes.specs.Built.{Builds}
 use Rattle.builder_arrays.specs.Ready.{Ready, ReadyInside}
 use Rattle.builder_arrays.specs.Owner.{RootReady, first-owner, owner-among, owner-under}
@@ -134,7 +132,7 @@ module _ {s : List ℕ} {array at : ℕ} {h : TypeHead} (f : (a : Accepted s 1 7
 
   module _ {xs us ys : List ℕ} {r : Built} (es : Registry) where
     -- there is no owner
-    pub root-none : {c : ℕ} → c ≡ le2 s (h .references + 6) → c ≡ 0 → r .no ≡ 11 → (a : Accepted s 1 7 array) → Builds s xs at us ys r (build-array-node (typeOf (tree a)) es)
+    pub root-none : {c : ℕ} → c ≡ le2 s (h .references + 6) → c ≡ 0 → r .number ≡ 11 → (a : Accepted s 1 7 array) → Builds s xs at us ys r (build-array-node (typeOf (tree a)) es)
     root-none e z k a =
         let g = f a .references in
         subst (Builds s xs at us ys r) (sym (none-there (typeOf (tree a)) es (f a .owners ∙ no-owners g (omega (arith, e, z))))) (Builds.not 11 k (omega arith))
@@ -167,5 +165,5 @@ behind-short nm j h = rw (behind-whole nm j, length-drop) (omega arith)
 pub key-behind : (nm name : Name) {r : Split} {i : ℕ} → nm ≡ name → Split-parts nm r → r ≡ SplitAt i → fieldKey (rsplit-once name) ≡ take (length nm - (i + 2)) (drop (i + 2) nm)
 key-behind nm name {i} e p k = ap (λ (z : Name). fieldKey (rsplit-once z)) (sym e) ∙ ap fieldKey ((subst (Split-parts nm) k p) .1) ∙ sym (behind-whole nm (i + 2))
 
-pub key-array : (nm name : Name) {r : Split} → nm ≡ name → Split-parts nm r → r ≡ SplitNone → fieldKey (rsplit-once name) ≡ text "array"
+pub key-array : (nm name : Name) {r : Split} → nm ≡ name → Split-parts nm r → r ≡ SplitNone → fieldKey (rsplit-once name) ≡ ascii "array"
 key-array nm name e p k = ap (λ (z : Name). fieldKey (rsplit-once z)) (sym e) ∙ ap fieldKey (subst (Split-parts nm) k p)

@@ -15,11 +15,11 @@ use Rattle.blocks.specs.Tree.{Tree, block, view, flag, part}
 use Rattle.accepted.specs.Accepted.{Accepted, tree}
 use Rattle.accepted.proofs.Laws.{opened, each}
 use Rattle.expr.specs.Expr.{ExprKind}
-use Rattle.resolved.specs.Resolved.{Owner, Size, Head, ResolvedType, ResolvedTypeKind, head, kindOf, targetOf, jaggedOf}
+use Rattle.resolved.specs.Resolved.{Size, Head, ResolvedType, ResolvedTypeKind, head, kindOf, targetOf, jaggedOf}
 use Rattle.resolved.specs.Set.{typeOf, thingOf, makeThing, formOf}
 use Rattle.ir.specs.Ir.{IrNode, aligned, unplaced}
 use Rattle.builder.specs.Names.{extend-element-prefix}
-use Rattle.builder.specs.Registry.{Registry, Build, _>>=_, give, need, extend-with}
+use Rattle.builder.specs.Registry.{Registry, Build, _>>=_, give, extend-with}
 use Rattle.builder.specs.Nodes.{align-node, product, isVariable, build-expr-ir, sum-over-array, build-element, build-elements, build-array-node-with-prefix, build-array-kind}
 use Rattle.builder.proofs.Steps.{step-done, step-refused, need-some, need-none}
 use Rattle.builder_paths.specs.Joined.{prefixOf}

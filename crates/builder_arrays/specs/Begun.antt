@@ -1,5 +1,5 @@
 -- An array's node, part by part.
-use Prim.Native.Nat.{ℕ, _+_, _-_, _≤_, _<_}
+use Prim.Native.Nat.{ℕ, _+_, _-_, _<_}
 use mathlib.Core.Path.{_≡_}
 use mathlib.Core.List.{List, _++_}
 use Rattle.errors.specs.Refusal.{Outcome, done, refused, plain}
@@ -29,8 +29,8 @@ pub record Begun (xs : List ℕ) (at kind alignment : ℕ) (x : IrNode) (ys : Li
 
 -- what is left by that: the same and the entries in the words us, or the refusal
 pub data Begins (s xs : List ℕ) (at : ℕ) (us : List ℕ) (kind alignment : ℕ) (ys : List ℕ) (r : Built) : Outcome (IrNode × Registry) → Type 0 where
-  begun : (x : IrNode × Registry) → r .no ≡ 0 → entriesOf s us (r .count) ≡ x .1 → Begun xs at kind alignment (x .0) ys (r .at) → Begins s xs at us kind alignment ys r (done x)
-  not : (k : ℕ) → r .no ≡ k → 0 < k → Begins s xs at us kind alignment ys r (refused (plain k))
+  begun : (x : IrNode × Registry) → r .number ≡ 0 → entriesOf s us (r .count) ≡ x .1 → Begun xs at kind alignment (x .0) ys (r .at) → Begins s xs at us kind alignment ys r (done x)
+  not : (k : ℕ) → r .number ≡ k → 0 < k → Begins s xs at us kind alignment ys r (refused (plain k))
 
 -- the count, and then the element's references entered
 unfoldable pub counted : Name → Name → ExprKind → List Owner → Build IrNode
@@ -55,5 +55,5 @@ pub record Closed (xs : List ℕ) (at end : ℕ) (ys : List ℕ) : Type 0 where
 
 -- what is left behind the last part
 pub data Finished (xs : List ℕ) (at n : ℕ) (last : Built) (ys : List ℕ) : Built → Type 0 where
-  closed : last .no ≡ 0 → Closed xs at (last .at) ys → Finished xs at n last ys (record { at = last .at; count = last .count; no = 0 })
-  stopped : (last .no ≡ 0 → ⊥) → Finished xs at n last ys (record { at = at; count = n; no = last .no })
+  closed : last .number ≡ 0 → Closed xs at (last .at) ys → Finished xs at n last ys (record { at = last .at; count = last .count; number = 0 })
+  stopped : (last .number ≡ 0 → ⊥) → Finished xs at n last ys (record { at = at; count = n; number = last .number })

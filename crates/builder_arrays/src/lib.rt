@@ -4,11 +4,9 @@ use builder_nodes::Built;
 use resolved_parts::Paths;
 ghost use mathlib.Core.Path.{_≡_};
 ghost use mathlib.Core.Bool.{_&&_};
-ghost use mathlib.Core.Option.{some};
 ghost use Prim.Native.Nat.{_+_, _*_, _^_, _≤_, _<_};
 ghost use lib.ListN.{length};
 ghost use Rattle.blocks.specs.Bytes.{le2, le4};
-ghost use Rattle.blocks.specs.Name.{Name};
 ghost use Rattle.accepted.specs.Accepted.{Accepted, tree, nameAt};
 ghost use Rattle.expr.specs.Expr.{exprOf};
 ghost use Rattle.resolved.specs.Resolved.{Head, head, kindOf};
@@ -104,14 +102,14 @@ fn build_counted(
     ensures { λ r. ⌜ ((e : Accepted (now (s .entry)) 64 91 (p .size)) (f : Accepted (now (s .entry)) 32 32 (p .references)) → Begins (now (s .entry)) (now (out .entry)) at (now (words .exit)) 136 (p .alignment) (now (out .exit)) r (counted (now (owner .entry)) (prefixOf depth) (exprOf (tree e)) (ownersOf (tree f)) (entriesOf (now (s .entry)) (now (words .entry)) n))) ⌝ }
 {
     let c = build_count(s, words, n, owner, depth, p.size, out, at, 136, p.alignment);
-    if c.no != 0 {
+    if c.number != 0 {
         return c;
     }
     let k = builder_registry::extend_with(s, words, c.count, p.references);
     Built {
         at: c.at,
         count: k.count,
-        no: k.no,
+        number: k.number,
     }
 }
 
@@ -129,11 +127,11 @@ fn finish(out: &mut [u8], at: usize, n: usize, last: Built) -> Built
     requires { ⌜ (at + 38 ≤ last .at) × (last .at < 2 ^ 61) ⌝ }
     ensures { λ r. ⌜ Finished (now (out .entry)) at n last (now (out .exit)) r ⌝ }
 {
-    if last.no != 0 {
+    if last.number != 0 {
         return Built {
             at,
             count: n,
-            no: last.no,
+            number: last.number,
         };
     }
     let end = last.at;
@@ -141,7 +139,7 @@ fn finish(out: &mut [u8], at: usize, n: usize, last: Built) -> Built
     Built {
         at: end,
         count: last.count,
-        no: 0,
+        number: 0,
     }
 }
 
@@ -161,11 +159,11 @@ fn sum_over_array(
     ensures { λ r. ⌜ ((e : Accepted (now (s .entry)) 64 91 (p .size)) (t : Accepted (now (s .entry)) 1 7 (p .element)) (h : Head) → h .alignment ≡ p .alignment → Builds (now (s .entry)) (now (out .entry)) at (now (words .entry)) (now (out .exit)) r (summed h (now (owner .entry)) (prefixOf depth) (exprOf (tree e)) (kindOf (typeOf (tree t))) (entriesOf (now (s .entry)) (now (words .entry)) n))) ⌝ }
 {
     let c = build_count(s, words, n, owner, depth, p.size, out, at, 144, p.alignment);
-    if c.no != 0 {
+    if c.number != 0 {
         return Built {
             at,
             count: n,
-            no: c.no,
+            number: c.number,
         };
     }
     let element = p.element;
@@ -173,7 +171,7 @@ fn sum_over_array(
         return Built {
             at,
             count: n,
-            no: 13,
+            number: 13,
         };
     }
     let target = resolved_parts::name_at(s, resolved_parts::target(s, element));
@@ -183,7 +181,7 @@ fn sum_over_array(
     Built {
         at: u,
         count: c.count,
-        no: 0,
+        number: 0,
     }
 }
 
@@ -207,11 +205,11 @@ pub fn build_array_node_with_prefix(
         return sum_over_array(s, words, n, owner, depth, p, out, at);
     }
     let c = build_counted(s, words, n, owner, depth, p, out, at);
-    if c.no != 0 {
+    if c.number != 0 {
         return Built {
             at,
             count: n,
-            no: c.no,
+            number: c.number,
         };
     }
     if p.variable {
@@ -220,7 +218,7 @@ pub fn build_array_node_with_prefix(
             return Built {
                 at,
                 count: n,
-                no: 13,
+                number: 13,
             };
         }
         let b = build_array_node_with_prefix(
@@ -239,7 +237,7 @@ pub fn build_array_node_with_prefix(
     let b = Built {
         at: u,
         count: c.count,
-        no: 0,
+        number: 0,
     };
     finish(out, at, n, b)
 }
@@ -308,7 +306,7 @@ pub fn build_array_node(
         return Built {
             at,
             count: n,
-            no: 11,
+            number: 11,
         };
     }
     let name = resolved_parts::name_at(s, array + 6);

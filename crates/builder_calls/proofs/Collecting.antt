@@ -11,7 +11,6 @@ use Rattle.errors.specs.Refusal.{Outcome, done, refused, plain}
 use Rattle.errors.specs.Refusal.{_>>=_ as _andThen_}
 use Rattle.errors.proofs.Laws.{done-one, bound}
 use Rattle.blocks.specs.Name.{Name}
-use Rattle.blocks.specs.Tree.{Tree}
 use Rattle.blocks.specs.Write.{write}
 use Rattle.resolved.specs.Resolved.{Owner}
 use Rattle.ir.specs.Ir.{IrArgument}
@@ -90,25 +89,25 @@ entries-append (a ∷ as′) bs =
     ap (λ (l : List ℕ). write (argumentTree a) ++ l) (entries-append as′ bs) ∙ sym (append-assoc (write (argumentTree a)) (write (entriesTree argumentTree as′)) (write (entriesTree argumentTree bs)))
 
 module _ {s xs us ys : List ℕ} {at : ℕ} {before : List IrArgument} {r : Collected} where
-  pub collected : {x : Outcome (List IrArgument × Registry)} (as′ : List IrArgument) (g : Registry) → x ≡ done (before ++ as′, g) → r .no ≡ 0 → r .made ≡ length before + length as′ → entriesOf s us (r .count) ≡ g →
+  pub collected : {x : Outcome (List IrArgument × Registry)} (as′ : List IrArgument) (g : Registry) → x ≡ done (before ++ as′, g) → r .number ≡ 0 → r .made ≡ length before + length as′ → entriesOf s us (r .count) ≡ g →
       Wrote xs at (write (entriesTree argumentTree as′)) ys (r .at) → Collects s xs at before us ys r x
   collected as′ g e z m h w = subst (Collects s xs at before us ys r) (sym e) (Collects.made as′ g z m h w)
 
-  pub refusal : {x : Outcome (List IrArgument × Registry)} (k : ℕ) → x ≡ refused (plain k) → r .no ≡ k → 0 < k → Collects s xs at before us ys r x
+  pub refusal : {x : Outcome (List IrArgument × Registry)} (k : ℕ) → x ≡ refused (plain k) → r .number ≡ k → 0 < k → Collects s xs at before us ys r x
   refusal k e z l = subst (Collects s xs at before us ys r) (sym e) (Collects.not k z l)
 
-  pub collects-done : {x : Outcome (List IrArgument × Registry)} → r .no ≡ 0 → Collects s xs at before us ys r x →
+  pub collects-done : {x : Outcome (List IrArgument × Registry)} → r .number ≡ 0 → Collects s xs at before us ys r x →
       (as′ : List IrArgument) × (x ≡ done (before ++ as′, entriesOf s us (r .count))) × (r .made ≡ length before + length as′) × Wrote xs at (write (entriesTree argumentTree as′)) ys (r .at)
   collects-done z (Collects.made as′ g e m h w) = (as′, ap (λ (l : Registry). done (before ++ as′, l)) (sym h), m, w)
   collects-done z (Collects.not k e l) = absurd (let z : ⊥ = omega arith in z)
 
-  pub collects-refused : {x : Outcome (List IrArgument × Registry)} → (r .no ≡ 0 → ⊥) → Collects s xs at before us ys r x → (x ≡ refused (plain (r .no))) × (0 < r .no)
+  pub collects-refused : {x : Outcome (List IrArgument × Registry)} → (r .number ≡ 0 → ⊥) → Collects s xs at before us ys r x → (x ≡ refused (plain (r .number))) × (0 < r .number)
   collects-refused z (Collects.made as′ g e m h w) = absurd (z e)
   collects-refused z (Collects.not k e l) = (ap (λ (n : ℕ). refused (plain n)) (sym e), omega arith)
 
 -- nothing is collected
 pub collects-none : {s xs us : List ℕ} {at n made : ℕ} {before : List IrArgument} → length before ≡ made →
-    Collects s xs at before us xs (record { at = at; count = n; made = made; no = 0 }) (done (before, entriesOf s us n))
+    Collects s xs at before us xs (record { at = at; count = n; made = made; number = 0 }) (done (before, entriesOf s us n))
 unfolding entriesTree
 collects-none {s} {xs} {us} {at} {n} {before} e =
     collected [] (entriesOf s us n) (ap (λ (l : List IrArgument). done (l, entriesOf s us n)) (sym (append-nil before))) refl (omega arith) refl (no-parts xs at)
@@ -116,12 +115,12 @@ collects-none {s} {xs} {us} {at} {n} {before} e =
 module _ {s xs vs zs : List ℕ} {at : ℕ} {before : List IrArgument} {a : Collected} {x : Outcome (List IrArgument × Registry)} (k : List IrArgument × Registry → Outcome (List IrArgument × Registry))
     (f : Collects s xs at before vs zs a x) where
   -- a step that refuses ends collecting
-  pub stopped : {us ys : List ℕ} → (a .no ≡ 0 → ⊥) → Collects s xs at before us ys a (_andThen_ x k)
+  pub stopped : {us ys : List ℕ} → (a .number ≡ 0 → ⊥) → Collects s xs at before us ys a (_andThen_ x k)
   unfolding _andThen_
-  stopped z = let d = collects-refused z f in refusal (a .no) (ap (λ (o : Outcome (List IrArgument × Registry)). _andThen_ o k) (d .0)) refl (d .1)
+  stopped z = let d = collects-refused z f in refusal (a .number) (ap (λ (o : Outcome (List IrArgument × Registry)). _andThen_ o k) (d .0)) refl (d .1)
 
   -- one step behind another
-  pub joined : {us ys : List ℕ} {r : Collected} → a .no ≡ 0 →
+  pub joined : {us ys : List ℕ} {r : Collected} → a .number ≡ 0 →
       ((b : List IrArgument) → length b ≡ a .made → Collects s zs (a .at) b us ys r (k (b, entriesOf s vs (a .count)))) → Collects s xs at before us ys r (_andThen_ x k)
   unfolding _andThen_
   joined {us} {ys} {r} z h =

@@ -1,12 +1,10 @@
 -- What the code leaves, place by place.
 use mathlib.Core.Path.{_≡_, refl, sym, _∙_, ap, subst}
-use mathlib.Core.Bool.{Bool, true, false}
-use mathlib.Core.List.{List, [], _∷_, _++_}
+use mathlib.Core.List.{List, [], _∷_}
 use mathlib.Core.Option.{some, none}
-use Prim.Native.Nat.{ℕ, zero, suc, _+_, _-_, _*_, _≤_, _<_}
+use Prim.Native.Nat.{ℕ, zero, suc, _+_, _-_, _≤_, _<_}
 use native.Mathlib.Numerals.{sub-one}
 use native.Mathlib.Omega.{arith}
-use lib.Dec.{ltb}
 use lib.ListN.{length, drop, length-drop}
 use lib.Seq.{length-take-le}
 use borrow.Author.Tests.{lt-ltb, le-ltb}
@@ -15,7 +13,7 @@ use Rattle.errors.specs.Refusal.{_>>=_ as _andThen_}
 use Rattle.blocks.specs.Bytes.{le2, le4, bytes}
 use Rattle.blocks.specs.Name.{Name}
 use Rattle.blocks.specs.Grammar.{partsOf, findRow, grammar, nodeTable}
-use Rattle.blocks.specs.Tree.{Tree, name, num, nil, cons, body, part, entries}
+use Rattle.blocks.specs.Tree.{Tree, name, num, nil, cons, entries}
 use Rattle.blocks.specs.Write.{write}
 use Rattle.blocks.specs.Read.{readSet}
 use Rattle.accepted.specs.Accepted.{Accepted, tree, nameAt, Item, Entries, Listed, Counted}
@@ -29,7 +27,7 @@ use Rattle.lookup.specs.Found.{TypeFound}
 use Rattle.ir.specs.Ir.{IrNode, IrArgument, aligned, unplaced}
 use Rattle.ir.specs.Layout.{entriesTree, argumentTree, nodeTree, listTree}
 use Rattle.builder.specs.Names.{canonical-name}
-use Rattle.builder.specs.Registry.{Registry, _>>=_, give, refuse, require, need, ensure}
+use Rattle.builder.specs.Registry.{Registry, _>>=_, give, refuse, require, ensure}
 use Rattle.builder.specs.Nodes.{argument, collect-paths, collect-callee-arguments, build-typeref-node}
 use Rattle.builder.proofs.Steps.{step-done, step-refused, need-some, need-none}
 use Rattle.wire.specs.Poke.{Wrote, opened}
@@ -46,7 +44,7 @@ use Rattle.builder_nodes.proofs.Laws.{node-closed}
 use Rattle.builder_calls.specs.declared.Collected.{Collected}
 use Rattle.builder_calls.specs.Collected.{pathsIn, Collects}
 use Rattle.builder_calls.specs.Call.{callOf}
-use Rattle.builder_calls.proofs.Collecting.{entered, one-long, one-short, paths-more, owners-count, collected, refusal, collects-done, collects-refused, collects-none, stopped, joined}
+use Rattle.builder_calls.proofs.Collecting.{entered, one-long, one-short, paths-more, owners-count, refusal, collects-done, collects-refused, collects-none, stopped, joined}
 
 -- ---- an argument
 
@@ -74,7 +72,7 @@ module _ (s xs : List ℕ) (at owner path made : ℕ) (o p : List ℕ) (g₀ : R
       (subst (λ (z : Name). Collects s xs at before us ys r (collect-paths o (z ∷ []) before g₀)) ep (h before e))
 
   pub argument-long : {us ys : List ℕ} {m q c k : ℕ} → m ≡ length (canonical-name o p) → 255 < m → (before : List IrArgument) → length before ≡ made →
-      Collects s xs at before us ys (record { at = q; count = c; made = k; no = 17 }) (collect-paths (nameAt s owner) (nameAt s path ∷ []) before g₀)
+      Collects s xs at before us ys (record { at = q; count = c; made = k; number = 17 }) (collect-paths (nameAt s owner) (nameAt s path ∷ []) before g₀)
   argument-long el h = renamed (λ before e. refusal 17 (one-long o p before g₀ (omega (arith, el))) refl (omega arith))
 
   module _ (us : List ℕ) (m : ℕ) (h : Held) (no : Named s owner) (np : Named s path) (el : m ≡ length (canonical-name o p)) (l : m ≤ 255) (k : Kept s us h (ensure (held s owner) (held s path) g₀)) where
@@ -89,31 +87,31 @@ module _ (s xs : List ℕ) (at owner path made : ℕ) (o p : List ℕ) (g₀ : R
         (before : List IrArgument) → length before ≡ made → Collects s xs at before us ys r (collect-paths (nameAt s owner) (nameAt s path ∷ []) before g₀)
     after-entry {ys} {r} f = renamed (λ before e. subst (Collects s xs at before us ys r) (sym (one-short o p before g₀ (omega (arith, el)))) (f before e (ensure o p g₀) kept-names))
 
-    pub argument-full : {ys : List ℕ} {q c j : ℕ} → (h .no ≡ 0 → ⊥) → (before : List IrArgument) → length before ≡ made →
-        Collects s xs at before us ys (record { at = q; count = c; made = j; no = h .no }) (collect-paths (nameAt s owner) (nameAt s path ∷ []) before g₀)
+    pub argument-full : {ys : List ℕ} {q c j : ℕ} → (h .number ≡ 0 → ⊥) → (before : List IrArgument) → length before ≡ made →
+        Collects s xs at before us ys (record { at = q; count = c; made = j; number = h .number }) (collect-paths (nameAt s owner) (nameAt s path ∷ []) before g₀)
     unfolding _andThen_
     argument-full {ys} {q} {c} {j} z = after-entry go
       where
-        go : (before : List IrArgument) → length before ≡ made → (x : Outcome (Unit {0} × Registry)) → Kept s us h x → Collects s xs at before us ys (record { at = q; count = c; made = j; no = h .no }) (_andThen_ x (entered o p before g₀))
+        go : (before : List IrArgument) → length before ≡ made → (x : Outcome (Unit {0} × Registry)) → Kept s us h x → Collects s xs at before us ys (record { at = q; count = c; made = j; number = h .number }) (_andThen_ x (entered o p before g₀))
         go before e _ (Kept.kept g y w) = absurd (z y)
         go before e _ (Kept.not i y w) = Collects.not i y w
 
-    pub argument-many : {ys : List ℕ} {q c j : ℕ} → h .no ≡ 0 → 512 ≤ made → (before : List IrArgument) → length before ≡ made →
-        Collects s xs at before us ys (record { at = q; count = c; made = j; no = 17 }) (collect-paths (nameAt s owner) (nameAt s path ∷ []) before g₀)
+    pub argument-many : {ys : List ℕ} {q c j : ℕ} → h .number ≡ 0 → 512 ≤ made → (before : List IrArgument) → length before ≡ made →
+        Collects s xs at before us ys (record { at = q; count = c; made = j; number = 17 }) (collect-paths (nameAt s owner) (nameAt s path ∷ []) before g₀)
     unfolding _andThen_ _>>=_ require refuse
     argument-many {ys} {q} {c} {j} z f = after-entry go
       where
-        go : (before : List IrArgument) → length before ≡ made → (x : Outcome (Unit {0} × Registry)) → Kept s us h x → Collects s xs at before us ys (record { at = q; count = c; made = j; no = 17 }) (_andThen_ x (entered o p before g₀))
+        go : (before : List IrArgument) → length before ≡ made → (x : Outcome (Unit {0} × Registry)) → Kept s us h x → Collects s xs at before us ys (record { at = q; count = c; made = j; number = 17 }) (_andThen_ x (entered o p before g₀))
         go before e _ (Kept.kept g y w) = rw (le-ltb (length before) 512 (omega arith)) (Collects.not 17 refl (omega arith))
         go before e _ (Kept.not i y w) = absurd (let u : ⊥ = omega arith in u)
 
-    pub argument-done : {x₁ x₂ x₃ ys : List ℕ} {b u v q : ℕ} → h .no ≡ 0 → made < 512 → Wrote xs at (opened 164) x₁ b → Wrote x₁ b (write (name (canonical-name o p))) x₂ u → Wrote x₂ u (write (name (canonical-name o p))) x₃ v →
+    pub argument-done : {x₁ x₂ x₃ ys : List ℕ} {b u v q : ℕ} → h .number ≡ 0 → made < 512 → Wrote xs at (opened 164) x₁ b → Wrote x₁ b (write (name (canonical-name o p))) x₂ u → Wrote x₂ u (write (name (canonical-name o p))) x₃ v →
         Wrote x₃ at (bytes 4 (v - at - 4)) ys q → (before : List IrArgument) → length before ≡ made →
-        Collects s xs at before us ys (record { at = v; count = h .count; made = made + 1; no = 0 }) (collect-paths (nameAt s owner) (nameAt s path ∷ []) before g₀)
+        Collects s xs at before us ys (record { at = v; count = h .count; made = made + 1; number = 0 }) (collect-paths (nameAt s owner) (nameAt s path ∷ []) before g₀)
     unfolding _andThen_ _>>=_ require give
     argument-done {ys} {v} z f w₁ w₂ w₃ w₄ = after-entry go
       where
-        go : (before : List IrArgument) → length before ≡ made → (x : Outcome (Unit {0} × Registry)) → Kept s us h x → Collects s xs at before us ys (record { at = v; count = h .count; made = made + 1; no = 0 }) (_andThen_ x (entered o p before g₀))
+        go : (before : List IrArgument) → length before ≡ made → (x : Outcome (Unit {0} × Registry)) → Kept s us h x → Collects s xs at before us ys (record { at = v; count = h .count; made = made + 1; number = 0 }) (_andThen_ x (entered o p before g₀))
         go before e _ (Kept.kept g y w) =
             rw (lt-ltb (length before) 512 (omega arith)) (Collects.made (argument (canonical-name o p) ∷ []) g refl (omega arith) w (argument-puts (canonical-name o p) w₁ w₂ w₃ w₄))
         go before e _ (Kept.not i y w) = absurd (let u : ⊥ = omega arith in u)
@@ -138,18 +136,18 @@ module _ {s : List ℕ} {left path : ℕ} (z : left ≡ 0 → ⊥) (l : Entries 
   first-path o before g = ap (λ (t : Tree). collect-paths o (textsOf t) before g) (next-path .tree) ∙ paths-more o (nameAt s path) (textsOf (next-path .rest .got .0)) before g
 
 pub paths-none : {s xs ws : List ℕ} {at n left path made : ℕ} (o : Name) → left ≡ 0 → (l : Entries s Item.names left path) (before : List IrArgument) → length before ≡ made →
-    Collects s xs at before ws xs (record { at = at; count = n; made = made; no = 0 }) (collect-paths o (textsOf (l .got .0)) before (entriesOf s ws n))
+    Collects s xs at before ws xs (record { at = at; count = n; made = made; number = 0 }) (collect-paths o (textsOf (l .got .0)) before (entriesOf s ws n))
 unfolding entries collect-paths give
 paths-none {s} {xs} {ws} {at} {n} {made} o z l before e =
-    subst (λ (t : Tree). Collects s xs at before ws xs (record { at = at; count = n; made = made; no = 0 }) (collect-paths o (textsOf t) before (entriesOf s ws n)))
+    subst (λ (t : Tree). Collects s xs at before ws xs (record { at = at; count = n; made = made; number = 0 }) (collect-paths o (textsOf t) before (entriesOf s ws n)))
     (sym (ap (λ (y : Tree × ℕ). y .0) (none-left l (omega arith)))) (collects-none e)
 
 module _ {s xs vs zs : List ℕ} {at left path made : ℕ} {a : Collected} (o : Name) (g : Registry) (z : left ≡ 0 → ⊥)
     (f : (before : List IrArgument) → length before ≡ made → Collects s xs at before vs zs a (collect-paths o (nameAt s path ∷ []) before g)) where
-  pub paths-stop : (a .no ≡ 0 → ⊥) → (l : Entries s Item.names left path) (before : List IrArgument) → length before ≡ made → Collects s xs at before vs zs a (collect-paths o (textsOf (l .got .0)) before g)
+  pub paths-stop : (a .number ≡ 0 → ⊥) → (l : Entries s Item.names left path) (before : List IrArgument) → length before ≡ made → Collects s xs at before vs zs a (collect-paths o (textsOf (l .got .0)) before g)
   paths-stop y l before e = subst (Collects s xs at before vs zs a) (sym (first-path z l o before g)) (stopped _ (f before e) y)
 
-  pub paths-go : {us ys : List ℕ} {u : ℕ} {r : Collected} → a .no ≡ 0 → u ≡ le2 s path →
+  pub paths-go : {us ys : List ℕ} {u : ℕ} {r : Collected} → a .number ≡ 0 → u ≡ le2 s path →
       ((l : Entries s Item.names (left - 1) (path + 2 + u)) (before : List IrArgument) → length before ≡ a .made → Collects s zs (a .at) before us ys r (collect-paths o (textsOf (l .got .0)) before (entriesOf s vs (a .count)))) →
       (l : Entries s Item.names left path) (before : List IrArgument) → length before ≡ made → Collects s xs at before us ys r (collect-paths o (textsOf (l .got .0)) before g)
   paths-go {us} {ys} {u} {r} y eu h l before e =
@@ -182,10 +180,10 @@ module _ {s : List ℕ} {left owner : ℕ} (z : left ≡ 0 → ⊥) (l : Listed 
       ∙ ap (λ (o : Owner). _andThen_ (collect-paths (o .name) (o .paths) before g) (λ x. collect-callee-arguments (entries ownerOf (owner-next .rest .got .0)) (x .0) (x .1))) (w .is)
 
 pub owners-none : {s xs ws : List ℕ} {at n left owner made : ℕ} → left ≡ 0 → (l : Listed s 37 37 left owner) (before : List IrArgument) → length before ≡ made →
-    Collects s xs at before ws xs (record { at = at; count = n; made = made; no = 0 }) (collect-callee-arguments (entries ownerOf (l .got .0)) before (entriesOf s ws n))
+    Collects s xs at before ws xs (record { at = at; count = n; made = made; number = 0 }) (collect-callee-arguments (entries ownerOf (l .got .0)) before (entriesOf s ws n))
 unfolding entries collect-callee-arguments give
 owners-none {s} {xs} {ws} {at} {n} {made} z l before e =
-    subst (λ (t : Tree). Collects s xs at before ws xs (record { at = at; count = n; made = made; no = 0 }) (collect-callee-arguments (entries ownerOf t) before (entriesOf s ws n)))
+    subst (λ (t : Tree). Collects s xs at before ws xs (record { at = at; count = n; made = made; number = 0 }) (collect-callee-arguments (entries ownerOf t) before (entriesOf s ws n)))
     (sym (ap (λ (y : Tree × ℕ). y .0) (none-left l (omega arith)))) (collects-none e)
 
 module _ {s xs vs zs : List ℕ} {at left owner q few made : ℕ} {a : Collected} (g : Registry) (z : left ≡ 0 → ⊥) (w : (b : Accepted s 37 37 owner) → OwnerAt b q) (ef : few ≡ le2 s q)
@@ -198,10 +196,10 @@ module _ {s xs vs zs : List ℕ} {at left owner q few made : ℕ} {a : Collected
       subst (λ (j : ℕ). (l : Entries s Item.names j (q + 2)) (before : List IrArgument) → length before ≡ made → Collects s xs at before vs zs a (collect-paths (nameAt s (owner + 6)) (textsOf (l .got .0)) before g)) ef f in
       k (w (owner-here z l) .paths .list)
 
-  pub owners-stop : (a .no ≡ 0 → ⊥) → (l : Listed s 37 37 left owner) (before : List IrArgument) → length before ≡ made → Collects s xs at before vs zs a (collect-callee-arguments (entries ownerOf (l .got .0)) before g)
+  pub owners-stop : (a .number ≡ 0 → ⊥) → (l : Listed s 37 37 left owner) (before : List IrArgument) → length before ≡ made → Collects s xs at before vs zs a (collect-callee-arguments (entries ownerOf (l .got .0)) before g)
   owners-stop y l before e = subst (Collects s xs at before vs zs a) (sym (first-owner z l (w (owner-here z l)) before g)) (stopped _ (of-owner l before e) y)
 
-  pub owners-go : {us ys : List ℕ} {u : ℕ} {r : Collected} → a .no ≡ 0 → u ≡ le4 s owner →
+  pub owners-go : {us ys : List ℕ} {u : ℕ} {r : Collected} → a .number ≡ 0 → u ≡ le4 s owner →
       ((l : Listed s 37 37 (left - 1) (owner + 4 + u)) (before : List IrArgument) → length before ≡ a .made → Collects s zs (a .at) before us ys r (collect-callee-arguments (entries ownerOf (l .got .0)) before (entriesOf s vs (a .count)))) →
       (l : Listed s 37 37 left owner) (before : List IrArgument) → length before ≡ made → Collects s xs at before us ys r (collect-callee-arguments (entries ownerOf (l .got .0)) before g)
   owners-go {us} {ys} {u} {r} y eu h l before e =
@@ -291,11 +289,11 @@ module _ {s x₃ x₄ us : List ℕ} {v callee left : ℕ} {h : TypeHead} {r : C
       subst (λ (os : List Owner). Collects s x₃ v [] us x₄ r (collect-callee-arguments os [] g)) (sym (hd a .owners ∙ owners-are (hd a .references))) (k (owners-list (hd a .references)) [] refl)
 
   module _ {xs ys : List ℕ} {at : ℕ} (nm : List ℕ) (alignment : ℕ) where
-    pub call-stop : {q c : ℕ} → (r .no ≡ 0 → ⊥) → (a : Accepted s 1 7 callee) → Builds s xs at us ys (record { at = q; count = c; no = r .no }) (callOf (typeOf (tree a)) nm alignment g)
+    pub call-stop : {q c : ℕ} → (r .number ≡ 0 → ⊥) → (a : Accepted s 1 7 callee) → Builds s xs at us ys (record { at = q; count = c; number = r .number }) (callOf (typeOf (tree a)) nm alignment g)
     unfolding callOf
     call-stop {q} {c} z a =
         let d = collects-refused z (call-arguments a) in
-        subst (Builds s xs at us ys (record { at = q; count = c; no = r .no })) (sym (step-refused _ _ g (d .0))) (Builds.not (r .no) refl (d .1))
+        subst (Builds s xs at us ys (record { at = q; count = c; number = r .number })) (sym (step-refused _ _ g (d .0))) (Builds.not (r .number) refl (d .1))
 
     -- the bytes of the call
     call-puts : {x₁ x₂ : List ℕ} {p u q : ℕ} (few : ℕ) (as′ : List IrArgument) → few ≡ length as′ → Wrote xs at (nodeStart 133 alignment) x₁ p → Wrote x₁ p (write (name nm)) x₂ u → Wrote x₂ u (bytes 2 few) x₃ v →
@@ -307,13 +305,13 @@ module _ {s x₃ x₄ us : List ℕ} {v callee left : ℕ} {h : TypeHead} {r : C
         (parts (name nm) (cons (listTree argumentTree as′) nil) w₂ (parts (listTree argumentTree as′) nil (parts (num 2 (length as′)) (entriesTree argumentTree as′) w w₄) (no-parts x₄ (r .at)))) w₅
 
     pub call-done : {x₁ x₂ : List ℕ} {p u q : ℕ} (few : ℕ) → ((a : Accepted s 32 32 (h .references)) → few ≡ pathsIn (ownersOf (tree a))) → Wrote xs at (nodeStart 133 alignment) x₁ p → Wrote x₁ p (write (name nm)) x₂ u → Wrote x₂ u (bytes 2 few) x₃ v →
-        r .no ≡ 0 → Wrote x₄ at (bytes 4 (r .at - at - 4)) ys q → (a : Accepted s 1 7 callee) → Builds s xs at us ys (record { at = r .at; count = r .count; no = 0 }) (callOf (typeOf (tree a)) nm alignment g)
+        r .number ≡ 0 → Wrote x₄ at (bytes 4 (r .at - at - 4)) ys q → (a : Accepted s 1 7 callee) → Builds s xs at us ys (record { at = r .at; count = r .count; number = 0 }) (callOf (typeOf (tree a)) nm alignment g)
     unfolding callOf give
     call-done few ef w₁ w₂ w₃ z w₅ a =
         let d = collects-done z (call-arguments a) in
         let m = owners-count (head (typeOf (tree a)) .dynamic-params) [] g _ (d .1) in
         let e : few ≡ length (d .0) = omega (arith, m, ef (hd a .references), ap pathsIn (hd a .owners)) in
-        subst (Builds s xs at us ys (record { at = r .at; count = r .count; no = 0 })) (sym (step-done _ _ g (d .1)))
+        subst (Builds s xs at us ys (record { at = r .at; count = r .count; number = 0 })) (sym (step-done _ _ g (d .1)))
         (Builds.made (IrNode.CallNested unplaced (aligned alignment) nm (d .0), entriesOf s us (r .count)) refl refl (call-puts few (d .0) e w₁ w₂ w₃ (d .3) w₅))
 
 -- ---- a type reference
@@ -345,10 +343,10 @@ module _ {s : List ℕ} {kind q : ℕ} {nm : List ℕ} {f : Found} (g : Registry
   target-is a e = let i = tq a .is in cc
 
   pub typeref-missing : {xs us ys : List ℕ} {at p c : ℕ} → f ≡ Missing → (t : Tree) (a : Accepted s 1 7 kind) (target : Name) → readSet s ≡ done t → kindOf (typeOf (tree a)) ≡ ResolvedTypeKind.TypeRef target →
-      Builds s xs at us ys (record { at = p; count = c; no = 15 }) (build-typeref-node (typesOf t) (head (typeOf (tree a))) target g)
+      Builds s xs at us ys (record { at = p; count = c; number = 15 }) (build-typeref-node (typesOf t) (head (typeOf (tree a))) target g)
   typeref-missing {xs} {us} {ys} {at} {p} {c} e t a target d i =
-      subst (λ (z : Name). Builds s xs at us ys (record { at = p; count = c; no = 15 }) (build-typeref-node (typesOf t) (head (typeOf (tree a))) z g)) (target-is a i)
-      (subst (Builds s xs at us ys (record { at = p; count = c; no = 15 })) (sym (typeref-none (typesOf t) (head (typeOf (tree a))) nm g (found-none e (k t d)))) (Builds.not 15 refl (omega arith)))
+      subst (λ (z : Name). Builds s xs at us ys (record { at = p; count = c; number = 15 }) (build-typeref-node (typesOf t) (head (typeOf (tree a))) z g)) (target-is a i)
+      (subst (Builds s xs at us ys (record { at = p; count = c; number = 15 })) (sym (typeref-none (typesOf t) (head (typeOf (tree a))) nm g (found-none e (k t d)))) (Builds.not 15 refl (omega arith)))
 
   pub typeref-done : {xs us ys : List ℕ} {at : ℕ} {h : TypeHead} {callee : ℕ} {r : Built} → ((a : Accepted s 1 7 kind) → HeadAt a h) → f ≡ At callee →
       ((a : Accepted s 1 7 callee) → Builds s xs at us ys r (callOf (typeOf (tree a)) nm (h .alignment) g)) →

@@ -23,9 +23,9 @@ pathsIn (o ∷ os) = length (o .paths) + pathsIn os
 -- The arguments as′ behind those that were there, their bytes in the output ys and the next cursor, and the entries in the
 -- words us; or the refusal.
 pub data Collects (s xs : List ℕ) (at : ℕ) (before : List IrArgument) (us ys : List ℕ) (r : Collected) : Outcome (List IrArgument × Registry) → Type 0 where
-  made : (as′ : List IrArgument) (g : Registry) → r .no ≡ 0 → r .made ≡ length before + length as′ → entriesOf s us (r .count) ≡ g →
+  made : (as′ : List IrArgument) (g : Registry) → r .number ≡ 0 → r .made ≡ length before + length as′ → entriesOf s us (r .count) ≡ g →
       Wrote xs at (write (entriesTree argumentTree as′)) ys (r .at) → Collects s xs at before us ys r (done (before ++ as′, g))
-  not : (k : ℕ) → r .no ≡ k → 0 < k → Collects s xs at before us ys r (refused (plain k))
+  not : (k : ℕ) → r .number ≡ k → 0 < k → Collects s xs at before us ys r (refused (plain k))
 
 -- whatever is collected behind `made` arguments: an argument has at most 520 bytes, a call at most 512 of them
 pub record Fills (at made : ℕ) (r : Collected) : Type 0 where

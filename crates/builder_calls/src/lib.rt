@@ -9,7 +9,7 @@ ghost use Rattle.blocks.specs.Name.{Name};
 ghost use Rattle.blocks.specs.Tree.{Tree, entries};
 ghost use Rattle.blocks.specs.Read.{readSet};
 ghost use Rattle.accepted.specs.Accepted.{Accepted, Item, Entries, Listed, tree, nameAt};
-ghost use Rattle.resolved.specs.Resolved.{ResolvedTypeKind, Fields, head, kindOf};
+ghost use Rattle.resolved.specs.Resolved.{ResolvedTypeKind, head, kindOf};
 ghost use Rattle.resolved.specs.Set.{ownerOf, typeOf, typesOf};
 ghost use Rattle.ir.specs.Ir.{IrArgument};
 ghost use Rattle.builder.specs.Nodes.{collect-paths, collect-callee-arguments, build-typeref-node};
@@ -25,7 +25,7 @@ pub struct Collected {
     pub at: usize,
     pub count: usize,
     pub made: usize,
-    pub no: u64,
+    pub number: u64,
 }
 
 // How many paths the owners of a references block have.
@@ -68,16 +68,16 @@ fn put_argument(
             at,
             count: n,
             made,
-            no: 17,
+            number: 17,
         };
     }
     let h = builder_registry::ensure(s, words, n, owner, path);
-    if h.no != 0 {
+    if h.number != 0 {
         return Collected {
             at,
             count: n,
             made,
-            no: h.no,
+            number: h.number,
         };
     }
     if 512 <= made {
@@ -85,7 +85,7 @@ fn put_argument(
             at,
             count: n,
             made,
-            no: 17,
+            number: 17,
         };
     }
     let b = wire::open_block(out, at, 164);
@@ -96,7 +96,7 @@ fn put_argument(
         at: v,
         count: h.count,
         made: made + 1,
-        no: 0,
+        number: 0,
     }
 }
 
@@ -121,11 +121,11 @@ fn put_arguments(
             at,
             count: n,
             made,
-            no: 0,
+            number: 0,
         };
     }
     let r = put_argument(s, words, n, owner, path, made, out, at);
-    if r.no != 0 {
+    if r.number != 0 {
         return r;
     }
     let next = path + 2 + wire::read2(s, path);
@@ -155,13 +155,13 @@ fn put_owners(
             at,
             count: n,
             made,
-            no: 0,
+            number: 0,
         };
     }
     let q = resolved_parts::owner_paths(s, owner);
     let few = wire::read2(s, q);
     let r = put_arguments(s, words, n, owner + 6, few, q + 2, made, out, at);
-    if r.no != 0 {
+    if r.number != 0 {
         return r;
     }
     let next = owner + 4 + wire::read4(s, owner);
@@ -193,11 +193,11 @@ fn put_call(
     let u = wire::put_name(out, p, name);
     let v = wire::put_le(out, u, 2, few as u64);
     let r = put_owners(s, words, n, left, references + 6 + 2, 0, out, v);
-    if r.no != 0 {
+    if r.number != 0 {
         return Built {
             at,
             count: n,
-            no: r.no,
+            number: r.number,
         };
     }
     let end = r.at;
@@ -205,7 +205,7 @@ fn put_call(
     Built {
         at: end,
         count: r.count,
-        no: 0,
+        number: 0,
     }
 }
 
@@ -230,7 +230,7 @@ pub fn build_typeref_node(
         lookup::Found::Missing => Built {
             at,
             count: n,
-            no: 15,
+            number: 15,
         },
     }
 }

@@ -49,17 +49,17 @@ header-inside a = let o = opened a refl refl in omega (arith, o .long, o .high, 
 -- ---- what a builder's answer tells
 
 module _ {s xs us ys : List ℕ} {at : ℕ} {r : Built} where
-  pub built : {x : Outcome (IrNode × Registry)} → r .no ≡ 0 → Builds s xs at us ys r x →
+  pub built : {x : Outcome (IrNode × Registry)} → r .number ≡ 0 → Builds s xs at us ys r x →
       (y : IrNode × Registry) × (x ≡ done y) × (entriesOf s us (r .count) ≡ y .1) × Wrote xs at (write (nodeTree (y .0))) ys (r .at)
   built z (Builds.made y e g w) = (y, refl, g, w)
   built z (Builds.not k e l) = absurd (let z : ⊥ = omega arith in z)
 
-  pub not-built : {x : Outcome (IrNode × Registry)} → (r .no ≡ 0 → ⊥) → Builds s xs at us ys r x → (x ≡ refused (plain (r .no))) × (0 < r .no)
+  pub not-built : {x : Outcome (IrNode × Registry)} → (r .number ≡ 0 → ⊥) → Builds s xs at us ys r x → (x ≡ refused (plain (r .number))) × (0 < r .number)
   not-built z (Builds.made y e g w) = absurd (z e)
   not-built z (Builds.not k e l) = (ap (λ (q : ℕ). refused (plain q)) (sym e), omega arith)
 
 -- a refusal moves no cursor
-pub stays : {at room n k : ℕ} → n ≤ 512 → Within at room (record { at = at; count = n; no = k })
+pub stays : {at room n k : ℕ} → n ≤ 512 → Within at room (record { at = at; count = n; number = k })
 stays h = record { low = omega arith; high = omega arith; count = h }
 
 -- less room is enough
@@ -121,19 +121,19 @@ Leaves s xs at ws ys r owner depth expr n = (a : Accepted s 64 91 expr) → Buil
 
 -- the same, told by what the definition gives
 module _ {s xs ws ys : List ℕ} {at : ℕ} {r : Built} where
-  pub makes : {x : Outcome (IrNode × Registry)} {n : ℕ} (y : IrNode) → r .no ≡ 0 → r .count ≡ n → Wrote xs at (write (nodeTree y)) ys (r .at) → x ≡ done (y, entriesOf s ws n) → Builds s xs at ws ys r x
+  pub makes : {x : Outcome (IrNode × Registry)} {n : ℕ} (y : IrNode) → r .number ≡ 0 → r .count ≡ n → Wrote xs at (write (nodeTree y)) ys (r .at) → x ≡ done (y, entriesOf s ws n) → Builds s xs at ws ys r x
   makes {n} y z c w e = rw e (Builds.made (y, entriesOf s ws n) z (ap (entriesOf s ws) c) w)
 
-  pub refuses : {x : Outcome (IrNode × Registry)} (k : ℕ) → r .no ≡ k → 0 < k → x ≡ refused (plain k) → Builds s xs at ws ys r x
+  pub refuses : {x : Outcome (IrNode × Registry)} (k : ℕ) → r .number ≡ k → 0 < k → x ≡ refused (plain k) → Builds s xs at ws ys r x
   refuses k z l e = rw e (Builds.not k z l)
 
 module _ {s xs ws ys : List ℕ} {at expr n : ℕ} (owner : Name) (depth : ℕ) (k : le2 s (expr + 4) ≡ 64) {b : Bool} (neg : Negative s expr b) where
-  pub literal-stops : {u : ℕ} → b ≡ true → Leaves s xs at ws ys (record { at = u; count = n; no = 14 }) owner depth expr n
+  pub literal-stops : {u : ℕ} → b ≡ true → Leaves s xs at ws ys (record { at = u; count = n; number = 14 }) owner depth expr n
   literal-stops t a =
       let p = literal-at a k in
       refuses 14 refl (omega arith) (rw (p .is) (literal-refused owner (prefixOf depth) _ _ (neg a _ (p .is) ∙ rw t)))
 
-  pub literal-made : {v u d : ℕ} → b ≡ false → v ≡ le8 s (expr + 7) → d ≡ default-alignment → Wrote xs at (write (nodeTree (IrNode.Const unplaced (aligned d) v))) ys u → Leaves s xs at ws ys (record { at = u; count = n; no = 0 }) owner depth expr n
+  pub literal-made : {v u d : ℕ} → b ≡ false → v ≡ le8 s (expr + 7) → d ≡ default-alignment → Wrote xs at (write (nodeTree (IrNode.Const unplaced (aligned d) v))) ys u → Leaves s xs at ws ys (record { at = u; count = n; number = 0 }) owner depth expr n
   literal-made t e f w a =
       let p = literal-at a k in
       makes _ refl refl (rw (e, f) at w) (rw (p .is) (literal-gives owner (prefixOf depth) _ _ (neg a _ (p .is) ∙ rw t)))
@@ -172,13 +172,13 @@ module _ {s ws : List ℕ} {n : ℕ} {r : Found} where
 
 module _ {s xs ws ys : List ℕ} {at n : ℕ} (owner path : Name) {r : Found} (l : Looked s ws n r (lookup-name owner path (entriesOf s ws n))) where
   pub ref-made : {i u : ℕ} → r ≡ At i → length path ≤ 255 → Wrote xs at (write (nodeTree (IrNode.FieldRef unplaced default-metadata path (some (entryName s (getD ws i 0)))))) ys u →
-      Builds s xs at ws ys (record { at = u; count = n; no = 0 }) (build-path owner path (entriesOf s ws n))
+      Builds s xs at ws ys (record { at = u; count = n; number = 0 }) (build-path owner path (entriesOf s ws n))
   ref-made e h w = makes _ refl refl w (path-gives owner path _ (looked-at e l .1) h)
 
-  pub ref-long : {i u : ℕ} → r ≡ At i → 255 < length path → Builds s xs at ws ys (record { at = u; count = n; no = 17 }) (build-path owner path (entriesOf s ws n))
+  pub ref-long : {i u : ℕ} → r ≡ At i → 255 < length path → Builds s xs at ws ys (record { at = u; count = n; number = 17 }) (build-path owner path (entriesOf s ws n))
   ref-long e h = refuses 17 refl (omega arith) (path-long owner path _ (looked-at e l .1) h)
 
-  pub ref-missing : {u : ℕ} → r ≡ Missing → Builds s xs at ws ys (record { at = u; count = n; no = 12 }) (build-path owner path (entriesOf s ws n))
+  pub ref-missing : {u : ℕ} → r ≡ Missing → Builds s xs at ws ys (record { at = u; count = n; number = 12 }) (build-path owner path (entriesOf s ws n))
   ref-missing e = refuses 12 refl (omega arith) (path-missing owner path _ (looked-missing e l))
 
 -- ---- field references
@@ -221,13 +221,13 @@ module _ {s : List ℕ} {expr : ℕ} (k : le2 s (expr + 4) ≡ 65) where
       omega (arith, g a _ (f .is), w .end, ap length (w .left), poke-length xs 0 (pathOf depth (textsOf (f .list .got .0))))
 
   module _ {xs ws ys : List ℕ} {at : ℕ} (owner : Name) (depth n : ℕ) {b : Bool} (is : BufferSize s expr b) where
-    pub buffer-made : {u : ℕ} → b ≡ true → Wrote xs at (write (nodeTree (IrNode.FieldRef unplaced default-metadata buffer-size none))) ys u → Leaves s xs at ws ys (record { at = u; count = n; no = 0 }) owner depth expr n
+    pub buffer-made : {u : ℕ} → b ≡ true → Wrote xs at (write (nodeTree (IrNode.FieldRef unplaced default-metadata buffer-size none))) ys u → Leaves s xs at ws ys (record { at = u; count = n; number = 0 }) owner depth expr n
     buffer-made t w a =
         let f = field-ref-at a k in
         makes _ refl refl w (rw (f .is) (buffer-gives owner (prefixOf depth) _ _ (sym (is a _ (f .is)) ∙ t)))
 
     -- longer than any path of the registry
-    pub path-stops : {l u : ℕ} → Standing s ws n → length owner ≤ 255 → b ≡ false → Long s expr depth l → 511 < l → Leaves s xs at ws ys (record { at = u; count = n; no = 12 }) owner depth expr n
+    pub path-stops : {l u : ℕ} → Standing s ws n → length owner ≤ 255 → b ≡ false → Long s expr depth l → 511 < l → Leaves s xs at ws ys (record { at = u; count = n; number = 12 }) owner depth expr n
     path-stops {l} st o t g h a =
         let f = field-ref-at a k in
         let m : 511 < length (pathOf depth (textsOf (f .list .got .0))) = rw (g a _ (f .is)) at h in
@@ -319,16 +319,16 @@ module _ (owner prefix : Name) (g : Registry) where
       low false q = next (eqb (le2 s (at + 4)) 67) refl (eqb-false _ _ q)
 
 module _ {s xs ws ys : List ℕ} {at expr : ℕ} (owner : Name) (depth n : ℕ) {k : ℕ} (e : k ≡ le2 s (expr + 4)) (x : k ≡ 64 → ⊥) (y : k ≡ 65 → ⊥) where
-  other-stops : {u : ℕ} → operationOf k ≡ none → Leaves s xs at ws ys (record { at = u; count = n; no = 14 }) owner depth expr n
+  other-stops : {u : ℕ} → operationOf k ≡ none → Leaves s xs at ws ys (record { at = u; count = n; number = 14 }) owner depth expr n
   other-stops z a = refuses 14 refl (omega arith) (other-refused owner (prefixOf depth) _ a (rw e at x) (rw e at y) (rw e at z))
 
-  pub low-stops : {u : ℕ} → k < 68 → Leaves s xs at ws ys (record { at = u; count = n; no = 14 }) owner depth expr n
+  pub low-stops : {u : ℕ} → k < 68 → Leaves s xs at ws ys (record { at = u; count = n; number = 14 }) owner depth expr n
   low-stops h = other-stops (none-low h)
 
-  pub between-stops : {u : ℕ} → 73 ≤ k → k < 74 → Leaves s xs at ws ys (record { at = u; count = n; no = 14 }) owner depth expr n
+  pub between-stops : {u : ℕ} → 73 ≤ k → k < 74 → Leaves s xs at ws ys (record { at = u; count = n; number = 14 }) owner depth expr n
   between-stops l h = other-stops (none-between l h)
 
-  pub high-stops : {u : ℕ} → 79 ≤ k → Leaves s xs at ws ys (record { at = u; count = n; no = 14 }) owner depth expr n
+  pub high-stops : {u : ℕ} → 79 ≤ k → Leaves s xs at ws ys (record { at = u; count = n; number = 14 }) owner depth expr n
   high-stops h = other-stops (none-high h)
 
 -- ---- two operands
@@ -372,7 +372,7 @@ module _ {s ws : List ℕ} {n depth expr at kind p : ℕ} {owner : Name} (r : Re
         let b = right-at in
         (omega (arith, b .1), record { standing = standing (r .standing) refl (w .count); owned = r .owned; deep = r .deep; expression = b .0; cursor = omega (arith, r .cursor, b .1, w .high) })
 
-    pub both-within : {m : Built} → Within (l .at) (1024 * (4 + le4 s q)) m → (at + 4 ≤ m .at) × (m .at < 2 ^ 61) × Within at (1024 * (4 + le4 s expr)) (record { at = m .at; count = m .count; no = 0 })
+    pub both-within : {m : Built} → Within (l .at) (1024 * (4 + le4 s q)) m → (at + 4 ≤ m .at) × (m .at < 2 ^ 61) × Within at (1024 * (4 + le4 s expr)) (record { at = m .at; count = m .count; number = 0 })
     both-within {m} v =
         let b = right-at in
         (omega (arith, w .low, v .low), omega (arith, r .cursor, b .1, w .high, v .high), record { low = omega (arith, w .low, v .low); high = omega (arith, b .1, w .high, v .high); count = v .count })
@@ -383,25 +383,25 @@ pub two-written : {xs x₁ x₂ x₃ ys : List ℕ} {at p q u v : ℕ} (k a : �
 two-written {x₃} {u} k a m n w f g c = node-closed k a (cons m (cons n nil)) w (parts m (cons n nil) f (parts n nil g (no-parts x₃ u))) c
 
 module _ {s ws : List ℕ} {kind : ℕ} (owner : Name) (depth n expr : ℕ) (o : Operation (le2 s (expr + 4)) kind) {x₁ x₂ : List ℕ} {p : ℕ} {l : Built} (f : Leaves s x₁ p ws x₂ l owner depth (expr + 6) n) where
-  pub left-stops : {xs ys : List ℕ} {at u m : ℕ} → (l .no ≡ 0 → ⊥) → Leaves s xs at ws ys (record { at = u; count = m; no = l .no }) owner depth expr n
+  pub left-stops : {xs ys : List ℕ} {at u m : ℕ} → (l .number ≡ 0 → ⊥) → Leaves s xs at ws ys (record { at = u; count = m; number = l .number }) owner depth expr n
   left-stops z a =
       let b = binary-at a (o .low) (o .high) in
       let i = not-built z (f (b .left)) in
-      refuses (l .no) refl (i .1) (rw (b .is) (first-refused owner (prefixOf depth) _ _ _ _ (o .is) (i .0)))
+      refuses (l .number) refl (i .1) (rw (b .is) (first-refused owner (prefixOf depth) _ _ _ _ (o .is) (i .0)))
 
-  module _ {q : ℕ} (z : l .no ≡ 0) (e : q ≡ expr + 10 + le4 s (expr + 6)) {x₃ : List ℕ} {r : Built} (g : Leaves s x₂ (l .at) ws x₃ r owner depth q (l .count)) where
+  module _ {q : ℕ} (z : l .number ≡ 0) (e : q ≡ expr + 10 + le4 s (expr + 6)) {x₃ : List ℕ} {r : Built} (g : Leaves s x₂ (l .at) ws x₃ r owner depth q (l .count)) where
     right-leaves : Leaves s x₂ (l .at) ws x₃ r owner depth (expr + 10 + le4 s (expr + 6)) (l .count)
     right-leaves = subst (λ (j : ℕ). Leaves s x₂ (l .at) ws x₃ r owner depth j (l .count)) e g
 
-    pub right-stops : {xs ys : List ℕ} {at u m : ℕ} → (r .no ≡ 0 → ⊥) → Leaves s xs at ws ys (record { at = u; count = m; no = r .no }) owner depth expr n
+    pub right-stops : {xs ys : List ℕ} {at u m : ℕ} → (r .number ≡ 0 → ⊥) → Leaves s xs at ws ys (record { at = u; count = m; number = r .number }) owner depth expr n
     right-stops y a =
         let b = binary-at a (o .low) (o .high) in
         let i = built z (f (b .left)) in
         let j = not-built y (right-leaves (b .right)) in
-        refuses (r .no) refl (j .1) (rw (b .is) (second-refused owner (prefixOf depth) _ _ _ _ (o .is) (i .1) (rw (← i .2) (j .0))))
+        refuses (r .number) refl (j .1) (rw (b .is) (second-refused owner (prefixOf depth) _ _ _ _ (o .is) (i .1) (rw (← i .2) (j .0))))
 
-    pub both-made : {xs ys : List ℕ} {at d v : ℕ} → r .no ≡ 0 → d ≡ default-alignment → Wrote xs at (nodeStart kind d) x₁ p → Wrote x₃ at (bytes 4 (r .at - at - 4)) ys v →
-        Leaves s xs at ws ys (record { at = r .at; count = r .count; no = 0 }) owner depth expr n
+    pub both-made : {xs ys : List ℕ} {at d v : ℕ} → r .number ≡ 0 → d ≡ default-alignment → Wrote xs at (nodeStart kind d) x₁ p → Wrote x₃ at (bytes 4 (r .at - at - 4)) ys v →
+        Leaves s xs at ws ys (record { at = r .at; count = r .count; number = 0 }) owner depth expr n
     unfolding nodeTree
     both-made y t w c a =
         let b = binary-at a (o .low) (o .high) in

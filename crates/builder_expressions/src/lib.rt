@@ -5,8 +5,7 @@ use ir::NodeMetadata;
 ghost use mathlib.Core.Path.{_≡_};
 ghost use mathlib.Core.Bool.{cond};
 ghost use mathlib.Core.Option.{some, none};
-ghost use Prim.Native.Nat.{_+_, _*_, _^_, _≤_, _<_};
-ghost use lib.ListN.{length};
+ghost use Prim.Native.Nat.{_+_, _*_, _^_, _<_};
 ghost use Rattle.blocks.specs.Bytes.{le2, le4, le8};
 ghost use Rattle.accepted.specs.Accepted.{Accepted, tree};
 ghost use Rattle.expr.specs.Expr.{ExprKind, LiteralExpr, literal-to-u64, exprOf};
@@ -48,7 +47,7 @@ fn build_literal(
         return Built {
             at,
             count: n,
-            no: 14,
+            number: 14,
         };
     }
     let v = wire::read8(s, expr + 7) as u64;
@@ -56,7 +55,7 @@ fn build_literal(
     Built {
         at: u,
         count: n,
-        no: 0,
+        number: 0,
     }
 }
 
@@ -80,20 +79,20 @@ fn build_path(
                 return Built {
                     at,
                     count: n,
-                    no: 17,
+                    number: 17,
                 };
             }
             let u = builder_nodes::put_path_ref(s, words[i], path, out, at);
             Built {
                 at: u,
                 count: n,
-                no: 0,
+                number: 0,
             }
         }
         Found::Missing => Built {
             at,
             count: n,
-            no: 12,
+            number: 12,
         },
     }
 }
@@ -119,14 +118,14 @@ fn build_field_ref(
         return Built {
             at: u,
             count: n,
-            no: 0,
+            number: 0,
         };
     }
     if 511 < builder_paths::joined_length(s, expr, depth) {
         return Built {
             at,
             count: n,
-            no: 12,
+            number: 12,
         };
     }
     let mut path = [0u8; 512];
@@ -159,7 +158,7 @@ pub fn build_expr_ir(
         _ => Built {
             at,
             count: n,
-            no: 14,
+            number: 14,
         },
     }
 }
@@ -182,20 +181,20 @@ fn build_binary_expr_ir(
 {
     let p = builder_nodes::open_node(out, at, kind, NodeMetadata::default_alignment());
     let left = build_expr_ir(s, words, n, owner, depth, expr + 6, out, p);
-    if left.no != 0 {
+    if left.number != 0 {
         return Built {
             at,
             count: n,
-            no: left.no,
+            number: left.number,
         };
     }
     let q = expr + 10 + wire::read4(s, expr + 6);
     let right = build_expr_ir(s, words, left.count, owner, depth, q, out, left.at);
-    if right.no != 0 {
+    if right.number != 0 {
         return Built {
             at,
             count: n,
-            no: right.no,
+            number: right.number,
         };
     }
     let u = right.at;
@@ -203,6 +202,6 @@ fn build_binary_expr_ir(
     Built {
         at: u,
         count: right.count,
-        no: 0,
+        number: 0,
     }
 }

@@ -9,7 +9,7 @@ use mathlib.Core.List.{[], _∷_, _++_, append-nil}
 use mathlib.Core.Option.{Option, some, none}
 use lib.ListN.{length, take, drop, getD, length-drop}
 use lib.Seq.{drop-length, length-take-le, drop-cons, drop-drop, getD-drop}
-use Rattle.blocks.specs.Name.{Name, text, same}
+use Rattle.blocks.specs.Name.{Name, ascii, same}
 use Rattle.blocks.proofs.Name.{false-true}
 use Rattle.builder.specs.Names.{isEmpty, isSome, strip-prefix, rsplit-once, behind, aliasUnless, alternate-owner-aliases}
 use Rattle.builder_names.specs.Views.{place, Parts, first, aliasOf}
@@ -20,19 +20,19 @@ use Rattle.builder_names.proofs.Strip.{none-some, prefix-is, prefix-som
 -- ---- the last `::`
 
 module _ (s : Name) (i : ℕ) where
-  pub colons-end : length s ≤ i + 1 → false ≡ isSome (strip-prefix (text "::") (drop i s))
-  colons-end h = strip-none (text "::") (drop i s) (λ r e. let z : ⊥ = omega (arith, ap length e, length-drop i s) in z)
+  pub colons-end : length s ≤ i + 1 → false ≡ isSome (strip-prefix (ascii "::") (drop i s))
+  colons-end h = strip-none (ascii "::") (drop i s) (λ r e. let z : ⊥ = omega (arith, ap length e, length-drop i s) in z)
 
-  pub colons-first : (getD s i 0 ≡ 0x3A → ⊥) → false ≡ isSome (strip-prefix (text "::") (drop i s))
+  pub colons-first : (getD s i 0 ≡ 0x3A → ⊥) → false ≡ isSome (strip-prefix (ascii "::") (drop i s))
   colons-first k =
-      strip-none (text "::") (drop i s)
+      strip-none (ascii "::") (drop i s)
       (λ r e. k (ap (λ (n : ℕ). getD s n 0) (sym (add-zero i)) ∙ (sym (getD-drop i s 0 0) ∙ ap (λ (x : Name). getD x 0 0) e)))
 
-  pub colons-second : (getD s (i + 1) 0 ≡ 0x3A → ⊥) → false ≡ isSome (strip-prefix (text "::") (drop i s))
-  colons-second k = strip-none (text "::") (drop i s) (λ r e. k (sym (getD-drop i s 1 0) ∙ ap (λ (x : Name). getD x 1 0) e))
+  pub colons-second : (getD s (i + 1) 0 ≡ 0x3A → ⊥) → false ≡ isSome (strip-prefix (ascii "::") (drop i s))
+  colons-second k = strip-none (ascii "::") (drop i s) (λ r e. k (sym (getD-drop i s 1 0) ∙ ap (λ (x : Name). getD x 1 0) e))
 
-  pub colons-both : i + 1 < length s → getD s i 0 ≡ 0x3A → getD s (i + 1) 0 ≡ 0x3A → true ≡ isSome (strip-prefix (text "::") (drop i s))
-  colons-both h e f = sym (ap isSome (ap (strip-prefix (text "::")) q ∙ strip-put (text "::") (drop (suc (suc i)) s)))
+  pub colons-both : i + 1 < length s → getD s i 0 ≡ 0x3A → getD s (i + 1) 0 ≡ 0x3A → true ≡ isSome (strip-prefix (ascii "::") (drop i s))
+  colons-both h e f = sym (ap isSome (ap (strip-prefix (ascii "::")) q ∙ strip-put (ascii "::") (drop (suc (suc i)) s)))
     where
       g : getD s (suc i) 0 ≡ 0x3A
       g = ap (λ (n : ℕ). getD s n 0) (sym (add-one i)) ∙ f
@@ -50,22 +50,22 @@ split-before (suc i) [] a b e = none-some e
 split-before (suc i) (x ∷ xs) a b e = rw (split-before i xs a b e, rsplit-once)
 
 module _ (s : Name) where
-  split-step : (j : ℕ) → j < length s → rsplit-once (drop (suc j) s) ≡ none → rsplit-once (drop j s) ≡ behind (strip-prefix (text "::") (drop j s))
+  split-step : (j : ℕ) → j < length s → rsplit-once (drop (suc j) s) ≡ none → rsplit-once (drop j s) ≡ behind (strip-prefix (ascii "::") (drop j s))
   unfolding rsplit-once
   split-step j h e = rw (drop-cons s j 0 h, e, rsplit-once)
 
-  split-is : (j : ℕ) → rsplit-once (drop j s) ≡ behind (strip-prefix (text "::") (drop j s)) → isSome (strip-prefix (text "::") (drop j s)) ≡ true → rsplit-once s ≡ some (take j s, drop (j + 2) s)
-  split-is j e h = split-before j s [] (drop 2 (drop j s)) (e ∙ ap behind (prefix-some (text "::") (drop j s) h)) ∙ rw (append-nil, drop-drop 2 j s)
+  split-is : (j : ℕ) → rsplit-once (drop j s) ≡ behind (strip-prefix (ascii "::") (drop j s)) → isSome (strip-prefix (ascii "::") (drop j s)) ≡ true → rsplit-once s ≡ some (take j s, drop (j + 2) s)
+  split-is j e h = split-before j s [] (drop 2 (drop j s)) (e ∙ ap behind (prefix-some (ascii "::") (drop j s) h)) ∙ rw (append-nil, drop-drop 2 j s)
 
-  split-long : (j : ℕ) → isSome (strip-prefix (text "::") (drop j s)) ≡ true → j + 2 ≤ length s
-  split-long j h = omega (arith, ap length (prefix-is (text "::") (drop j s) h), length-drop j s)
+  split-long : (j : ℕ) → isSome (strip-prefix (ascii "::") (drop j s)) ≡ true → j + 2 ≤ length s
+  split-long j h = omega (arith, ap length (prefix-is (ascii "::") (drop j s) h), length-drop j s)
 
-  module _ (i : ℕ) (p : 0 < i) (l : i ≤ length s) (e : rsplit-once (drop i s) ≡ none) (b : Bool) (f : b ≡ isSome (strip-prefix (text "::") (drop (i - 1) s))) where
-    step : rsplit-once (drop (i - 1) s) ≡ behind (strip-prefix (text "::") (drop (i - 1) s))
+  module _ (i : ℕ) (p : 0 < i) (l : i ≤ length s) (e : rsplit-once (drop i s) ≡ none) (b : Bool) (f : b ≡ isSome (strip-prefix (ascii "::") (drop (i - 1) s))) where
+    step : rsplit-once (drop (i - 1) s) ≡ behind (strip-prefix (ascii "::") (drop (i - 1) s))
     step = let q : suc (i - 1) ≡ i = omega arith in split-step (i - 1) (omega arith) (rw q e)
 
     pub split-more : b ≡ false → rsplit-once (drop (i - 1) s) ≡ none
-    split-more h = step ∙ go (strip-prefix (text "::") (drop (i - 1) s)) (sym f ∙ h)
+    split-more h = step ∙ go (strip-prefix (ascii "::") (drop (i - 1) s)) (sym f ∙ h)
       where
         go : (t : Option Name) → isSome t ≡ false → behind t ≡ none
         go none g = refl

@@ -9,7 +9,7 @@ use lib.Dec.{eqb}
 use lib.ListN.{length, take, drop, length-append, take-append-drop}
 use lib.Seq.{take-at, drop-length, length-take-le, take-append-seam, drop-append-seam}
 use borrow.Author.Tests.{eq-eqb, ne-eqb}
-use Rattle.blocks.specs.Name.{Name, text, same}
+use Rattle.blocks.specs.Name.{Name, ascii, same}
 use Rattle.blocks.proofs.Name.{false-true, same-refl, same-eq}
 use Rattle.builder.specs.Names.{isSome, orElse, strip-prefix, strip-owner, normalize-path, rsplit-once, behind, qualify-parent-path}
 use Rattle.builder_names.specs.Views.{Parts, isName, isKey}
@@ -58,7 +58,7 @@ module _ (h r p k : Name) (b : Bool) (e : b ≡ same p r) where
   head-same = same-iff (h ++ p) (h ++ r) p r (append-cancel h p r) (ap (λ (s : Name). h ++ s)) ∙ sym e
 
   head-strip : strip-owner (h ++ r) (h ++ p) ≡ strip-owner r p
-  head-strip = ap (λ (s : Name). strip-prefix s (h ++ p)) (append-assoc h r (text ".")) ∙ strip-both h (r ++ text ".") p
+  head-strip = ap (λ (s : Name). strip-prefix s (h ++ p)) (append-assoc h r (ascii ".")) ∙ strip-both h (r ++ ascii ".") p
 
   pub key-same : b ≡ true → eqb (length k) 0 ≡ same (normalize-path (h ++ r) (h ++ p)) k
   key-same w = empty-same k ∙ ap (λ (s : Name). same s k) (sym (normal-same (h ++ r) (h ++ p) b (sym head-same) w ∙ drop-length (h ++ p)))
@@ -86,17 +86,17 @@ pub ruleset keys = (key-same, key-rest, key-whole)
 -- ---- a path qualified by the owner's parent
 
 -- the parts and the `::` between them are the name
-split-whole : (s a b : Name) → rsplit-once s ≡ some (a, b) → s ≡ a ++ (text "::" ++ b)
+split-whole : (s a b : Name) → rsplit-once s ≡ some (a, b) → s ≡ a ++ (ascii "::" ++ b)
 unfolding rsplit-once
 split-whole [] a b e = none-some e
 split-whole (x ∷ xs) a b e = go (split-whole xs) (rsplit-once xs) refl
   where
-    first-one : (t : Option Name) → strip-prefix (text "::") (x ∷ xs) ≡ t → behind t ≡ some (a, b) → x ∷ xs ≡ a ++ (text "::" ++ b)
+    first-one : (t : Option Name) → strip-prefix (ascii "::") (x ∷ xs) ≡ t → behind t ≡ some (a, b) → x ∷ xs ≡ a ++ (ascii "::" ++ b)
     first-one none f g = none-some g
-    first-one (some r) f g = let q : _≡_ {A = Name × Name} ([], r) (a, b) = cc in let y : [] ≡ a = ap (λ (v : Name × Name). v .0) q in let z : r ≡ b = ap (λ (v : Name × Name). v .1) q in rw (← y, ← z) (strip-got (text "::") (x ∷ xs) r f)
+    first-one (some r) f g = let q : _≡_ {A = Name × Name} ([], r) (a, b) = cc in let y : [] ≡ a = ap (λ (v : Name × Name). v .0) q in let z : r ≡ b = ap (λ (v : Name × Name). v .1) q in rw (← y, ← z) (strip-got (ascii "::") (x ∷ xs) r f)
 
-    go : ((c d : Name) → rsplit-once xs ≡ some (c, d) → xs ≡ c ++ (text "::" ++ d)) → (t : Option (Name × Name)) → rsplit-once xs ≡ t → x ∷ xs ≡ a ++ (text "::" ++ b)
-    go ih none f = first-one (strip-prefix (text "::") (x ∷ xs)) refl (rw (f, rsplit-once) at e)
+    go : ((c d : Name) → rsplit-once xs ≡ some (c, d) → xs ≡ c ++ (ascii "::" ++ d)) → (t : Option (Name × Name)) → rsplit-once xs ≡ t → x ∷ xs ≡ a ++ (ascii "::" ++ b)
+    go ih none f = first-one (strip-prefix (ascii "::") (x ∷ xs)) refl (rw (f, rsplit-once) at e)
     go ih (some q) f =
         let g : _≡_ {A = Option (Name × Name)} (some (x ∷ q .0, q .1)) (some (a, b)) = rw (f, rsplit-once) at e in
         let v : _≡_ {A = Name × Name} (x ∷ q .0, q .1) (a, b) = cc in
@@ -119,13 +119,13 @@ module _ (s p n : Name) where
   module _ (x : Split) (i : ℕ) (w : Parts s x) (e : x ≡ At i) where
     qualify-some : qualify-parent-path s p ≡ some (take (i + 2) s ++ p)
     unfolding qualify-parent-path
-    qualify-some = rw (parts-at s x i w e .1, front) (ap some (sym (append-assoc (take i s) (text "::") p)))
+    qualify-some = rw (parts-at s x i w e .1, front) (ap some (sym (append-assoc (take i s) (ascii "::") p)))
       where
-        l : length (take i s ++ text "::") ≡ i + 2
-        l = length-append (take i s) (text "::") ∙ ap (λ (m : ℕ). m + 2) (length-take-le i s (omega (arith, parts-at s x i w e .0)))
+        l : length (take i s ++ ascii "::") ≡ i + 2
+        l = length-append (take i s) (ascii "::") ∙ ap (λ (m : ℕ). m + 2) (length-take-le i s (omega (arith, parts-at s x i w e .0)))
 
-        front : take (i + 2) s ≡ take i s ++ text "::"
-        front = ap (take (i + 2)) (split-whole s (take i s) (drop (i + 2) s) (parts-at s x i w e .1) ∙ sym (append-assoc (take i s) (text "::") (drop (i + 2) s))) ∙ take-at (take i s ++ text "::") (drop (i + 2) s) (i + 2) l
+        front : take (i + 2) s ≡ take i s ++ ascii "::"
+        front = ap (take (i + 2)) (split-whole s (take i s) (drop (i + 2) s) (parts-at s x i w e .1) ∙ sym (append-assoc (take i s) (ascii "::") (drop (i + 2) s))) ∙ take-at (take i s ++ ascii "::") (drop (i + 2) s) (i + 2) l
 
     pub qualify-name : (b : Bool) → b ≡ same (take (i + 2) s ++ p) n → b ≡ isName (qualify-parent-path s p) n
     qualify-name b f = f ∙ ap (λ (o : Option Name). isName o n) (sym qualify-some)

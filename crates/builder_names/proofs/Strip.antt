@@ -11,7 +11,7 @@ use lib.Dec.{eqb}
 use lib.ListN.{length, take, drop, getD, length-append, length-drop}
 use lib.Seq.{split-at, take-at, getD-at, take-all, drop-append-add, drop-append-seam, drop-length}
 use borrow.Author.Tests.{eq-eqb, eqb-true}
-use Rattle.blocks.specs.Name.{Name, text, same}
+use Rattle.blocks.specs.Name.{Name, ascii, same}
 use Rattle.blocks.proofs.Name.{false-true, same-refl, same-eq}
 use Rattle.builder.specs.Names.{isSome, orElse, strip-prefix, strip-owner, normalize-path, ends-with}
 use Rattle.builder_names.specs.Views.{dotted}
@@ -83,7 +83,7 @@ dot-cancel a b c e = sym (dot-drop a b) ∙ (ap (drop (length a + 1)) e ∙ dot-
 
 strip-dot : (o r : Name) → strip-owner o (dotted o r) ≡ some r
 unfolding dotted
-strip-dot o r = ap (strip-prefix (o ++ text ".")) (sym (append-assoc o (text ".") r)) ∙ strip-put (o ++ text ".") r
+strip-dot o r = ap (strip-prefix (o ++ ascii ".")) (sym (append-assoc o (ascii ".") r)) ∙ strip-put (o ++ ascii ".") r
 
 -- a dot behind the owner, and the owner before it
 pub strip-at : (o p : Name) → length o < length p → getD p (length o) 0 ≡ 0x2E → take (length o) p ≡ o → p ≡ dotted o (drop (length o + 1) p)
@@ -94,7 +94,7 @@ strip-at o p h d e = split-at p (length o) 0 h ∙ rw (e, d, add-one)
 pub found-is : (o p : Name) → isSome (strip-owner o p) ≡ true → p ≡ dotted o (drop (length o + 1) p)
 unfolding dotted
 found-is o p e =
-    prefix-is (o ++ text ".") p e ∙ (ap (λ (k : ℕ). (o ++ text ".") ++ drop k p) (length-append o (text ".")) ∙ append-assoc o (text ".") (drop (length o + 1) p))
+    prefix-is (o ++ ascii ".") p e ∙ (ap (λ (k : ℕ). (o ++ ascii ".") ++ drop k p) (length-append o (ascii ".")) ∙ append-assoc o (ascii ".") (drop (length o + 1) p))
 
 pub found-long : (o p : Name) → isSome (strip-owner o p) ≡ true → length o + 1 ≤ length p
 found-long o p e = omega (arith, ap length (found-is o p e), dot-length o (drop (length o + 1) p))
@@ -104,7 +104,7 @@ found o p r e = ap isSome (ap (strip-owner o) e ∙ strip-dot o r)
 
 not-found : (o p : Name) → ((r : Name) → p ≡ dotted o r → ⊥) → false ≡ isSome (strip-owner o p)
 unfolding dotted
-not-found o p k = strip-none (o ++ text ".") p (λ r e. k r (e ∙ append-assoc o (text ".") r))
+not-found o p k = strip-none (o ++ ascii ".") p (λ r e. k r (e ∙ append-assoc o (ascii ".") r))
 
 -- ---- equal names
 

@@ -5,7 +5,7 @@ use mathlib.Core.Bool.{Bool, false, _||_}
 use mathlib.Core.List.{List, [], _∷_, _++_}
 use mathlib.Core.Option.{Option, some, none}
 use lib.ListN.{length, take, drop}
-use Rattle.blocks.specs.Name.{Name, text, same}
+use Rattle.blocks.specs.Name.{Name, ascii, same}
 use Rattle.builder.specs.Names.{isEmpty, normalize-path, rsplit-once, alternate-owner-aliases}
 use Rattle.builder_names.specs.declared.Split.{Split}
 use Rattle.builder_names.specs.declared.Split.the-variants.{At, Missing}
@@ -16,7 +16,7 @@ alone owner path = isEmpty path || same path owner
 
 -- two names with a dot between them
 unfoldable pub dotted : Name → Name → Name
-dotted a b = a ++ (text "." ++ b)
+dotted a b = a ++ (ascii "." ++ b)
 
 -- the place of the last `::` in what `rsplit-once` gives
 abbrev pub place : Option (Name × Name) → Split

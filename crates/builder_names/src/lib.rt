@@ -3,12 +3,12 @@ ghost use mathlib.Core.Path.{_≡_};
 ghost use mathlib.Core.List.{_++_};
 ghost use Prim.Native.Nat.{_+_, _≤_, _<_, _^_};
 ghost use lib.ListN.{length, drop};
-ghost use Rattle.blocks.specs.Name.{text, same};
+ghost use Rattle.blocks.specs.Name.{ascii, same};
 ghost use Rattle.blocks.specs.Tree.{name};
 ghost use Rattle.blocks.specs.Write.{write};
 ghost use Rattle.wire.specs.Poke.{Wrote};
 ghost use Rattle.builder.specs.Names.{isSome, strip-prefix, strip-owner, normalize-path, canonical-name, rsplit-once, qualify-parent-path, ends-with};
-ghost use Rattle.builder_names.specs.Views.{alone, dotted, place, Parts, aliasOf, isName, isKey};
+ghost use Rattle.builder_names.specs.Views.{alone, place, Parts, aliasOf, isKey};
 
 // The place of a `::`, if there is one.
 pub enum Split {
@@ -17,7 +17,7 @@ pub enum Split {
 }
 
 // Whether the path is the owner, a dot and a rest.
-pub fn begins_with_owner(owner: &[u8], path: &[u8]) -> bool
+fn begins_with_owner(owner: &[u8], path: &[u8]) -> bool
     ensures { λ r. ⌜ r ≡ isSome (strip-owner (now (owner .entry)) (now (path .entry))) ⌝ }
 {
     let n = owner.len();
@@ -31,7 +31,7 @@ pub fn begins_with_owner(owner: &[u8], path: &[u8]) -> bool
 }
 
 // Where the normal path begins in the path.
-pub fn normal_start(owner: &[u8], path: &[u8]) -> usize
+fn normal_start(owner: &[u8], path: &[u8]) -> usize
     ensures { λ r. ⌜ r ≤ length (now (path .entry)) ⌝ }
     ensures { λ r. ⌜ normalize-path (now (owner .entry)) (now (path .entry)) ≡ drop r (now (path .entry)) ⌝ }
 {
@@ -53,7 +53,7 @@ pub fn normalize_path<'a>(owner: &[u8], path: &'a [u8]) -> &'a [u8]
 }
 
 // Whether the canonical name is the owner itself.
-pub fn is_owner_alone(owner: &[u8], path: &[u8]) -> bool
+fn is_owner_alone(owner: &[u8], path: &[u8]) -> bool
     ensures { λ r. ⌜ r ≡ alone (now (owner .entry)) (now (path .entry)) ⌝ }
 {
     if path.len() == 0 {
@@ -90,70 +90,10 @@ pub fn put_canonical_name(out: &mut [u8], at: usize, owner: &[u8], path: &[u8]) 
     wire::put_from(out, u, path, a)
 }
 
-// Whether the owner, a dot and the rest are the name.
-fn same_dotted(owner: &[u8], rest: &[u8], name: &[u8]) -> bool
-    ensures { λ r. ⌜ r ≡ same (dotted (now (owner .entry)) (now (rest .entry))) (now (name .entry)) ⌝ }
-{
-    if begins_with_owner(owner, name) {
-        let a = owner.len() + 1;
-        return wire::same_name(rest, &name[a..]);
-    }
-    false
-}
-
-// Whether a, a dot and b are c, a dot and d.
-fn same_dotteds(a: &[u8], b: &[u8], c: &[u8], d: &[u8]) -> bool
-    ensures { λ r. ⌜ r ≡ same (dotted (now (a .entry)) (now (b .entry))) (dotted (now (c .entry)) (now (d .entry))) ⌝ }
-{
-    if a.len() == c.len() {
-        if wire::same_name(a, c) {
-            return wire::same_name(b, d);
-        }
-        return false;
-    }
-    if begins_with_owner(a, c) {
-        let i = a.len() + 1;
-        return same_dotted(&c[i..], d, b);
-    }
-    if begins_with_owner(c, a) {
-        let i = c.len() + 1;
-        return same_dotted(&a[i..], b, d);
-    }
-    false
-}
-
-// Whether the canonical name is the name.
-pub fn same_canonical(owner: &[u8], path: &[u8], name: &[u8]) -> bool
-    ensures { λ r. ⌜ r ≡ same (canonical-name (now (owner .entry)) (now (path .entry))) (now (name .entry)) ⌝ }
-{
-    if is_owner_alone(owner, path) {
-        return wire::same_name(owner, name);
-    }
-    same_dotted(owner, normalize_path(owner, path), name)
-}
-
-// Whether two canonical names are one.
-pub fn same_canonicals(owner: &[u8], path: &[u8], owner2: &[u8], path2: &[u8]) -> bool
-    ensures { λ r. ⌜ r ≡ same (canonical-name (now (owner .entry)) (now (path .entry))) (canonical-name (now (owner2 .entry)) (now (path2 .entry))) ⌝ }
-{
-    if is_owner_alone(owner, path) {
-        return same_canonical(owner2, path2, owner);
-    }
-    if is_owner_alone(owner2, path2) {
-        return same_canonical(owner, path, owner2);
-    }
-    same_dotteds(
-        owner,
-        normalize_path(owner, path),
-        owner2,
-        normalize_path(owner2, path2),
-    )
-}
-
 // Whether `::` stands at i.
 fn colons_at(s: &[u8], i: usize) -> bool
     requires { ⌜ i < length (now s) ⌝ }
-    ensures { λ r. ⌜ r ≡ isSome (strip-prefix (text "::") (drop i (now (s .entry)))) ⌝ }
+    ensures { λ r. ⌜ r ≡ isSome (strip-prefix (ascii "::") (drop i (now (s .entry)))) ⌝ }
 {
     let j = i + 1;
     if s.len() <= j {
@@ -244,19 +184,6 @@ fn same_key(head: &[u8], rest: &[u8], path: &[u8], key: &[u8]) -> bool
         return wire::same_name(normalize_path(rest, path), key);
     }
     same_behind(head, path, key)
-}
-
-// Whether the path, qualified by the owner's parent, is the name.
-pub fn same_qualified(owner: &[u8], path: &[u8], name: &[u8]) -> bool
-    ensures { λ r. ⌜ r ≡ isName (qualify-parent-path (now (owner .entry)) (now (path .entry))) (now (name .entry)) ⌝ }
-{
-    match last_colons(owner) {
-        Split::At(i) => {
-            let a = i + 2;
-            same_behind(&owner[..a], path, name)
-        }
-        Split::Missing => false,
-    }
 }
 
 // Whether the path, qualified by the owner's parent, has the key.

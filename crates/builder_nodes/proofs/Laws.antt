@@ -1,13 +1,12 @@
 -- Nodes that are opened, then filled, then closed.
-use mathlib.Core.Path.{_≡_, refl, sym, ap, _∙_, subst}
+use mathlib.Core.Path.{_≡_, refl, _∙_, subst}
 use mathlib.Core.List.{List, [], _++_, append-assoc, append-nil}
-use mathlib.Core.Option.{none}
 use Prim.Native.Nat.{ℕ, _+_, _-_}
 use Rattle.blocks.specs.Bytes.{bytes}
 use Rattle.blocks.specs.Tree.{Tree, num, nil, cons}
 use Rattle.blocks.specs.Write.{write}
 use Rattle.ir.specs.Ir.{IrNode, aligned}
-use Rattle.ir.specs.Layout.{nodeBlock, nodeTree, optionalTree}
+use Rattle.ir.specs.Layout.{nodeBlock, nodeTree}
 use Rattle.builder.specs.Nodes.{align-node}
 use Rattle.wire.specs.Poke.{Wrote, opened}
 use Rattle.wire.proofs.Laws.{both, closed}

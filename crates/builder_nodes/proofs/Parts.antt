@@ -8,7 +8,7 @@ use native.Mathlib.Omega.{arith}
 use lib.ListN.{length, length-append}
 use borrow.Author.Tests.{le-leb, eq-eqb, ne-eqb}
 use Rattle.blocks.specs.Bytes.{bytes}
-use Rattle.blocks.specs.Name.{Name, text}
+use Rattle.blocks.specs.Name.{Name, ascii}
 use Rattle.blocks.specs.Grammar.{partsOf, nodeTable}
 use Rattle.blocks.specs.Tree.{Tree, name, num, nil, cons}
 use Rattle.blocks.specs.Write.{write}
@@ -131,10 +131,10 @@ number-in f = f
 
 -- the size text: its flag, its length, and its three pieces
 pub size-text : {xs ys zs us vs ws : List ℕ} {at p q u v r n : ℕ} (owner path : Name) → n ≡ length owner + 1 + length path → Wrote xs at (textFlag (codeAt 130 1)) ys p → Wrote ys p (bytes 2 n) zs q → Wrote zs q owner us u →
-    Wrote us u (text ":") vs v → Wrote vs v path ws r → Wrote xs at (write (optionalTree name (some (refText owner path)))) ws r
+    Wrote us u (ascii ":") vs v → Wrote vs v path ws r → Wrote xs at (write (optionalTree name (some (refText owner path)))) ws r
 unfolding textFlag codeAt partsOf nodeTable write
 size-text {ys = ys} {zs} {p = p} {q} owner path e f g h i j =
-    let l : length owner + 1 + length path ≡ length (refText owner path) = omega (arith, length-append owner (text ":" ++ path)) in
+    let l : length owner + 1 + length path ≡ length (refText owner path) = omega (arith, length-append owner (ascii ":" ++ path)) in
     both f (both (subst (λ (n : ℕ). Wrote ys p (bytes 2 n) zs q) (e ∙ l) g) (both h (both i j)))
 
 pub size-closed : {xs ys zs us vs ws : List ℕ} {at p q u v a e : ℕ} (owner path parameter : Name) → a ≡ default-alignment → Wrote xs at (opened 130) ys p → Wrote ys p (numberPart (codeAt 130 0) a) zs q →

@@ -17,8 +17,8 @@ use Rattle.builder_nodes.specs.declared.Built.{Built}
 -- The node's bytes in the output ys and the next cursor, and the entries in the words us; or the refusal, of which nothing is
 -- said but its number. Nothing is said of the words behind the entries.
 pub data Builds (s xs : List ℕ) (at : ℕ) (us ys : List ℕ) (r : Built) : Outcome (IrNode × Registry) → Type 0 where
-  made : (x : IrNode × Registry) → r .no ≡ 0 → entriesOf s us (r .count) ≡ x .1 → Wrote xs at (write (nodeTree (x .0))) ys (r .at) → Builds s xs at us ys r (done x)
-  not : (k : ℕ) → r .no ≡ k → 0 < k → Builds s xs at us ys r (refused (plain k))
+  made : (x : IrNode × Registry) → r .number ≡ 0 → entriesOf s us (r .count) ≡ x .1 → Wrote xs at (write (nodeTree (x .0))) ys (r .at) → Builds s xs at us ys r (done x)
+  not : (k : ℕ) → r .number ≡ k → 0 < k → Builds s xs at us ys r (refused (plain k))
 
 -- whatever is built: the cursor moves by at most `room`, and the registry has at most 512 entries
 pub record Within (at room : ℕ) (r : Built) : Type 0 where

@@ -19,7 +19,7 @@ ghost use Rattle.builder_nodes.specs.Built.{nodeStart, numberPart, textF
 pub struct Built {
     pub at: usize,
     pub count: usize,
-    pub no: u64,
+    pub number: u64,
 }
 
 // A number, as part i of a node kind.

@@ -11,7 +11,7 @@ use lib.ListN.{length, take, drop, getD, length-drop, length-append, drop-of-len
 use lib.Seq.{drop-cons, drop-drop, take-at, take-all}
 use borrow.Author.Tests.{eq-eqb, ne-eqb, lt-ltb, le-ltb, ltb-true, ltb-false}
 use Rattle.blocks.specs.Bytes.{bytes}
-use Rattle.blocks.specs.Name.{Name, text, same}
+use Rattle.blocks.specs.Name.{Name, ascii, same}
 use Rattle.blocks.specs.Tree.{name}
 use Rattle.blocks.specs.Write.{write}
 use Rattle.wire.specs.Poke.{poke, Wrote}
@@ -159,11 +159,11 @@ last-end n to h = rw (drop-of-length-le n {i = to} h) (omega arith)
 -- ---- the segment before `element`
 
 -- what is tested of the next segment
-tested : (p m : Name) (ms : List Name) {b : Bool} → same m (text "element") ≡ b → before p (m ∷ ms) ≡ elim b [ true ↦ some p | false ↦ before m ms ]
+tested : (p m : Name) (ms : List Name) {b : Bool} → same m (ascii "element") ≡ b → before p (m ∷ ms) ≡ elim b [ true ↦ some p | false ↦ before m ms ]
 unfolding before
 tested p m ms f = ap (λ (b : Bool). elim b [ true ↦ some p | false ↦ before m ms ]) f
 
-tested-first : (m : Name) (ms : List Name) {b : Bool} → same m (text "element") ≡ b → before-element (m ∷ ms) ≡ elim b [ true ↦ none | false ↦ before m ms ]
+tested-first : (m : Name) (ms : List Name) {b : Bool} → same m (ascii "element") ≡ b → before-element (m ∷ ms) ≡ elim b [ true ↦ none | false ↦ before m ms ]
 unfolding before-element
 tested-first m ms f = ap (λ (b : Bool). elim b [ true ↦ none | false ↦ before m ms ]) f
 
@@ -171,7 +171,7 @@ tested-first m ms f = ap (λ (b : Bool). elim b [ true ↦ none | false ↦ befo
 next-behind : (n : Name) (to end : ℕ) → to < length n → end ≡ to + 1 + first-length (drop (to + 1) n) → behind n to ≡ take (end - (to + 1)) (drop (to + 1) n) ∷ behind n end
 next-behind n to end h e = ap (λ (b : Bool). elim b [ true ↦ split (drop (to + 1) n) | false ↦ [] ]) (lt-ltb to (length n) h) ∙ segments n (to + 1) end (omega arith) e
 
-module _ (n : Name) {to : ℕ} {b : Bool} (e : to ≡ 0 + first-length (drop 0 n)) (f : b ≡ same (take (to - 0) (drop 0 n)) (text "element")) where
+module _ (n : Name) {to : ℕ} {b : Bool} (e : to ≡ 0 + first-length (drop 0 n)) (f : b ≡ same (take (to - 0) (drop 0 n)) (ascii "element")) where
   pub element-first : b ≡ true → Found n Missing (before-element (split n))
   element-first t = subst (Found n Missing) (sym (ap before-element (segments n 0 to (omega arith) e) ∙ tested-first (take (to - 0) (drop 0 n)) (behind n to) (sym f ∙ t))) Found.missing
 
@@ -179,7 +179,7 @@ module _ (n : Name) {to : ℕ} {b : Bool} (e : to ≡ 0 + first-length (drop 0 n
   begins t = ap before-element (segments n 0 to (omega arith) e) ∙ tested-first (take (to - 0) (drop 0 n)) (behind n to) (sym f ∙ t)
 
 module _ (n : Name) (from to : ℕ) (g : before-element (split n) ≡ before (take (to - from) (drop from n)) (behind n to)) where
-  module _ {end : ℕ} {b : Bool} (h : to < length n) (e : end ≡ to + 1 + first-length (drop (to + 1) n)) (f : b ≡ same (take (end - (to + 1)) (drop (to + 1) n)) (text "element")) where
+  module _ {end : ℕ} {b : Bool} (h : to < length n) (e : end ≡ to + 1 + first-length (drop (to + 1) n)) (f : b ≡ same (take (end - (to + 1)) (drop (to + 1) n)) (ascii "element")) where
     next : {c : Bool} → b ≡ c → before-element (split n) ≡ elim c [ true ↦ some (take (to - from) (drop from n)) | false ↦ before (take (end - (to + 1)) (drop (to + 1) n)) (behind n end) ]
     next t = g ∙ ap (before (take (to - from) (drop from n))) (next-behind n to end h e) ∙ tested (take (to - from) (drop from n)) (take (end - (to + 1)) (drop (to + 1) n)) (behind n end) (sym f ∙ t)
 

@@ -1,7 +1,7 @@
 // builder.rs, `into_parameters` and `filter_jagged_element_parameters`: the parameters that a type lists.
 ghost use mathlib.Core.Path.{_≡_};
 ghost use mathlib.Core.Bool.{true, false, not, _||_};
-ghost use Prim.Native.Nat.{_+_, _^_, _≤_, _<_};
+ghost use Prim.Native.Nat.{_+_, _≤_, _<_};
 ghost use lib.ListN.{length, drop};
 ghost use Rattle.blocks.specs.Bytes.{le2};
 ghost use Rattle.blocks.specs.Name.{same, among};
@@ -13,7 +13,7 @@ ghost use Rattle.resolved.specs.Set.{typeOf, thingOf, fieldsIn};
 ghost use Rattle.ir.specs.Layout.{parameterTree, listTree};
 ghost use Rattle.builder.specs.Names.{replace-colons, split, before-element, orElse};
 ghost use Rattle.builder.specs.Registry.{into-parameters};
-ghost use Rattle.builder.specs.Build.{fieldsOf, has-jagged, is-jagged-element-parameter, filter-jagged-element-parameters};
+ghost use Rattle.builder.specs.Type.{fieldsOf, has-jagged, is-jagged-element-parameter, filter-jagged-element-parameters};
 ghost use Rattle.wire.specs.Poke.{Wrote};
 ghost use Rattle.builder_registry.specs.Words.{Standing, entriesOf};
 ghost use Rattle.builder_parameters.specs.Ready.{Ready};

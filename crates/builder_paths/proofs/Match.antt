@@ -1,7 +1,7 @@
 -- A name matched against joined segments, a part at a time. Assumes nothing.
-use mathlib.Core.Path.{_≡_, refl, sym, _∙_, ap, ap₂}
+use mathlib.Core.Path.{_≡_, refl, sym, _∙_, ap}
 use mathlib.Core.Bool.{Bool, true, false, _&&_, and-assoc}
-use mathlib.Core.List.{List, [], _∷_, _++_, append-assoc, append-nil}
+use mathlib.Core.List.{[], _∷_, _++_, append-nil}
 use Prim.Native.Nat.{ℕ, _+_, _-_, _≤_, _<_}
 use native.Mathlib.Omega.{arith}
 use lib.Dec.{leb, eqb}
@@ -9,7 +9,7 @@ use lib.ListN.{length, take, drop, length-append, length-drop, drop-of-length-le
 use lib.Seq.{drop-cons, drop-drop}
 use borrow.Author.Tests.{le-leb, lt-leb, lt-ltb, le-ltb, eqb-true, eqb-false, leb-true}
 use Rattle.wire.proofs.Names.{same-long}
-use Rattle.blocks.specs.Name.{Name, text, same}
+use Rattle.blocks.specs.Name.{Name, ascii, same}
 use Rattle.blocks.proofs.Name.{false-true}
 use Rattle.builder_paths.specs.Joined.{segment, goesOn}
 
@@ -46,7 +46,7 @@ module _ (m p : Name) (i : ℕ) where
 
 -- ---- a segment and its dot
 
-pub segment-dot : (left : ℕ) (n : Name) → 1 < left → segment left n ≡ n ++ text "."
+pub segment-dot : (left : ℕ) (n : Name) → 1 < left → segment left n ≡ n ++ ascii "."
 unfolding segment
 segment-dot left n h = rw (lt-ltb _ _ h)
 

@@ -9,8 +9,8 @@ use lib.ListN.{length, take, drop, length-append, length-drop}
 use lib.Seq.{length-take-le}
 use borrow.Author.Tests.{eqb-true, eqb-false}
 use Rattle.blocks.specs.Bytes.{le2}
-use Rattle.blocks.specs.Name.{Name, text, same}
-use Rattle.blocks.specs.Tree.{Tree, name, nil, cons, entries}
+use Rattle.blocks.specs.Name.{Name, ascii, same}
+use Rattle.blocks.specs.Tree.{Tree, name, entries}
 use Rattle.accepted.specs.Accepted.{Accepted, tree, Item, Entries, nameAt}
 use Rattle.accepted.proofs.Laws.{After, name-entry, none-left}
 use Rattle.accepted.proofs.Lists.{Left, starts, ended}
@@ -20,7 +20,6 @@ use Rattle.builder.specs.Names.{join}
 use Rattle.builder.specs.Nodes.{buffer-size}
 use Rattle.wire.specs.Poke.{Wrote}
 use Rattle.wire.proofs.Laws.{none, both}
-use Rattle.expr_parts.specs.Exprs.{FieldRefAt}
 use Rattle.expr_parts.proofs.Laws.{field-ref-at}
 use Rattle.builder_paths.specs.Joined.{noNames, segment, goesOn}
 use Rattle.builder_paths.proofs.Match.{Stands, segment-dot, segment-last, past-end, all-on, on-end}
@@ -50,7 +49,7 @@ module _ (s : List ℕ) (at : ℕ) {u : ℕ} (e : u ≡ le2 s at) (h : at + 2 + 
     pub last-met : r ≡ true → left ≤ 1 → (x : Name) → goesOn m i (segment left (nameAt s at) ++ x) ≡ goesOn m (i + u) x
     last-met b l x = rw (segment-last left (nameAt s at) l) (stood m i r f x ∙ rw b)
 
-    module _ (b : r ≡ true) (l : 1 < left) {q : Bool} (d : Stands m (i + u) (text ".") 1 q) where
+    module _ (b : r ≡ true) (l : 1 < left) {q : Bool} (d : Stands m (i + u) (ascii ".") 1 q) where
       -- its dot does not
       pub dot-missed : q ≡ false → (x : Name) → goesOn m i (segment left (nameAt s at) ++ x) ≡ goesOn m (length m + 1) x
       dot-missed a x = rw (segment-dot left (nameAt s at) l, append-assoc, past-end m x) (stood m i r f _ ∙ rw b (d x ∙ rw a))
@@ -64,7 +63,7 @@ module _ (s : List ℕ) (at : ℕ) {u : ℕ} (e : u ≡ le2 s at) (h : at + 2 + 
 
   -- it is counted
   pub long-dot : {left : ℕ} → 1 < left → (u + 1 ≡ length (segment left (nameAt s at))) × (u + 1 ≤ 1 + le2 s at)
-  long-dot {left} l = (rw (segment-dot left (nameAt s at) l) (omega (arith, length-append (nameAt s at) (text "."), name-length s at h)), omega arith)
+  long-dot {left} l = (rw (segment-dot left (nameAt s at) l) (omega (arith, length-append (nameAt s at) (ascii "."), name-length s at h)), omega arith)
 
   pub long-last : {left : ℕ} → left ≤ 1 → (u ≡ length (segment left (nameAt s at))) × (u ≤ 1 + le2 s at)
   long-last {left} l = (rw (segment-last left (nameAt s at) l) (e ∙ sym (name-length s at h)), omega arith)
@@ -74,7 +73,7 @@ module _ (s : List ℕ) (at : ℕ) {u : ℕ} (e : u ≡ le2 s at) (h : at + 2 + 
     named : Wrote xs p (nameAt s at) ys q
     named = subst (λ (n : Name). Wrote xs p n ys q) (slice-is s at u e) f
 
-    pub put-dot : {left : ℕ} {zs : List ℕ} {r : ℕ} → 1 < left → Wrote ys q (text ".") zs r → Wrote xs p (segment left (nameAt s at)) zs r × (r ≤ p + 1 + le2 s at)
+    pub put-dot : {left : ℕ} {zs : List ℕ} {r : ℕ} → 1 < left → Wrote ys q (ascii ".") zs r → Wrote xs p (segment left (nameAt s at)) zs r × (r ≤ p + 1 + le2 s at)
     put-dot {left} l g = (rw (segment-dot left (nameAt s at) l) (both named g), omega (arith, named .end, g .end, name-length s at h))
 
     pub put-last : {left : ℕ} → left ≤ 1 → Wrote xs p (segment left (nameAt s at)) ys q × (q ≤ p + 1 + le2 s at)
@@ -140,14 +139,14 @@ namesIn (ExprKind.Alignof n) = []
 namesIn (ExprKind.Binary k x y) = []
 namesIn (ExprKind.Unary k x) = []
 
-pub told : (P : List Name → Type 0) {s : List ℕ} {at : ℕ} → le2 s (at + 4) ≡ 65 → ((l : Entries s Item.names (le2 s (at + 6)) (at + 8)) → P (textsOf (l .got .0))) →
+pub for-segments : (P : List Name → Type 0) {s : List ℕ} {at : ℕ} → le2 s (at + 4) ≡ 65 → ((l : Entries s Item.names (le2 s (at + 6)) (at + 8)) → P (textsOf (l .got .0))) →
     (a : Accepted s 64 91 at) (path : List Name) → exprOf (tree a) ≡ ExprKind.FieldRef path → P path
-told P k h a path e = let f = field-ref-at a k in subst P (ap namesIn (sym (f .is) ∙ e)) (h (f .list))
+for-segments P k h a path e = let f = field-ref-at a k in subst P (ap namesIn (sym (f .is) ∙ e)) (h (f .list))
 
 pub no-more : {P : Name → Name → Type 0} {s : List ℕ} {at left q : ℕ} → left ≤ 0 → Walk P s at left q → le2 s (at + 4) ≡ 65 →
     (a : Accepted s 64 91 at) (path : List Name) → exprOf (tree a) ≡ ExprKind.FieldRef path → P (join path) []
 unfolding join entries
-no-more {P} h c k = told (λ ns. P (join ns) []) k (λ l. ended h c l .0 .is)
+no-more {P} h c k = for-segments (λ ns. P (join ns) []) k (λ l. ended h c l .0 .is)
 
 -- ---- the three loops
 

@@ -4,7 +4,7 @@ use mathlib.Core.Bool.{Bool, true, false, _&&_, cond}
 use mathlib.Core.List.{List, [], _∷_, _++_}
 use lib.Dec.{leb, ltb}
 use lib.ListN.{length, drop}
-use Rattle.blocks.specs.Name.{Name, text, same}
+use Rattle.blocks.specs.Name.{Name, ascii, same}
 use Rattle.builder.specs.Names.{join, extend-element-prefix, apply-path-prefix}
 
 -- the prefix inside so many arrays
@@ -22,7 +22,7 @@ noNames (n ∷ ns) = false
 
 -- a segment where so many are left, itself among them: a dot stands behind it unless it is the last
 unfoldable pub segment : ℕ → Name → Name
-segment left n = n ++ cond (ltb 1 left) (text ".") []
+segment left n = n ++ cond (ltb 1 left) (ascii ".") []
 
 -- whether this is what a name has from a place on; from a place behind its end on, nothing is
 unfoldable pub goesOn : Name → ℕ → Name → Bool

@@ -3,7 +3,6 @@ use Prim.Native.Nat.{ℕ, zero, suc, _+_, _*_, _/_, _%_, _≤_, _<_}
 use native.Mathlib.Omega.{arith}
 use native.Mathlib.Numerals.{add-one}
 use mathlib.Core.Path.{_≡_, refl, sym, ap, _∙_}
-use mathlib.Core.Bool.{Bool, true, false, cond}
 use mathlib.Core.List.{List, [], _∷_, _++_, map}
 use mathlib.Core.Option.{some, none}
 use lib.Dec.{eqb}
@@ -12,12 +11,12 @@ use lib.Seq.{take-suc-set, take-set-lt, set-getD, getD-set-same}
 use borrow.Author.Tests.{ne-eqb, lt-ltb, le-ltb, le-leb, lt-leb}
 use Rattle.errors.specs.Refusal.{Outcome, done, refused, plain}
 use Rattle.errors.specs.Refusal.{_>>=_ as _andThen_}
-use Rattle.blocks.specs.Name.{Name, text}
+use Rattle.blocks.specs.Name.{Name}
 use Rattle.ir.specs.Ir.{IrParameter}
 use Rattle.builder.specs.Names.{normalize-path}
-use Rattle.builder.specs.Registry.{Entry, Registry, _>>=_, give, refuse, require, reads, change, find, enter, ensure, add-synthetic, derivedEntry, mark, mark-derived, entryOf as pathEntry}
+use Rattle.builder.specs.Registry.{Entry, Registry, _>>=_, give, refuse, require, reads, change, findKey, enter, ensure, add-synthetic, derivedEntry, mark-derived, entryOf as pathEntry}
 use Rattle.builder_registry.specs.declared.Held.{Held}
-use Rattle.builder_registry.specs.Words.{held, ownerAt, madeOf, derivedOf, flagged, madePath, madeParameter, madeEntry, entryOf, entriesOf, entryName, Kept, Tags}
+use Rattle.builder_registry.specs.Words.{held, ownerAt, madeOf, derivedOf, madePath, madeParameter, madeEntry, entryOf, entriesOf, entryName, Kept, Tags}
 use Rattle.builder_registry.specs.Place.{placeOf}
 use Rattle.builder_registry.proofs.Names.{made-flagged}
 use Rattle.builder_registry.proofs.Places.{entries-length, entry-at, found-at, found-none, marked-at, marked-none}
@@ -38,20 +37,20 @@ module _ (e : Entry) (g : Registry) where
   enter-room h k = rw (le-leb (length (e .parameter .name)) 255 h, lt-ltb (length g) 512 k)
 
 module _ (o p : Name) (g : Registry) where
-  ensure-found : (x : IrParameter) → find o (normalize-path o p) g ≡ some x → ensure o p g ≡ done (tt, g)
+  ensure-found : (x : IrParameter) → findKey o (normalize-path o p) g ≡ some x → ensure o p g ≡ done (tt, g)
   unfolding ensure _>>=_ _andThen_ reads give
   ensure-found x h = rw h
 
-  ensure-new : find o (normalize-path o p) g ≡ none → ensure o p g ≡ enter (pathEntry o p) g
+  ensure-new : findKey o (normalize-path o p) g ≡ none → ensure o p g ≡ enter (pathEntry o p) g
   unfolding ensure _>>=_ _andThen_ reads
   ensure-new h = rw h
 
   module _ (q : IrParameter) where
-    synthetic-found : (x : IrParameter) → find o (normalize-path o p) g ≡ some x → add-synthetic o p q g ≡ done (x .name, g)
+    synthetic-found : (x : IrParameter) → findKey o (normalize-path o p) g ≡ some x → add-synthetic o p q g ≡ done (x .name, g)
     unfolding add-synthetic _>>=_ _andThen_ reads give
     synthetic-found x h = rw h
 
-    synthetic-new : find o (normalize-path o p) g ≡ none →
+    synthetic-new : findKey o (normalize-path o p) g ≡ none →
         add-synthetic o p q g ≡ _andThen_ (enter (record { owner = o; keys = normalize-path o p ∷ []; parameter = q }) g) (λ x. done (q .name, x .1))
     unfolding add-synthetic _>>=_ _andThen_ reads give
     synthetic-new h = rw h
@@ -67,14 +66,14 @@ unfolding entriesOf
 pushed s ws n w h = rw (add-one, take-suc-set ws n w h, map-last (entryOf s) (take n ws) w)
 
 module _ (s ws : List ℕ) (n w l : ℕ) (fit : n ≤ length ws) (e : l ≡ length (entryName s w)) where
-  pub entered-long : (us : List ℕ) → 255 < l → Kept s us (record { count = n; no = 17 }) (enter (entryOf s w) (entriesOf s ws n))
+  pub entered-long : (us : List ℕ) → 255 < l → Kept s us (record { count = n; number = 17 }) (enter (entryOf s w) (entriesOf s ws n))
   entered-long us h = rw (enter-long (entryOf s w) (entriesOf s ws n) (omega arith)) (Kept.not 17 refl (omega arith))
 
-  pub entered-full : (us : List ℕ) → l ≤ 255 → 512 ≤ n → Kept s us (record { count = n; no = 17 }) (enter (entryOf s w) (entriesOf s ws n))
+  pub entered-full : (us : List ℕ) → l ≤ 255 → 512 ≤ n → Kept s us (record { count = n; number = 17 }) (enter (entryOf s w) (entriesOf s ws n))
   entered-full us h k = rw (enter-full (entryOf s w) (entriesOf s ws n) (omega arith) (omega (arith, entries-length s ws n fit))) (Kept.not 17 refl (omega arith))
 
   pub entered : l ≤ 255 → n < 512 → n < length ws →
-      Kept s (set ws n w) (record { count = n + 1; no = 0 }) (enter (entryOf s w) (entriesOf s ws n)) × (_≡_ {A = ℕ} 0 0 → (n + 1 ≡ n + 1) × (getD (set ws n w) n 0 ≡ w))
+      Kept s (set ws n w) (record { count = n + 1; number = 0 }) (enter (entryOf s w) (entriesOf s ws n)) × (_≡_ {A = ℕ} 0 0 → (n + 1 ≡ n + 1) × (getD (set ws n w) n 0 ≡ w))
   entered h k g = (
     rw (enter-room (entryOf s w) (entriesOf s ws n) (omega arith) (omega (arith, entries-length s ws n fit))) (Kept.kept _ refl (pushed s ws n w g)),
     λ z. (refl, getD-set-same ws n w 0 g),
@@ -98,7 +97,7 @@ packed s a b h k =
 
 module _ (s ws : List ℕ) (n owner path : ℕ) (fit : n ≤ length ws) (o p : Name) (f : o ≡ held s owner) (g : p ≡ held s path)
     (i : ℕ) (e : i ≡ placeOf o (some p) (entriesOf s ws n)) where
-  pub ensure-has : i < n → Kept s ws (record { count = n; no = 0 }) (ensure (held s owner) (held s path) (entriesOf s ws n))
+  pub ensure-has : i < n → Kept s ws (record { count = n; number = 0 }) (ensure (held s owner) (held s path) (entriesOf s ws n))
   ensure-has h = rw (← f, ← g, ensure-found o p (entriesOf s ws n) _ (found-at s ws n fit o i p e h)) (Kept.kept _ refl refl)
 
   pub ensure-more : {us : List ℕ} {r : Held} → n ≤ i → owner < 65536 → path < 65536 → Kept s us r (enter (entryOf s (owner + 65536 * path)) (entriesOf s ws n)) →
@@ -129,25 +128,25 @@ module _ (s : List ℕ) (a m : ℕ) (h : a < 65536) where
 
 module _ (s ws : List ℕ) (n owner made : ℕ) (fit : n ≤ length ws) (o p : Name) (f : o ≡ held s owner) (g : p ≡ madePath made)
     (i : ℕ) (e : i ≡ placeOf o (some p) (entriesOf s ws n)) where
-  pub synthetic-has : i < n → Tags s ws (record { at = i; count = n; no = 0 }) (add-synthetic (held s owner) (madePath made) (madeParameter made (held s owner)) (entriesOf s ws n))
+  pub synthetic-has : i < n → Tags s ws (record { at = i; count = n; number = 0 }) (add-synthetic (held s owner) (madePath made) (madeParameter made (held s owner)) (entriesOf s ws n))
   synthetic-has h = rw (← f, ← g, synthetic-found o p (entriesOf s ws n) (madeParameter made o) _ (found-at s ws n fit o i p e h)) (Tags.tags _ refl refl h)
 
   -- the outcome of entering, with the name that is then answered
-  tagged : {us : List ℕ} {r : Held} {x : Outcome (Unit × Registry)} (m : Name) → Kept s us r x → (r .no ≡ 0 → m ≡ entryName s (getD us n 0)) → (r .no ≡ 0 → r .count ≡ n + 1) →
-      Tags s us (record { at = n; count = r .count; no = r .no }) (_andThen_ x (λ y. done (m, y .1)))
+  tagged : {us : List ℕ} {r : Held} {x : Outcome (Unit × Registry)} (m : Name) → Kept s us r x → (r .number ≡ 0 → m ≡ entryName s (getD us n 0)) → (r .number ≡ 0 → r .count ≡ n + 1) →
+      Tags s us (record { at = n; count = r .count; number = r .number }) (_andThen_ x (λ y. done (m, y .1)))
   unfolding _andThen_
   tagged m (Kept.kept g z q) k l = rw (k z) (Tags.tags g z q (omega (arith, l z)))
   tagged m (Kept.not j z q) k l = Tags.not j z q
 
   pub synthetic-more : {us : List ℕ} {r : Held} (w : ℕ) → n ≤ i → ((t : List ℕ) → entryOf t w ≡ madeEntry made (held t owner)) → Kept s us r (enter (entryOf s w) (entriesOf s ws n)) →
-      (r .no ≡ 0 → (r .count ≡ n + 1) × (getD us n 0 ≡ w)) →
-      Tags s us (record { at = n; count = r .count; no = r .no }) (add-synthetic (held s owner) (madePath made) (madeParameter made (held s owner)) (entriesOf s ws n))
+      (r .number ≡ 0 → (r .count ≡ n + 1) × (getD us n 0 ≡ w)) →
+      Tags s us (record { at = n; count = r .count; number = r .number }) (add-synthetic (held s owner) (madePath made) (madeParameter made (held s owner)) (entriesOf s ws n))
   unfolding madeEntry
   synthetic-more {us} {r} w h m k l =
       rw (synthetic-new (held s owner) (madePath made) (entriesOf s ws n) (madeParameter made (held s owner)) none-found)
       (tagged (madeParameter made (held s owner) .name) (rw (m s) at k) (λ z. sym (ap (entryName s) (l z .1) ∙ ap (λ (y : Entry). y .parameter .name) (m s))) (λ z. l z .0))
     where
-      none-found : find (held s owner) (normalize-path (held s owner) (madePath made)) (entriesOf s ws n) ≡ none
+      none-found : findKey (held s owner) (normalize-path (held s owner) (madePath made)) (entriesOf s ws n) ≡ none
       none-found = rw (← f, ← g) (found-none s ws n fit o i p e h)
 
 -- ---- a mark

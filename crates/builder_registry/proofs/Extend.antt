@@ -34,11 +34,11 @@ pub record Each {A : Type 0} (all : List A → Build Unit) (one : A → Build Un
 pub record Met {A : Type 0} (all : List A → Build Unit) (make : Tree → A) (g h : Registry) (w u : Tree) : Type 0 where
   pub is : all (entries make w) g ≡ all (entries make u) h
 
-kept-done : {s us : List ℕ} {r : Held} {x : Outcome (Unit × Registry)} → Kept s us r x → r .no ≡ 0 → x ≡ done (tt, entriesOf s us (r .count))
+kept-done : {s us : List ℕ} {r : Held} {x : Outcome (Unit × Registry)} → Kept s us r x → r .number ≡ 0 → x ≡ done (tt, entriesOf s us (r .count))
 kept-done (Kept.kept g z e) h = rw e refl
 kept-done (Kept.not k z e) h = absurd (let y : ⊥ = omega arith in y)
 
-kept-not : {s us : List ℕ} {r : Held} {x : Outcome (Unit × Registry)} → Kept s us r x → (r .no ≡ 0 → ⊥) → (x ≡ refused (plain (r .no))) × (0 < r .no)
+kept-not : {s us : List ℕ} {r : Held} {x : Outcome (Unit × Registry)} → Kept s us r x → (r .number ≡ 0 → ⊥) → (x ≡ refused (plain (r .number))) × (0 < r .number)
 kept-not (Kept.kept g z e) h = absurd (h z)
 kept-not (Kept.not k z e) h = (rw z refl, omega arith)
 
@@ -49,7 +49,7 @@ module _ {A : Type 0} (all : List A → Build Unit) (one : A → Build Unit) (ea
   module _ {s us : List ℕ} {i : Item} {n at left q : ℕ} {g h : Registry} {r : Held} where
     -- an entry t, which is entered; the next begins at p
     pub go-on : {p : ℕ} (t : Entries s i left q → Tree) → ((l : Entries s i left q) → After l (t l) p) →
-        ((l : Entries s i left q) → Kept s us r (one (make (t l)) h)) → r .no ≡ 0 →
+        ((l : Entries s i left q) → Kept s us r (one (make (t l)) h)) → r .number ≡ 0 →
         Left (Met all make g h) s i n at left q → Left (Met all make g (entriesOf s us (r .count))) s i n at (left - 1) p
     unfolding entries _andThen_
     go-on t a k z l =
@@ -58,19 +58,19 @@ module _ {A : Type 0} (all : List A → Build Unit) (one : A → Build Unit) (ea
 
     -- an entry that is refused
     pub stop : {p : ℕ} (t : Entries s i left q → Tree) → ((l : Entries s i left q) → After l (t l) p) →
-        ((l : Entries s i left q) → Kept s us r (one (make (t l)) h)) → (r .no ≡ 0 → ⊥) →
+        ((l : Entries s i left q) → Kept s us r (one (make (t l)) h)) → (r .number ≡ 0 → ⊥) →
         Left (Met all make g h) s i n at left q → (w : Entries s i n at) → Kept s us r (all (entries make (w .got .0)) g)
     unfolding entries _andThen_
     stop t a k z l w =
         let m = l .whole w in
         let b = kept-not (k (m .0)) z in
-        let e : all (entries make (w .got .0)) g ≡ refused (plain (r .no)) =
+        let e : all (entries make (w .got .0)) g ≡ refused (plain (r .number)) =
         m .1 .is ∙ (ap (λ (x : Tree). all (entries make x) h) (a (m .0) .tree) ∙ (each .more (make (t (m .0))) (entries make (a (m .0) .rest .got .0)) h ∙ ap (λ (o : Outcome (Unit × Registry)). _andThen_ o (λ y. all (entries make (a (m .0) .rest .got .0)) (y .1))) (b .0))) in
-        rw e (Kept.not (r .no) refl (b .1))
+        rw e (Kept.not (r .number) refl (b .1))
 
   -- no entry is left
   pub end : {s us : List ℕ} {i : Item} {n at left q : ℕ} {g : Registry} (count : ℕ) → left ≤ 0 → Left (Met all make g (entriesOf s us count)) s i n at left q →
-      (w : Entries s i n at) → Kept s us (record { count = count; no = 0 }) (all (entries make (w .got .0)) g)
+      (w : Entries s i n at) → Kept s us (record { count = count; number = 0 }) (all (entries make (w .got .0)) g)
   unfolding entries
   end {s} {us} count h l w = rw (ended h l w .0 .is, each .none (entriesOf s us count)) (Kept.kept _ refl refl)
 
@@ -99,15 +99,15 @@ module _ {s : List ℕ} (o : Name) (q : ℕ) where
     path-kept : (e : Entries s Item.names left at) → Kept s us r (ensure o (text (name (nameAt s at))) h)
     path-kept e = rw (held-name (named e l)) at k
 
-    pub paths-more : {u : ℕ} {g : Registry} → u ≡ le2 s at → r .no ≡ 0 → Paths s o g h q left at → Paths s o g (entriesOf s us (r .count)) q (left - 1) (at + 2 + u)
+    pub paths-more : {u : ℕ} {g : Registry} → u ≡ le2 s at → r .number ≡ 0 → Paths s o g h q left at → Paths s o g (entriesOf s us (r .count)) q (left - 1) (at + 2 + u)
     paths-more {g = g} e z c =
         subst (λ (m : ℕ). Paths s o g (entriesOf s us (r .count)) q (left - 1) (at + 2 + m)) (sym e)
         (go-on (ensure-all o) (ensure o) (each-path o) text (λ m. name (nameAt s at)) (λ m. name-entry m l .2) path-kept z c)
 
-    pub paths-stop : {g : Registry} → (r .no ≡ 0 → ⊥) → Paths s o g h q left at → (p : PathsAt s q) → Kept s us r (ensure-all o (textsOf (p .list .got .0)) g)
+    pub paths-stop : {g : Registry} → (r .number ≡ 0 → ⊥) → Paths s o g h q left at → (p : PathsAt s q) → Kept s us r (ensure-all o (textsOf (p .list .got .0)) g)
     paths-stop z c p = stop (ensure-all o) (ensure o) (each-path o) text (λ m. name (nameAt s at)) (λ m. name-entry m l .2) path-kept z c (p .list)
 
-  pub paths-end : {us : List ℕ} {left at : ℕ} {g : Registry} (count : ℕ) → left ≤ 0 → Paths s o g (entriesOf s us count) q left at → (p : PathsAt s q) → Kept s us (record { count = count; no = 0 }) (ensure-all o (textsOf (p .list .got .0)) g)
+  pub paths-end : {us : List ℕ} {left at : ℕ} {g : Registry} (count : ℕ) → left ≤ 0 → Paths s o g (entriesOf s us count) q left at → (p : PathsAt s q) → Kept s us (record { count = count; number = 0 }) (ensure-all o (textsOf (p .list .got .0)) g)
   paths-end count l c p = end (ensure-all o) (ensure o) (each-path o) text count l c (p .list)
 
 -- ---- the owners of a references block
@@ -147,15 +147,15 @@ module _ {s : List ℕ} (b : ℕ) where
         let a = f (block-entry e l .child) in
         subst (λ (x : Owner). Kept s us r (all-paths x h)) (sym (a .is)) (rw (held-name (a .named)) at (k (a .paths)))
 
-    pub owners-more : {u : ℕ} {g : Registry} → u ≡ le4 s at → r .no ≡ 0 → Owners s g h b left at → Owners s g (entriesOf s us (r .count)) b (left - 1) (at + 4 + u)
+    pub owners-more : {u : ℕ} {g : Registry} → u ≡ le4 s at → r .number ≡ 0 → Owners s g h b left at → Owners s g (entriesOf s us (r .count)) b (left - 1) (at + 4 + u)
     owners-more {g = g} e z c =
         subst (λ (m : ℕ). Owners s g (entriesOf s us (r .count)) b (left - 1) (at + 4 + m)) (sym e)
         (go-on extend-with all-paths each-owner ownerOf (λ m. block-entry m l .child .got .0) (λ m. block-entry m l .after) owner-kept z c)
 
-    pub owners-stop : {g : Registry} → (r .no ≡ 0 → ⊥) → Owners s g h b left at → (a : Accepted s 32 32 b) → Kept s us r (extend-with (ownersOf (tree a)) g)
+    pub owners-stop : {g : Registry} → (r .number ≡ 0 → ⊥) → Owners s g h b left at → (a : Accepted s 32 32 b) → Kept s us r (extend-with (ownersOf (tree a)) g)
     owners-stop z c a =
         rw (owner-list a .tree)
         (stop extend-with all-paths each-owner ownerOf (λ m. block-entry m l .child .got .0) (λ m. block-entry m l .after) owner-kept z c (owner-list a .list))
 
-  pub owners-end : {us : List ℕ} {left at : ℕ} {g : Registry} (count : ℕ) → left ≤ 0 → Owners s g (entriesOf s us count) b left at → (a : Accepted s 32 32 b) → Kept s us (record { count = count; no = 0 }) (extend-with (ownersOf (tree a)) g)
+  pub owners-end : {us : List ℕ} {left at : ℕ} {g : Registry} (count : ℕ) → left ≤ 0 → Owners s g (entriesOf s us count) b left at → (a : Accepted s 32 32 b) → Kept s us (record { count = count; number = 0 }) (extend-with (ownersOf (tree a)) g)
   owners-end count l c a = rw (owner-list a .tree) (end extend-with all-paths each-owner ownerOf count l c (owner-list a .list))

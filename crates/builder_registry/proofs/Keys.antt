@@ -9,7 +9,7 @@ use lib.Dec.{eqb}
 use lib.ListN.{length, take, drop, length-take}
 use borrow.Author.Tests.{le-leb, lt-leb, eq-eqb, ne-eqb}
 use Rattle.blocks.specs.Bytes.{le2}
-use Rattle.blocks.specs.Name.{Name, text, same}
+use Rattle.blocks.specs.Name.{Name, ascii, same}
 use Rattle.blocks.proofs.Name.{same-eq}
 use Rattle.builder.specs.Names.{isEmpty, normalize-path}
 use Rattle.builder.specs.Registry.{Entry, entryOf as pathEntry}
@@ -107,7 +107,7 @@ pub ruleset entered-keys = (keys-normal, keys-none, keys-alias)
 -- ---- the key of a made parameter
 
 -- its path, as the code gives it
-pub made-text : (made : ℕ) (t : Name) → t ≡ cond (eqb made 1) (text "__computed_tag") (cond (eqb made 2) (text "__variant") (text "__payload_size")) → t ≡ madePath made
+pub made-text : (made : ℕ) (t : Name) → t ≡ cond (eqb made 1) (ascii "__computed_tag") (cond (eqb made 2) (ascii "__variant") (ascii "__payload_size")) → t ≡ madePath made
 unfolding madePath
 made-text made t e = e
 

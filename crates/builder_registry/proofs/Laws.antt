@@ -7,7 +7,7 @@ use native.Mathlib.Omega.{arith}
 use lib.ListN.{length, length-append}
 use borrow.Author.Tests.{le-leb}
 use Rattle.blocks.specs.Bytes.{le2, nameAt}
-use Rattle.blocks.specs.Name.{Name, text}
+use Rattle.blocks.specs.Name.{Name, ascii}
 use Rattle.builder.specs.Names.{normalize-path, rsplit-once, qualified, qualify-parent-path}
 use Rattle.builder.specs.Registry.{lookup-name, mark-derived}
 use Rattle.builder.specs.Nodes.{lookupQualified}
@@ -35,7 +35,7 @@ long-qualified {s} {ws} {n} a owner path h k = go (rsplit-once owner)
   where
     go : (t : Option (Name × Name)) → lookupQualified owner (qualified path t) (entriesOf s ws n) ≡ none
     go none = refl
-    go (some q) = long-lookup a owner (q .0 ++ (text "::" ++ path)) h (omega (arith, length-append (q .0) (text "::" ++ path)))
+    go (some q) = long-lookup a owner (q .0 ++ (ascii "::" ++ path)) h (omega (arith, length-append (q .0) (ascii "::" ++ path)))
 
 pub long-mark : {s ws : List ℕ} {n : ℕ} → Standing s ws n → (owner path : Name) → length owner ≤ 255 → 511 < length path → mark-derived owner path (entriesOf s ws n) ≡ entriesOf s ws n
 unfolding mark-derived

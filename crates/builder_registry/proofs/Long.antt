@@ -8,11 +8,11 @@ use mathlib.Core.Option.{Option, some, none}
 use lib.Dec.{eqb}
 use lib.ListN.{length, take, length-drop}
 use borrow.Author.Tests.{eqb-true, eqb-false}
-use Rattle.blocks.specs.Name.{Name, text, same, among}
+use Rattle.blocks.specs.Name.{Name, ascii, same, among}
 use Rattle.blocks.proofs.Name.{same-eq}
 use Rattle.wire.proofs.Names.{same-long}
 use Rattle.builder.specs.Names.{isEmpty, isSome, strip-prefix, strip-owner, normalize-path, rsplit-once, behind, aliasUnless, alternate-owner-aliases}
-use Rattle.builder.specs.Registry.{Entry, Registry, holds, find, derivedEntry, mark, entryOf as pathEntry}
+use Rattle.builder.specs.Registry.{Entry, Registry, keyedBy, findKey, derivedEntry, mark, entryOf as pathEntry}
 use Rattle.builder_names.proofs.Strip.{strip-got, normal-rest, normal-whole}
 use Rattle.builder_registry.specs.Words.{held, ownerAt, pathAt, madeOf, madePath, madeEntry, entryOf, entriesOf}
 use Rattle.builder_registry.proofs.Keys.{entry-path, entry-made}
@@ -28,16 +28,16 @@ unfolding rsplit-once
 split-short [] = record { is = λ p e. absurd (let z : _≡_ {A = ℕ} 0 1 = cc in omega arith) }
 split-short (x ∷ xs) = go (rsplit-once xs) (split-short xs)
   where
-    first-one : (t : Option Name) → strip-prefix (text "::") (x ∷ xs) ≡ t → Shorter (length (x ∷ xs)) (behind t)
+    first-one : (t : Option Name) → strip-prefix (ascii "::") (x ∷ xs) ≡ t → Shorter (length (x ∷ xs)) (behind t)
     first-one none f = record { is = λ p e. absurd (let z : _≡_ {A = ℕ} 0 1 = cc in omega arith) }
     first-one (some r) f = record {
       is = λ p e.
           let q : _≡_ {A = Name × Name} ([], r) p = cc in
-          omega (arith, ap (λ (v : Name × Name). length (v .1)) q, ap length (strip-got (text "::") (x ∷ xs) r f));
+          omega (arith, ap (λ (v : Name × Name). length (v .1)) q, ap length (strip-got (ascii "::") (x ∷ xs) r f));
     }
 
-    go : (t : Option (Name × Name)) → Shorter (length xs) t → Shorter (length (x ∷ xs)) (elim t [ none ↦ behind (strip-prefix (text "::") (x ∷ xs)) | some p ↦ some (x ∷ p .0, p .1) ])
-    go none ih = first-one (strip-prefix (text "::") (x ∷ xs)) refl
+    go : (t : Option (Name × Name)) → Shorter (length xs) t → Shorter (length (x ∷ xs)) (elim t [ none ↦ behind (strip-prefix (ascii "::") (x ∷ xs)) | some p ↦ some (x ∷ p .0, p .1) ])
+    go none ih = first-one (strip-prefix (ascii "::") (x ∷ xs)) refl
     go (some q) ih = record {
       is = λ p e.
           let v : _≡_ {A = Name × Name} (x ∷ q .0, q .1) p = cc in
@@ -70,7 +70,7 @@ module _ (k : Name) (long : 255 < length k) where
   unfolding madePath
   made-short m = go (eqb m 1) (eqb m 2)
     where
-      go : (b t : Bool) → length (cond b (text "__computed_tag") (cond t (text "__variant") (text "__payload_size"))) ≤ 255
+      go : (b t : Bool) → length (cond b (ascii "__computed_tag") (cond t (ascii "__variant") (ascii "__payload_size"))) ≤ 255
       go true t = omega arith
       go false true = omega arith
       go false false = omega arith
@@ -86,24 +86,24 @@ module _ (k : Name) (long : 255 < length k) where
       go true h = ap (λ (y : Entry). among k (y .keys)) (entry-path s w (eqb-true (madeOf w) 0 h)) ∙ not-path (held s (ownerAt w)) (held s (pathAt w)) (held-bound s (pathAt w))
       go false h = ap (λ (y : Entry). among k (y .keys)) (entry-made s w (eqb-false (madeOf w) 0 h)) ∙ not-made (madeOf w) (held s (ownerAt w))
 
-  not-held : (o : Name) (s : List ℕ) (w : ℕ) → holds o k (entryOf s w) ≡ false
+  not-held : (o : Name) (s : List ℕ) (w : ℕ) → keyedBy o k (entryOf s w) ≡ false
   not-held o s w = ap (λ (b : Bool). same o (entryOf s w .owner) && b) (not-key s w) ∙ go (same o (entryOf s w .owner))
     where
       go : (b : Bool) → (b && false) ≡ false
       go true = refl
       go false = refl
 
-  find-words : (o : Name) (s ws : List ℕ) → find o k (map (entryOf s) ws) ≡ none
-  unfolding find
+  find-words : (o : Name) (s ws : List ℕ) → findKey o k (map (entryOf s) ws) ≡ none
+  unfolding findKey
   find-words o s [] = refl
-  find-words o s (w ∷ ws) = ap (λ (t : Bool). elim t [ true ↦ some (entryOf s w .parameter) | false ↦ find o k (map (entryOf s) ws) ]) (not-held o s w) ∙ find-words o s ws
+  find-words o s (w ∷ ws) = ap (λ (t : Bool). elim t [ true ↦ some (entryOf s w .parameter) | false ↦ findKey o k (map (entryOf s) ws) ]) (not-held o s w) ∙ find-words o s ws
 
   mark-words : (o : Name) (s ws : List ℕ) → mark o k (map (entryOf s) ws) ≡ map (entryOf s) ws
   unfolding mark
   mark-words o s [] = refl
   mark-words o s (w ∷ ws) = ap (λ (t : Bool). cond t (derivedEntry (entryOf s w) ∷ map (entryOf s) ws) (entryOf s w ∷ mark o k (map (entryOf s) ws))) (not-held o s w) ∙ ap (λ (l : Registry). entryOf s w ∷ l) (mark-words o s ws)
 
-  pub find-long : (o : Name) (s ws : List ℕ) (n : ℕ) → find o k (entriesOf s ws n) ≡ none
+  pub find-long : (o : Name) (s ws : List ℕ) (n : ℕ) → findKey o k (entriesOf s ws n) ≡ none
   unfolding entriesOf
   find-long o s ws n = find-words o s (take n ws)
 

@@ -9,7 +9,7 @@ use lib.Dec.{eqb, leb}
 use lib.ListN.{length, drop, length-take, length-drop, length-append}
 use borrow.Author.Tests.{eqb-true, eqb-false, leb-true}
 use Rattle.blocks.specs.Bytes.{le2, nameAt}
-use Rattle.blocks.specs.Name.{Name, text, same}
+use Rattle.blocks.specs.Name.{Name, ascii, same}
 use Rattle.ir.specs.Ir.{IrParameter}
 use Rattle.builder.specs.Names.{isSome, strip-owner, normalize-path, canonical-name}
 use Rattle.builder.specs.Registry.{Entry}
@@ -45,7 +45,7 @@ end-short : (m : ℕ) → length (madeEnd m) ≤ 13
 unfolding madeEnd
 end-short m = go (eqb m 1) (eqb m 2)
   where
-    go : (b t : Bool) → length (cond b (text ".computed_tag") (cond t (text ".variant") (text ".payload_size"))) ≤ 13
+    go : (b t : Bool) → length (cond b (ascii ".computed_tag") (cond t (ascii ".variant") (ascii ".payload_size"))) ≤ 13
     go true t = omega arith
     go false true = omega arith
     go false false = omega arith
@@ -57,7 +57,7 @@ pub text-short : (m : ℕ) → length (madeText m) ≤ 80
 unfolding madeText
 text-short m = go (eqb m 1) (eqb m 2)
   where
-    go : (b t : Bool) → length (cond b (text "Computed enum tag expression") (cond t (text "Active union variant selector") (text "Runtime payload size (bytes) selecting size-discriminated variant"))) ≤ 80
+    go : (b t : Bool) → length (cond b (ascii "Computed enum tag expression") (cond t (ascii "Active union variant selector") (ascii "Runtime payload size (bytes) selecting size-discriminated variant"))) ≤ 80
     go true t = omega arith
     go false true = omega arith
     go false false = omega arith
@@ -70,13 +70,13 @@ made-whole m o = go (eqb m 1) (eqb m 2)
   where
     go : (b t : Bool) →
         cond {A = IrParameter} b
-        (record { name = o ++ text ".computed_tag"; description = some (text "Computed enum tag expression"); derived = true })
+        (record { name = o ++ ascii ".computed_tag"; description = some (ascii "Computed enum tag expression"); derived = true })
         (cond t
-        (record { name = o ++ text ".variant"; description = some (text "Active union variant selector"); derived = false })
-        (record { name = o ++ text ".payload_size"; description = some (text "Runtime payload size (bytes) selecting size-discriminated variant"); derived = false })) ≡
+        (record { name = o ++ ascii ".variant"; description = some (ascii "Active union variant selector"); derived = false })
+        (record { name = o ++ ascii ".payload_size"; description = some (ascii "Runtime payload size (bytes) selecting size-discriminated variant"); derived = false })) ≡
         record {
-          name = o ++ cond b (text ".computed_tag") (cond t (text ".variant") (text ".payload_size"));
-          description = some (cond b (text "Computed enum tag expression") (cond t (text "Active union variant selector") (text "Runtime payload size (bytes) selecting size-discriminated variant")));
+          name = o ++ cond b (ascii ".computed_tag") (cond t (ascii ".variant") (ascii ".payload_size"));
+          description = some (cond b (ascii "Computed enum tag expression") (cond t (ascii "Active union variant selector") (ascii "Runtime payload size (bytes) selecting size-discriminated variant")));
           derived = b;
         }
     go true t = refl

@@ -12,7 +12,7 @@ use lib.Seq.{drop-cons, getD-take, length-take-le}
 use Rattle.blocks.specs.Name.{Name, same, among}
 use Rattle.ir.specs.Ir.{IrParameter}
 use Rattle.builder.specs.Names.{normalize-path}
-use Rattle.builder.specs.Registry.{Entry, Registry, holds, find, lookup-name, derivedEntry, mark}
+use Rattle.builder.specs.Registry.{Entry, Registry, keyedBy, findKey, lookup-name, derivedEntry, mark}
 use Rattle.builder.specs.Nodes.{lookupQualified}
 use Rattle.builder_registry.specs.declared.Found.the-variants.{At, Missing}
 use Rattle.builder_registry.specs.Words.{entryOf, entriesOf, Looked}
@@ -59,27 +59,27 @@ unfolding among anyKey
 any-among o q [] = refl
 any-among o q (k ∷ ks) = ap (λ (b : Bool). same (normalize-path o q) k || b) (any-among o q ks)
 
-holds-is : (o q : Name) (e : Entry) → holds o (normalize-path o q) e ≡ hasKey o (some q) e
+holds-is : (o q : Name) (e : Entry) → keyedBy o (normalize-path o q) e ≡ hasKey o (some q) e
 holds-is o q e = ap (λ (b : Bool). same o (e .owner) && b) (any-among o q (e .keys))
 
 module _ (o q : Name) where
-  find-at : (d : Entry) (es : Registry) → placeOf o (some q) es < length es → find o (normalize-path o q) es ≡ some (getD es (placeOf o (some q) es) d .parameter)
-  unfolding find placeOf
+  find-at : (d : Entry) (es : Registry) → placeOf o (some q) es < length es → findKey o (normalize-path o q) es ≡ some (getD es (placeOf o (some q) es) d .parameter)
+  unfolding findKey placeOf
   find-at d [] h = absurd (let z : ⊥ = omega arith in z)
-  find-at d (e ∷ es) h = ap (λ (t : Bool). elim t [ true ↦ some (e .parameter) | false ↦ find o (normalize-path o q) es ]) (holds-is o q e) ∙ go (hasKey o (some q) e) h (find-at d es)
+  find-at d (e ∷ es) h = ap (λ (t : Bool). elim t [ true ↦ some (e .parameter) | false ↦ findKey o (normalize-path o q) es ]) (holds-is o q e) ∙ go (hasKey o (some q) e) h (find-at d es)
     where
-      go : (b : Bool) → cond b 0 (suc (placeOf o (some q) es)) < suc (length es) → (placeOf o (some q) es < length es → find o (normalize-path o q) es ≡ some (getD es (placeOf o (some q) es) d .parameter)) →
-          elim b [ true ↦ some (e .parameter) | false ↦ find o (normalize-path o q) es ] ≡ some (getD (e ∷ es) (cond b 0 (suc (placeOf o (some q) es))) d .parameter)
+      go : (b : Bool) → cond b 0 (suc (placeOf o (some q) es)) < suc (length es) → (placeOf o (some q) es < length es → findKey o (normalize-path o q) es ≡ some (getD es (placeOf o (some q) es) d .parameter)) →
+          elim b [ true ↦ some (e .parameter) | false ↦ findKey o (normalize-path o q) es ] ≡ some (getD (e ∷ es) (cond b 0 (suc (placeOf o (some q) es))) d .parameter)
       go true h ih = refl
       go false h ih = ih (omega arith)
 
-  find-none : (es : Registry) → length es ≤ placeOf o (some q) es → find o (normalize-path o q) es ≡ none
-  unfolding find placeOf
+  find-none : (es : Registry) → length es ≤ placeOf o (some q) es → findKey o (normalize-path o q) es ≡ none
+  unfolding findKey placeOf
   find-none [] h = refl
-  find-none (e ∷ es) h = ap (λ (t : Bool). elim t [ true ↦ some (e .parameter) | false ↦ find o (normalize-path o q) es ]) (holds-is o q e) ∙ go (hasKey o (some q) e) h (find-none es)
+  find-none (e ∷ es) h = ap (λ (t : Bool). elim t [ true ↦ some (e .parameter) | false ↦ findKey o (normalize-path o q) es ]) (holds-is o q e) ∙ go (hasKey o (some q) e) h (find-none es)
     where
-      go : (b : Bool) → suc (length es) ≤ cond b 0 (suc (placeOf o (some q) es)) → (length es ≤ placeOf o (some q) es → find o (normalize-path o q) es ≡ none) →
-          _≡_ {A = Option IrParameter} (elim b [ true ↦ some (e .parameter) | false ↦ find o (normalize-path o q) es ]) none
+      go : (b : Bool) → suc (length es) ≤ cond b 0 (suc (placeOf o (some q) es)) → (length es ≤ placeOf o (some q) es → findKey o (normalize-path o q) es ≡ none) →
+          _≡_ {A = Option IrParameter} (elim b [ true ↦ some (e .parameter) | false ↦ findKey o (normalize-path o q) es ]) none
       go true h ih = absurd (let z : ⊥ = omega arith in z)
       go false h ih = ih (omega arith)
 
@@ -121,11 +121,11 @@ place-nothing o (e ∷ es) = go (same o (e .owner)) (e .keys) (place-nothing o e
 
 module _ (s ws : List ℕ) (n : ℕ) (fit : n ≤ length ws) (o : Name) (i : ℕ) where
   module _ (q : Name) (e : i ≡ placeOf o (some q) (entriesOf s ws n)) where
-    pub found-at : i < n → find o (normalize-path o q) (entriesOf s ws n) ≡ some (entryOf s (getD ws i 0) .parameter)
+    pub found-at : i < n → findKey o (normalize-path o q) (entriesOf s ws n) ≡ some (entryOf s (getD ws i 0) .parameter)
     found-at h =
         find-at o q (entryOf s 0) (entriesOf s ws n) (omega (arith, entries-length s ws n fit)) ∙ rw (← e, entry-at s ws n fit i h)
 
-    pub found-none : n ≤ i → find o (normalize-path o q) (entriesOf s ws n) ≡ none
+    pub found-none : n ≤ i → findKey o (normalize-path o q) (entriesOf s ws n) ≡ none
     found-none h = find-none o q (entriesOf s ws n) (omega (arith, entries-length s ws n fit))
 
     pub marked-at : i < n → mark o (normalize-path o q) (entriesOf s ws n) ≡ set (entriesOf s ws n) i (derivedEntry (entryOf s (getD ws i 0)))

@@ -14,7 +14,6 @@ use Rattle.ir.specs.Ir.{IrParameter, unplaced}
 use Rattle.ir.specs.Layout.{flagTree, optionalTree, entriesTree, listTree, parameterTree}
 use Rattle.wire.specs.Poke.{Wrote, opened}
 use Rattle.wire.proofs.Laws.{both, parts, no-parts, closed}
-use Rattle.wire.proofs.Laws.{none as nothing}
 use Rattle.builder_names.proofs.Canonical.{with-end}
 use Rattle.builder.specs.Names.{canonical-name}
 use Rattle.builder.specs.Registry.{Entry, Registry, owner-parameters}

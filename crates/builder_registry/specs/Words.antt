@@ -1,6 +1,6 @@
 -- The registry in working words: an entry in each word, in order of entry. A word holds the offset of the owner's name in the
 -- set, that of the path's, what is entered (a path, or which made parameter), and whether it is derived.
-use Prim.Native.Nat.{ℕ, zero, suc, _+_, _*_, _/_, _%_, _^_, _≤_, _<_}
+use Prim.Native.Nat.{ℕ, _+_, _/_, _%_, _≤_, _<_}
 use mathlib.Core.Path.{_≡_}
 use mathlib.Core.Bool.{Bool, true, false, _&&_, cond}
 use mathlib.Core.List.{List, [], _∷_, _++_, map}
@@ -9,7 +9,7 @@ use lib.Dec.{leb, eqb}
 use lib.ListN.{length, take, getD}
 use Rattle.errors.specs.Refusal.{Outcome, done, refused, plain}
 use Rattle.blocks.specs.Bytes.{le2, nameAt}
-use Rattle.blocks.specs.Name.{Name, text}
+use Rattle.blocks.specs.Name.{Name, ascii}
 use Rattle.ir.specs.Ir.{IrParameter}
 use Rattle.builder.specs.Names.{normalize-path}
 use Rattle.builder.specs.Registry.{Entry, Registry, entryOf as pathEntry}
@@ -24,17 +24,17 @@ held s at = cond (leb (at + 2 + le2 s at) (length s) && leb (le2 s at) 255) (nam
 
 -- a parameter that the builder makes: 1 computed tag, 2 union variant, 3 payload size. Its path, and what it is under an owner.
 unfoldable pub madePath : ℕ → Name
-madePath made = cond (eqb made 1) (text "__computed_tag") (cond (eqb made 2) (text "__variant") (text "__payload_size"))
+madePath made = cond (eqb made 1) (ascii "__computed_tag") (cond (eqb made 2) (ascii "__variant") (ascii "__payload_size"))
 
 unfoldable pub madeParameter : ℕ → Name → IrParameter
 madeParameter made owner =
     cond (eqb made 1)
-    (record { name = owner ++ text ".computed_tag"; description = some (text "Computed enum tag expression"); derived = true })
+    (record { name = owner ++ ascii ".computed_tag"; description = some (ascii "Computed enum tag expression"); derived = true })
     (cond (eqb made 2)
-    (record { name = owner ++ text ".variant"; description = some (text "Active union variant selector"); derived = false })
+    (record { name = owner ++ ascii ".variant"; description = some (ascii "Active union variant selector"); derived = false })
     (record {
-      name = owner ++ text ".payload_size";
-      description = some (text "Runtime payload size (bytes) selecting size-discriminated variant");
+      name = owner ++ ascii ".payload_size";
+      description = some (ascii "Runtime payload size (bytes) selecting size-discriminated variant");
       derived = false;
     }))
 
@@ -80,13 +80,13 @@ pub record Standing (s ws : List ℕ) (n : ℕ) : Type 0 where
 -- What a change of the registry leaves: the entries in the words us, or the refusal, of which nothing is said but its number.
 -- Nothing is said of the words behind the entries.
 pub data Kept (s us : List ℕ) (r : Held) : Outcome (Unit × Registry) → Type 0 where
-  kept : (g : Registry) → r .no ≡ 0 → entriesOf s us (r .count) ≡ g → Kept s us r (done (tt, g))
-  not : (k : ℕ) → r .no ≡ k → 0 < k → Kept s us r (refused (plain k))
+  kept : (g : Registry) → r .number ≡ 0 → entriesOf s us (r .count) ≡ g → Kept s us r (done (tt, g))
+  not : (k : ℕ) → r .number ≡ k → 0 < k → Kept s us r (refused (plain k))
 
 -- the same where a name is answered: that of the entry at r .at
 pub data Tags (s us : List ℕ) (r : Tagged) : Outcome (Name × Registry) → Type 0 where
-  tags : (g : Registry) → r .no ≡ 0 → entriesOf s us (r .count) ≡ g → r .at < r .count → Tags s us r (done (entryName s (getD us (r .at) 0), g))
-  not : (k : ℕ) → r .no ≡ k → 0 < k → Tags s us r (refused (plain k))
+  tags : (g : Registry) → r .number ≡ 0 → entriesOf s us (r .count) ≡ g → r .at < r .count → Tags s us r (done (entryName s (getD us (r .at) 0), g))
+  not : (k : ℕ) → r .number ≡ k → 0 < k → Tags s us r (refused (plain k))
 
 -- a name found in the registry: that of the entry at i
 pub data Looked (s ws : List ℕ) (n : ℕ) : Found → Option Name → Type 0 where

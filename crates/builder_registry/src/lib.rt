@@ -23,14 +23,14 @@ ghost use Rattle.builder_registry.specs.Place.{wanted, anyKey, hasKey, p
 // How many entries the registry has, and the number of a refusal or 0. Of a refusal, a count of at most 512.
 pub struct Held {
     pub count: usize,
-    pub no: u64,
+    pub number: u64,
 }
 
 // The same, and the entry whose name is meant.
 pub struct Tagged {
     pub at: usize,
     pub count: usize,
-    pub no: u64,
+    pub number: u64,
 }
 
 // An entry's place.
@@ -208,18 +208,18 @@ fn enter(s: &[u8], words: &mut [u64], n: usize, w: u64) -> Held
     requires { ⌜ Standing (now s) (now words) n ⌝ }
     ensures { λ r. ⌜ r .count ≤ 512 ⌝ }
     ensures { λ r. ⌜ Kept (now (s .entry)) (now (words .exit)) r (enter (entryOf (now (s .entry)) w) (entriesOf (now (s .entry)) (now (words .entry)) n)) ⌝ }
-    ensures { λ r. ⌜ (r .no ≡ 0 → (r .count ≡ n + 1) × (getD (now (words .exit)) n 0 ≡ w)) ⌝ }
+    ensures { λ r. ⌜ (r .number ≡ 0 → (r .count ≡ n + 1) × (getD (now (words .exit)) n 0 ≡ w)) ⌝ }
 {
     if 255 < name_length(s, w) {
-        return Held { count: n, no: 17 };
+        return Held { count: n, number: 17 };
     }
     if 512 <= n {
-        return Held { count: n, no: 17 };
+        return Held { count: n, number: 17 };
     }
     words[n] = w;
     Held {
         count: n + 1,
-        no: 0,
+        number: 0,
     }
 }
 
@@ -233,7 +233,7 @@ pub fn ensure(s: &[u8], words: &mut [u64], n: usize, owner: usize, path: usize) 
     let p = held_at(s, path);
     let i = place(s, words, n, false, o, p);
     if i < n {
-        return Held { count: n, no: 0 };
+        return Held { count: n, number: 0 };
     }
     enter(s, words, n, owner as u64 + 65536 * path as u64)
 }
@@ -249,14 +249,14 @@ fn ensure_all(s: &[u8], words: &mut [u64], n: usize, owner: usize, paths: usize)
     let mut count = n;
     while 0 < left {
         let e = ensure(s, words, count, owner, at);
-        if e.no != 0 {
+        if e.number != 0 {
             return e;
         }
         count = e.count;
         at = at + 2 + wire::read2(s, at);
         left -= 1;
     }
-    Held { count, no: 0 }
+    Held { count, number: 0 }
 }
 
 // Every path of every owner of a references block.
@@ -271,14 +271,14 @@ pub fn extend_with(s: &[u8], words: &mut [u64], n: usize, references: usize) -> 
     while 0 < left {
         let paths = resolved_parts::owner_paths(s, at);
         let e = ensure_all(s, words, count, at + 6, paths);
-        if e.no != 0 {
+        if e.number != 0 {
             return e;
         }
         count = e.count;
         at = at + 4 + wire::read4(s, at);
         left -= 1;
     }
-    Held { count, no: 0 }
+    Held { count, number: 0 }
 }
 
 // The word of a made parameter; a computed tag is derived.
@@ -307,14 +307,14 @@ pub fn add_synthetic(s: &[u8], words: &mut [u64], n: usize, owner: usize, made: 
         return Tagged {
             at: i,
             count: n,
-            no: 0,
+            number: 0,
         };
     }
     let e = enter(s, words, n, made_word(owner, made));
     Tagged {
         at: n,
         count: e.count,
-        no: e.no,
+        number: e.number,
     }
 }
 

@@ -2,7 +2,7 @@
 use mathlib.Core.Path.{_≡_, refl, sym, _∙_, ap, subst}
 use mathlib.Core.Bool.{Bool, true, false, _&&_}
 use mathlib.Core.List.{List, [], _∷_, _++_, append-assoc, append-nil}
-use Prim.Native.Nat.{ℕ, zero, suc, _+_, _-_, _*_, _^_, _≤_, _<_}
+use Prim.Native.Nat.{ℕ, zero, suc, _+_, _-_, _^_, _≤_, _<_}
 use native.Mathlib.Numerals.{add-one, sub-one}
 use native.Mathlib.Nat.{zero-add}
 use native.Mathlib.Omega.{arith}
@@ -13,7 +13,7 @@ use Rattle.blocks.proofs.Name.{and-left}
 use Rattle.blocks.proofs.Refusals.{Unread, input-unread}
 use borrow.Author.Tests.{le-leb, lt-leb, leb-true}
 use Rattle.errors.proofs.Laws.{done-one, bound, bound-done}
-use Rattle.errors.specs.Refusal.{Refusal, Outcome, done, refused, _>>=_, atType, plain, answered, ask, enough, unread}
+use Rattle.errors.specs.Refusal.{Outcome, done, refused, _>>=_, atType, plain, answered, ask, enough, unread}
 use Rattle.blocks.specs.Bytes.{le2, le4, bytes}
 use Rattle.blocks.specs.Tree.{Tree, num, cons, nil, entries}
 use Rattle.blocks.specs.Write.{write}
@@ -104,7 +104,7 @@ module _ {s xs ys : List ℕ} {at left from place p : ℕ} {t : Tree} (q : Reach
   unfolding entries
   next-is = ap (λ (u : Tree). prepend (q .built) (build-types (typesOf t) place (entries typeOf u))) (e .after .tree)
 
-  reach-more : {zs : List ℕ} {b : TypeTree} (o : Outcome TypeIr) → build-type (typesOf t) (typeOf (tree (e .child))) ≡ o → BuildsType ys p zs b o → b .no ≡ 0 →
+  reach-more : {zs : List ℕ} {b : TypeTree} (o : Outcome TypeIr) → build-type (typesOf t) (typeOf (tree (e .child))) ≡ o → BuildsType ys p zs b o → b .number ≡ 0 →
       Reached s xs at zs (left - 1) (from + 4 + le4 s from) (place + 1) (b .at) t
   reach-more _ d (BuildsType.made x n w) z = record {
     list = e .after .rest;
@@ -114,7 +114,7 @@ module _ {s xs ys : List ℕ} {at left from place p : ℕ} {t : Tree} (q : Reach
   }
   reach-more _ d (BuildsType.not k n h f) z = absurd (omega arith)
 
-  reach-none : {zs : List ℕ} {b : TypeTree} (r : Types) (o : Outcome TypeIr) → build-type (typesOf t) (typeOf (tree (e .child))) ≡ o → BuildsType ys p zs b o → (b .no ≡ 0 → ⊥) → r .no ≡ b .no → r .place ≡ place →
+  reach-none : {zs : List ℕ} {b : TypeTree} (r : Types) (o : Outcome TypeIr) → build-type (typesOf t) (typeOf (tree (e .child))) ≡ o → BuildsType ys p zs b o → (b .number ≡ 0 → ⊥) → r .number ≡ b .number → r .place ≡ place →
       BuildsTypes xs at zs r (build-types (typesOf t) 0 (typesOf t))
   reach-none r _ d (BuildsType.made x n w) z g k = absurd (z n)
   reach-none {zs} r _ d (BuildsType.not m n h f) z g k =
@@ -130,19 +130,19 @@ module _ {s xs ys : List ℕ} {at left from place p : ℕ} where
       (e .child, omega (arith, o .high, e .child .fits))
 
   -- it is built
-  pub go-on : {zs : List ℕ} {b : TypeTree} {u : ℕ} → 0 < left → Makes s ys from p zs b → b .no ≡ 0 → u ≡ le4 s from → Loop s xs at ys left from place p → Loop s xs at zs (left - 1) (from + 4 + u) (place + 1) (b .at)
+  pub go-on : {zs : List ℕ} {b : TypeTree} {u : ℕ} → 0 < left → Makes s ys from p zs b → b .number ≡ 0 → u ≡ le4 s from → Loop s xs at ys left from place p → Loop s xs at zs (left - 1) (from + 4 + u) (place + 1) (b .at)
   go-on {zs} {b} h f z g c =
       subst (λ (k : ℕ). Loop s xs at zs (left - 1) (from + 4 + k) (place + 1) (b .at)) (sym g) (record {
         on = λ t r. let e = block-entry (c .on t r .list) h in reach-more (c .on t r) e _ refl (f t (e .child) r) z;
       })
 
   -- it is refused
-  pub stopped : {zs : List ℕ} {b : TypeTree} {r : Types} → 0 < left → Makes s ys from p zs b → (b .no ≡ 0 → ⊥) → r .no ≡ b .no → r .place ≡ place → Loop s xs at ys left from place p →
+  pub stopped : {zs : List ℕ} {b : TypeTree} {r : Types} → 0 < left → Makes s ys from p zs b → (b .number ≡ 0 → ⊥) → r .number ≡ b .number → r .place ≡ place → Loop s xs at ys left from place p →
       (t : Tree) → readSet s ≡ done t → BuildsTypes xs at zs r (build-types (typesOf t) 0 (typesOf t))
   stopped {r} h f z g k c t d = let e = block-entry (c .on t d .list) h in reach-none (c .on t d) e r _ refl (f t (e .child) d) z g k
 
 -- no type is left
-pub no-more : {s xs ys : List ℕ} {at left from place p : ℕ} {r : Types} → left ≤ 0 → r .no ≡ 0 → r .at ≡ p → Loop s xs at ys left from place p →
+pub no-more : {s xs ys : List ℕ} {at left from place p : ℕ} {r : Types} → left ≤ 0 → r .number ≡ 0 → r .at ≡ p → Loop s xs at ys left from place p →
     (t : Tree) → readSet s ≡ done t → BuildsTypes xs at ys r (build-types (typesOf t) 0 (typesOf t))
 unfolding prepend build-types entries
 no-more {xs} {ys} {at} {place} {r} h z g c t e =
@@ -276,16 +276,16 @@ decided out t e = bound-done (write-layout out) e
 module _ (s : List ℕ) {xs xs₁ xs₂ xs₃ : List ℕ} {p q : ℕ} {r : Types} {n : ℕ} (o : Wrote xs 0 (opened 160) xs₁ p) (k : Wrote xs₁ p (bytes 2 n) xs₂ q) (c : n ≡ le2 s 6)
     (f : (t : Tree) → readSet s ≡ done t → BuildsTypes xs₂ q xs₃ r (build-types (typesOf t) 0 (typesOf t))) where
   -- a type refused
-  pub types-no : (r .no ≡ 0 → ⊥) → (t : Tree) → readSet s ≡ done t → Leaves xs xs₃ (answer.Refused (r .no) (r .place) 0 0) (layoutOf (length xs) t)
+  pub types-no : (r .number ≡ 0 → ⊥) → (t : Tree) → readSet s ≡ done t → Leaves xs xs₃ (answer.Refused (r .number) (r .place) 0 0) (layoutOf (length xs) t)
   unfolding layoutOf _>>=_ answerOf
   types-no z t e = go (build-types (typesOf t) 0 (typesOf t)) (f t e)
     where
-      go : (b : Outcome (List TypeIr)) → BuildsTypes xs₂ q xs₃ r b → Leaves xs xs₃ (answer.Refused (r .no) (r .place) 0 0) (b >>= write-layout (length xs))
+      go : (b : Outcome (List TypeIr)) → BuildsTypes xs₂ q xs₃ r b → Leaves xs xs₃ (answer.Refused (r .number) (r .place) 0 0) (b >>= write-layout (length xs))
       go _ (BuildsTypes.made ts n w) = absurd (z n)
       go _ (BuildsTypes.not m i n h g) = Leaves.refuses (record { number = m; place = i; offset = 0; value = 0 }) (rw (n, g) refl)
 
   -- all are built
-  module _ {ys : List ℕ} {v : ℕ} (z : r .no ≡ 0) (d : Wrote xs₃ 0 (bytes 4 (r .at - 0 - 4)) ys v) (t : Tree) (e : readSet s ≡ done t) where
+  module _ {ys : List ℕ} {v : ℕ} (z : r .number ≡ 0) (d : Wrote xs₃ 0 (bytes 4 (r .at - 0 - 4)) ys v) (t : Tree) (e : readSet s ≡ done t) where
     all-made : (b : Outcome (List TypeIr)) → build-types (typesOf t) 0 (typesOf t) ≡ b → BuildsTypes xs₂ q xs₃ r b →
         (ts : List TypeIr) × (build-types (typesOf t) 0 (typesOf t) ≡ done ts) × Wrote xs 0 (write (layoutTree ts)) ys (r .at)
     all-made _ g (BuildsTypes.made ts m w) = (ts, g, layout-is ts o k w d (c ∙ set-count s e g))

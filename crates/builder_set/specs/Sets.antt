@@ -1,5 +1,5 @@
 -- What building a set's types, and a set, leaves.
-use Prim.Native.Nat.{ℕ, _^_, _≤_, _<_}
+use Prim.Native.Nat.{ℕ, _<_}
 use mathlib.Core.Path.{_≡_}
 use mathlib.Core.List.{List, _++_}
 use lib.ListN.{length, take, drop}
@@ -26,8 +26,8 @@ pub record Ready (s ws : List ℕ) : Type 0 where
 
 -- the type trees' bytes and the next cursor, or the number of the refusal and the place of its type
 pub data BuildsTypes (xs : List ℕ) (at : ℕ) (ys : List ℕ) (r : Types) : Outcome (List TypeIr) → Type 0 where
-  made : (ts : List TypeIr) → r .no ≡ 0 → Wrote xs at (write (entriesTree typeIrTree ts)) ys (r .at) → BuildsTypes xs at ys r (done ts)
-  not : (k i : ℕ) → r .no ≡ k → 0 < k → r .place ≡ i → BuildsTypes xs at ys r (refused (record { number = k; place = i; offset = 0; value = 0 }))
+  made : (ts : List TypeIr) → r .number ≡ 0 → Wrote xs at (write (entriesTree typeIrTree ts)) ys (r .at) → BuildsTypes xs at ys r (done ts)
+  not : (k i : ℕ) → r .number ≡ k → 0 < k → r .place ≡ i → BuildsTypes xs at ys r (refused (record { number = k; place = i; offset = 0; value = 0 }))
 
 -- "A refusal gives number, type place in the set or layout (65,535 if none), offset and value."
 unfoldable pub answerOf : Outcome (List ℕ) → Answer

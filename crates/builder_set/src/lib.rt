@@ -8,7 +8,8 @@ ghost use Rattle.errors.specs.Refusal.{done};
 ghost use Rattle.blocks.specs.Tree.{Tree};
 ghost use Rattle.blocks.specs.Read.{readSet};
 ghost use Rattle.resolved.specs.Set.{typesOf};
-ghost use Rattle.builder.specs.Build.{build-types, build-set, output-after, words-after};
+ghost use Rattle.builder.specs.Build.{build-types, build-set, output-after};
+ghost use Rattle.errors.specs.Refusal.{words-after};
 ghost use Rattle.builder_set.specs.Sets.{Ready, BuildsTypes, answerOf, holdsAt, layoutOf, Leaves};
 
 // A built layout's length, or a refusal.
@@ -21,7 +22,7 @@ pub enum Answer {
 // The next cursor; the number of a refusal or 0, and the place of the type that it is of.
 pub struct Types {
     pub at: usize,
-    pub no: u64,
+    pub number: u64,
     pub place: usize,
 }
 
@@ -40,10 +41,10 @@ fn build_types(s: &[u8], words: &mut [u64], out: &mut [u8], at: usize) -> Types
     let mut p = at;
     while 0 < left {
         let b = builder_type::build_type(s, words, from, out, p);
-        if b.no != 0 {
+        if b.number != 0 {
             return Types {
                 at,
-                no: b.no,
+                number: b.number,
                 place,
             };
         }
@@ -54,7 +55,7 @@ fn build_types(s: &[u8], words: &mut [u64], out: &mut [u8], at: usize) -> Types
     }
     Types {
         at: p,
-        no: 0,
+        number: 0,
         place,
     }
 }
@@ -83,8 +84,8 @@ fn build_layout(s: &[u8], words: &mut [u64], out: &mut [u8]) -> Answer
     let p = wire::open_block(out, 0, 160);
     let q = wire::put_le(out, p, 2, wire::read2(s, 6) as u64);
     let r = build_types(s, words, out, q);
-    if r.no != 0 {
-        return Answer::Refused(r.no, r.place as u64, 0, 0);
+    if r.number != 0 {
+        return Answer::Refused(r.number, r.place as u64, 0, 0);
     }
     let end = r.at;
     wire::close_block(out, 0, end);

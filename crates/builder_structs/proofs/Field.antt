@@ -42,59 +42,59 @@ use Rattle.builder_structs.specs.Field.{sumOf, payloadOf}
 
 -- ---- what callees leave
 
-pub builds-done : {s xs us ys : List ℕ} {at : ℕ} {r : Built} {x : Outcome (IrNode × Registry)} → r .no ≡ 0 → Builds s xs at us ys r x →
+pub builds-done : {s xs us ys : List ℕ} {at : ℕ} {r : Built} {x : Outcome (IrNode × Registry)} → r .number ≡ 0 → Builds s xs at us ys r x →
     (n : IrNode) × (x ≡ done (n, entriesOf s us (r .count))) × Wrote xs at (write (nodeTree n)) ys (r .at)
 builds-done z (Builds.made x e h w) = (x .0, ap (λ (g : Registry). done (x .0, g)) (sym h), w)
 builds-done z (Builds.not k e l) = absurd (let z : ⊥ = omega arith in z)
 
-pub builds-refused : {s xs us ys : List ℕ} {at : ℕ} {r : Built} {x : Outcome (IrNode × Registry)} → (r .no ≡ 0 → ⊥) → Builds s xs at us ys r x → (x ≡ refused (plain (r .no))) × (0 < r .no)
+pub builds-refused : {s xs us ys : List ℕ} {at : ℕ} {r : Built} {x : Outcome (IrNode × Registry)} → (r .number ≡ 0 → ⊥) → Builds s xs at us ys r x → (x ≡ refused (plain (r .number))) × (0 < r .number)
 builds-refused z (Builds.made x e h w) = absurd (z e)
 builds-refused z (Builds.not k e l) = (ap (λ (n : ℕ). refused (plain n)) (sym e), omega arith)
 
-kept-done : {s us : List ℕ} {r : Held} {x : Outcome (Unit {0} × Registry)} → r .no ≡ 0 → Kept s us r x → x ≡ done (tt, entriesOf s us (r .count))
+kept-done : {s us : List ℕ} {r : Held} {x : Outcome (Unit {0} × Registry)} → r .number ≡ 0 → Kept s us r x → x ≡ done (tt, entriesOf s us (r .count))
 kept-done z (Kept.kept g e h) = ap (λ (l : Registry). done (tt, l)) (sym h)
 kept-done z (Kept.not k e l) = absurd (let z : ⊥ = omega arith in z)
 
-kept-refused : {s us : List ℕ} {r : Held} {x : Outcome (Unit {0} × Registry)} → (r .no ≡ 0 → ⊥) → Kept s us r x → (x ≡ refused (plain (r .no))) × (0 < r .no)
+kept-refused : {s us : List ℕ} {r : Held} {x : Outcome (Unit {0} × Registry)} → (r .number ≡ 0 → ⊥) → Kept s us r x → (x ≡ refused (plain (r .number))) × (0 < r .number)
 kept-refused z (Kept.kept g e h) = absurd (z e)
 kept-refused z (Kept.not k e l) = (ap (λ (n : ℕ). refused (plain n)) (sym e), omega arith)
 
 module _ {s xs us ys : List ℕ} {at p c : ℕ} where
   -- a refusal of this number
-  pub stops : {x : Outcome (IrNode × Registry)} (k : ℕ) → x ≡ refused (plain k) → 0 < k → Builds s xs at us ys (record { at = p; count = c; no = k }) x
-  stops k e l = subst (Builds s xs at us ys (record { at = p; count = c; no = k })) (sym e) (Builds.not k refl l)
+  pub stops : {x : Outcome (IrNode × Registry)} (k : ℕ) → x ≡ refused (plain k) → 0 < k → Builds s xs at us ys (record { at = p; count = c; number = k }) x
+  stops k e l = subst (Builds s xs at us ys (record { at = p; count = c; number = k })) (sym e) (Builds.not k refl l)
 
   -- this node
-  pub makes : {x : Outcome (IrNode × Registry)} (n : IrNode) → x ≡ done (n, entriesOf s us c) → Wrote xs at (write (nodeTree n)) ys p → Builds s xs at us ys (record { at = p; count = c; no = 0 }) x
-  makes n e w = subst (Builds s xs at us ys (record { at = p; count = c; no = 0 })) (sym e) (Builds.made (n, entriesOf s us c) refl refl w)
+  pub makes : {x : Outcome (IrNode × Registry)} (n : IrNode) → x ≡ done (n, entriesOf s us c) → Wrote xs at (write (nodeTree n)) ys p → Builds s xs at us ys (record { at = p; count = c; number = 0 }) x
+  makes n e w = subst (Builds s xs at us ys (record { at = p; count = c; number = 0 })) (sym e) (Builds.made (n, entriesOf s us c) refl refl w)
 
 -- ---- a node and what is done with it: f
 
 module _ {s x₁ x₂ us : List ℕ} {p : ℕ} {r : Built} (m : Build IrNode) (g : Registry) (b : Builds s x₁ p us x₂ r (m g)) where
   -- it was refused
-  pub node-stops : {xs vs ys : List ℕ} {at q c : ℕ} (f : IrNode → Build IrNode) → (r .no ≡ 0 → ⊥) → Builds s xs at vs ys (record { at = q; count = c; no = r .no }) ((m >>= f) g)
-  node-stops f z = let d = builds-refused z b in stops (r .no) (step-refused m f g (d .0)) (d .1)
+  pub node-stops : {xs vs ys : List ℕ} {at q c : ℕ} (f : IrNode → Build IrNode) → (r .number ≡ 0 → ⊥) → Builds s xs at vs ys (record { at = q; count = c; number = r .number }) ((m >>= f) g)
+  node-stops f z = let d = builds-refused z b in stops (r .number) (step-refused m f g (d .0)) (d .1)
 
   -- it is aligned
-  pub node-aligned : {xs ys : List ℕ} {at q : ℕ} (a : ℕ) → r .no ≡ 0 → Wrote xs at (nodeStart 131 a ++ write (num 8 a)) x₁ p → Wrote x₂ at (bytes 4 (r .at - at - 4)) ys q →
-      Builds s xs at us ys (record { at = r .at; count = r .count; no = 0 }) ((m >>= (λ n. give (align-node n a))) g)
+  pub node-aligned : {xs ys : List ℕ} {at q : ℕ} (a : ℕ) → r .number ≡ 0 → Wrote xs at (nodeStart 131 a ++ write (num 8 a)) x₁ p → Wrote x₂ at (bytes 4 (r .at - at - 4)) ys q →
+      Builds s xs at us ys (record { at = r .at; count = r .count; number = 0 }) ((m >>= (λ n. give (align-node n a))) g)
   unfolding give
   node-aligned a z w c = let d = builds-done z b in makes (align-node (d .0) a) (step-done m _ g (d .1)) (align-closed a (d .0) w (d .2) c)
 
   -- references are entered behind it
-  module _ {vs : List ℕ} {h : Held} (os : List Owner) (z : r .no ≡ 0) (k : Kept s vs h (extend-with os (entriesOf s us (r .count)))) where
-    pub own-stops : {xs ys : List ℕ} {at q c : ℕ} (f : IrNode → IrNode) → (h .no ≡ 0 → ⊥) → Builds s xs at vs ys (record { at = q; count = c; no = h .no }) ((m >>= (λ n. extend-with os >>= (λ _. give (f n)))) g)
-    own-stops f y = let d = builds-done z b in let e = kept-refused y k in stops (h .no) (step-done m _ g (d .1) ∙ step-refused (extend-with os) _ (entriesOf s us (r .count)) (e .0)) (e .1)
+  module _ {vs : List ℕ} {h : Held} (os : List Owner) (z : r .number ≡ 0) (k : Kept s vs h (extend-with os (entriesOf s us (r .count)))) where
+    pub own-stops : {xs ys : List ℕ} {at q c : ℕ} (f : IrNode → IrNode) → (h .number ≡ 0 → ⊥) → Builds s xs at vs ys (record { at = q; count = c; number = h .number }) ((m >>= (λ n. extend-with os >>= (λ _. give (f n)))) g)
+    own-stops f y = let d = builds-done z b in let e = kept-refused y k in stops (h .number) (step-done m _ g (d .1) ∙ step-refused (extend-with os) _ (entriesOf s us (r .count)) (e .0)) (e .1)
 
-    own-done : (f : IrNode → IrNode) → h .no ≡ 0 → (n : IrNode) → m g ≡ done (n, entriesOf s us (r .count)) → (m >>= (λ n. extend-with os >>= (λ _. give (f n)))) g ≡ done (f n, entriesOf s vs (h .count))
+    own-done : (f : IrNode → IrNode) → h .number ≡ 0 → (n : IrNode) → m g ≡ done (n, entriesOf s us (r .count)) → (m >>= (λ n. extend-with os >>= (λ _. give (f n)))) g ≡ done (f n, entriesOf s vs (h .count))
     unfolding give
     own-done f y n e = step-done m _ g e ∙ step-done (extend-with os) _ (entriesOf s us (r .count)) (kept-done y k)
 
-    pub own-plain : h .no ≡ 0 → Builds s x₁ p vs x₂ (record { at = r .at; count = h .count; no = 0 }) ((m >>= (λ n. extend-with os >>= (λ _. give n))) g)
+    pub own-plain : h .number ≡ 0 → Builds s x₁ p vs x₂ (record { at = r .at; count = h .count; number = 0 }) ((m >>= (λ n. extend-with os >>= (λ _. give n))) g)
     own-plain y = let d = builds-done z b in makes (d .0) (own-done (λ n. n) y (d .0) (d .1)) (d .2)
 
-    pub own-aligned : {xs ys : List ℕ} {at q : ℕ} (a : ℕ) → h .no ≡ 0 → Wrote xs at (nodeStart 131 a ++ write (num 8 a)) x₁ p → Wrote x₂ at (bytes 4 (r .at - at - 4)) ys q →
-        Builds s xs at vs ys (record { at = r .at; count = h .count; no = 0 }) ((m >>= (λ n. extend-with os >>= (λ _. give (align-node n a)))) g)
+    pub own-aligned : {xs ys : List ℕ} {at q : ℕ} (a : ℕ) → h .number ≡ 0 → Wrote xs at (nodeStart 131 a ++ write (num 8 a)) x₁ p → Wrote x₂ at (bytes 4 (r .at - at - 4)) ys q →
+        Builds s xs at vs ys (record { at = r .at; count = h .count; number = 0 }) ((m >>= (λ n. extend-with os >>= (λ _. give (align-node n a)))) g)
     own-aligned a y w c = let d = builds-done z b in makes (align-node (d .0) a) (own-done (λ n. align-node n a) y (d .0) (d .1)) (align-closed a (d .0) w (d .2) c)
 
 -- ---- a type's own references
@@ -110,19 +110,19 @@ module _ {s ws x₁ x₂ : List ℕ} {p paths : ℕ} {o : List ℕ} {r : Built} 
     sum-named : (q : PathsAt s paths) → Builds s x₁ p ws x₂ r (sum-refs (nameAt s name) (textsOf (q .list .got .0)) g)
     sum-named q = subst (λ (z : Name). Builds s x₁ p ws x₂ r (sum-refs z (textsOf (q .list .got .0)) g)) eo (b q)
 
-    pub sum-stops : {xs us ys : List ℕ} {at u c : ℕ} → (r .no ≡ 0 → ⊥) → (q : PathsAt s paths) (a : Accepted s 1 7 kind) →
-        Builds s xs at us ys (record { at = u; count = c; no = r .no }) (sumOf (nameAt s name) (head (typeOf (tree a))) (textsOf (q .list .got .0)) g)
+    pub sum-stops : {xs us ys : List ℕ} {at u c : ℕ} → (r .number ≡ 0 → ⊥) → (q : PathsAt s paths) (a : Accepted s 1 7 kind) →
+        Builds s xs at us ys (record { at = u; count = c; number = r .number }) (sumOf (nameAt s name) (head (typeOf (tree a))) (textsOf (q .list .got .0)) g)
     unfolding sumOf
     sum-stops z q a = node-stops (sum-refs (nameAt s name) (textsOf (q .list .got .0))) g (sum-named q) _ z
 
-    module _ {vs : List ℕ} {h : Held} (z : r .no ≡ 0) (k : (a : Accepted s 1 7 kind) → Kept s vs h (extend-with (head (typeOf (tree a)) .dynamic-params) (entriesOf s ws (r .count)))) where
-      pub sum-own-stops : {xs ys : List ℕ} {at u c : ℕ} → (h .no ≡ 0 → ⊥) → (q : PathsAt s paths) (a : Accepted s 1 7 kind) →
-          Builds s xs at vs ys (record { at = u; count = c; no = h .no }) (sumOf (nameAt s name) (head (typeOf (tree a))) (textsOf (q .list .got .0)) g)
+    module _ {vs : List ℕ} {h : Held} (z : r .number ≡ 0) (k : (a : Accepted s 1 7 kind) → Kept s vs h (extend-with (head (typeOf (tree a)) .dynamic-params) (entriesOf s ws (r .count)))) where
+      pub sum-own-stops : {xs ys : List ℕ} {at u c : ℕ} → (h .number ≡ 0 → ⊥) → (q : PathsAt s paths) (a : Accepted s 1 7 kind) →
+          Builds s xs at vs ys (record { at = u; count = c; number = h .number }) (sumOf (nameAt s name) (head (typeOf (tree a))) (textsOf (q .list .got .0)) g)
       unfolding sumOf
       sum-own-stops y q a = own-stops (sum-refs (nameAt s name) (textsOf (q .list .got .0))) g (sum-named q) (head (typeOf (tree a)) .dynamic-params) z (k a) (λ n. n) y
 
-      pub sum-done : h .no ≡ 0 → (q : PathsAt s paths) (a : Accepted s 1 7 kind) →
-          Builds s x₁ p vs x₂ (record { at = r .at; count = h .count; no = 0 }) (sumOf (nameAt s name) (head (typeOf (tree a))) (textsOf (q .list .got .0)) g)
+      pub sum-done : h .number ≡ 0 → (q : PathsAt s paths) (a : Accepted s 1 7 kind) →
+          Builds s x₁ p vs x₂ (record { at = r .at; count = h .count; number = 0 }) (sumOf (nameAt s name) (head (typeOf (tree a))) (textsOf (q .list .got .0)) g)
       unfolding sumOf
       sum-done y q a = own-plain (sum-refs (nameAt s name) (textsOf (q .list .got .0))) g (sum-named q) (head (typeOf (tree a)) .dynamic-params) z (k a) y
 
@@ -130,17 +130,17 @@ module _ {s ws x₁ x₂ : List ℕ} {p paths : ℕ} {o : List ℕ} {r : Built} 
     payload-named : (q : PathsAt s paths) → Builds s x₁ p ws x₂ r (sum-refs (nameAt s name) (payload-paths (textsOf (q .list .got .0))) g)
     payload-named q = subst (λ (z : Name). Builds s x₁ p ws x₂ r (sum-refs z (payload-paths (textsOf (q .list .got .0))) g)) eo (b q)
 
-    pub payload-stops : {xs us ys : List ℕ} {at u c : ℕ} → (r .no ≡ 0 → ⊥) → (q : PathsAt s paths) (a : Accepted s 1 7 kind) →
-        Builds s xs at us ys (record { at = u; count = c; no = r .no }) (payloadOf (nameAt s name) (head (typeOf (tree a))) (textsOf (q .list .got .0)) g)
+    pub payload-stops : {xs us ys : List ℕ} {at u c : ℕ} → (r .number ≡ 0 → ⊥) → (q : PathsAt s paths) (a : Accepted s 1 7 kind) →
+        Builds s xs at us ys (record { at = u; count = c; number = r .number }) (payloadOf (nameAt s name) (head (typeOf (tree a))) (textsOf (q .list .got .0)) g)
     unfolding payloadOf
     payload-stops z q a = node-stops (sum-refs (nameAt s name) (payload-paths (textsOf (q .list .got .0)))) g (payload-named q) _ z
 
-    pub payload-done : {xs ys : List ℕ} {at u : ℕ} {h : TypeHead} → ((a : Accepted s 1 7 kind) → HeadAt a h) → Wrote xs at (nodeStart 131 (h .alignment) ++ write (num 8 (h .alignment))) x₁ p → r .no ≡ 0 →
+    pub payload-done : {xs ys : List ℕ} {at u : ℕ} {h : TypeHead} → ((a : Accepted s 1 7 kind) → HeadAt a h) → Wrote xs at (nodeStart 131 (h .alignment) ++ write (num 8 (h .alignment))) x₁ p → r .number ≡ 0 →
         Wrote x₂ at (bytes 4 (r .at - at - 4)) ys u → (q : PathsAt s paths) (a : Accepted s 1 7 kind) →
-        Builds s xs at ws ys (record { at = r .at; count = r .count; no = 0 }) (payloadOf (nameAt s name) (head (typeOf (tree a))) (textsOf (q .list .got .0)) g)
+        Builds s xs at ws ys (record { at = r .at; count = r .count; number = 0 }) (payloadOf (nameAt s name) (head (typeOf (tree a))) (textsOf (q .list .got .0)) g)
     unfolding payloadOf
     payload-done {xs} {ys} {at} {h} hd w z c q a =
-        subst (λ (m : ℕ). Builds s xs at ws ys (record { at = r .at; count = r .count; no = 0 }) ((sum-refs (nameAt s name) (payload-paths (textsOf (q .list .got .0))) >>= (λ n. give (align-node n m))) g)) (sym (hd a .alignment))
+        subst (λ (m : ℕ). Builds s xs at ws ys (record { at = r .at; count = r .count; number = 0 }) ((sum-refs (nameAt s name) (payload-paths (textsOf (q .list .got .0))) >>= (λ n. give (align-node n m))) g)) (sym (hd a .alignment))
         (node-aligned (sum-refs (nameAt s name) (payload-paths (textsOf (q .list .got .0)))) g (payload-named q) (h .alignment) z w c)
 
 -- ---- the struct's references for a field
@@ -162,7 +162,7 @@ module _ {s : List ℕ} {references : ℕ} {o : List ℕ} {f : Paths} (kind name
   refs-named b = subst (λ (z : Name). PathsFound s z (ownersOf (tree b)) f) eo (k b)
 
   pub refs-missing : {xs us ys : List ℕ} {at u c : ℕ} → f ≡ Missing → (b : Accepted s 32 32 references) (a : Accepted s 1 7 kind) →
-      Builds s xs at us ys (record { at = u; count = c; no = 11 }) (build-field-refs (ownersOf (tree b)) (nameAt s name) (head (typeOf (tree a))) g)
+      Builds s xs at us ys (record { at = u; count = c; number = 11 }) (build-field-refs (ownersOf (tree b)) (nameAt s name) (head (typeOf (tree a))) g)
   unfolding build-field-refs
   refs-missing e b a = stops 11 (need-none 11 _ g (found-none e (refs-named b))) (omega arith)
 
@@ -234,23 +234,23 @@ Opened xs at h x₁ p = Wrote xs at (nodeStart 131 (h .alignment) ++ write (num 
 
 module _ {s x₁ x₂ us : List ℕ} {p : ℕ} {r : Built} (kind : ℕ) (g : Registry) where
   module _ (b : (a : Accepted s 1 7 kind) (e : ExprKind) (vs : Variants) → kindOf (typeOf (tree a)) ≡ ResolvedTypeKind.Enum e vs → Builds s x₁ p us x₂ r (build-enum-node (head (typeOf (tree a))) e vs g)) where
-    pub switch-stops : {xs vs ys : List ℕ} {at u c : ℕ} → (r .no ≡ 0 → ⊥) → (name : Name) (a : Accepted s 1 7 kind) (e : ExprKind) (ws : Variants) → kindOf (typeOf (tree a)) ≡ ResolvedTypeKind.Enum e ws →
-        Builds s xs at vs ys (record { at = u; count = c; no = r .no }) (build-field-enum [] name (head (typeOf (tree a))) e ws g)
+    pub switch-stops : {xs vs ys : List ℕ} {at u c : ℕ} → (r .number ≡ 0 → ⊥) → (name : Name) (a : Accepted s 1 7 kind) (e : ExprKind) (ws : Variants) → kindOf (typeOf (tree a)) ≡ ResolvedTypeKind.Enum e ws →
+        Builds s xs at vs ys (record { at = u; count = c; number = r .number }) (build-field-enum [] name (head (typeOf (tree a))) e ws g)
     unfolding build-field-enum
     switch-stops z name a e ws i = node-stops (build-enum-node (head (typeOf (tree a))) e ws) g (b a e ws i) _ z
 
-    module _ {vs : List ℕ} {h : Held} (z : r .no ≡ 0) (k : (a : Accepted s 1 7 kind) → Kept s vs h (extend-with (head (typeOf (tree a)) .dynamic-params) (entriesOf s us (r .count)))) where
-      pub switch-own-stops : {xs ys : List ℕ} {at u c : ℕ} → (h .no ≡ 0 → ⊥) → (name : Name) (a : Accepted s 1 7 kind) (e : ExprKind) (ws : Variants) → kindOf (typeOf (tree a)) ≡ ResolvedTypeKind.Enum e ws →
-          Builds s xs at vs ys (record { at = u; count = c; no = h .no }) (build-field-enum [] name (head (typeOf (tree a))) e ws g)
+    module _ {vs : List ℕ} {h : Held} (z : r .number ≡ 0) (k : (a : Accepted s 1 7 kind) → Kept s vs h (extend-with (head (typeOf (tree a)) .dynamic-params) (entriesOf s us (r .count)))) where
+      pub switch-own-stops : {xs ys : List ℕ} {at u c : ℕ} → (h .number ≡ 0 → ⊥) → (name : Name) (a : Accepted s 1 7 kind) (e : ExprKind) (ws : Variants) → kindOf (typeOf (tree a)) ≡ ResolvedTypeKind.Enum e ws →
+          Builds s xs at vs ys (record { at = u; count = c; number = h .number }) (build-field-enum [] name (head (typeOf (tree a))) e ws g)
       unfolding build-field-enum
       switch-own-stops y name a e ws i = own-stops (build-enum-node (head (typeOf (tree a))) e ws) g (b a e ws i) (head (typeOf (tree a)) .dynamic-params) z (k a) (λ n. align-node n (head (typeOf (tree a)) .alignment)) y
 
-      pub switch-done : {xs ys : List ℕ} {at u : ℕ} {t : TypeHead} → ((a : Accepted s 1 7 kind) → HeadAt a t) → Opened xs at t x₁ p → h .no ≡ 0 → Wrote x₂ at (bytes 4 (r .at - at - 4)) ys u →
+      pub switch-done : {xs ys : List ℕ} {at u : ℕ} {t : TypeHead} → ((a : Accepted s 1 7 kind) → HeadAt a t) → Opened xs at t x₁ p → h .number ≡ 0 → Wrote x₂ at (bytes 4 (r .at - at - 4)) ys u →
           (name : Name) (a : Accepted s 1 7 kind) (e : ExprKind) (ws : Variants) → kindOf (typeOf (tree a)) ≡ ResolvedTypeKind.Enum e ws →
-          Builds s xs at vs ys (record { at = r .at; count = h .count; no = 0 }) (build-field-enum [] name (head (typeOf (tree a))) e ws g)
+          Builds s xs at vs ys (record { at = r .at; count = h .count; number = 0 }) (build-field-enum [] name (head (typeOf (tree a))) e ws g)
       unfolding build-field-enum
       switch-done {xs} {ys} {at} {t} hd w y c name a e ws i =
-          subst (λ (m : ℕ). Builds s xs at vs ys (record { at = r .at; count = h .count; no = 0 }) ((build-enum-node (head (typeOf (tree a))) e ws >>= (λ n. extend-with (head (typeOf (tree a)) .dynamic-params) >>= (λ _. give (align-node n m)))) g)) (sym (hd a .alignment))
+          subst (λ (m : ℕ). Builds s xs at vs ys (record { at = r .at; count = h .count; number = 0 }) ((build-enum-node (head (typeOf (tree a))) e ws >>= (λ n. extend-with (head (typeOf (tree a)) .dynamic-params) >>= (λ _. give (align-node n m)))) g)) (sym (hd a .alignment))
           (own-aligned (build-enum-node (head (typeOf (tree a))) e ws) g (b a e ws i) (head (typeOf (tree a)) .dynamic-params) z (k a) (t .alignment) y w c)
 
   module _ (ek : le2 s (kind + 4) ≡ 6)
@@ -261,27 +261,27 @@ module _ {s x₁ x₂ us : List ℕ} {p : ℕ} {r : Built} (kind : ℕ) (g : Reg
     unfolding build-variable-field
     sized-is types refs n a = let i = sized-at refl refl ek a .is in (_, i, ap (λ (z : ResolvedTypeKind). build-variable-field types refs n (head (typeOf (tree a))) z g) i)
 
-    pub sized-stops : {xs vs ys : List ℕ} {at u c : ℕ} → (r .no ≡ 0 → ⊥) → (t : Tree) (refs : List Owner) (name : Name) (a : Accepted s 1 7 kind) → readSet s ≡ done t →
-        Builds s xs at vs ys (record { at = u; count = c; no = r .no }) (build-variable-field (typesOf t) refs name (head (typeOf (tree a))) (kindOf (typeOf (tree a))) g)
+    pub sized-stops : {xs vs ys : List ℕ} {at u c : ℕ} → (r .number ≡ 0 → ⊥) → (t : Tree) (refs : List Owner) (name : Name) (a : Accepted s 1 7 kind) → readSet s ≡ done t →
+        Builds s xs at vs ys (record { at = u; count = c; number = r .number }) (build-variable-field (typesOf t) refs name (head (typeOf (tree a))) (kindOf (typeOf (tree a))) g)
     sized-stops {xs} {vs} {ys} {at} {u} {c} z t refs name a e =
         let i = sized-is (typesOf t) refs name a in
-        subst (Builds s xs at vs ys (record { at = u; count = c; no = r .no })) (sym (i .2)) (node-stops (build-size-discriminated-union-node (head (typeOf (tree a))) (i .0)) g (b a (i .0) (i .1)) _ z)
+        subst (Builds s xs at vs ys (record { at = u; count = c; number = r .number })) (sym (i .2)) (node-stops (build-size-discriminated-union-node (head (typeOf (tree a))) (i .0)) g (b a (i .0) (i .1)) _ z)
 
-    module _ {vs : List ℕ} {h : Held} (z : r .no ≡ 0) (k : (a : Accepted s 1 7 kind) → Kept s vs h (extend-with (head (typeOf (tree a)) .dynamic-params) (entriesOf s us (r .count)))) where
-      pub sized-own-stops : {xs ys : List ℕ} {at u c : ℕ} → (h .no ≡ 0 → ⊥) → (t : Tree) (refs : List Owner) (name : Name) (a : Accepted s 1 7 kind) → readSet s ≡ done t →
-          Builds s xs at vs ys (record { at = u; count = c; no = h .no }) (build-variable-field (typesOf t) refs name (head (typeOf (tree a))) (kindOf (typeOf (tree a))) g)
+    module _ {vs : List ℕ} {h : Held} (z : r .number ≡ 0) (k : (a : Accepted s 1 7 kind) → Kept s vs h (extend-with (head (typeOf (tree a)) .dynamic-params) (entriesOf s us (r .count)))) where
+      pub sized-own-stops : {xs ys : List ℕ} {at u c : ℕ} → (h .number ≡ 0 → ⊥) → (t : Tree) (refs : List Owner) (name : Name) (a : Accepted s 1 7 kind) → readSet s ≡ done t →
+          Builds s xs at vs ys (record { at = u; count = c; number = h .number }) (build-variable-field (typesOf t) refs name (head (typeOf (tree a))) (kindOf (typeOf (tree a))) g)
       sized-own-stops {xs} {ys} {at} {u} {c} y t refs name a e =
           let i = sized-is (typesOf t) refs name a in
-          subst (Builds s xs at vs ys (record { at = u; count = c; no = h .no })) (sym (i .2))
+          subst (Builds s xs at vs ys (record { at = u; count = c; number = h .number })) (sym (i .2))
           (own-stops (build-size-discriminated-union-node (head (typeOf (tree a))) (i .0)) g (b a (i .0) (i .1)) (head (typeOf (tree a)) .dynamic-params) z (k a) (λ n. align-node n (head (typeOf (tree a)) .alignment)) y)
 
-      pub sized-done : {xs ys : List ℕ} {at u : ℕ} {w : TypeHead} → ((a : Accepted s 1 7 kind) → HeadAt a w) → Opened xs at w x₁ p → h .no ≡ 0 → Wrote x₂ at (bytes 4 (r .at - at - 4)) ys u →
+      pub sized-done : {xs ys : List ℕ} {at u : ℕ} {w : TypeHead} → ((a : Accepted s 1 7 kind) → HeadAt a w) → Opened xs at w x₁ p → h .number ≡ 0 → Wrote x₂ at (bytes 4 (r .at - at - 4)) ys u →
           (t : Tree) (refs : List Owner) (name : Name) (a : Accepted s 1 7 kind) → readSet s ≡ done t →
-          Builds s xs at vs ys (record { at = r .at; count = h .count; no = 0 }) (build-variable-field (typesOf t) refs name (head (typeOf (tree a))) (kindOf (typeOf (tree a))) g)
+          Builds s xs at vs ys (record { at = r .at; count = h .count; number = 0 }) (build-variable-field (typesOf t) refs name (head (typeOf (tree a))) (kindOf (typeOf (tree a))) g)
       sized-done {xs} {ys} {at} {w} hd o y c t refs name a e =
           let i = sized-is (typesOf t) refs name a in
-          subst (Builds s xs at vs ys (record { at = r .at; count = h .count; no = 0 })) (sym (i .2))
-          (subst (λ (m : ℕ). Builds s xs at vs ys (record { at = r .at; count = h .count; no = 0 }) ((build-size-discriminated-union-node (head (typeOf (tree a))) (i .0) >>= (λ n. extend-with (head (typeOf (tree a)) .dynamic-params) >>= (λ _. give (align-node n m)))) g)) (sym (hd a .alignment))
+          subst (Builds s xs at vs ys (record { at = r .at; count = h .count; number = 0 })) (sym (i .2))
+          (subst (λ (m : ℕ). Builds s xs at vs ys (record { at = r .at; count = h .count; number = 0 }) ((build-size-discriminated-union-node (head (typeOf (tree a))) (i .0) >>= (λ n. extend-with (head (typeOf (tree a)) .dynamic-params) >>= (λ _. give (align-node n m)))) g)) (sym (hd a .alignment))
           (own-aligned (build-size-discriminated-union-node (head (typeOf (tree a))) (i .0)) g (b a (i .0) (i .1)) (head (typeOf (tree a)) .dynamic-params) z (k a) (w .alignment) y o c))
 
   module _ (name : ℕ) (ek : le2 s (kind + 4) ≡ 5) {o : List ℕ} (eo : o ≡ nameAt s name) (b : (a : Accepted s 1 7 kind) → Builds s x₁ p us x₂ r (build-array-node-with-prefix o (prefixOf 0) (typeOf (tree a)) g)) where
@@ -302,22 +302,22 @@ module _ {s x₁ x₂ us : List ℕ} {p : ℕ} {r : Built} (kind : ℕ) (g : Reg
     unfolding prefixOf
     array-named a = subst (λ (z : Name). Builds s x₁ p us x₂ r (build-array-node-with-prefix z [] (typeOf (tree a)) g)) eo (b a)
 
-    pub array-stops : {xs vs ys : List ℕ} {at u c : ℕ} → (r .no ≡ 0 → ⊥) → (t : Tree) (refs : List Owner) (a : Accepted s 1 7 kind) → readSet s ≡ done t →
-        Builds s xs at vs ys (record { at = u; count = c; no = r .no }) (build-variable-field (typesOf t) refs (nameAt s name) (head (typeOf (tree a))) (kindOf (typeOf (tree a))) g)
+    pub array-stops : {xs vs ys : List ℕ} {at u c : ℕ} → (r .number ≡ 0 → ⊥) → (t : Tree) (refs : List Owner) (a : Accepted s 1 7 kind) → readSet s ≡ done t →
+        Builds s xs at vs ys (record { at = u; count = c; number = r .number }) (build-variable-field (typesOf t) refs (nameAt s name) (head (typeOf (tree a))) (kindOf (typeOf (tree a))) g)
     array-stops {xs} {vs} {ys} {at} {u} {c} z t refs a e =
-        subst (Builds s xs at vs ys (record { at = u; count = c; no = r .no })) (sym (array-is (typesOf t) refs a)) (node-stops (build-array-node-with-prefix (nameAt s name) [] (typeOf (tree a))) g (array-named a) _ z)
+        subst (Builds s xs at vs ys (record { at = u; count = c; number = r .number })) (sym (array-is (typesOf t) refs a)) (node-stops (build-array-node-with-prefix (nameAt s name) [] (typeOf (tree a))) g (array-named a) _ z)
 
-    module _ {vs : List ℕ} {h : Held} (z : r .no ≡ 0) (k : (a : Accepted s 1 7 kind) → Kept s vs h (extend-with (head (typeOf (tree a)) .dynamic-params) (entriesOf s us (r .count)))) where
-      pub array-own-stops : {xs ys : List ℕ} {at u c : ℕ} → (h .no ≡ 0 → ⊥) → (t : Tree) (refs : List Owner) (a : Accepted s 1 7 kind) → readSet s ≡ done t →
-          Builds s xs at vs ys (record { at = u; count = c; no = h .no }) (build-variable-field (typesOf t) refs (nameAt s name) (head (typeOf (tree a))) (kindOf (typeOf (tree a))) g)
+    module _ {vs : List ℕ} {h : Held} (z : r .number ≡ 0) (k : (a : Accepted s 1 7 kind) → Kept s vs h (extend-with (head (typeOf (tree a)) .dynamic-params) (entriesOf s us (r .count)))) where
+      pub array-own-stops : {xs ys : List ℕ} {at u c : ℕ} → (h .number ≡ 0 → ⊥) → (t : Tree) (refs : List Owner) (a : Accepted s 1 7 kind) → readSet s ≡ done t →
+          Builds s xs at vs ys (record { at = u; count = c; number = h .number }) (build-variable-field (typesOf t) refs (nameAt s name) (head (typeOf (tree a))) (kindOf (typeOf (tree a))) g)
       array-own-stops {xs} {ys} {at} {u} {c} y t refs a e =
-          subst (Builds s xs at vs ys (record { at = u; count = c; no = h .no })) (sym (array-is (typesOf t) refs a))
+          subst (Builds s xs at vs ys (record { at = u; count = c; number = h .number })) (sym (array-is (typesOf t) refs a))
           (own-stops (build-array-node-with-prefix (nameAt s name) [] (typeOf (tree a))) g (array-named a) (head (typeOf (tree a)) .dynamic-params) z (k a) (λ n. n) y)
 
-      pub array-done : h .no ≡ 0 → (t : Tree) (refs : List Owner) (a : Accepted s 1 7 kind) → readSet s ≡ done t →
-          Builds s x₁ p vs x₂ (record { at = r .at; count = h .count; no = 0 }) (build-variable-field (typesOf t) refs (nameAt s name) (head (typeOf (tree a))) (kindOf (typeOf (tree a))) g)
+      pub array-done : h .number ≡ 0 → (t : Tree) (refs : List Owner) (a : Accepted s 1 7 kind) → readSet s ≡ done t →
+          Builds s x₁ p vs x₂ (record { at = r .at; count = h .count; number = 0 }) (build-variable-field (typesOf t) refs (nameAt s name) (head (typeOf (tree a))) (kindOf (typeOf (tree a))) g)
       array-done y t refs a e =
-          subst (Builds s x₁ p vs x₂ (record { at = r .at; count = h .count; no = 0 })) (sym (array-is (typesOf t) refs a))
+          subst (Builds s x₁ p vs x₂ (record { at = r .at; count = h .count; number = 0 })) (sym (array-is (typesOf t) refs a))
           (own-plain (build-array-node-with-prefix (nameAt s name) [] (typeOf (tree a))) g (array-named a) (head (typeOf (tree a)) .dynamic-params) z (k a) y)
 
   module _ (ek : le2 s (kind + 4) ≡ 7)
@@ -327,19 +327,19 @@ module _ {s x₁ x₂ us : List ℕ} {p : ℕ} {r : Built} (kind : ℕ) (g : Reg
     unfolding build-variable-field
     call-is types refs n a = let i = target-at refl ek a .is in (_, i, ap (λ (z : ResolvedTypeKind). build-variable-field types refs n (head (typeOf (tree a))) z g) i)
 
-    pub call-stops : {xs vs ys : List ℕ} {at u c : ℕ} → (r .no ≡ 0 → ⊥) → (t : Tree) (refs : List Owner) (name : Name) (a : Accepted s 1 7 kind) → readSet s ≡ done t →
-        Builds s xs at vs ys (record { at = u; count = c; no = r .no }) (build-variable-field (typesOf t) refs name (head (typeOf (tree a))) (kindOf (typeOf (tree a))) g)
+    pub call-stops : {xs vs ys : List ℕ} {at u c : ℕ} → (r .number ≡ 0 → ⊥) → (t : Tree) (refs : List Owner) (name : Name) (a : Accepted s 1 7 kind) → readSet s ≡ done t →
+        Builds s xs at vs ys (record { at = u; count = c; number = r .number }) (build-variable-field (typesOf t) refs name (head (typeOf (tree a))) (kindOf (typeOf (tree a))) g)
     call-stops {xs} {vs} {ys} {at} {u} {c} z t refs name a e =
         let i = call-is (typesOf t) refs name a in
-        subst (Builds s xs at vs ys (record { at = u; count = c; no = r .no })) (sym (i .2)) (node-stops (build-typeref-node (typesOf t) (head (typeOf (tree a))) (i .0)) g (b t a (i .0) e (i .1)) _ z)
+        subst (Builds s xs at vs ys (record { at = u; count = c; number = r .number })) (sym (i .2)) (node-stops (build-typeref-node (typesOf t) (head (typeOf (tree a))) (i .0)) g (b t a (i .0) e (i .1)) _ z)
 
-    pub call-done : {xs ys : List ℕ} {at u : ℕ} {w : TypeHead} → ((a : Accepted s 1 7 kind) → HeadAt a w) → Opened xs at w x₁ p → r .no ≡ 0 → Wrote x₂ at (bytes 4 (r .at - at - 4)) ys u →
+    pub call-done : {xs ys : List ℕ} {at u : ℕ} {w : TypeHead} → ((a : Accepted s 1 7 kind) → HeadAt a w) → Opened xs at w x₁ p → r .number ≡ 0 → Wrote x₂ at (bytes 4 (r .at - at - 4)) ys u →
         (t : Tree) (refs : List Owner) (name : Name) (a : Accepted s 1 7 kind) → readSet s ≡ done t →
-        Builds s xs at us ys (record { at = r .at; count = r .count; no = 0 }) (build-variable-field (typesOf t) refs name (head (typeOf (tree a))) (kindOf (typeOf (tree a))) g)
+        Builds s xs at us ys (record { at = r .at; count = r .count; number = 0 }) (build-variable-field (typesOf t) refs name (head (typeOf (tree a))) (kindOf (typeOf (tree a))) g)
     call-done {xs} {ys} {at} {w} hd o z c t refs name a e =
         let i = call-is (typesOf t) refs name a in
-        subst (Builds s xs at us ys (record { at = r .at; count = r .count; no = 0 })) (sym (i .2))
-        (subst (λ (m : ℕ). Builds s xs at us ys (record { at = r .at; count = r .count; no = 0 }) ((build-typeref-node (typesOf t) (head (typeOf (tree a))) (i .0) >>= (λ n. give (align-node n m))) g)) (sym (hd a .alignment))
+        subst (Builds s xs at us ys (record { at = r .at; count = r .count; number = 0 })) (sym (i .2))
+        (subst (λ (m : ℕ). Builds s xs at us ys (record { at = r .at; count = r .count; number = 0 }) ((build-typeref-node (typesOf t) (head (typeOf (tree a))) (i .0) >>= (λ n. give (align-node n m))) g)) (sym (hd a .alignment))
         (node-aligned (build-typeref-node (typesOf t) (head (typeOf (tree a))) (i .0)) g (b t a (i .0) e (i .1)) (w .alignment) z o c))
 
 -- ---- by the kind, and by the size
@@ -387,13 +387,13 @@ module _ {s : List ℕ} {kind : ℕ} {h : TypeHead} (references name : ℕ) (g :
   field-variable {xs} {us} {ys} {at} {r} v k t b a d = subst (Builds s xs at us ys r) (sym (size-is (typesOf t) (ownersOf (tree b)) a true v)) (k t b a d)
 
   module _ {us : List ℕ} {e : Held} (v : h .variable ≡ false) (k : (a : Accepted s 1 7 kind) → Kept s us e (extend-with (head (typeOf (tree a)) .dynamic-params) g)) where
-    pub field-stops : {xs ys : List ℕ} {at u c : ℕ} → (e .no ≡ 0 → ⊥) → (t : Tree) (b : Accepted s 32 32 references) (a : Accepted s 1 7 kind) → readSet s ≡ done t →
-        Builds s xs at us ys (record { at = u; count = c; no = e .no }) (build-field (typesOf t) (ownersOf (tree b)) (nameAt s name) (head (typeOf (tree a)) .size) (head (typeOf (tree a))) (kindOf (typeOf (tree a))) g)
+    pub field-stops : {xs ys : List ℕ} {at u c : ℕ} → (e .number ≡ 0 → ⊥) → (t : Tree) (b : Accepted s 32 32 references) (a : Accepted s 1 7 kind) → readSet s ≡ done t →
+        Builds s xs at us ys (record { at = u; count = c; number = e .number }) (build-field (typesOf t) (ownersOf (tree b)) (nameAt s name) (head (typeOf (tree a)) .size) (head (typeOf (tree a))) (kindOf (typeOf (tree a))) g)
     unfolding build-field
-    field-stops z t b a d = let w = kept-refused z (k a) in stops (e .no) (size-is (typesOf t) (ownersOf (tree b)) a false v ∙ step-refused (extend-with (head (typeOf (tree a)) .dynamic-params)) _ g (w .0)) (w .1)
+    field-stops z t b a d = let w = kept-refused z (k a) in stops (e .number) (size-is (typesOf t) (ownersOf (tree b)) a false v ∙ step-refused (extend-with (head (typeOf (tree a)) .dynamic-params)) _ g (w .0)) (w .1)
 
-    pub field-done : {xs ys : List ℕ} {at u : ℕ} → e .no ≡ 0 → Wrote xs at (write (nodeTree (const-or-zero (h .size) (h .alignment)))) ys u → (t : Tree) (b : Accepted s 32 32 references) (a : Accepted s 1 7 kind) → readSet s ≡ done t →
-        Builds s xs at us ys (record { at = u; count = e .count; no = 0 }) (build-field (typesOf t) (ownersOf (tree b)) (nameAt s name) (head (typeOf (tree a)) .size) (head (typeOf (tree a))) (kindOf (typeOf (tree a))) g)
+    pub field-done : {xs ys : List ℕ} {at u : ℕ} → e .number ≡ 0 → Wrote xs at (write (nodeTree (const-or-zero (h .size) (h .alignment)))) ys u → (t : Tree) (b : Accepted s 32 32 references) (a : Accepted s 1 7 kind) → readSet s ≡ done t →
+        Builds s xs at us ys (record { at = u; count = e .count; number = 0 }) (build-field (typesOf t) (ownersOf (tree b)) (nameAt s name) (head (typeOf (tree a)) .size) (head (typeOf (tree a))) (kindOf (typeOf (tree a))) g)
     unfolding build-field give
     field-done z w t b a d =
         makes (const-or-zero (h .size) (h .alignment))

@@ -99,19 +99,19 @@ ended-over {o} e f = go o (sym e ∙ f)
 -- ---- the next node
 
 module _ {s xs us ys : List ℕ} {at : ℕ} {r : Run} where
-  ran-stops : {x : Outcome (State × IrNode)} → x ≡ refused (plain (r .no)) → 0 < r .no → Ran s xs at us ys r x
-  ran-stops e l = subst (Ran s xs at us ys r) (sym e) (Ran.not (r .no) refl l)
+  ran-stops : {x : Outcome (State × IrNode)} → x ≡ refused (plain (r .number)) → 0 < r .number → Ran s xs at us ys r x
+  ran-stops e l = subst (Ran s xs at us ys r) (sym e) (Ran.not (r .number) refl l)
 
-  ran-makes : {x : Outcome (State × IrNode)} (l : Listed s 33 33 (r .left) (r .field)) (n : IrNode) → x ≡ done (stateOf (entriesOf s us (r .count)) (fieldsOf (l .got .0)) (r .end) (r .half), n) → r .no ≡ 0 →
+  ran-makes : {x : Outcome (State × IrNode)} (l : Listed s 33 33 (r .left) (r .field)) (n : IrNode) → x ≡ done (stateOf (entriesOf s us (r .count)) (fieldsOf (l .got .0)) (r .end) (r .half), n) → r .number ≡ 0 →
       Wrote xs at (write (nodeTree n)) ys (r .at) → Ran s xs at us ys r x
   ran-makes l n e z w = subst (Ran s xs at us ys r) (sym e) (Ran.ran l n z w)
 
-pub ran-done : {s xs us ys : List ℕ} {at : ℕ} {r : Run} {x : Outcome (State × IrNode)} → r .no ≡ 0 → Ran s xs at us ys r x →
+pub ran-done : {s xs us ys : List ℕ} {at : ℕ} {r : Run} {x : Outcome (State × IrNode)} → r .number ≡ 0 → Ran s xs at us ys r x →
     (l : Listed s 33 33 (r .left) (r .field)) × (n : IrNode) × (x ≡ done (stateOf (entriesOf s us (r .count)) (fieldsOf (l .got .0)) (r .end) (r .half), n)) × Wrote xs at (write (nodeTree n)) ys (r .at)
 ran-done z (Ran.ran l n e w) = (l, n, refl, w)
 ran-done z (Ran.not k e l) = absurd (let z : ⊥ = omega arith in z)
 
-pub ran-refused : {s xs us ys : List ℕ} {at : ℕ} {r : Run} {x : Outcome (State × IrNode)} → (r .no ≡ 0 → ⊥) → Ran s xs at us ys r x → (x ≡ refused (plain (r .no))) × (0 < r .no)
+pub ran-refused : {s xs us ys : List ℕ} {at : ℕ} {r : Run} {x : Outcome (State × IrNode)} → (r .number ≡ 0 → ⊥) → Ran s xs at us ys r x → (x ≡ refused (plain (r .number))) × (0 < r .number)
 ran-refused z (Ran.ran l n e w) = absurd (z e)
 ran-refused z (Ran.not k e l) = (ap (λ (n : ℕ). refused (plain n)) (sym e), omega arith)
 
@@ -182,31 +182,31 @@ module _ {s : List ℕ} {left field : ℕ} {f : FieldParts} (h : 0 < left) (fp :
   -- what the code leaves of it
   module _ {references : ℕ} (g : Registry) (end : ℕ) {v : End} (pe : (a : Accepted s 1 7 (f .kind)) → v ≡ endOf (prefixEnd end (offsetOf (f .placed) (f .offset)) (head (typeOf (tree a)) .size))) where
     pub over-left : {xs us ys : List ℕ} {at u c i j : ℕ} {b : Bool} → v ≡ Over → (t : Tree) (d : Accepted s 32 32 references) (l : Listed s 33 33 left field) → readSet s ≡ done t →
-        Ran s xs at us ys (record { at = u; count = c; field = i; left = j; end = end; half = b; no = 16 }) (next (typesOf t) (ownersOf (tree d)) (stateOf g (fieldsOf (l .got .0)) end true))
+        Ran s xs at us ys (record { at = u; count = c; field = i; left = j; end = end; half = b; number = 16 }) (next (typesOf t) (ownersOf (tree d)) (stateOf g (fieldsOf (l .got .0)) end true))
     over-left e t d l q = ran-stops (node-over (typesOf t) (ownersOf (tree d)) g end pe e l) (omega arith)
 
     module _ {xs us ys : List ℕ} {at n : ℕ} {r : Built} (e : v ≡ At n)
         (b : (t : Tree) (d : Accepted s 32 32 references) (a : Accepted s 1 7 (f .kind)) → readSet s ≡ done t →
         Builds s xs at us ys r (build-field (typesOf t) (ownersOf (tree d)) (nameAt s (field + 6)) (head (typeOf (tree a)) .size) (head (typeOf (tree a))) (kindOf (typeOf (tree a))) g)) where
-      pub node-stopped : {u c i j m : ℕ} {x : Bool} → (r .no ≡ 0 → ⊥) → (t : Tree) (d : Accepted s 32 32 references) (l : Listed s 33 33 left field) → readSet s ≡ done t →
-          Ran s xs at us ys (record { at = u; count = c; field = i; left = j; end = m; half = x; no = r .no }) (next (typesOf t) (ownersOf (tree d)) (stateOf g (fieldsOf (l .got .0)) end true))
+      pub node-stopped : {u c i j m : ℕ} {x : Bool} → (r .number ≡ 0 → ⊥) → (t : Tree) (d : Accepted s 32 32 references) (l : Listed s 33 33 left field) → readSet s ≡ done t →
+          Ran s xs at us ys (record { at = u; count = c; field = i; left = j; end = m; half = x; number = r .number }) (next (typesOf t) (ownersOf (tree d)) (stateOf g (fieldsOf (l .got .0)) end true))
       unfolding _andThen_
       node-stopped z t d l q =
           let w = builds-refused z (b t d (kindAt l) q) in
           ran-stops (node-at (typesOf t) (ownersOf (tree d)) g end pe e l ∙ ap (λ (o : Outcome (IrNode × Registry)). _andThen_ o (nodeOf (typesOf t) (ownersOf (tree d)) g end n (fieldsOf (restAt l .got .0)))) (w .0)) (w .1)
 
-      pub node-left : {u : ℕ} → r .no ≡ 0 → u ≡ le4 s field → (t : Tree) (d : Accepted s 32 32 references) (l : Listed s 33 33 left field) → readSet s ≡ done t →
-          Ran s xs at us ys (record { at = r .at; count = r .count; field = field + 4 + u; left = left - 1; end = n; half = false; no = 0 }) (next (typesOf t) (ownersOf (tree d)) (stateOf g (fieldsOf (l .got .0)) end true))
+      pub node-left : {u : ℕ} → r .number ≡ 0 → u ≡ le4 s field → (t : Tree) (d : Accepted s 32 32 references) (l : Listed s 33 33 left field) → readSet s ≡ done t →
+          Ran s xs at us ys (record { at = r .at; count = r .count; field = field + 4 + u; left = left - 1; end = n; half = false; number = 0 }) (next (typesOf t) (ownersOf (tree d)) (stateOf g (fieldsOf (l .got .0)) end true))
       unfolding _andThen_
       node-left z eu t d l q =
           let w = builds-done z (b t d (kindAt l) q) in
-          subst (λ (k : ℕ). Ran s xs at us ys (record { at = r .at; count = r .count; field = field + 4 + k; left = left - 1; end = n; half = false; no = 0 }) (next (typesOf t) (ownersOf (tree d)) (stateOf g (fieldsOf (l .got .0)) end true))) (sym eu)
+          subst (λ (k : ℕ). Ran s xs at us ys (record { at = r .at; count = r .count; field = field + 4 + k; left = left - 1; end = n; half = false; number = 0 }) (next (typesOf t) (ownersOf (tree d)) (stateOf g (fieldsOf (l .got .0)) end true))) (sym eu)
           (ran-makes (restAt l) (w .0) (node-at (typesOf t) (ownersOf (tree d)) g end pe e l ∙ ap (λ (o : Outcome (IrNode × Registry)). _andThen_ o (nodeOf (typesOf t) (ownersOf (tree d)) g end n (fieldsOf (restAt l .got .0)))) (w .1)) refl (w .2))
 
 -- ---- padding, or the field
 
 pub child-none : {s xs us ys : List ℕ} {at u c i j m references left field : ℕ} {x : Bool} (g : Registry) (end : ℕ) (half : Bool) → left ≡ 0 → (t : Tree) (d : Accepted s 32 32 references) (l : Listed s 33 33 left field) → readSet s ≡ done t →
-    Ran s xs at us ys (record { at = u; count = c; field = i; left = j; end = m; half = x; no = 11 }) (next (typesOf t) (ownersOf (tree d)) (stateOf g (fieldsOf (l .got .0)) end half))
+    Ran s xs at us ys (record { at = u; count = c; field = i; left = j; end = m; half = x; number = 11 }) (next (typesOf t) (ownersOf (tree d)) (stateOf g (fieldsOf (l .got .0)) end half))
 unfolding nextOf fields fieldsIn view
 child-none g end half z t d l q = ran-stops (ap (λ (y : Tree × ℕ). nextOf (typesOf t) (ownersOf (tree d)) (fieldsOf (y .0)) end half g) (none-left l (omega arith))) (omega arith)
 
@@ -223,9 +223,9 @@ module _ {s xs us ys : List ℕ} {at references left field : ℕ} {r : Run} (g :
 
 pub child-pad : {s xs ws ys : List ℕ} {at u n references left field end v : ℕ} {half : Bool} {f : FieldParts} → half ≡ false → 0 < left → ((a : Accepted s 33 33 field) → FieldAt a f) → v ≡ padSize end (offsetOf (f .placed) (f .offset)) → (v ≡ 0 → ⊥) →
     Wrote xs at (write (nodeTree (const-or-zero v 1))) ys u → (t : Tree) (d : Accepted s 32 32 references) (l : Listed s 33 33 left field) → readSet s ≡ done t →
-    Ran s xs at ws ys (record { at = u; count = n; field = field; left = left; end = end; half = true; no = 0 }) (next (typesOf t) (ownersOf (tree d)) (stateOf (entriesOf s ws n) (fieldsOf (l .got .0)) end half))
+    Ran s xs at ws ys (record { at = u; count = n; field = field; left = left; end = end; half = true; number = 0 }) (next (typesOf t) (ownersOf (tree d)) (stateOf (entriesOf s ws n) (fieldsOf (l .got .0)) end half))
 child-pad {s} {xs} {ws} {ys} {at} {u} {n} {left} {field} {end} {v} e h fp ev z w t d l q =
-    subst (λ (b : Bool). Ran s xs at ws ys (record { at = u; count = n; field = field; left = left; end = end; half = true; no = 0 }) (next (typesOf t) (ownersOf (tree d)) (stateOf (entriesOf s ws n) (fieldsOf (l .got .0)) end b))) (sym e)
+    subst (λ (b : Bool). Ran s xs at ws ys (record { at = u; count = n; field = field; left = left; end = end; half = true; number = 0 }) (next (typesOf t) (ownersOf (tree d)) (stateOf (entriesOf s ws n) (fieldsOf (l .got .0)) end b))) (sym e)
     (ran-makes l (const-or-zero v 1) (next-pad h fp (typesOf t) (ownersOf (tree d)) (entriesOf s ws n) end ev z l) refl w)
 
 -- ---- sums
@@ -241,12 +241,12 @@ pub sum-one : {s xs us ys : List ℕ} {at k : ℕ} {r : Run} (nx : State → Out
 sum-one {s} {xs} {us} {ys} {at} {r} nx st z g = subst (Ran s xs at us ys r) (sym (ap (λ (k : ℕ). summed nx k st) z ∙ summed-one nx st)) g
 
 module _ {s x₁ x₂ us : List ℕ} {k p : ℕ} {a : Run} (nx : State → Outcome (State × IrNode)) (st : State) (z₀ : k ≡ 0 → ⊥) (z₁ : k ≡ 1 → ⊥) (g : Ran s x₁ p us x₂ a (summed nx (k - 1) st)) where
-  pub sum-stops : {xs vs ys : List ℕ} {at : ℕ} → (a .no ≡ 0 → ⊥) → Ran s xs at vs ys a (summed nx k st)
+  pub sum-stops : {xs vs ys : List ℕ} {at : ℕ} → (a .number ≡ 0 → ⊥) → Ran s xs at vs ys a (summed nx k st)
   unfolding _andThen_
   sum-stops z = let d = ran-refused z g in ran-stops (summed-at nx k st z₀ z₁ ∙ ap (λ (o : Outcome (State × IrNode)). _andThen_ o (more nx)) (d .0)) (d .1)
 
   -- the sum of the first, then the last
-  module _ {x₃ vs : List ℕ} {r : Run} (y : a .no ≡ 0) (f : (l : Listed s 33 33 (a .left) (a .field)) → Ran s x₂ (a .at) vs x₃ r (nx (stateOf (entriesOf s us (a .count)) (fieldsOf (l .got .0)) (a .end) (a .half)))) where
+  module _ {x₃ vs : List ℕ} {r : Run} (y : a .number ≡ 0) (f : (l : Listed s 33 33 (a .left) (a .field)) → Ran s x₂ (a .at) vs x₃ r (nx (stateOf (entriesOf s us (a .count)) (fieldsOf (l .got .0)) (a .end) (a .half)))) where
     sum-last : (n : IrNode) (l : Listed s 33 33 (a .left) (a .field)) → summed nx (k - 1) st ≡ done (stateOf (entriesOf s us (a .count)) (fieldsOf (l .got .0)) (a .end) (a .half), n) → {o : Outcome (State × IrNode)} →
         nx (stateOf (entriesOf s us (a .count)) (fieldsOf (l .got .0)) (a .end) (a .half)) ≡ o →
         summed nx k st ≡ _andThen_ o (plus (stateOf (entriesOf s us (a .count)) (fieldsOf (l .got .0)) (a .end) (a .half), n))
@@ -255,14 +255,14 @@ module _ {s x₁ x₂ us : List ℕ} {k p : ℕ} {a : Run} (nx : State → Outco
         summed-at nx k st z₀ z₁ ∙ ap (λ (o : Outcome (State × IrNode)). _andThen_ o (more nx)) e
         ∙ ap (λ (o : Outcome (State × IrNode)). _andThen_ o (plus (stateOf (entriesOf s us (a .count)) (fieldsOf (l .got .0)) (a .end) (a .half), n))) i
 
-    pub sum-stops-last : {xs ws ys : List ℕ} {at : ℕ} → (r .no ≡ 0 → ⊥) → Ran s xs at ws ys r (summed nx k st)
+    pub sum-stops-last : {xs ws ys : List ℕ} {at : ℕ} → (r .number ≡ 0 → ⊥) → Ran s xs at ws ys r (summed nx k st)
     unfolding _andThen_
     sum-stops-last z =
         let d = ran-done y g in
         let o = ran-refused z (f (d .0)) in
         ran-stops (sum-last (d .1) (d .0) (d .2) (o .0)) (o .1)
 
-    pub sum-done : {xs ys : List ℕ} {at q : ℕ} → Wrote xs at (nodeStart 134 1) x₁ p → r .no ≡ 0 → Wrote x₃ at (bytes 4 (r .at - at - 4)) ys q →
+    pub sum-done : {xs ys : List ℕ} {at q : ℕ} → Wrote xs at (nodeStart 134 1) x₁ p → r .number ≡ 0 → Wrote x₃ at (bytes 4 (r .at - at - 4)) ys q →
         Ran s xs at vs ys r (summed nx k st)
     unfolding _andThen_
     sum-done w z c =
@@ -344,7 +344,7 @@ module _ {s : List ℕ} {kind k : ℕ} {h : TypeHead} {f : ListParts} (g : Regis
 
   -- there is no node
   pub struct-none : {xs us ys : List ℕ} {at u c : ℕ} → k ≡ 0 → (t : Tree) (a : Accepted s 1 7 kind) (fs : Fields) → readSet s ≡ done t → kindOf (typeOf (tree a)) ≡ ResolvedTypeKind.Struct fs →
-      Builds s xs at us ys (record { at = u; count = c; no = 11 }) (build-variable-struct (typesOf t) (head (typeOf (tree a))) fs g)
+      Builds s xs at us ys (record { at = u; count = c; number = 11 }) (build-variable-struct (typesOf t) (head (typeOf (tree a))) fs g)
   unfolding summed upTo combine _andThen_
   struct-none z t a fs q e =
       stops 11
@@ -354,16 +354,16 @@ module _ {s : List ℕ} {kind k : ℕ} {h : TypeHead} {f : ListParts} (g : Regis
   module _ {us x₁ x₂ : List ℕ} {p : ℕ} {r : Run}
       (sm : (t : Tree) (d : Accepted s 32 32 (h .references)) (l : Listed s 33 33 (f .count) (f .first)) → readSet s ≡ done t →
       Ran s x₁ p us x₂ r (summed (next (typesOf t) (ownersOf (tree d))) k (stateOf g (fieldsOf (l .got .0)) 0 false))) where
-    pub struct-stops : {xs vs ys : List ℕ} {at u c : ℕ} → (r .no ≡ 0 → ⊥) → (t : Tree) (a : Accepted s 1 7 kind) (fs : Fields) → readSet s ≡ done t → kindOf (typeOf (tree a)) ≡ ResolvedTypeKind.Struct fs →
-        Builds s xs at vs ys (record { at = u; count = c; no = r .no }) (build-variable-struct (typesOf t) (head (typeOf (tree a))) fs g)
+    pub struct-stops : {xs vs ys : List ℕ} {at u c : ℕ} → (r .number ≡ 0 → ⊥) → (t : Tree) (a : Accepted s 1 7 kind) (fs : Fields) → readSet s ≡ done t → kindOf (typeOf (tree a)) ≡ ResolvedTypeKind.Struct fs →
+        Builds s xs at vs ys (record { at = u; count = c; number = r .number }) (build-variable-struct (typesOf t) (head (typeOf (tree a))) fs g)
     unfolding _andThen_
     struct-stops z t a fs q e =
         let d = ran-refused z (sm t (hd a .references) (fl a .list) q) in
-        stops (r .no) (sum-is (typesOf t) a e ∙ ap (λ (o : Outcome (State × IrNode)). _andThen_ o (up (h .alignment))) (d .0)) (d .1)
+        stops (r .number) (sum-is (typesOf t) a e ∙ ap (λ (o : Outcome (State × IrNode)). _andThen_ o (up (h .alignment))) (d .0)) (d .1)
 
-    pub struct-done : {xs ys : List ℕ} {at q : ℕ} → Wrote xs at (nodeStart 131 (h .alignment) ++ write (num 8 (h .alignment))) x₁ p → r .no ≡ 0 → Wrote x₂ at (bytes 4 (r .at - at - 4)) ys q →
+    pub struct-done : {xs ys : List ℕ} {at q : ℕ} → Wrote xs at (nodeStart 131 (h .alignment) ++ write (num 8 (h .alignment))) x₁ p → r .number ≡ 0 → Wrote x₂ at (bytes 4 (r .at - at - 4)) ys q →
         (t : Tree) (a : Accepted s 1 7 kind) (fs : Fields) → readSet s ≡ done t → kindOf (typeOf (tree a)) ≡ ResolvedTypeKind.Struct fs →
-        Builds s xs at us ys (record { at = r .at; count = r .count; no = 0 }) (build-variable-struct (typesOf t) (head (typeOf (tree a))) fs g)
+        Builds s xs at us ys (record { at = r .at; count = r .count; number = 0 }) (build-variable-struct (typesOf t) (head (typeOf (tree a))) fs g)
     unfolding _andThen_
     struct-done w z c t a fs q e =
         let d = ran-done z (sm t (hd a .references) (fl a .list) q) in

@@ -73,9 +73,9 @@ pub record ReadySum (s ws : List ℕ) (n references field left k at : ℕ) : Typ
 -- The node's bytes in the output ys and the next cursor, the next state in the words us, at a list of fields; or the
 -- refusal.
 pub data Ran (s xs : List ℕ) (at : ℕ) (us ys : List ℕ) (r : Run) : Outcome (State × IrNode) → Type 0 where
-  ran : (l : Listed s 33 33 (r .left) (r .field)) (n : IrNode) → r .no ≡ 0 → Wrote xs at (write (nodeTree n)) ys (r .at) →
+  ran : (l : Listed s 33 33 (r .left) (r .field)) (n : IrNode) → r .number ≡ 0 → Wrote xs at (write (nodeTree n)) ys (r .at) →
       Ran s xs at us ys r (done (stateOf (entriesOf s us (r .count)) (fieldsOf (l .got .0)) (r .end) (r .half), n))
-  not : (k : ℕ) → r .no ≡ k → 0 < k → Ran s xs at us ys r (refused (plain k))
+  not : (k : ℕ) → r .number ≡ k → 0 < k → Ran s xs at us ys r (refused (plain k))
 
 -- whatever is built: the cursor, the registry's count, and accepted fields behind
 pub record Goes (s : List ℕ) (at room : ℕ) (r : Run) : Type 0 where

@@ -39,7 +39,7 @@ pub struct Run {
     pub left: usize,
     pub end: u64,
     pub half: bool,
-    pub no: u64,
+    pub number: u64,
 }
 
 // A type's own references.
@@ -69,26 +69,26 @@ fn put_sum(
 {
     let owner = resolved_parts::name_at(s, name);
     let r = builder_sums::sum_refs(s, words, n, owner, false, paths, out, at);
-    if r.no != 0 {
+    if r.number != 0 {
         return Built {
             at,
             count: n,
-            no: r.no,
+            number: r.number,
         };
     }
     let count = r.count;
     let h = enter_own(s, words, count, kind);
-    if h.no != 0 {
+    if h.number != 0 {
         return Built {
             at,
             count: n,
-            no: h.no,
+            number: h.number,
         };
     }
     Built {
         at: r.at,
         count: h.count,
-        no: 0,
+        number: 0,
     }
 }
 
@@ -113,7 +113,7 @@ fn field_refs(
         resolved_parts::Paths::Missing => Built {
             at,
             count: n,
-            no: 11,
+            number: 11,
         },
     }
 }
@@ -137,11 +137,11 @@ fn put_payload(
     let alignment = resolved_parts::type_head(s, kind).alignment;
     let p = builder_nodes::open_align(out, at, alignment);
     let r = builder_sums::sum_refs(s, words, n, owner, true, paths, out, p);
-    if r.no != 0 {
+    if r.number != 0 {
         return Built {
             at,
             count: n,
-            no: r.no,
+            number: r.number,
         };
     }
     let end = r.at;
@@ -149,7 +149,7 @@ fn put_payload(
     Built {
         at: end,
         count: r.count,
-        no: 0,
+        number: 0,
     }
 }
 
@@ -169,20 +169,20 @@ fn field_switch(
     let alignment = resolved_parts::type_head(s, kind).alignment;
     let p = builder_nodes::open_align(out, at, alignment);
     let r = builder_switches::build_enum_node(s, words, n, kind, out, p);
-    if r.no != 0 {
+    if r.number != 0 {
         return Built {
             at,
             count: n,
-            no: r.no,
+            number: r.number,
         };
     }
     let count = r.count;
     let h = enter_own(s, words, count, kind);
-    if h.no != 0 {
+    if h.number != 0 {
         return Built {
             at,
             count: n,
-            no: h.no,
+            number: h.number,
         };
     }
     let end = r.at;
@@ -190,7 +190,7 @@ fn field_switch(
     Built {
         at: end,
         count: h.count,
-        no: 0,
+        number: 0,
     }
 }
 
@@ -237,26 +237,26 @@ fn field_array(
 {
     let owner = resolved_parts::name_at(s, name);
     let r = builder_arrays::build_array_node_with_prefix(s, words, n, owner, 0, kind, out, at);
-    if r.no != 0 {
+    if r.number != 0 {
         return Built {
             at,
             count: n,
-            no: r.no,
+            number: r.number,
         };
     }
     let count = r.count;
     let h = enter_own(s, words, count, kind);
-    if h.no != 0 {
+    if h.number != 0 {
         return Built {
             at,
             count: n,
-            no: h.no,
+            number: h.number,
         };
     }
     Built {
         at: r.at,
         count: h.count,
-        no: 0,
+        number: 0,
     }
 }
 
@@ -276,20 +276,20 @@ fn field_sized(
     let alignment = resolved_parts::type_head(s, kind).alignment;
     let p = builder_nodes::open_align(out, at, alignment);
     let r = builder_switches::build_size_discriminated_union_node(s, words, n, kind, out, p);
-    if r.no != 0 {
+    if r.number != 0 {
         return Built {
             at,
             count: n,
-            no: r.no,
+            number: r.number,
         };
     }
     let count = r.count;
     let h = enter_own(s, words, count, kind);
-    if h.no != 0 {
+    if h.number != 0 {
         return Built {
             at,
             count: n,
-            no: h.no,
+            number: h.number,
         };
     }
     let end = r.at;
@@ -297,7 +297,7 @@ fn field_sized(
     Built {
         at: end,
         count: h.count,
-        no: 0,
+        number: 0,
     }
 }
 
@@ -317,11 +317,11 @@ fn field_call(
     let alignment = resolved_parts::type_head(s, kind).alignment;
     let p = builder_nodes::open_align(out, at, alignment);
     let r = builder_calls::build_typeref_node(s, words, n, kind, out, p);
-    if r.no != 0 {
+    if r.number != 0 {
         return Built {
             at,
             count: n,
-            no: r.no,
+            number: r.number,
         };
     }
     let end = r.at;
@@ -329,7 +329,7 @@ fn field_call(
     Built {
         at: end,
         count: r.count,
-        no: 0,
+        number: 0,
     }
 }
 
@@ -384,18 +384,18 @@ fn build_field(
         return variable_field(s, words, n, references, name, kind, out, at);
     }
     let h = enter_own(s, words, n, kind);
-    if h.no != 0 {
+    if h.number != 0 {
         return Built {
             at,
             count: n,
-            no: h.no,
+            number: h.number,
         };
     }
     let u = builder_nodes::put_const_or_zero(out, at, t.size, t.alignment);
     Built {
         at: u,
         count: h.count,
-        no: 0,
+        number: 0,
     }
 }
 
@@ -452,7 +452,7 @@ fn field_node(
     match prefix_after(s, kind, f.placed, f.offset, end) {
         End::At(after) => {
             let r = build_field(s, words, n, references, field + 6, kind, out, at);
-            if r.no != 0 {
+            if r.number != 0 {
                 return Run {
                     at,
                     count: n,
@@ -460,7 +460,7 @@ fn field_node(
                     left,
                     end,
                     half: true,
-                    no: r.no,
+                    number: r.number,
                 };
             }
             Run {
@@ -470,7 +470,7 @@ fn field_node(
                 left: left - 1,
                 end: after,
                 half: false,
-                no: 0,
+                number: 0,
             }
         }
         End::Over => Run {
@@ -480,7 +480,7 @@ fn field_node(
             left,
             end,
             half: true,
-            no: 16,
+            number: 16,
         },
     }
 }
@@ -510,7 +510,7 @@ fn child(
             left,
             end,
             half,
-            no: 11,
+            number: 11,
         };
     }
     if half {
@@ -529,7 +529,7 @@ fn child(
         left,
         end,
         half: true,
-        no: 0,
+        number: 0,
     }
 }
 
@@ -568,7 +568,7 @@ fn sum(
         out,
         p,
     );
-    if a.no != 0 {
+    if a.number != 0 {
         return a;
     }
     let r = child(
@@ -583,7 +583,7 @@ fn sum(
         out,
         a.at,
     );
-    if r.no != 0 {
+    if r.number != 0 {
         return r;
     }
     let to = r.at;
@@ -649,16 +649,16 @@ pub fn build_variable_struct(
         return Built {
             at,
             count: n,
-            no: 11,
+            number: 11,
         };
     }
     let p = builder_nodes::open_align(out, at, h.alignment);
     let r = sum(s, words, n, references, field, left, 0, false, k, out, p);
-    if r.no != 0 {
+    if r.number != 0 {
         return Built {
             at,
             count: n,
-            no: r.no,
+            number: r.number,
         };
     }
     let end = r.at;
@@ -666,6 +666,6 @@ pub fn build_variable_struct(
     Built {
         at: end,
         count: r.count,
-        no: 0,
+        number: 0,
     }
 }

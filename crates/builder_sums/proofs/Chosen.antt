@@ -8,11 +8,11 @@ use native.Mathlib.Omega.{arith}
 use lib.ListN.{length, drop, getD, length-drop}
 use lib.Seq.{length-take-le}
 use lib.Dec.{ltb}
-use borrow.Author.Tests.{leb-true, lt-ltb, le-ltb}
+use borrow.Author.Tests.{leb-true, lt-ltb}
 use Rattle.blocks.specs.Bytes.{le2, nameAt}
-use Rattle.blocks.specs.Name.{Name, isText, text}
+use Rattle.blocks.specs.Name.{Name, isText, ascii}
 use Rattle.blocks.proofs.Name.{and-left}
-use Rattle.blocks.specs.Tree.{Tree, entries}
+use Rattle.blocks.specs.Tree.{entries}
 use Rattle.accepted.specs.Accepted.{Item, Entries}
 use Rattle.accepted.proofs.Laws.{none-left, name-entry}
 use Rattle.builder.specs.Names.{ends-with}
@@ -73,7 +73,7 @@ pub name-in : {s : List ℕ} {left q : ℕ} → 0 < left → Entries s Item.name
 name-in h l = named l h .inside
 
 -- what the test of a path tells
-pub weighs : {only b : Bool} {n m : Name} → only ≡ true → m ≡ n → b ≡ ends-with (text ".payload_size") m → (w : ℕ) → w ≡ cond b 1 0 → w ≡ cond (taken only n) 1 0
+pub weighs : {only b : Bool} {n m : Name} → only ≡ true → m ≡ n → b ≡ ends-with (ascii ".payload_size") m → (w : ℕ) → w ≡ cond b 1 0 → w ≡ cond (taken only n) 1 0
 weighs {n} o e f w h = rw o (h ∙ rw (f, e) refl)
 
 -- ---- counting

@@ -8,20 +8,19 @@ use native.Mathlib.Numerals.{sub-one}
 use native.Mathlib.Omega.{arith}
 use lib.ListN.{length, take, getD, length-append}
 use lib.Seq.{take-suc, take-length}
-use lib.Dec.{leb}
 use borrow.Author.Tests.{le-leb, lt-leb}
 use Rattle.errors.specs.Refusal.{Outcome, done, refused, plain, MissingDynamicRefs, MissingParameter}
 use Rattle.errors.specs.Refusal.{_>>=_ as _andThen_}
 use Rattle.blocks.specs.Bytes.{bytes}
-use Rattle.blocks.specs.Name.{Name, text}
+use Rattle.blocks.specs.Name.{Name}
 use Rattle.blocks.specs.Tree.{nil, cons}
 use Rattle.blocks.specs.Write.{write}
 use Rattle.ir.specs.Ir.{IrNode, BinaryOp, default-alignment, default-metadata, unplaced}
 use Rattle.ir.specs.Layout.{nodeTree}
-use Rattle.builder.specs.Registry.{Registry, Build, _>>=_, give, refuse, require, need, reads, short, lookup-name}
+use Rattle.builder.specs.Registry.{Registry, _>>=_, give, refuse, require, need, reads, short, lookup-name}
 use Rattle.builder.specs.Nodes.{refText, build-field-ref-nodes, add-all, combine-checked-add, sum-refs}
 use Rattle.wire.specs.Poke.{Wrote}
-use Rattle.wire.proofs.Laws.{both, parts, no-parts}
+use Rattle.wire.proofs.Laws.{parts, no-parts}
 use Rattle.resolved_parts.specs.Types.{PathsAt, textsOf}
 use Rattle.builder_registry.specs.declared.Found.{Found}
 use Rattle.builder_registry.specs.declared.Found.the-variants.{At, Missing}
@@ -151,12 +150,12 @@ module _ (owner : Name) (g : Registry) where
 
 -- ---- what a builder that leaves the registry tells
 
-built-done : {s xs us ys : List ℕ} {at : ℕ} {r : Built} (g : Registry) (o : Outcome IrNode) → r .no ≡ 0 → Builds s xs at us ys r (leaving g o) →
+built-done : {s xs us ys : List ℕ} {at : ℕ} {r : Built} (g : Registry) (o : Outcome IrNode) → r .number ≡ 0 → Builds s xs at us ys r (leaving g o) →
     (n : IrNode) × (o ≡ done n) × Wrote xs at (write (nodeTree n)) ys (r .at)
 built-done g (done n) z (Builds.made x e f w) = (n, refl, w)
 built-done g (refused q) z (Builds.not k e h) = absurd (omega arith)
 
-built-refused : {s xs us ys : List ℕ} {at : ℕ} {r : Built} (g : Registry) (o : Outcome IrNode) → (r .no ≡ 0 → ⊥) → Builds s xs at us ys r (leaving g o) → (0 < r .no) × (o ≡ refused (plain (r .no)))
+built-refused : {s xs us ys : List ℕ} {at : ℕ} {r : Built} (g : Registry) (o : Outcome IrNode) → (r .number ≡ 0 → ⊥) → Builds s xs at us ys r (leaving g o) → (0 < r .number) × (o ≡ refused (plain (r .number)))
 built-refused g (done n) z (Builds.made x e f w) = absurd (z e)
 built-refused g (refused q) z (Builds.not k e h) = rw e (h, refl)
 
@@ -186,14 +185,14 @@ module _ {s ws : List ℕ} {n : ℕ} {f : Found} (owner : Name) {path name : Nam
         (subst (λ (z : Outcome (IrNode × Registry)). Builds s xs at ws ys r z) (sym (ref-is owner (entriesOf s ws n) path ∙ ap (λ (z : Option Name). leaving (entriesOf s ws n) (refIf owner path z (short (refText owner path)))) h ∙ ap (λ (z : Bool). leaving (entriesOf s ws n) (refIf owner path o z)) k)) c)
 
   module _ {xs ys : List ℕ} {at : ℕ} where
-    pub ref-missing : f ≡ Missing → Builds s xs at ws ys (record { at = at; count = n; no = 12 }) (build-ref owner name (entriesOf s ws n))
+    pub ref-missing : f ≡ Missing → Builds s xs at ws ys (record { at = at; count = n; number = 12 }) (build-ref owner name (entriesOf s ws n))
     ref-missing m = leads (looked-none m l) refl (Builds.not 12 refl (omega arith))
 
-    pub ref-long : {i : ℕ} → f ≡ At i → 255 < length owner + (1 + length path) → Builds s xs at ws ys (record { at = at; count = n; no = 17 }) (build-ref owner name (entriesOf s ws n))
+    pub ref-long : {i : ℕ} → f ≡ At i → 255 < length owner + (1 + length path) → Builds s xs at ws ys (record { at = at; count = n; number = 17 }) (build-ref owner name (entriesOf s ws n))
     ref-long m h = leads (looked-at m l .1) (lt-leb (length (refText owner path)) 255 (omega (arith, ref-length owner path))) (Builds.not 17 refl (omega arith))
 
     pub ref-done : {i w r : ℕ} → f ≡ At i → length owner + (1 + length path) ≤ 255 → w ≡ getD ws i 0 → Wrote xs at (write (nodeTree (refNode owner path (entryName s w)))) ys r →
-        Builds s xs at ws ys (record { at = r; count = n; no = 0 }) (build-ref owner name (entriesOf s ws n))
+        Builds s xs at ws ys (record { at = r; count = n; number = 0 }) (build-ref owner name (entriesOf s ws n))
     ref-done {i} {w} {r} m h d v =
         leads (looked-at m l .1) (le-leb (length (refText owner path)) 255 (omega (arith, ref-length owner path)))
         (Builds.made (refNode owner path (entryName s (getD ws i 0)), entriesOf s ws n) refl refl (subst (λ (z : ℕ). Wrote xs at (write (nodeTree (refNode owner path (entryName s z)))) ys r) d v))
@@ -225,21 +224,21 @@ module _ {s xs ws x₁ x₂ : List ℕ} {at k p : ℕ} {l : Built} (owner : Name
   front : Builds s x₁ p ws x₂ l (leaving (entriesOf s ws n) (before owner cs k (entriesOf s ws n)))
   front = rw (← sum-is owner (entriesOf s ws n) (take (k - 1) cs)) b
 
-  pub sum-stops : {ys : List ℕ} → (l .no ≡ 0 → ⊥) → Builds s xs at ws ys (record { at = at; count = n; no = l .no }) (sum-refs owner (take k cs) (entriesOf s ws n))
+  pub sum-stops : {ys : List ℕ} → (l .number ≡ 0 → ⊥) → Builds s xs at ws ys (record { at = at; count = n; number = l .number }) (sum-refs owner (take k cs) (entriesOf s ws n))
   sum-stops z = let d = built-refused (entriesOf s ws n) (before owner cs k (entriesOf s ws n)) z front in
-      rw (whole owner cs k (entriesOf s ws n) h h₁ h₂, d .1) (Builds.not (l .no) refl (d .0))
+      rw (whole owner cs k (entriesOf s ws n) h h₁ h₂, d .1) (Builds.not (l .number) refl (d .0))
 
-  module _ {x₃ : List ℕ} {m : Built} (z : l .no ≡ 0) (v : Builds s x₂ (l .at) ws x₃ m (build-ref owner (getD cs (k - 1) []) (entriesOf s ws n))) where
+  module _ {x₃ : List ℕ} {m : Built} (z : l .number ≡ 0) (v : Builds s x₂ (l .at) ws x₃ m (build-ref owner (getD cs (k - 1) []) (entriesOf s ws n))) where
     back : Builds s x₂ (l .at) ws x₃ m (leaving (entriesOf s ws n) (last owner cs k (entriesOf s ws n)))
     back = rw (← ref-is owner (entriesOf s ws n) (getD cs (k - 1) [])) v
 
-    pub sum-stops-last : {ys : List ℕ} → (m .no ≡ 0 → ⊥) → Builds s xs at ws ys (record { at = at; count = n; no = m .no }) (sum-refs owner (take k cs) (entriesOf s ws n))
+    pub sum-stops-last : {ys : List ℕ} → (m .number ≡ 0 → ⊥) → Builds s xs at ws ys (record { at = at; count = n; number = m .number }) (sum-refs owner (take k cs) (entriesOf s ws n))
     sum-stops-last y =
         let d = built-done (entriesOf s ws n) (before owner cs k (entriesOf s ws n)) z front in
         let q = built-refused (entriesOf s ws n) (last owner cs k (entriesOf s ws n)) y back in
-        rw (whole owner cs k (entriesOf s ws n) h h₁ h₂, d .1, q .1) (Builds.not (m .no) refl (q .0))
+        rw (whole owner cs k (entriesOf s ws n) h h₁ h₂, d .1, q .1) (Builds.not (m .number) refl (q .0))
 
-    pub sum-done : {ys : List ℕ} {q : ℕ} → m .no ≡ 0 → Wrote x₃ at (bytes 4 (m .at - at - 4)) ys q → Builds s xs at ws ys (record { at = m .at; count = n; no = 0 }) (sum-refs owner (take k cs) (entriesOf s ws n))
+    pub sum-done : {ys : List ℕ} {q : ℕ} → m .number ≡ 0 → Wrote x₃ at (bytes 4 (m .at - at - 4)) ys q → Builds s xs at ws ys (record { at = m .at; count = n; number = 0 }) (sum-refs owner (take k cs) (entriesOf s ws n))
     unfolding nodeTree
     sum-done y u =
         let d = built-done (entriesOf s ws n) (before owner cs k (entriesOf s ws n)) z front in
@@ -250,23 +249,23 @@ module _ {s xs ws x₁ x₂ : List ℕ} {at k p : ℕ} {l : Built} (owner : Name
 
 -- ---- where the cursor goes
 
-pub stopped : {at room n no : ℕ} → n ≤ 512 → Within at room (record { at = at; count = n; no = no })
+pub stopped : {at room n no : ℕ} → n ≤ 512 → Within at room (record { at = at; count = n; number = no })
 stopped h = record { low = omega arith; high = omega arith; count = h }
 
 pub widened : {at room more : ℕ} {r : Built} → room ≤ more → Within at room r → Within at more r
 widened h w = record { low = w .low; high = omega (arith, w .high); count = w .count }
 
-pub sum-within : {at k p n : ℕ} {l m : Built} → 0 < k → n ≤ 512 → p ≡ at + 15 → Within p (1115 * (k - 1)) l → Within (l .at) 1100 m → Within at (1115 * k) (record { at = m .at; count = n; no = 0 })
+pub sum-within : {at k p n : ℕ} {l m : Built} → 0 < k → n ≤ 512 → p ≡ at + 15 → Within p (1115 * (k - 1)) l → Within (l .at) 1100 m → Within at (1115 * k) (record { at = m .at; count = n; number = 0 })
 sum-within h e f a b = record { low = omega (arith, a .low, b .low); high = omega (arith, a .high, b .high); count = e }
 
 -- ---- all the chosen paths
 
 pub sum-none : {s xs us ys : List ℕ} {at n k q : ℕ} (owner : Name) (only : Bool) (g : Registry) → k ≡ length (picks s only q) → k ≡ 0 → (p : PathsAt s q) →
-    Builds s xs at us ys (record { at = at; count = n; no = 11 }) (sum-refs owner (chosen only (textsOf (p .list .got .0))) g)
+    Builds s xs at us ys (record { at = at; count = n; number = 11 }) (sum-refs owner (chosen only (textsOf (p .list .got .0))) g)
 unfolding refs
 sum-none {s} {xs} {us} {ys} {at} {n} {q} owner only g e z p = rw (picks-are only p) (go (picks s only q) (omega arith))
   where
-    go : (ps : List Name) → length ps ≡ 0 → Builds s xs at us ys (record { at = at; count = n; no = 11 }) (sum-refs owner ps g)
+    go : (ps : List Name) → length ps ≡ 0 → Builds s xs at us ys (record { at = at; count = n; number = 11 }) (sum-refs owner ps g)
     go [] h = rw (sum-is owner g []) (Builds.not 11 refl (omega arith))
     go (x ∷ ps) h = absurd (omega arith)
 

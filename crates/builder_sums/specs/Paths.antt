@@ -6,7 +6,7 @@ use mathlib.Core.Option.{some}
 use lib.ListN.{length}
 use Rattle.errors.specs.Refusal.{MissingParameter}
 use Rattle.blocks.specs.Bytes.{le2, nameAt}
-use Rattle.blocks.specs.Name.{Name, text}
+use Rattle.blocks.specs.Name.{Name, ascii}
 use Rattle.ir.specs.Ir.{IrNode, default-alignment, unplaced}
 use Rattle.builder.specs.Names.{ends-with}
 use Rattle.builder.specs.Registry.{Build, _>>=_, give, require, need, reads, short, lookup-name}
@@ -22,7 +22,7 @@ namesAt s (suc n) at = nameAt s at ∷ namesAt s n (at + 2 + le2 s at)
 
 -- whether a path is chosen
 abbrev pub taken : Bool → Name → Bool
-taken true n = ends-with (text ".payload_size") n
+taken true n = ends-with (ascii ".payload_size") n
 taken false n = true
 
 -- the chosen paths of the list whose count stands at q

@@ -96,20 +96,20 @@ fn put_ref(
                 return Built {
                     at,
                     count: n,
-                    no: 17,
+                    number: 17,
                 };
             }
             let r = builder_nodes::put_size_ref(s, words[e], owner, path, out, at);
             Built {
                 at: r,
                 count: n,
-                no: 0,
+                number: 0,
             }
         }
         Found::Missing => Built {
             at,
             count: n,
-            no: 12,
+            number: 12,
         },
     }
 }
@@ -135,26 +135,26 @@ fn put_sum(
     }
     let p = builder_nodes::open_add(out, at);
     let l = put_sum(s, words, n, owner, only, paths, k - 1, out, p);
-    if l.no != 0 {
+    if l.number != 0 {
         return Built {
             at,
             count: n,
-            no: l.no,
+            number: l.number,
         };
     }
     let m = put_ref(s, words, n, owner, only, paths, k - 1, out, l.at);
-    if m.no != 0 {
+    if m.number != 0 {
         return Built {
             at,
             count: n,
-            no: m.no,
+            number: m.number,
         };
     }
     wire::close_block(out, at, m.at);
     Built {
         at: m.at,
         count: n,
-        no: 0,
+        number: 0,
     }
 }
 
@@ -178,7 +178,7 @@ pub fn sum_refs(
         return Built {
             at,
             count: n,
-            no: 11,
+            number: 11,
         };
     }
     put_sum(s, words, n, owner, only, paths, k, out, at)

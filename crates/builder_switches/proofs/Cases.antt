@@ -165,11 +165,11 @@ nodeOf {s} a q x g = build-alternative (ownersOf (tree a)) (nameAt s q) (sized (
 
 module _ {s xs ws : List ℕ} {at references : ℕ} (n q : ℕ) (x : Choice) where
   pub node-const : {ys : List ℕ} {r : ℕ} → x .variable ≡ false → Wrote xs at (write (nodeTree (const-or-zero (x .size) (x .alignment)))) ys r → (a : Accepted s 32 32 references) →
-      Builds s xs at ws ys (record { at = r; count = n; no = 0 }) (nodeOf a q x (entriesOf s ws n))
+      Builds s xs at ws ys (record { at = r; count = n; number = 0 }) (nodeOf a q x (entriesOf s ws n))
   node-const h w a = rw (h, const-node (ownersOf (tree a)) (nameAt s q) (x .size) (x .alignment) (entriesOf s ws n)) (Builds.made (const-or-zero (x .size) (x .alignment), entriesOf s ws n) refl refl w)
 
   pub node-missing : {ys : List ℕ} {f : Paths} {o : Name} → x .variable ≡ true → o ≡ nameAt s q → ((a : Accepted s 32 32 references) → PathsFound s o (ownersOf (tree a)) f) → f ≡ Missing → (a : Accepted s 32 32 references) →
-      Builds s xs at ws ys (record { at = at; count = n; no = 11 }) (nodeOf a q x (entriesOf s ws n))
+      Builds s xs at ws ys (record { at = at; count = n; number = 11 }) (nodeOf a q x (entriesOf s ws n))
   node-missing v d p h a = rw (v, missing-node (ownersOf (tree a)) (nameAt s q) (x .alignment) (entriesOf s ws n) (no-paths q d p h a)) (Builds.not 11 refl (omega arith))
 
   module _ {f : Paths} {o : Name} {zs y : List ℕ} {b t : ℕ} {r : Built} (v : x .variable ≡ true) (d : o ≡ nameAt s q) (p : (a : Accepted s 32 32 references) → PathsFound s o (ownersOf (tree a)) f) (h : f ≡ At b)
@@ -180,17 +180,17 @@ module _ {s xs ws : List ℕ} {at references : ℕ} (n q : ℕ) (x : Choice) whe
     is-sum : (a : Accepted s 32 32 references) → nodeOf a q x (entriesOf s ws n) ≡ alignIf (x .alignment) (sum-refs (nameAt s q) (textsOf (some-paths q d p h a .0 .list .got .0)) (entriesOf s ws n))
     is-sum a = rw v (variable-node (ownersOf (tree a)) (nameAt s q) (x .alignment) (entriesOf s ws n) (textsOf (some-paths q d p h a .0 .list .got .0)) (some-paths q d p h a .1))
 
-    pub node-stops : {ys : List ℕ} {i : ℕ} → (r .no ≡ 0 → ⊥) → (a : Accepted s 32 32 references) → Builds s xs at ws ys (record { at = at; count = i; no = r .no }) (nodeOf a q x (entriesOf s ws n))
+    pub node-stops : {ys : List ℕ} {i : ℕ} → (r .number ≡ 0 → ⊥) → (a : Accepted s 32 32 references) → Builds s xs at ws ys (record { at = at; count = i; number = r .number }) (nodeOf a q x (entriesOf s ws n))
     node-stops {ys} {i} z a = rw (is-sum a) (go z (summed a))
       where
-        go : {o : Outcome (IrNode × Registry)} → (r .no ≡ 0 → ⊥) → Builds s zs t ws y r o → Builds s xs at ws ys (record { at = at; count = i; no = r .no }) (alignIf (x .alignment) o)
+        go : {o : Outcome (IrNode × Registry)} → (r .number ≡ 0 → ⊥) → Builds s zs t ws y r o → Builds s xs at ws ys (record { at = at; count = i; number = r .number }) (alignIf (x .alignment) o)
         go z (Builds.made w e f k) = absurd (z e)
         go z (Builds.not k e l) = rw e (Builds.not k refl l)
 
-    pub node-done : {ys : List ℕ} {j : ℕ} → r .no ≡ 0 → Wrote y at (bytes 4 (r .at - at - 4)) ys j → (a : Accepted s 32 32 references) → Builds s xs at ws ys r (nodeOf a q x (entriesOf s ws n))
+    pub node-done : {ys : List ℕ} {j : ℕ} → r .number ≡ 0 → Wrote y at (bytes 4 (r .at - at - 4)) ys j → (a : Accepted s 32 32 references) → Builds s xs at ws ys r (nodeOf a q x (entriesOf s ws n))
     node-done {ys} z c a = rw (is-sum a) (go z (summed a))
       where
-        go : {o : Outcome (IrNode × Registry)} → r .no ≡ 0 → Builds s zs t ws y r o → Builds s xs at ws ys r (alignIf (x .alignment) o)
+        go : {o : Outcome (IrNode × Registry)} → r .number ≡ 0 → Builds s zs t ws y r o → Builds s xs at ws ys r (alignIf (x .alignment) o)
         go z (Builds.made w e f k) = Builds.made (align-node (w .0) (x .alignment), w .1) e f (align-closed (x .alignment) (w .0) u k c)
         go z (Builds.not k e l) = absurd (omega arith)
 
@@ -228,7 +228,7 @@ abbrev alternativeAt : List ℕ → ℕ → Choice → Alternative
 alternativeAt s q x = alternativeOf (x .tag) (nameAt s (q + 6)) (sized (x .variable) (x .size)) (x .alignment)
 
 -- the node was refused, or it was built and the parameters of its name follow
-case-refused : {s xs at′ ws ys zs : List ℕ} {p at : ℕ} {r t : Built} (os : List Owner) (x : Alternative) (xs′ : List Alternative) (j : ℕ) {o : Outcome (IrNode × Registry)} → (r .no ≡ 0 → ⊥) → t .no ≡ r .no →
+case-refused : {s xs at′ ws ys zs : List ℕ} {p at : ℕ} {r t : Built} (os : List Owner) (x : Alternative) (xs′ : List Alternative) (j : ℕ) {o : Outcome (IrNode × Registry)} → (r .number ≡ 0 → ⊥) → t .number ≡ r .number →
     Builds s xs p ws ys r o → Cases s at′ at ws zs t j (casesIf os x xs′ o)
 case-refused os x xs′ j z e (Builds.made y f g w) = absurd (z f)
 case-refused os x xs′ j z e (Builds.not k f l) = Cases.not k (e ∙ f) l
@@ -246,15 +246,15 @@ one-case {ys} {u} v n ps w = parts (caseTree v n ps) nil w (no-parts ys u)
 
 module _ {s xs ws x₁ x₂ x₃ : List ℕ} {k q i at b p references : ℕ} {x : Choice} {r : Built} (n : ℕ) (alt : (c : Accepted s k k q) → AltAt c i x) (w₁ : Wrote xs at (opened 163) x₁ b) (w₂ : Wrote x₁ b (bytes 8 (x .tag)) x₂ p)
     (nd : (a : Accepted s 32 32 references) → Builds s x₂ p ws x₃ r (nodeOf a (q + 6) x (entriesOf s ws n))) where
-  pub case-stops : {ys : List ℕ} {j : ℕ} → (r .no ≡ 0 → ⊥) → (c : Accepted s k k q) (a : Accepted s 32 32 references) → CaseAt c i xs at ws ys (record { at = at; count = j; no = r .no }) (ownersOf (tree a)) (entriesOf s ws n)
+  pub case-stops : {ys : List ℕ} {j : ℕ} → (r .number ≡ 0 → ⊥) → (c : Accepted s k k q) (a : Accepted s 32 32 references) → CaseAt c i xs at ws ys (record { at = at; count = j; number = r .number }) (ownersOf (tree a)) (entriesOf s ws n)
   case-stops z c a = record {
     alternative = alternativeAt s q x;
     is = alt c .is;
     made = rw (cases-are (ownersOf (tree a)) (alternativeAt s q x) [] (entriesOf s ws n)) (case-refused (ownersOf (tree a)) (alternativeAt s q x) [] 1 z refl (nd a));
   }
 
-  pub case-done : {ys x₄ : List ℕ} {u j : ℕ} {o : Name} → r .no ≡ 0 → o ≡ nameAt s (q + 6) → Wrote x₃ (r .at) (write (listTree parameterTree (owner-parameters o (entriesOf s ws (r .count))))) x₄ u → Wrote x₄ at (bytes 4 (u - at - 4)) ys j →
-      (c : Accepted s k k q) (a : Accepted s 32 32 references) → CaseAt c i xs at ws ys (record { at = u; count = r .count; no = 0 }) (ownersOf (tree a)) (entriesOf s ws n)
+  pub case-done : {ys x₄ : List ℕ} {u j : ℕ} {o : Name} → r .number ≡ 0 → o ≡ nameAt s (q + 6) → Wrote x₃ (r .at) (write (listTree parameterTree (owner-parameters o (entriesOf s ws (r .count))))) x₄ u → Wrote x₄ at (bytes 4 (u - at - 4)) ys j →
+      (c : Accepted s k k q) (a : Accepted s 32 32 references) → CaseAt c i xs at ws ys (record { at = u; count = r .count; number = 0 }) (ownersOf (tree a)) (entriesOf s ws n)
   unfolding caseCount
   case-done {ys} {x₄} {u} {o} z d w₃ w₄ c a = record {
     alternative = alternativeAt s q x;
@@ -262,7 +262,7 @@ module _ {s xs ws x₁ x₂ x₃ : List ℕ} {k q i at b p references : ℕ} {x 
     made = rw (cases-are (ownersOf (tree a)) (alternativeAt s q x) [] (entriesOf s ws n)) (go (nd a));
   }
     where
-      go : {t : Outcome (IrNode × Registry)} → Builds s x₂ p ws x₃ r t → Cases s xs at ws ys (record { at = u; count = r .count; no = 0 }) 1 (casesIf (ownersOf (tree a)) (alternativeAt s q x) [] t)
+      go : {t : Outcome (IrNode × Registry)} → Builds s x₂ p ws x₃ r t → Cases s xs at ws ys (record { at = u; count = r .count; number = 0 }) 1 (casesIf (ownersOf (tree a)) (alternativeAt s q x) [] t)
       go (Builds.made y e f w) =
           let v : Wrote x₃ (r .at) (write (listTree parameterTree (owner-parameters (nameAt s (q + 6)) (y .1)))) x₄ u = subst (λ (g : Registry). Wrote x₃ (r .at) (write (listTree parameterTree (owner-parameters (nameAt s (q + 6)) g))) x₄ u) f (subst (λ (m : Name). Wrote x₃ (r .at) (write (listTree parameterTree (owner-parameters m (entriesOf s ws (r .count))))) x₄ u) d w₃) in
           rw (no-cases (ownersOf (tree a)) (y .1))
@@ -277,7 +277,7 @@ first-case : {xs ys zs : List ℕ} {at p r : ℕ} (v : ℕ) (n : IrNode) (ps : L
 unfolding casesTree write
 first-case v n ps cs w u = both (rw append-nil at w) u
 
-case-more : {s xs ws ys zs : List ℕ} {at : ℕ} {r t : Built} (os : List Owner) (x : Alternative) (xs′ : List Alternative) (j : ℕ) (g : Registry) → r .no ≡ 0 → Cases s xs at ws ys r 1 (build-cases os (x ∷ []) g) →
+case-more : {s xs ws ys zs : List ℕ} {at : ℕ} {r t : Built} (os : List Owner) (x : Alternative) (xs′ : List Alternative) (j : ℕ) (g : Registry) → r .number ≡ 0 → Cases s xs at ws ys r 1 (build-cases os (x ∷ []) g) →
     Cases s ys (r .at) ws zs t j (build-cases os xs′ (entriesOf s ws (r .count))) → Cases s xs at ws zs t (suc j) (build-cases os (x ∷ xs′) g)
 unfolding caseCount
 case-more {s} {xs} {ws} {ys} {zs} {at} {r} {t} os x xs′ j g z c d =
@@ -288,22 +288,22 @@ case-more {s} {xs} {ws} {ys} {zs} {at} {r} {t} os x xs′ j g z c d =
     last n ps h e w (Cases.made y f l m v) = Cases.made (SwitchCases.case (x .tag) n ps (y .0), y .1) f l (omega arith) (first-case (x .tag) n ps (y .0) w v)
     last n ps h e w (Cases.not k f l) = Cases.not k f l
 
-    told : (n : IrNode) (ps : List IrParameter) (h : Registry) {o : Outcome (SwitchCases × Registry)} → o ≡ done (SwitchCases.case (x .tag) n ps SwitchCases.noCase, h) → Cases s xs at ws ys r 1 o →
+    still : (n : IrNode) (ps : List IrParameter) (h : Registry) {o : Outcome (SwitchCases × Registry)} → o ≡ done (SwitchCases.case (x .tag) n ps SwitchCases.noCase, h) → Cases s xs at ws ys r 1 o →
         (entriesOf s ws (r .count) ≡ h) × Wrote xs at (write (casesTree (SwitchCases.case (x .tag) n ps SwitchCases.noCase))) ys (r .at)
-    told n ps h e (Cases.made y f l m v) = let q : y ≡ (SwitchCases.case (x .tag) n ps SwitchCases.noCase, h) = done-one e in
+    still n ps h e (Cases.made y f l m v) = let q : y ≡ (SwitchCases.case (x .tag) n ps SwitchCases.noCase, h) = done-one e in
         (l ∙ ap (λ (a : SwitchCases × Registry). a .1) q, subst (λ (a : SwitchCases × Registry). Wrote xs at (write (casesTree (a .0))) ys (r .at)) q v)
-    told n ps h e (Cases.not k f l) = absurd (omega arith)
+    still n ps h e (Cases.not k f l) = absurd (omega arith)
 
     go : (o : Outcome (IrNode × Registry)) → Cases s xs at ws ys r 1 (casesIf os x [] o) → Cases s xs at ws zs t (suc j) (casesIf os x xs′ o)
     go (done y) c =
-        let b = told (y .0) (owner-parameters (x .name) (y .1)) (y .1) (ap (caseIf x (y .0) (owner-parameters (x .name) (y .1))) (no-cases os (y .1))) c in
+        let b = still (y .0) (owner-parameters (x .name) (y .1)) (y .1) (ap (caseIf x (y .0) (owner-parameters (x .name) (y .1))) (no-cases os (y .1))) c in
         last (y .0) (owner-parameters (x .name) (y .1)) (y .1) (b .0) (b .1) (subst (λ (h : Registry). Cases s ys (r .at) ws zs t j (build-cases os xs′ h)) (b .0) d)
     go (refused q) c = absurd (never c)
       where
         never : {q : Refusal} → Cases s xs at ws ys r 1 (refused q) → ⊥
         never (Cases.not k f l) = omega arith
 
-case-stop : {s xs ws ys zs : List ℕ} {at p : ℕ} {r t : Built} (os : List Owner) (x : Alternative) (xs′ : List Alternative) (j : ℕ) (g : Registry) → (r .no ≡ 0 → ⊥) → t .no ≡ r .no → Cases s xs at ws ys r 1 (build-cases os (x ∷ []) g) →
+case-stop : {s xs ws ys zs : List ℕ} {at p : ℕ} {r t : Built} (os : List Owner) (x : Alternative) (xs′ : List Alternative) (j : ℕ) (g : Registry) → (r .number ≡ 0 → ⊥) → t .number ≡ r .number → Cases s xs at ws ys r 1 (build-cases os (x ∷ []) g) →
     Cases s xs p ws zs t j (build-cases os (x ∷ xs′) g)
 case-stop {s} {xs} {ws} {ys} {zs} {at} {p} {r} {t} os x xs′ j g z e c = rw (cases-are os x xs′ g) (go (build-alternative os (x .name) (x .size) (x .alignment) g) (rw (cases-are os x [] g) at c))
   where
@@ -313,10 +313,10 @@ case-stop {s} {xs} {ws} {ys} {zs} {at} {p} {r} {t} os x xs′ j g z e c = rw (ca
         never : {o : Outcome (SwitchCases × Registry)} → o ≡ done (SwitchCases.case (x .tag) (y .0) (owner-parameters (x .name) (y .1)) SwitchCases.noCase, y .1) → Cases s xs at ws ys r 1 o → ⊥
         never e (Cases.made y f l m v) = z f
         never e (Cases.not k f l) = not-done e
-    go (refused q) c = told c
+    go (refused q) c = still c
       where
-        told : {q : Refusal} → Cases s xs at ws ys r 1 (refused q) → Cases s xs p ws zs t j (refused q)
-        told (Cases.not k f l) = Cases.not k (e ∙ f) l
+        still : {q : Refusal} → Cases s xs at ws ys r 1 (refused q) → Cases s xs p ws zs t j (refused q)
+        still (Cases.not k f l) = Cases.not k (e ∙ f) l
 
 -- ---- what the code asks on the way
 
@@ -333,7 +333,7 @@ below-60 at h = omega arith
 pub behind : {at p room more : ℕ} {r : Built} (d : ℕ) → p ≡ at + d → d + room ≤ more → Within p room r → Within at more r
 behind d e h w = record { low = omega (arith, w .low); high = omega (arith, w .high); count = w .count }
 
-pub ends-at : {at r more n no : ℕ} → at ≤ r → r ≤ at + more → n ≤ 512 → Within at more (record { at = r; count = n; no = no })
+pub ends-at : {at r more n no : ℕ} → at ≤ r → r ≤ at + more → n ≤ 512 → Within at more (record { at = r; count = n; number = no })
 ends-at l h c = record { low = l; high = h; count = c }
 
 -- ---- all the cases
@@ -374,7 +374,7 @@ module _ {s xs ws : List ℕ} {at n references k count first i q : ℕ} {ys : Li
   next-low = omega (arith, block-entry (inv .rest .here) left-over .after .inside, inv .rest .here .fits)
 
   module _ {y : List ℕ} {r : Built} (put : (c : Accepted s k k q) (a : Accepted s 32 32 references) → CaseAt c i ys p ws y r (ownersOf (tree a)) (entriesOf s ws m)) where
-    pub cases-stop : {zs : List ℕ} {t : Built} → (r .no ≡ 0 → ⊥) → t .no ≡ r .no → (l : Listed s k k count first) (a : Accepted s 32 32 references) →
+    pub cases-stop : {zs : List ℕ} {t : Built} → (r .number ≡ 0 → ⊥) → t .number ≡ r .number → (l : Listed s k k count first) (a : Accepted s 32 32 references) →
         Cases s xs at ws zs t count (build-cases (ownersOf (tree a)) (alternatives k 0 (l .got .0)) (entriesOf s ws n))
     cases-stop {zs} {t} z e l a =
         let w = inv .rest .whole l in
@@ -382,13 +382,13 @@ module _ {s xs ws : List ℕ} {at n references k count first i q : ℕ} {ys : Li
         let c = put (b .child) a in
         w .1 a zs t (rw (b .after .tree, c .is (b .after .rest .got .0)) (case-stop (ownersOf (tree a)) (c .alternative) (alternatives k (suc i) (b .after .rest .got .0)) (count - i) (entriesOf s ws m) z e (c .made)))
 
-    step : r .no ≡ 0 → (c : Accepted s k k q) (w u : Tree) → Goes s xs at ws n references k count i ys p m w (cons (tree c) u) → Goes s xs at ws n references k count (i + 1) y (r .at) (r .count) w u
+    step : r .number ≡ 0 → (c : Accepted s k k q) (w u : Tree) → Goes s xs at ws n references k count i ys p m w (cons (tree c) u) → Goes s xs at ws n references k count (i + 1) y (r .at) (r .count) w u
     step z c w u f a zs t d =
         let x = put c a in
         let j : suc (count - (i + 1)) ≡ count - i = omega arith in
         f a zs t (rw (x .is u, ← add-one i, ← j) (case-more (ownersOf (tree a)) (x .alternative) (alternatives k (i + 1) u) (count - (i + 1)) (entriesOf s ws m) z (x .made) d))
 
-    pub cases-more : {v : ℕ} → r .no ≡ 0 → Within p 540000 r → length y ≡ length ys → v ≡ le4 s q → Written s xs at ws n references k count first (i + 1) (q + 4 + v) y (r .at) (r .count)
+    pub cases-more : {v : ℕ} → r .number ≡ 0 → Within p 540000 r → length y ≡ length ys → v ≡ le4 s q → Written s xs at ws n references k count first (i + 1) (q + 4 + v) y (r .at) (r .count)
     cases-more {v} z b e d =
         let j : count - i - 1 ≡ count - (i + 1) = omega arith in
         record {
@@ -401,11 +401,11 @@ module _ {s xs ws : List ℕ} {at n references k count first i q : ℕ} {ys : Li
         }
 
 pub cases-end : {s xs ws : List ℕ} {at n references k count first i q : ℕ} {ys : List ℕ} {p m : ℕ} → count ≤ i → Written s xs at ws n references k count first i q ys p m →
-    (l : Listed s k k count first) (a : Accepted s 32 32 references) → Cases s xs at ws ys (record { at = p; count = m; no = 0 }) count (build-cases (ownersOf (tree a)) (alternatives k 0 (l .got .0)) (entriesOf s ws n))
+    (l : Listed s k k count first) (a : Accepted s 32 32 references) → Cases s xs at ws ys (record { at = p; count = m; number = 0 }) count (build-cases (ownersOf (tree a)) (alternatives k 0 (l .got .0)) (entriesOf s ws n))
 unfolding casesTree caseCount
 cases-end {s} {ws} {k} {count} {i} {ys} {p} {m} h inv l a =
     let z : 0 ≡ count - i = omega (arith, inv .within) in
-    ended (omega arith) (inv .rest) l .0 a ys (record { at = p; count = m; no = 0 }) (rw (none-more k i, no-cases (ownersOf (tree a)) (entriesOf s ws m)) (Cases.made (SwitchCases.noCase, entriesOf s ws m) refl refl z (no-parts ys p)))
+    ended (omega arith) (inv .rest) l .0 a ys (record { at = p; count = m; number = 0 }) (rw (none-more k i, no-cases (ownersOf (tree a)) (entriesOf s ws m)) (Cases.made (SwitchCases.noCase, entriesOf s ws m) refl refl z (no-parts ys p)))
 
 pub start-60 : (at : ℕ) → at < 2 ^ 56 → at < 2 ^ 60
 start-60 at h = omega arith

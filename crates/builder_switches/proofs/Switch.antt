@@ -67,19 +67,19 @@ module _ {s xs ws x₁ x₂ x₃ x₄ : List ℕ} {at b c d kind first k count :
   cases-of : (a : Accepted s 1 7 kind) (l : Listed s k k count first) → Cases s x₃ d ws x₄ r count (build-cases (head (typeOf (tree a)) .dynamic-params) (alternatives k 0 (l .got .0)) (entriesOf s ws n))
   cases-of a l = rw (hd a .owners) (cs l (hd a .references))
 
-  pub switch-stops : {ys : List ℕ} {j : ℕ} → (r .no ≡ 0 → ⊥) → (a : Accepted s 1 7 kind) (l : Listed s k k count first) →
-      Builds s xs at ws ys (record { at = at; count = j; no = r .no }) (build-switch (head (typeOf (tree a))) tag (alternatives k 0 (l .got .0)) (entriesOf s ws n))
+  pub switch-stops : {ys : List ℕ} {j : ℕ} → (r .number ≡ 0 → ⊥) → (a : Accepted s 1 7 kind) (l : Listed s k k count first) →
+      Builds s xs at ws ys (record { at = at; count = j; number = r .number }) (build-switch (head (typeOf (tree a))) tag (alternatives k 0 (l .got .0)) (entriesOf s ws n))
   switch-stops {ys} {j} z a l = rw (switch-is (head (typeOf (tree a))) tag (alternatives k 0 (l .got .0)) (entriesOf s ws n)) (go (cases-of a l))
     where
-      go : {o : Outcome (SwitchCases × Registry)} → Cases s x₃ d ws x₄ r count o → Builds s xs at ws ys (record { at = at; count = j; no = r .no }) (switchIf (head (typeOf (tree a))) tag o)
+      go : {o : Outcome (SwitchCases × Registry)} → Cases s x₃ d ws x₄ r count o → Builds s xs at ws ys (record { at = at; count = j; number = r .number }) (switchIf (head (typeOf (tree a))) tag o)
       go (Cases.made y f g m v) = absurd (z f)
       go (Cases.not q f g) = Builds.not q f g
 
-  pub switch-done : {x₅ ys : List ℕ} {u j : ℕ} → r .no ≡ 0 → Wrote x₄ (r .at) (write (num 1 (cond false 1 0))) x₅ u → Wrote x₅ at (bytes 4 (u - at - 4)) ys j → (a : Accepted s 1 7 kind) (l : Listed s k k count first) →
-      Builds s xs at ws ys (record { at = u; count = r .count; no = 0 }) (build-switch (head (typeOf (tree a))) tag (alternatives k 0 (l .got .0)) (entriesOf s ws n))
+  pub switch-done : {x₅ ys : List ℕ} {u j : ℕ} → r .number ≡ 0 → Wrote x₄ (r .at) (write (num 1 (cond false 1 0))) x₅ u → Wrote x₅ at (bytes 4 (u - at - 4)) ys j → (a : Accepted s 1 7 kind) (l : Listed s k k count first) →
+      Builds s xs at ws ys (record { at = u; count = r .count; number = 0 }) (build-switch (head (typeOf (tree a))) tag (alternatives k 0 (l .got .0)) (entriesOf s ws n))
   switch-done {ys} {u} z w₄ w₅ a l = rw (switch-is (head (typeOf (tree a))) tag (alternatives k 0 (l .got .0)) (entriesOf s ws n)) (go (cases-of a l))
     where
-      go : {o : Outcome (SwitchCases × Registry)} → Cases s x₃ d ws x₄ r count o → Builds s xs at ws ys (record { at = u; count = r .count; no = 0 }) (switchIf (head (typeOf (tree a))) tag o)
+      go : {o : Outcome (SwitchCases × Registry)} → Cases s x₃ d ws x₄ r count o → Builds s xs at ws ys (record { at = u; count = r .count; number = 0 }) (switchIf (head (typeOf (tree a))) tag o)
       go (Cases.made y f g m v) = Builds.made (IrNode.Switch unplaced (aligned (head (typeOf (tree a)) .alignment)) tag (y .0) DefaultNode.noDefault, y .1) refl g
           (rw (hd a .alignment) (switch-write (h .alignment) tag count (y .0) m w₁ w₂ w₃ v w₄ w₅))
       go (Cases.not q f g) = absurd (omega arith)
@@ -87,40 +87,40 @@ module _ {s xs ws x₁ x₂ x₃ x₄ : List ℕ} {at b c d kind first k count :
 -- ---- references, then a tag, then the switch
 
 -- the references were refused, or they were entered
-kept-refused : {s us : List ℕ} {x : Held} {o : Outcome (Unit × Registry)} → (x .no ≡ 0 → ⊥) → Kept s us x o → (0 < x .no) × (o ≡ refused (plain (x .no)))
+kept-refused : {s us : List ℕ} {x : Held} {o : Outcome (Unit × Registry)} → (x .number ≡ 0 → ⊥) → Kept s us x o → (0 < x .number) × (o ≡ refused (plain (x .number)))
 kept-refused z (Kept.kept h e f) = absurd (z e)
 kept-refused z (Kept.not q e l) = rw e (l, refl)
 
-kept-done : {s us : List ℕ} {x : Held} {o : Outcome (Unit × Registry)} → x .no ≡ 0 → Kept s us x o → o ≡ done (tt, entriesOf s us (x .count))
+kept-done : {s us : List ℕ} {x : Held} {o : Outcome (Unit × Registry)} → x .number ≡ 0 → Kept s us x o → o ≡ done (tt, entriesOf s us (x .count))
 kept-done z (Kept.kept h e f) = rw f refl
 kept-done z (Kept.not q e l) = absurd (omega arith)
 
 module _ {s xs us vs ys : List ℕ} {at : ℕ} {x : Held} (os : List Owner) (k : Unit → Build IrNode) (g : Registry) (kp : Kept s us x (extend-with os g)) where
-  extend-stops : {j : ℕ} → (x .no ≡ 0 → ⊥) → Builds s xs at vs ys (record { at = at; count = j; no = x .no }) ((extend-with os >>= k) g)
+  extend-stops : {j : ℕ} → (x .number ≡ 0 → ⊥) → Builds s xs at vs ys (record { at = at; count = j; number = x .number }) ((extend-with os >>= k) g)
   extend-stops z = let d = kept-refused z kp in
-      rw (step-refused (extend-with os) k g (d .1)) (Builds.not (x .no) refl (d .0))
+      rw (step-refused (extend-with os) k g (d .1)) (Builds.not (x .number) refl (d .0))
 
-  extend-goes : {r : Built} → x .no ≡ 0 → Builds s xs at vs ys r (k tt (entriesOf s us (x .count))) → Builds s xs at vs ys r ((extend-with os >>= k) g)
+  extend-goes : {r : Built} → x .number ≡ 0 → Builds s xs at vs ys r (k tt (entriesOf s us (x .count))) → Builds s xs at vs ys r ((extend-with os >>= k) g)
   extend-goes z b = rw (step-done (extend-with os) k g (kept-done z kp)) b
 
 -- the same of the tag
-tags-refused : {s us : List ℕ} {t : Tagged} {o : Outcome (Name × Registry)} → (t .no ≡ 0 → ⊥) → Tags s us t o → (0 < t .no) × (o ≡ refused (plain (t .no)))
+tags-refused : {s us : List ℕ} {t : Tagged} {o : Outcome (Name × Registry)} → (t .number ≡ 0 → ⊥) → Tags s us t o → (0 < t .number) × (o ≡ refused (plain (t .number)))
 tags-refused z (Tags.tags h e f l) = absurd (z e)
 tags-refused z (Tags.not q e l) = rw e (l, refl)
 
-tags-done : {s us : List ℕ} {t : Tagged} {o : Outcome (Name × Registry)} → t .no ≡ 0 → Tags s us t o → (t .at < t .count) × (o ≡ done (entryName s (getD us (t .at) 0), entriesOf s us (t .count)))
+tags-done : {s us : List ℕ} {t : Tagged} {o : Outcome (Name × Registry)} → t .number ≡ 0 → Tags s us t o → (t .at < t .count) × (o ≡ done (entryName s (getD us (t .at) 0), entriesOf s us (t .count)))
 tags-done z (Tags.tags h e f l) = rw f (l, refl)
 tags-done z (Tags.not q e l) = absurd (omega arith)
 
-pub tag-in : {s us : List ℕ} {t : Tagged} {o : Outcome (Name × Registry)} → t .no ≡ 0 → Tags s us t o → t .at < t .count
+pub tag-in : {s us : List ℕ} {t : Tagged} {o : Outcome (Name × Registry)} → t .number ≡ 0 → Tags s us t o → t .at < t .count
 tag-in z b = tags-done z b .0
 
 module _ {s xs us ys : List ℕ} {at : ℕ} {t : Tagged} (m : Build Name) (k : Name → Build IrNode) (g : Registry) (tg : Tags s us t (m g)) where
-  tag-stops : {j : ℕ} → (t .no ≡ 0 → ⊥) → Builds s xs at us ys (record { at = at; count = j; no = t .no }) ((m >>= k) g)
+  tag-stops : {j : ℕ} → (t .number ≡ 0 → ⊥) → Builds s xs at us ys (record { at = at; count = j; number = t .number }) ((m >>= k) g)
   tag-stops z = let d = tags-refused z tg in
-      rw (step-refused m k g (d .1)) (Builds.not (t .no) refl (d .0))
+      rw (step-refused m k g (d .1)) (Builds.not (t .number) refl (d .0))
 
-  tag-goes : {r : Built} → t .no ≡ 0 → Builds s xs at us ys r (k (entryName s (getD us (t .at) 0)) (entriesOf s us (t .count))) → Builds s xs at us ys r ((m >>= k) g)
+  tag-goes : {r : Built} → t .number ≡ 0 → Builds s xs at us ys r (k (entryName s (getD us (t .at) 0)) (entriesOf s us (t .count))) → Builds s xs at us ys r ((m >>= k) g)
   tag-goes z b = rw (step-done m k g (tags-done z tg .1)) b
 
 -- the references of the type itself
@@ -147,20 +147,20 @@ enum-tag {s} {vs} {kind} {t} g hd ep tg a e vs′ q =
     subst (λ (n : Name). Tags s vs t (enum-tag-parameter n e g)) (sym (hd a .name)) (subst (λ (d : ExprKind). Tags s vs t (enum-tag-parameter (nameAt s (kind + 6)) d g)) (sym (same-enum q (ep a .is) .0)) (tg (ep a .tag)))
 
 module _ {s xs us : List ℕ} {at kind : ℕ} {h : TypeHead} {x : Held} (g : Registry) (hd : (a : Accepted s 1 7 kind) → HeadAt a h) (kp : (a : Accepted s 32 32 (h .references)) → Kept s us x (extend-with (ownersOf (tree a)) g)) where
-  pub enum-refs-stop : {vs ys : List ℕ} {j : ℕ} → (x .no ≡ 0 → ⊥) → (a : Accepted s 1 7 kind) (e : ExprKind) (vs′ : Variants) → kindOf (typeOf (tree a)) ≡ ResolvedTypeKind.Enum e vs′ →
-      Builds s xs at vs ys (record { at = at; count = j; no = x .no }) (build-enum-node (head (typeOf (tree a))) e vs′ g)
+  pub enum-refs-stop : {vs ys : List ℕ} {j : ℕ} → (x .number ≡ 0 → ⊥) → (a : Accepted s 1 7 kind) (e : ExprKind) (vs′ : Variants) → kindOf (typeOf (tree a)) ≡ ResolvedTypeKind.Enum e vs′ →
+      Builds s xs at vs ys (record { at = at; count = j; number = x .number }) (build-enum-node (head (typeOf (tree a))) e vs′ g)
   unfolding build-enum-node
   enum-refs-stop z a e vs′ q = extend-stops (head (typeOf (tree a)) .dynamic-params) _ g (owners-kept g hd kp a) z
 
-  module _ {vs : List ℕ} {p : EnumParts} {t : Tagged} (z : x .no ≡ 0) (ep : (a : Accepted s 1 7 kind) → EnumAt a p)
+  module _ {vs : List ℕ} {p : EnumParts} {t : Tagged} (z : x .number ≡ 0) (ep : (a : Accepted s 1 7 kind) → EnumAt a p)
       (tg : (a : Accepted s 64 91 (p .tag)) → Tags s vs t (enum-tag-parameter (nameAt s (kind + 6)) (exprOf (tree a)) (entriesOf s us (x .count)))) where
-    pub enum-tag-stops : {ys : List ℕ} {j : ℕ} → (t .no ≡ 0 → ⊥) → (a : Accepted s 1 7 kind) (e : ExprKind) (vs′ : Variants) → kindOf (typeOf (tree a)) ≡ ResolvedTypeKind.Enum e vs′ →
-        Builds s xs at vs ys (record { at = at; count = j; no = t .no }) (build-enum-node (head (typeOf (tree a))) e vs′ g)
+    pub enum-tag-stops : {ys : List ℕ} {j : ℕ} → (t .number ≡ 0 → ⊥) → (a : Accepted s 1 7 kind) (e : ExprKind) (vs′ : Variants) → kindOf (typeOf (tree a)) ≡ ResolvedTypeKind.Enum e vs′ →
+        Builds s xs at vs ys (record { at = at; count = j; number = t .number }) (build-enum-node (head (typeOf (tree a))) e vs′ g)
     unfolding build-enum-node
     enum-tag-stops y a e vs′ q =
         extend-goes (head (typeOf (tree a)) .dynamic-params) _ g (owners-kept g hd kp a) z (tag-stops (enum-tag-parameter (head (typeOf (tree a)) .name) e) _ (entriesOf s us (x .count)) (enum-tag (entriesOf s us (x .count)) hd ep tg a e vs′ q) y)
 
-    pub enum-done : {ys : List ℕ} {r : Built} → t .no ≡ 0 →
+    pub enum-done : {ys : List ℕ} {r : Built} → t .number ≡ 0 →
         ((a : Accepted s 1 7 kind) (l : Listed s 34 34 (p .count) (p .first)) → Builds s xs at vs ys r (build-switch (head (typeOf (tree a))) (entryName s (getD vs (t .at) 0)) (alternatives 34 0 (l .got .0)) (entriesOf s vs (t .count)))) →
         (a : Accepted s 1 7 kind) (e : ExprKind) (vs′ : Variants) → kindOf (typeOf (tree a)) ≡ ResolvedTypeKind.Enum e vs′ → Builds s xs at vs ys r (build-enum-node (head (typeOf (tree a))) e vs′ g)
     unfolding build-enum-node
@@ -179,19 +179,19 @@ same-union : {k : ResolvedTypeKind} {fs gs : Fields} → k ≡ ResolvedTypeKind.
 same-union p q = cc
 
 module _ {s xs us : List ℕ} {at kind : ℕ} {h : TypeHead} {x : Held} (g : Registry) (hd : (a : Accepted s 1 7 kind) → HeadAt a h) (kp : (a : Accepted s 32 32 (h .references)) → Kept s us x (extend-with (ownersOf (tree a)) g)) where
-  pub union-refs-stop : {vs ys : List ℕ} {j : ℕ} → (x .no ≡ 0 → ⊥) → (a : Accepted s 1 7 kind) (fs : Fields) → kindOf (typeOf (tree a)) ≡ ResolvedTypeKind.Union fs →
-      Builds s xs at vs ys (record { at = at; count = j; no = x .no }) (build-union-node (head (typeOf (tree a))) fs g)
+  pub union-refs-stop : {vs ys : List ℕ} {j : ℕ} → (x .number ≡ 0 → ⊥) → (a : Accepted s 1 7 kind) (fs : Fields) → kindOf (typeOf (tree a)) ≡ ResolvedTypeKind.Union fs →
+      Builds s xs at vs ys (record { at = at; count = j; number = x .number }) (build-union-node (head (typeOf (tree a))) fs g)
   unfolding build-union-node
   union-refs-stop z a fs q = extend-stops (head (typeOf (tree a)) .dynamic-params) _ g (owners-kept g hd kp a) z
 
-  module _ {vs : List ℕ} {t : Tagged} (z : x .no ≡ 0) (tg : Tags s vs t (add-synthetic (held s (kind + 6)) (madePath 2) (madeParameter 2 (held s (kind + 6))) (entriesOf s us (x .count)))) where
-    pub union-tag-stops : {ys : List ℕ} {j : ℕ} → (t .no ≡ 0 → ⊥) → (a : Accepted s 1 7 kind) (fs : Fields) → kindOf (typeOf (tree a)) ≡ ResolvedTypeKind.Union fs →
-        Builds s xs at vs ys (record { at = at; count = j; no = t .no }) (build-union-node (head (typeOf (tree a))) fs g)
+  module _ {vs : List ℕ} {t : Tagged} (z : x .number ≡ 0) (tg : Tags s vs t (add-synthetic (held s (kind + 6)) (madePath 2) (madeParameter 2 (held s (kind + 6))) (entriesOf s us (x .count)))) where
+    pub union-tag-stops : {ys : List ℕ} {j : ℕ} → (t .number ≡ 0 → ⊥) → (a : Accepted s 1 7 kind) (fs : Fields) → kindOf (typeOf (tree a)) ≡ ResolvedTypeKind.Union fs →
+        Builds s xs at vs ys (record { at = at; count = j; number = t .number }) (build-union-node (head (typeOf (tree a))) fs g)
     unfolding build-union-node madePath madeParameter
     union-tag-stops y a fs q =
         extend-goes (head (typeOf (tree a)) .dynamic-params) _ g (owners-kept g hd kp a) z (tag-stops _ _ (entriesOf s us (x .count)) (synthetic-tag 2 (entriesOf s us (x .count)) hd tg a) y)
 
-    pub union-done : {ys : List ℕ} {r : Built} {p : ListParts} → t .no ≡ 0 → le2 s (kind + 4) ≡ 3 → ((a : Accepted s 1 7 kind) → FieldsAt a p) →
+    pub union-done : {ys : List ℕ} {r : Built} {p : ListParts} → t .number ≡ 0 → le2 s (kind + 4) ≡ 3 → ((a : Accepted s 1 7 kind) → FieldsAt a p) →
         ((a : Accepted s 1 7 kind) (l : Listed s 33 33 (p .count) (p .first)) → Builds s xs at vs ys r (build-switch (head (typeOf (tree a))) (entryName s (getD vs (t .at) 0)) (alternatives 33 0 (l .got .0)) (entriesOf s vs (t .count)))) →
         (a : Accepted s 1 7 kind) (fs : Fields) → kindOf (typeOf (tree a)) ≡ ResolvedTypeKind.Union fs → Builds s xs at vs ys r (build-union-node (head (typeOf (tree a))) fs g)
     unfolding build-union-node madePath madeParameter
@@ -222,29 +222,29 @@ some-sized {s} {first} l n =
     rw (b .after .tree, o .tree) (first-sized first (o .parts .got .0) (b .after .rest .got .0))
 
 module _ {s xs us : List ℕ} {at kind : ℕ} {h : TypeHead} {x : Held} (g : Registry) (hd : (a : Accepted s 1 7 kind) → HeadAt a h) (kp : (a : Accepted s 32 32 (h .references)) → Kept s us x (extend-with (ownersOf (tree a)) g)) where
-  pub sized-refs-stop : {vs ys : List ℕ} {j : ℕ} → (x .no ≡ 0 → ⊥) → (a : Accepted s 1 7 kind) (vs′ : Variants) → kindOf (typeOf (tree a)) ≡ ResolvedTypeKind.SizeDiscriminatedUnion vs′ →
-      Builds s xs at vs ys (record { at = at; count = j; no = x .no }) (build-size-discriminated-union-node (head (typeOf (tree a))) vs′ g)
+  pub sized-refs-stop : {vs ys : List ℕ} {j : ℕ} → (x .number ≡ 0 → ⊥) → (a : Accepted s 1 7 kind) (vs′ : Variants) → kindOf (typeOf (tree a)) ≡ ResolvedTypeKind.SizeDiscriminatedUnion vs′ →
+      Builds s xs at vs ys (record { at = at; count = j; number = x .number }) (build-size-discriminated-union-node (head (typeOf (tree a))) vs′ g)
   unfolding build-size-discriminated-union-node
   sized-refs-stop z a vs′ q = extend-stops (head (typeOf (tree a)) .dynamic-params) _ g (owners-kept g hd kp a) z
 
-  module _ {p : ListParts} (z : x .no ≡ 0) (lp : (a : Accepted s 1 7 kind) → SizedAt a p) where
+  module _ {p : ListParts} (z : x .number ≡ 0) (lp : (a : Accepted s 1 7 kind) → SizedAt a p) where
     pub sized-none : {vs ys : List ℕ} {j : ℕ} → p .count ≡ 0 → (a : Accepted s 1 7 kind) (vs′ : Variants) → kindOf (typeOf (tree a)) ≡ ResolvedTypeKind.SizeDiscriminatedUnion vs′ →
-        Builds s xs at vs ys (record { at = at; count = j; no = 10 }) (build-size-discriminated-union-node (head (typeOf (tree a))) vs′ g)
+        Builds s xs at vs ys (record { at = at; count = j; number = 10 }) (build-size-discriminated-union-node (head (typeOf (tree a))) vs′ g)
     unfolding build-size-discriminated-union-node
     sized-none e a vs′ q =
         extend-goes (head (typeOf (tree a)) .dynamic-params) _ g (owners-kept g hd kp a) z
         (rw (require-no {b = notEmpty vs′} UnsupportedSize _ (entriesOf s us (x .count)) (ap notEmpty (same-sized q (lp a .is)) ∙ none-sized (lp a .list) e)) (Builds.not 10 refl (omega arith)))
 
     module _ {vs : List ℕ} {t : Tagged} (e : p .count ≡ 0 → ⊥) (tg : Tags s vs t (add-synthetic (held s (kind + 6)) (madePath 3) (madeParameter 3 (held s (kind + 6))) (entriesOf s us (x .count)))) where
-      pub sized-tag-stops : {ys : List ℕ} {j : ℕ} → (t .no ≡ 0 → ⊥) → (a : Accepted s 1 7 kind) (vs′ : Variants) → kindOf (typeOf (tree a)) ≡ ResolvedTypeKind.SizeDiscriminatedUnion vs′ →
-          Builds s xs at vs ys (record { at = at; count = j; no = t .no }) (build-size-discriminated-union-node (head (typeOf (tree a))) vs′ g)
+      pub sized-tag-stops : {ys : List ℕ} {j : ℕ} → (t .number ≡ 0 → ⊥) → (a : Accepted s 1 7 kind) (vs′ : Variants) → kindOf (typeOf (tree a)) ≡ ResolvedTypeKind.SizeDiscriminatedUnion vs′ →
+          Builds s xs at vs ys (record { at = at; count = j; number = t .number }) (build-size-discriminated-union-node (head (typeOf (tree a))) vs′ g)
       unfolding build-size-discriminated-union-node madePath madeParameter
       sized-tag-stops y a vs′ q =
           extend-goes (head (typeOf (tree a)) .dynamic-params) _ g (owners-kept g hd kp a) z
           (rw (require-yes {b = notEmpty vs′} UnsupportedSize _ (entriesOf s us (x .count)) (ap notEmpty (same-sized q (lp a .is)) ∙ some-sized (lp a .list) e))
           (tag-stops _ _ (entriesOf s us (x .count)) (synthetic-tag 3 (entriesOf s us (x .count)) hd tg a) y))
 
-      pub sized-done : {ys : List ℕ} {r : Built} → t .no ≡ 0 →
+      pub sized-done : {ys : List ℕ} {r : Built} → t .number ≡ 0 →
           ((a : Accepted s 1 7 kind) (l : Listed s 35 35 (p .count) (p .first)) → Builds s xs at vs ys r (build-switch (head (typeOf (tree a))) (entryName s (getD vs (t .at) 0)) (alternatives 35 0 (l .got .0)) (entriesOf s vs (t .count)))) →
           (a : Accepted s 1 7 kind) (vs′ : Variants) → kindOf (typeOf (tree a)) ≡ ResolvedTypeKind.SizeDiscriminatedUnion vs′ → Builds s xs at vs ys r (build-size-discriminated-union-node (head (typeOf (tree a))) vs′ g)
       unfolding build-size-discriminated-union-node madePath madeParameter

@@ -78,21 +78,21 @@ module _ {s ws : List ℕ} {n e : ℕ} {f : Found} (o owner : Name) (d : o ≡ o
   l : (a : Accepted s 64 91 e) (path : List Name) → exprOf (tree a) ≡ ExprKind.FieldRef path → Looked s ws n f (tag-lookup owner (join path) (entriesOf s ws n))
   l a path x = subst (λ (z : Name). Looked s ws n f (tag-lookup z (join path) (entriesOf s ws n))) d (l₀ a path x)
 
-  pub tag-known : {i : ℕ} → f ≡ At i → (a : Accepted s 64 91 e) → Tags s ws (record { at = i; count = n; no = 0 }) (enum-tag-parameter owner (exprOf (tree a)) (entriesOf s ws n))
+  pub tag-known : {i : ℕ} → f ≡ At i → (a : Accepted s 64 91 e) → Tags s ws (record { at = i; count = n; number = 0 }) (enum-tag-parameter owner (exprOf (tree a)) (entriesOf s ws n))
   tag-known {i} h a =
       let p = field-ref-at a k in
       rw (p .is, found-tag owner (textsOf (p .list .got .0)) (entriesOf s ws n)) (go (tag-lookup owner (join (textsOf (p .list .got .0))) (entriesOf s ws n)) h (l a (textsOf (p .list .got .0)) (p .is)))
     where
-      go : {f : Found} (o : Option Name) → f ≡ At i → Looked s ws n f o → Tags s ws (record { at = i; count = n; no = 0 }) (tagOf o (entriesOf s ws n))
+      go : {f : Found} (o : Option Name) → f ≡ At i → Looked s ws n f o → Tags s ws (record { at = i; count = n; number = 0 }) (tagOf o (entriesOf s ws n))
       go none d Looked.missing = let z : _≡_ {A = ℕ} 0 1 = cc in absurd (omega arith)
       go (some x) d (Looked.at {i = j} h) = let z : j ≡ i = cc in rw z (Tags.tags (entriesOf s ws n) refl refl (rw (← z) h))
 
-  pub tag-unknown : f ≡ Missing → {i : ℕ} (a : Accepted s 64 91 e) → Tags s ws (record { at = i; count = n; no = 12 }) (enum-tag-parameter owner (exprOf (tree a)) (entriesOf s ws n))
+  pub tag-unknown : f ≡ Missing → {i : ℕ} (a : Accepted s 64 91 e) → Tags s ws (record { at = i; count = n; number = 12 }) (enum-tag-parameter owner (exprOf (tree a)) (entriesOf s ws n))
   tag-unknown h {i} a =
       let p = field-ref-at a k in
       rw (p .is, found-tag owner (textsOf (p .list .got .0)) (entriesOf s ws n)) (go (tag-lookup owner (join (textsOf (p .list .got .0))) (entriesOf s ws n)) h (l a (textsOf (p .list .got .0)) (p .is)))
     where
-      go : {f : Found} (o : Option Name) → f ≡ Missing → Looked s ws n f o → Tags s ws (record { at = i; count = n; no = 12 }) (tagOf o (entriesOf s ws n))
+      go : {f : Found} (o : Option Name) → f ≡ Missing → Looked s ws n f o → Tags s ws (record { at = i; count = n; number = 12 }) (tagOf o (entriesOf s ws n))
       go none d Looked.missing = Tags.not 12 refl (omega arith)
       go (some x) d (Looked.at h) = let z : _≡_ {A = ℕ} 0 1 = cc in absurd (omega arith)
 

@@ -100,14 +100,14 @@ fn enum_tag_parameter(s: &[u8], words: &mut [u64], n: usize, kind: usize, e: usi
                 return Tagged {
                     at: i,
                     count: n,
-                    no: 0,
+                    number: 0,
                 };
             }
             Found::Missing => {
                 return Tagged {
                     at: 0,
                     count: n,
-                    no: 12,
+                    number: 12,
                 };
             }
         }
@@ -170,11 +170,11 @@ fn put_node(
             Paths::At(paths) => {
                 let p = builder_nodes::open_align(out, at, x.alignment);
                 let r = builder_sums::sum_refs(s, words, n, name, false, paths, out, p);
-                if r.no != 0 {
+                if r.number != 0 {
                     return Built {
                         at,
                         count: n,
-                        no: r.no,
+                        number: r.number,
                     };
                 }
                 wire::close_block(out, at, r.at);
@@ -184,7 +184,7 @@ fn put_node(
                 return Built {
                     at,
                     count: n,
-                    no: 11,
+                    number: 11,
                 };
             }
         }
@@ -193,7 +193,7 @@ fn put_node(
     Built {
         at: p,
         count: n,
-        no: 0,
+        number: 0,
     }
 }
 
@@ -217,11 +217,11 @@ fn put_case(
     let b = wire::open_block(out, at, 163);
     let p = wire::put_le(out, b, 8, x.tag);
     let r = put_node(s, words, n, references, q + 6, x, out, p);
-    if r.no != 0 {
+    if r.number != 0 {
         return Built {
             at,
             count: n,
-            no: r.no,
+            number: r.number,
         };
     }
     let u = builder_registry::put_owner_parameters(
@@ -236,7 +236,7 @@ fn put_case(
     Built {
         at: u,
         count: r.count,
-        no: 0,
+        number: 0,
     }
 }
 
@@ -262,11 +262,11 @@ fn put_cases(
     let mut m = n;
     while i < count {
         let r = put_case(s, words, m, references, k, q, i, out, p);
-        if r.no != 0 {
+        if r.number != 0 {
             return Built {
                 at,
                 count: n,
-                no: r.no,
+                number: r.number,
             };
         }
         p = r.at;
@@ -277,7 +277,7 @@ fn put_cases(
     Built {
         at: p,
         count: m,
-        no: 0,
+        number: 0,
     }
 }
 
@@ -303,11 +303,11 @@ fn put_switch(
     let c = builder_registry::put_entry_name(s, words[entry], out, b);
     let d = wire::put_le(out, c, 2, count as u64);
     let r = put_cases(s, words, n, h.references, k, count, first, out, d);
-    if r.no != 0 {
+    if r.number != 0 {
         return Built {
             at,
             count: n,
-            no: r.no,
+            number: r.number,
         };
     }
     let u = wire::put_flag(out, r.at, false);
@@ -315,7 +315,7 @@ fn put_switch(
     Built {
         at: u,
         count: r.count,
-        no: 0,
+        number: 0,
     }
 }
 
@@ -334,20 +334,20 @@ pub fn build_enum_node(
 {
     let h = resolved_parts::type_head(s, kind);
     let x = builder_registry::extend_with(s, words, n, h.references);
-    if x.no != 0 {
+    if x.number != 0 {
         return Built {
             at,
             count: n,
-            no: x.no,
+            number: x.number,
         };
     }
     let p = resolved_parts::enum_parts(s, kind);
     let t = enum_tag_parameter(s, words, x.count, kind, p.tag);
-    if t.no != 0 {
+    if t.number != 0 {
         return Built {
             at,
             count: n,
-            no: t.no,
+            number: t.number,
         };
     }
     put_switch(s, words, t.count, kind, t.at, 34, p.count, p.first, out, at)
@@ -368,19 +368,19 @@ pub fn build_union_node(
 {
     let h = resolved_parts::type_head(s, kind);
     let x = builder_registry::extend_with(s, words, n, h.references);
-    if x.no != 0 {
+    if x.number != 0 {
         return Built {
             at,
             count: n,
-            no: x.no,
+            number: x.number,
         };
     }
     let t = builder_registry::add_synthetic(s, words, x.count, kind + 6, 2);
-    if t.no != 0 {
+    if t.number != 0 {
         return Built {
             at,
             count: n,
-            no: t.no,
+            number: t.number,
         };
     }
     let p = resolved_parts::field_list(s, kind);
@@ -402,11 +402,11 @@ pub fn build_size_discriminated_union_node(
 {
     let h = resolved_parts::type_head(s, kind);
     let x = builder_registry::extend_with(s, words, n, h.references);
-    if x.no != 0 {
+    if x.number != 0 {
         return Built {
             at,
             count: n,
-            no: x.no,
+            number: x.number,
         };
     }
     let p = resolved_parts::sized_list(s, kind);
@@ -414,15 +414,15 @@ pub fn build_size_discriminated_union_node(
         return Built {
             at,
             count: n,
-            no: 10,
+            number: 10,
         };
     }
     let t = builder_registry::add_synthetic(s, words, x.count, kind + 6, 3);
-    if t.no != 0 {
+    if t.number != 0 {
         return Built {
             at,
             count: n,
-            no: t.no,
+            number: t.number,
         };
     }
     put_switch(s, words, t.count, kind, t.at, 35, p.count, p.first, out, at)

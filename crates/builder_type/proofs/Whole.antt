@@ -21,7 +21,8 @@ use Rattle.wire.specs.Poke.{Wrote, opened}
 use Rattle.wire.proofs.Laws.{both, parts, no-parts, closed}
 use Rattle.builder.specs.Registry.{Registry, _>>=_, give, reads, extend-with, into-parameters}
 use Rattle.builder.specs.Nodes.{node-from-resolved}
-use Rattle.builder.specs.Build.{filter-jagged-element-parameters, build-type-ir, build-type}
+use Rattle.builder.specs.Type.{filter-jagged-element-parameters, build-type-ir}
+use Rattle.builder.specs.Build.{build-type}
 use Rattle.builder_registry.specs.declared.Held.{Held}
 use Rattle.builder_registry.specs.Words.{Kept, entriesOf}
 use Rattle.builder_registry.proofs.Laws.{standing}
@@ -39,11 +40,11 @@ short-name {s} {p} h e = let l = length-take (le2 s p) (drop (p + 2) s) in let z
 -- ---- what was answered
 
 module _ {s us : List ℕ} {r : Held} where
-  was-kept : {o : Outcome (Unit × Registry)} → Kept s us r o → r .no ≡ 0 → o ≡ done (tt, entriesOf s us (r .count))
+  was-kept : {o : Outcome (Unit × Registry)} → Kept s us r o → r .number ≡ 0 → o ≡ done (tt, entriesOf s us (r .count))
   was-kept (Kept.kept g e f) z = ap (λ (g : Registry). done (tt, g)) (sym f)
   was-kept (Kept.not k e h) z = absurd (omega arith)
 
-  not-kept : {o : Outcome (Unit × Registry)} → Kept s us r o → (r .no ≡ 0 → ⊥) → (0 < r .no) × (o ≡ refused (plain (r .no)))
+  not-kept : {o : Outcome (Unit × Registry)} → Kept s us r o → (r .number ≡ 0 → ⊥) → (0 < r .number) × (o ≡ refused (plain (r .number)))
   not-kept (Kept.kept g e f) z = absurd (z e)
   not-kept (Kept.not k e h) z = (omega arith, ap (λ (q : ℕ). refused (plain q)) (sym e))
 
@@ -54,11 +55,11 @@ record Node (s xs : List ℕ) (at : ℕ) (us ys : List ℕ) (r : Built) (o : Out
   wrote : Wrote xs at (write (nodeTree node)) ys (r .at)
 
 module _ {s xs : List ℕ} {at : ℕ} {us ys : List ℕ} {r : Built} where
-  was-built : {o : Outcome (IrNode × Registry)} → Builds s xs at us ys r o → r .no ≡ 0 → Node s xs at us ys r o
+  was-built : {o : Outcome (IrNode × Registry)} → Builds s xs at us ys r o → r .number ≡ 0 → Node s xs at us ys r o
   was-built (Builds.made x e f w) z = record { node = x .0; is = ap (λ (g : Registry). done (x .0, g)) (sym f); wrote = w }
   was-built (Builds.not k e h) z = absurd (omega arith)
 
-  not-built : {o : Outcome (IrNode × Registry)} → Builds s xs at us ys r o → (r .no ≡ 0 → ⊥) → (0 < r .no) × (o ≡ refused (plain (r .no)))
+  not-built : {o : Outcome (IrNode × Registry)} → Builds s xs at us ys r o → (r .number ≡ 0 → ⊥) → (0 < r .number) × (o ≡ refused (plain (r .number)))
   not-built (Builds.made x e f w) z = absurd (z e)
   not-built (Builds.not k e h) z = (omega arith, ap (λ (q : ℕ). refused (plain q)) (sym e))
 
@@ -112,18 +113,18 @@ owned {s} {us} ws {held} a o k =
 
 module _ {s xs ys : List ℕ} {kind at : ℕ} {r : TypeTree} where
   module _ {h : TypeHead} (w : (a : Accepted s 1 7 kind) → HeadAt a h) {us : List ℕ} (ws : List ℕ) {held : Held} (k : (b : Accepted s 32 32 (h .references)) → Kept s us held (extend-with (ownersOf (tree b)) (entriesOf s ws 0))) where
-    pub not-entered : (held .no ≡ 0 → ⊥) → r .no ≡ held .no → r .at ≡ at → TreeBuilt s kind xs at ys r
+    pub not-entered : (held .number ≡ 0 → ⊥) → r .number ≡ held .number → r .at ≡ at → TreeBuilt s kind xs at ys r
     not-entered z e f t a d =
         let n = not-kept (owned ws a (w a) k) z in
         subst (BuildsType xs at ys r) (sym (entry-refused (typesOf t) (typeOf (tree a)) (n .1))) (BuildsType.not _ e (n .0) f)
 
-    module _ (z : held .no ≡ 0) {vs ys₁ ys₂ : List ℕ} {p : ℕ} {root : Built} (b : Root s kind ys₁ p vs ys₂ root (entriesOf s us (held .count))) where
-      pub no-root : (root .no ≡ 0 → ⊥) → r .no ≡ root .no → r .at ≡ at → TreeBuilt s kind xs at ys r
+    module _ (z : held .number ≡ 0) {vs ys₁ ys₂ : List ℕ} {p : ℕ} {root : Built} (b : Root s kind ys₁ p vs ys₂ root (entriesOf s us (held .count))) where
+      pub no-root : (root .number ≡ 0 → ⊥) → r .number ≡ root .number → r .at ≡ at → TreeBuilt s kind xs at ys r
       no-root f e g t a d =
           let n = not-built (b t a d) f in
           subst (BuildsType xs at ys r) (sym (root-refused (typesOf t) (typeOf (tree a)) (was-kept (owned ws a (w a) k) z) (n .1))) (BuildsType.not _ e (n .0) g)
 
-      pub tree-built : {x₁ x₂ ys₃ n : List ℕ} {p₁ p₂ end q : ℕ} → root .no ≡ 0 → r .no ≡ 0 → r .at ≡ end → n ≡ nameAt s (kind + 6) →
+      pub tree-built : {x₁ x₂ ys₃ n : List ℕ} {p₁ p₂ end q : ℕ} → root .number ≡ 0 → r .number ≡ 0 → r .at ≡ end → n ≡ nameAt s (kind + 6) →
           Wrote xs at (opened 161) x₁ p₁ → Wrote x₁ p₁ (write (name n)) x₂ p₂ → Wrote x₂ p₂ (bytes 8 (h .alignment)) ys₁ p →
           ((a : Accepted s 1 7 kind) → Wrote ys₂ (root .at) (write (listTree parameterTree (filter-jagged-element-parameters (typeOf (tree a)) (into-parameters (entriesOf s vs (root .count)))))) ys₃ end) →
           Wrote ys₃ at (bytes 4 (end - at - 4)) ys q → TreeBuilt s kind xs at ys r

@@ -22,5 +22,5 @@ pub record Ready (s ws : List ℕ) (n type at : ℕ) : Type 0 where
 
 -- a type tree's bytes and the next cursor, or the refusal's number and the old cursor; then nothing is said of the output
 pub data BuildsType (xs : List ℕ) (at : ℕ) (ys : List ℕ) (r : TypeTree) : Outcome TypeIr → Type 0 where
-  made : (x : TypeIr) → r .no ≡ 0 → Wrote xs at (write (typeIrTree x)) ys (r .at) → BuildsType xs at ys r (done x)
-  not : (k : ℕ) → r .no ≡ k → 0 < k → r .at ≡ at → BuildsType xs at ys r (refused (plain k))
+  made : (x : TypeIr) → r .number ≡ 0 → Wrote xs at (write (typeIrTree x)) ys (r .at) → BuildsType xs at ys r (done x)
+  not : (k : ℕ) → r .number ≡ k → 0 < k → r .at ≡ at → BuildsType xs at ys r (refused (plain k))

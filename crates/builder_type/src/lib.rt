@@ -16,11 +16,11 @@ ghost use Rattle.builder_type.specs.Built.{Ready, BuildsType};
 // The cursor behind a type tree, or where it was refused the old one; the number of the refusal or 0.
 pub struct TypeTree {
     pub at: usize,
-    pub no: u64,
+    pub number: u64,
 }
 
 // The root node of the type at `kind`.
-pub fn node_from_resolved(
+fn node_from_resolved(
     s: &[u8],
     words: &mut [u64],
     n: usize,
@@ -42,7 +42,7 @@ pub fn node_from_resolved(
         return Built {
             at: end,
             count: n,
-            no: 0,
+            number: 0,
         };
     }
     match k {
@@ -55,7 +55,7 @@ pub fn node_from_resolved(
         _ => Built {
             at,
             count: n,
-            no: 10,
+            number: 10,
         },
     }
 }
@@ -71,19 +71,19 @@ pub fn build_type(s: &[u8], words: &mut [u64], kind: usize, out: &mut [u8], at: 
     let references = head.references;
     let held = builder_registry::extend_with(s, words, 0, references);
     let entered = held.count;
-    if held.no != 0 {
-        return TypeTree { at, no: held.no };
+    if held.number != 0 {
+        return TypeTree { at, number: held.number };
     }
     let name = resolved_parts::name_at(s, kind + 6);
     let body = wire::open_block(out, at, 161);
     let aligned = wire::put_name(out, body, name);
     let start = wire::put_le(out, aligned, 8, head.alignment);
     let root = node_from_resolved(s, words, entered, kind, out, start);
-    if root.no != 0 {
-        return TypeTree { at, no: root.no };
+    if root.number != 0 {
+        return TypeTree { at, number: root.number };
     }
     let count = root.count;
     let end = builder_parameters::put_parameters(s, words, count, kind, out, root.at);
     wire::close_block(out, at, end);
-    TypeTree { at: end, no: 0 }
+    TypeTree { at: end, number: 0 }
 }

@@ -5,40 +5,38 @@ use mathlib.Core.List.{List, [], _∷_}
 use native.Mathlib.Omega.{arith}
 use Rattle.errors.specs.Refusal.{Outcome, done, refused}
 use Rattle.blocks.specs.Tree.{Tree}
-use Rattle.reader_calls.specs.declared.Answer.{Answer}
 use Rattle.reader_calls.specs.declared.Answer.the-variants.{Accepted, Refused}
 use Rattle.reader_calls.specs.Inputs.{answerOf}
 use Rattle.interpreter_leaves.specs.declared.Answer.the-variants as evaluated
 use Rattle.interpreter_leaves.specs.Outcome.{outcomeOf}
-use lib.ListN.{length}
 use Rattle.builder_set.specs.declared.Answer.the-variants as made
 use Rattle.builder_set.specs.Sets.{answerOf as setAnswer}
-use Rattle.ciztarmo.specs.Told.{told, read, built}
+use Rattle.ciztarmo.specs.Outcomes.{answerWords, read, built}
 
-pub read-yes : (o : Outcome Tree) → Accepted ≡ answerOf o → (0 ∷ 65535 ∷ 0 ∷ 0 ∷ []) ≡ told (read o)
-unfolding answerOf told read
+pub read-yes : (o : Outcome Tree) → Accepted ≡ answerOf o → (0 ∷ 65535 ∷ 0 ∷ 0 ∷ []) ≡ answerWords (read o)
+unfolding answerOf answerWords read
 read-yes (done t) e = refl
 read-yes (refused r) e = let z : _≡_ {A = ℕ} 0 1 = cc in absurd (omega arith)
 
-pub read-no : (o : Outcome Tree) {q p i v : ℕ} → Refused q p i v ≡ answerOf o → (q ∷ p ∷ i ∷ v ∷ []) ≡ told (read o)
-unfolding answerOf told read
+pub read-no : (o : Outcome Tree) {q p i v : ℕ} → Refused q p i v ≡ answerOf o → (q ∷ p ∷ i ∷ v ∷ []) ≡ answerWords (read o)
+unfolding answerOf answerWords read
 read-no (done t) e = let z : _≡_ {A = ℕ} 0 1 = cc in absurd (omega arith)
 read-no (refused r) e = cc
 
-pub count-yes : (o : Outcome ℕ) {n : ℕ} → outcomeOf (evaluated.Count n) ≡ o → (0 ∷ 65535 ∷ 0 ∷ n ∷ []) ≡ told o
-unfolding told
+pub count-yes : (o : Outcome ℕ) {n : ℕ} → outcomeOf (evaluated.Count n) ≡ o → (0 ∷ 65535 ∷ 0 ∷ n ∷ []) ≡ answerWords o
+unfolding answerWords
 count-yes o e = rw (← e)
 
-pub count-no : (o : Outcome ℕ) {q p i v : ℕ} → outcomeOf (evaluated.Refused q p i v) ≡ o → (q ∷ p ∷ i ∷ v ∷ []) ≡ told o
-unfolding told
+pub count-no : (o : Outcome ℕ) {q p i v : ℕ} → outcomeOf (evaluated.Refused q p i v) ≡ o → (q ∷ p ∷ i ∷ v ∷ []) ≡ answerWords o
+unfolding answerWords
 count-no o e = rw (← e)
 
-pub built-yes : (o : Outcome (List ℕ)) {n : ℕ} → made.Length n ≡ setAnswer o → (0 ∷ 65535 ∷ 0 ∷ n ∷ []) ≡ told (built o)
-unfolding setAnswer told built
+pub built-yes : (o : Outcome (List ℕ)) {n : ℕ} → made.Length n ≡ setAnswer o → (0 ∷ 65535 ∷ 0 ∷ n ∷ []) ≡ answerWords (built o)
+unfolding setAnswer answerWords built
 built-yes (done bs) e = cc
 built-yes (refused r) e = let z : _≡_ {A = ℕ} 0 1 = cc in absurd (omega arith)
 
-pub built-no : (o : Outcome (List ℕ)) {q p i v : ℕ} → made.Refused q p i v ≡ setAnswer o → (q ∷ p ∷ i ∷ v ∷ []) ≡ told (built o)
-unfolding setAnswer told built
+pub built-no : (o : Outcome (List ℕ)) {q p i v : ℕ} → made.Refused q p i v ≡ setAnswer o → (q ∷ p ∷ i ∷ v ∷ []) ≡ answerWords (built o)
+unfolding setAnswer answerWords built
 built-no (done bs) e = let z : _≡_ {A = ℕ} 0 1 = cc in absurd (omega arith)
 built-no (refused r) e = cc

@@ -4,7 +4,7 @@
 ghost use mathlib.Core.Path.{_≡_};
 ghost use mathlib.Core.List.{List, _++_};
 ghost use Prim.Native.Nat.{ℕ, _*_};
-ghost use lib.ListN.{length, drop, replicate};
+ghost use lib.ListN.{length, drop};
 ghost use Rattle.errors.specs.Refusal.{Outcome};
 ghost use Rattle.blocks.specs.Tree.{Tree};
 ghost use Rattle.blocks.specs.Read.{readSet, readLayout, readValues, readRun};
@@ -12,14 +12,15 @@ ghost use Rattle.reader_calls.specs.Inputs.{readCall, answerOf};
 ghost use Rattle.builder_set.specs.Sets.{answerOf as layoutAnswer};
 ghost use Rattle.interpreter_leaves.specs.Outcome.{outcomeOf};
 ghost use Rattle.interpreter.specs.Validate.{validate, validate-run};
-ghost use Rattle.builder.specs.Build.{build-set, output-after, words-after};
-ghost use Rattle.interpreter_runs.specs.Runs.{validate-runs, given};
-ghost use Rattle.interpreter_runs.specs.Told.{told-all};
-ghost use Rattle.ciztarmo.specs.Told.{told, read, built};
+ghost use Rattle.builder.specs.Build.{build-set, output-after};
+ghost use Rattle.errors.specs.Refusal.{words-after};
+ghost use Rattle.interpreter.specs.Runs.{validate-runs, given};
+ghost use Rattle.errors.specs.Answer.{allAnswerWords};
+ghost use Rattle.ciztarmo.specs.Outcomes.{answerWords, read, built};
 
 // What a reading answered, as four words.
 fn tell_reading(a: reader_calls::Answer, answer: &mut [u64; 4])
-    ensures { λ _. ⌜ ((o : Outcome Tree) → a ≡ answerOf o → now (answer .exit) ≡ told (read o)) ⌝ }
+    ensures { λ _. ⌜ ((o : Outcome Tree) → a ≡ answerOf o → now (answer .exit) ≡ answerWords (read o)) ⌝ }
 {
     match a {
         reader_calls::Answer::Accepted => {
@@ -33,7 +34,7 @@ fn tell_reading(a: reader_calls::Answer, answer: &mut [u64; 4])
 
 // What a build answered, as four words.
 fn tell_length(a: builder_set::Answer, answer: &mut [u64; 4])
-    ensures { λ _. ⌜ ((o : Outcome (List ℕ)) → a ≡ layoutAnswer o → now (answer .exit) ≡ told (built o)) ⌝ }
+    ensures { λ _. ⌜ ((o : Outcome (List ℕ)) → a ≡ layoutAnswer o → now (answer .exit) ≡ answerWords (built o)) ⌝ }
 {
     match a {
         builder_set::Answer::Length(n) => {
@@ -47,7 +48,7 @@ fn tell_length(a: builder_set::Answer, answer: &mut [u64; 4])
 
 // What a validation answered, as four words.
 fn tell_count(a: interpreter_leaves::Answer, answer: &mut [u64; 4])
-    ensures { λ _. ⌜ now (answer .exit) ≡ told (outcomeOf a) ⌝ }
+    ensures { λ _. ⌜ now (answer .exit) ≡ answerWords (outcomeOf a) ⌝ }
 {
     match a {
         interpreter_leaves::Answer::Count(n) => {
@@ -67,8 +68,8 @@ fn tell_count(a: interpreter_leaves::Answer, answer: &mut [u64; 4])
 // Whether a type set is read.
 #[no_mangle]
 pub extern "C" fn ciztarmo_read_set(words: &mut [u64], set: &[u8], answer: &mut [u64; 4])
-    ensures { λ _. ⌜ now (answer .exit) ≡ told (read (readCall readSet (length (now (words .entry))) (now (set .entry)))) ⌝ }
-    ensures { λ _. ⌜ now (words .exit) ≡ replicate (length (now (words .entry))) 0 ⌝ }
+    ensures { λ _. ⌜ now (answer .exit) ≡ answerWords (read (readCall readSet (length (now (words .entry))) (now (set .entry)))) ⌝ }
+    ensures { λ _. ⌜ now (words .exit) ≡ words-after (now (words .entry)) ⌝ }
 {
     let a = reader_calls::read_set(words, set);
     tell_reading(a, answer);
@@ -77,8 +78,8 @@ pub extern "C" fn ciztarmo_read_set(words: &mut [u64], set: &[u8], answer: &mut 
 // Whether a layout is read.
 #[no_mangle]
 pub extern "C" fn ciztarmo_read_layout(words: &mut [u64], layout: &[u8], answer: &mut [u64; 4])
-    ensures { λ _. ⌜ now (answer .exit) ≡ told (read (readCall readLayout (length (now (words .entry))) (now (layout .entry)))) ⌝ }
-    ensures { λ _. ⌜ now (words .exit) ≡ replicate (length (now (words .entry))) 0 ⌝ }
+    ensures { λ _. ⌜ now (answer .exit) ≡ answerWords (read (readCall readLayout (length (now (words .entry))) (now (layout .entry)))) ⌝ }
+    ensures { λ _. ⌜ now (words .exit) ≡ words-after (now (words .entry)) ⌝ }
 {
     let a = reader_calls::read_layout(words, layout);
     tell_reading(a, answer);
@@ -87,8 +88,8 @@ pub extern "C" fn ciztarmo_read_layout(words: &mut [u64], layout: &[u8], answer:
 // Whether values are read.
 #[no_mangle]
 pub extern "C" fn ciztarmo_read_values(words: &mut [u64], values: &[u8], answer: &mut [u64; 4])
-    ensures { λ _. ⌜ now (answer .exit) ≡ told (read (readCall readValues (length (now (words .entry))) (now (values .entry)))) ⌝ }
-    ensures { λ _. ⌜ now (words .exit) ≡ replicate (length (now (words .entry))) 0 ⌝ }
+    ensures { λ _. ⌜ now (answer .exit) ≡ answerWords (read (readCall readValues (length (now (words .entry))) (now (values .entry)))) ⌝ }
+    ensures { λ _. ⌜ now (words .exit) ≡ words-after (now (words .entry)) ⌝ }
 {
     let a = reader_calls::read_values(words, values);
     tell_reading(a, answer);
@@ -97,8 +98,8 @@ pub extern "C" fn ciztarmo_read_values(words: &mut [u64], values: &[u8], answer:
 // Whether a run is read.
 #[no_mangle]
 pub extern "C" fn ciztarmo_read_run(words: &mut [u64], run: &[u8], answer: &mut [u64; 4])
-    ensures { λ _. ⌜ now (answer .exit) ≡ told (read (readCall readRun (length (now (words .entry))) (now (run .entry)))) ⌝ }
-    ensures { λ _. ⌜ now (words .exit) ≡ replicate (length (now (words .entry))) 0 ⌝ }
+    ensures { λ _. ⌜ now (answer .exit) ≡ answerWords (read (readCall readRun (length (now (words .entry))) (now (run .entry)))) ⌝ }
+    ensures { λ _. ⌜ now (words .exit) ≡ words-after (now (words .entry)) ⌝ }
 {
     let a = reader_calls::read_run(words, run);
     tell_reading(a, answer);
@@ -112,7 +113,7 @@ pub extern "C" fn ciztarmo_build_set(
     out: &mut [u8],
     answer: &mut [u64; 4],
 )
-    ensures { λ _. ⌜ now (answer .exit) ≡ told (built (build-set (length (now (words .entry))) (length (now (out .entry))) (now (set .entry)))) ⌝ }
+    ensures { λ _. ⌜ now (answer .exit) ≡ answerWords (built (build-set (length (now (words .entry))) (length (now (out .entry))) (now (set .entry)))) ⌝ }
     ensures { λ _. ⌜ now (out .exit) ≡ output-after (now (out .entry)) (build-set (length (now (words .entry))) (length (now (out .entry))) (now (set .entry))) ⌝ }
     ensures { λ _. ⌜ now (words .exit) ≡ words-after (now (words .entry)) ⌝ }
 {
@@ -123,7 +124,7 @@ pub extern "C" fn ciztarmo_build_set(
 // The same with no words lent: the call has those that it needs.
 #[no_mangle]
 pub extern "C" fn ciztarmo_layout_of(set: &[u8], out: &mut [u8], answer: &mut [u64; 4])
-    ensures { λ _. ⌜ now (answer .exit) ≡ told (built (build-set 8192 (length (now (out .entry))) (now (set .entry)))) ⌝ }
+    ensures { λ _. ⌜ now (answer .exit) ≡ answerWords (built (build-set 8192 (length (now (out .entry))) (now (set .entry)))) ⌝ }
     ensures { λ _. ⌜ now (out .exit) ≡ output-after (now (out .entry)) (build-set 8192 (length (now (out .entry))) (now (set .entry))) ⌝ }
 {
     let a = builder_set::layout_of(set, out);
@@ -140,8 +141,8 @@ pub extern "C" fn ciztarmo_validate(
     len: u64,
     answer: &mut [u64; 4],
 )
-    ensures { λ _. ⌜ now (answer .exit) ≡ told (validate (length (now (words .entry))) (now (layout .entry)) (now (name .entry)) (now (values .entry)) len) ⌝ }
-    ensures { λ _. ⌜ now (words .exit) ≡ replicate (length (now (words .entry))) 0 ⌝ }
+    ensures { λ _. ⌜ now (answer .exit) ≡ answerWords (validate (length (now (words .entry))) (now (layout .entry)) (now (name .entry)) (now (values .entry)) len) ⌝ }
+    ensures { λ _. ⌜ now (words .exit) ≡ words-after (now (words .entry)) ⌝ }
 {
     let a = interpreter_validate::validate(words, layout, name, values, len);
     tell_count(a, answer);
@@ -155,8 +156,8 @@ pub extern "C" fn ciztarmo_validate_run(
     run: &[u8],
     answer: &mut [u64; 4],
 )
-    ensures { λ _. ⌜ now (answer .exit) ≡ told (validate-run (length (now (words .entry))) (now (layout .entry)) (now (run .entry))) ⌝ }
-    ensures { λ _. ⌜ now (words .exit) ≡ replicate (length (now (words .entry))) 0 ⌝ }
+    ensures { λ _. ⌜ now (answer .exit) ≡ answerWords (validate-run (length (now (words .entry))) (now (layout .entry)) (now (run .entry))) ⌝ }
+    ensures { λ _. ⌜ now (words .exit) ≡ words-after (now (words .entry)) ⌝ }
 {
     let a = interpreter_validate::validate_run(words, layout, run);
     tell_count(a, answer);
@@ -171,7 +172,7 @@ pub extern "C" fn ciztarmo_length_of(
     len: u64,
     answer: &mut [u64; 4],
 )
-    ensures { λ _. ⌜ now (answer .exit) ≡ told (validate 8192 (now (layout .entry)) (now (name .entry)) (now (values .entry)) len) ⌝ }
+    ensures { λ _. ⌜ now (answer .exit) ≡ answerWords (validate 8192 (now (layout .entry)) (now (name .entry)) (now (values .entry)) len) ⌝ }
 {
     let a = interpreter_validate::length_of(layout, name, values, len);
     tell_count(a, answer);
@@ -180,7 +181,7 @@ pub extern "C" fn ciztarmo_length_of(
 // The count of the bytes that a run asks for, with no words lent.
 #[no_mangle]
 pub extern "C" fn ciztarmo_length_of_run(layout: &[u8], run: &[u8], answer: &mut [u64; 4])
-    ensures { λ _. ⌜ now (answer .exit) ≡ told (validate-run 8192 (now (layout .entry)) (now (run .entry))) ⌝ }
+    ensures { λ _. ⌜ now (answer .exit) ≡ answerWords (validate-run 8192 (now (layout .entry)) (now (run .entry))) ⌝ }
 {
     let a = interpreter_validate::length_of_run(layout, run);
     tell_count(a, answer);
@@ -196,8 +197,8 @@ pub extern "C" fn ciztarmo_validate_runs(
     answers: &mut [u64],
 ) -> usize
     ensures { λ r. ⌜ r ≡ length (given (length (now (answers .entry))) (validate-runs (length (now (words .entry))) (now (layout .entry)) (now (runs .entry)))) ⌝ }
-    ensures { λ r. ⌜ now (answers .exit) ≡ told-all (given (length (now (answers .entry))) (validate-runs (length (now (words .entry))) (now (layout .entry)) (now (runs .entry)))) ++ drop (4 * r) (now (answers .entry)) ⌝ }
-    ensures { λ _. ⌜ now (words .exit) ≡ replicate (length (now (words .entry))) 0 ⌝ }
+    ensures { λ r. ⌜ now (answers .exit) ≡ allAnswerWords (given (length (now (answers .entry))) (validate-runs (length (now (words .entry))) (now (layout .entry)) (now (runs .entry)))) ++ drop (4 * r) (now (answers .entry)) ⌝ }
+    ensures { λ _. ⌜ now (words .exit) ≡ words-after (now (words .entry)) ⌝ }
 {
     interpreter_runs::validate_runs(words, layout, runs, answers)
 }

@@ -3,7 +3,6 @@
 use Prim.Native.Nat.{ℕ, zero, suc, _≤_}
 use mathlib.Core.Path.{_≡_}
 use mathlib.Core.List.{List, [], _∷_}
-use mathlib.Core.Option.{Option}
 use Rattle.errors.specs.Refusal.{Refusal}
 use Rattle.blocks.specs.Name.{Name}
 use Rattle.ir.specs.Ir.{NodeMetadata, IrParameter, BinaryOp, IrNode, SwitchCases, DefaultNode, TypeIr}

@@ -11,8 +11,8 @@ use Rattle.errors.specs.Refusal.{Outcome, done, refused, _>>=_, MissingIrParame
 use Rattle.blocks.specs.Name.{Name}
 use Rattle.ir.specs.Ir.{NodeMetadata, IrArgument, IrNode, SwitchCases, DefaultNode, TypeIr}
 use Rattle.ir.specs.Layout.{caseCount}
-use Rattle.interpreter.specs.Arithmetic.{Result, value, fault, operate, align-up}
-use Rattle.interpreter.specs.Eval.{ParamMap, Calls, at, find, chosen, valueOr, lift, eval-node, eval-cases, eval-default, collect-arguments, lookup-type, eval-call, eval-within}
+use Rattle.interpreter.specs.Arithmetic.{Result, value, fault, operate, align-up, bits}
+use Rattle.interpreter.specs.Eval.{ParamMap, Handlers, Enter, handlers, refusalAt, find, chosen, valueOr, lift, eval-node, eval-cases, eval-default, collect-arguments, lookup-type, eval-call, eval-within}
 use Rattle.interpreter.specs.Validate.{with-buffer-size, fits-buffer, validate-type}
 use Rattle.compat.specs.Nodes.{SameArguments, NodeExtended, CasesExtended, Found, TypeExtended, LayoutExtended}
 use Rattle.compat.specs.Ways.{CaseAt, Reached}
@@ -25,9 +25,9 @@ use Rattle.compat_proof.proofs.Places.{Stand, down, same-place, roots, 
 module _ (p q : ℕ) where
   data Same {A : Type 0} : Outcome A → Outcome A → Type 0 where
     here : (x : A) → Same (done x) (done x)
-    missing : (a b : ℕ) → Same (refused (at p a MissingIrParameter 0)) (refused (at q b MissingIrParameter 0))
+    missing : (a b : ℕ) → Same (refused (refusalAt p a MissingIrParameter 0)) (refused (refusalAt q b MissingIrParameter 0))
 
-  same-value : (a b : ℕ) (x : Option ℕ) → Same (valueOr (at p a MissingIrParameter 0) x) (valueOr (at q b MissingIrParameter 0) x)
+  same-value : (a b : ℕ) (x : Option ℕ) → Same (valueOr (refusalAt p a MissingIrParameter 0) x) (valueOr (refusalAt q b MissingIrParameter 0) x)
   unfolding valueOr
   same-value a b none = Same.missing a b
   same-value a b (some v) = Same.here v
@@ -84,7 +84,7 @@ module _ (old new : List TypeIr) where
   -- a 22 of the old switch, where the new one has a case of that tag behind as many cases as the old one has
   agree-22 : {p q a b v : ℕ} {m m′ : NodeMetadata} {t : Name} {cs cs′ : SwitchCases} {d d′ : DefaultNode}
       → Stand old new p q (IrNode.Switch a m t cs d) (IrNode.Switch b m′ t cs′ d′)
-      → (i : ℕ) (n : IrNode) → caseCount cs ≤ i → CaseAt i cs′ v n → (x : Outcome ℕ) → Agree old new (refused (at p a InvalidTagValue v)) x
+      → (i : ℕ) (n : IrNode) → caseCount cs ≤ i → CaseAt i cs′ v n → (x : Outcome ℕ) → Agree old new (refused (refusalAt p a InvalidTagValue v)) x
   agree-22 {q} {a} {b} {v} {m} {m′} {t} {cs} {cs′} {d} {d′} s i n l c x = Agree.added _ x refl (record {
     place = q;
     oldType = s .oldType;
@@ -110,7 +110,7 @@ module _ (old new : List TypeIr) where
   })
 
   -- Behind the old cases: an added case of the tag lets the new answer be any, else both answer alike.
-  agree-added : (k : Calls) (p : ℕ) (γ : ParamMap) (v : ℕ) (cs : SwitchCases) {o o′ : Outcome ℕ}
+  agree-added : (k : Handlers) (p : ℕ) (γ : ParamMap) (v : ℕ) (cs : SwitchCases) {o o′ : Outcome ℕ}
       → ((i : ℕ) (n : IrNode) → CaseAt i cs v n → (x : Outcome ℕ) → Agree old new o x)
       → Agree old new o o′ → Agree old new o (eval-cases k p γ v cs o′)
   unfolding eval-cases
@@ -124,14 +124,20 @@ module _ (old new : List TypeIr) where
       first false e later = later
 
   -- two ways to call that agree
-  abbrev AgreeCalls : Calls → Calls → Type 0
+  abbrev AgreeCalls : Handlers → Handlers → Type 0
   AgreeCalls k k′ =
       (p q : ℕ) (γ : ParamMap) (a b : ℕ) (n : Name) (xs ys : List IrArgument) →
-      SamePlace old new p q → Found old n → SameArguments xs ys → Agree old new (k p γ a n xs) (k′ q γ b n ys)
+      SamePlace old new p q → Found old n → SameArguments xs ys → Agree old new (k .call p γ a n xs) (k′ .call q γ b n ys)
+
+  -- two ways to sum over an array that agree where the counts do
+  abbrev AgreeSums : Handlers → Handlers → Type 0
+  AgreeSums k k′ =
+      (p q : ℕ) (γ : ParamMap) (a b : ℕ) (x y : Outcome ℕ) (t f : Name) →
+      SamePlace old new p q → Agree old new x y → Agree old new (k .sum p γ a x t f) (k′ .sum q γ b y t f)
 
   -- ---- nodes
 
-  module _ (k k′ : Calls) (calls : AgreeCalls k k′) (γ : ParamMap) (p q : ℕ) where
+  module _ (k k′ : Handlers) (calls : AgreeCalls k k′) (sums : AgreeSums k k′) (γ : ParamMap) (p q : ℕ) where
     mutual
       unfolding eval-node eval-cases eval-default caseCount
 
@@ -141,7 +147,7 @@ module _ (old new : List TypeIr) where
       agree-node (NodeExtended.FieldRef a b m path x) s = agree-of (same-place s) (same-value p q a b (find (chosen path x) γ))
       agree-node (NodeExtended.AlignUp a b m v x) s =
           agree-then _ _ (agree-node x (down s (Reached.node a m v (Reached.here _)) (Reached.node b m v (Reached.here _))))
-          (λ y. agree-lift a b (same-place s) (align-up y v))
+          (λ y. agree-lift a b (same-place s) (align-up bits y v))
       agree-node (NodeExtended.Switch a b m t x) s =
           agree-then _ _ (agree-of (same-place s) (same-value p q a b (find t γ)))
           (λ v. agree-cases x v
@@ -152,8 +158,10 @@ module _ (old new : List TypeIr) where
       agree-node (NodeExtended.Binary a b m o x y) s =
           agree-then _ _ (agree-node x (down s (Reached.left a m o (Reached.here _)) (Reached.left b m o (Reached.here _))))
           (λ u. agree-then _ _ (agree-node y (down s (Reached.right a m o (Reached.here _)) (Reached.right b m o (Reached.here _))))
-          (λ v. agree-lift a b (same-place s) (operate o u v)))
-      agree-node (NodeExtended.SumOverArray a b m t f x) s = Agree.refusal _ _ refl refl (same-place s)
+          (λ v. agree-lift a b (same-place s) (operate bits o u v)))
+      agree-node (NodeExtended.SumOverArray a b m t f x) s =
+          sums p q γ a b _ _ t f (same-place s)
+          (agree-node x (down s (Reached.count a m t f (Reached.here _)) (Reached.count b m t f (Reached.here _))))
 
       -- stand: where the nodes of two cases at one place stand; any: what an added case gives
       agree-cases : {cs cs′ : SwitchCases} → CasesExtended (Found old) cs cs′ → (v : ℕ) {o o′ : Outcome ℕ}
@@ -182,26 +190,29 @@ module _ (old new : List TypeIr) where
         let s = roots (found-at n old _ _ (o .found)) (found-at n new _ _ (x .found)) (x .named) in
         rw (o .found, x .found) (h (o .place) (x .place) (o .type) (x .type) (x .parameters) s (x .root))
 
-    -- what a call does once its arguments and its type are there
-    abbrev Enter : Type 0
-    Enter = ℕ → ParamMap → ℕ → ℕ → ParamMap → IrNode → Outcome ℕ
-
+    -- two ways to enter a called type that agree
     abbrev AgreeEnter : Enter → Enter → Type 0
     AgreeEnter e e′ =
-        (p q : ℕ) (γ : ParamMap) (a b i j : ℕ) (δ : ParamMap) (n n′ : IrNode) →
-        SamePlace old new p q → Stand old new i j n n′ → NodeExtended (Found old) n n′ → Agree old new (e p γ a i δ n) (e′ q γ b j δ n′)
+        (p q a b i j : ℕ) (δ : ParamMap) (n n′ : IrNode) →
+        SamePlace old new p q → Stand old new i j n n′ → NodeExtended (Found old) n n′ → Agree old new (e p a i δ n) (e′ q b j δ n′)
 
-    agree-call : (e e′ : Enter) → AgreeEnter e e′ → AgreeCalls (eval-call e old) (eval-call e′ new)
+    agree-call : (e e′ : Enter) → AgreeEnter e e′ → AgreeCalls (handlers e old) (handlers e′ new)
     unfolding eval-call
     agree-call e e′ h p q γ a b n xs ys s f x =
         agree-same _ _ s (same-arguments p q x γ [])
-        (λ δ. agree-looked n f _ _ (λ i j t t′ c r y. rw c (h p q γ a b i j _ (t .root) (t′ .root) s r y)))
+        (λ δ. agree-looked n f _ _ (λ i j t t′ c r y. rw c (h p q a b i j _ (t .root) (t′ .root) s r y)))
+
+    -- 24 in both
+    agree-sum : (e e′ : Enter) → AgreeSums (handlers e old) (handlers e′ new)
+    agree-sum e e′ p q γ a b x y t f s h = Agree.refusal _ _ refl refl s
 
     agree-within : (left : ℕ) {n n′ : IrNode} → NodeExtended (Found old) n n′ → (p q : ℕ) (γ : ParamMap) → Stand old new p q n n′
         → Agree old new (eval-within left old p γ n) (eval-within left new q γ n′)
     unfolding eval-within
-    agree-within zero x p q γ s = agree-node _ _ (agree-call _ _ (λ p q γ a b i j δ n n′ e t y. Agree.refusal _ _ refl refl e)) γ p q x s
-    agree-within (suc left) x p q γ s = agree-node _ _ (agree-call _ _ (λ p q γ a b i j δ n n′ e t y. agree-within left y i j δ t)) γ p q x s
+    agree-within zero x p q γ s =
+        agree-node _ _ (agree-call _ _ (λ p q a b i j δ n n′ e t y. Agree.refusal _ _ refl refl e)) (agree-sum _ _) γ p q x s
+    agree-within (suc left) x p q γ s =
+        agree-node _ _ (agree-call _ _ (λ p q a b i j δ n n′ e t y. agree-within left y i j δ t)) (agree-sum _ _) γ p q x s
 
 -- For every type that the old layout has, all values and every buffer length.
 pub evaluated : (old new : List TypeIr) → LayoutExtended old new → (n : Name) → Found old n → (len : ℕ) (values : ParamMap)

@@ -1,20 +1,19 @@
 -- "Old and new layout": the theorem. Grown sets build to extended layouts, which stay extended when they are read, and
 -- extended layouts agree.
-use Prim.Native.Nat.{ℕ, zero, suc, _≤_}
+use Prim.Native.Nat.{ℕ, _≤_}
 use mathlib.Core.Path.{_≡_, refl, sym, _∙_, ap}
-use mathlib.Core.Bool.{Bool, true, false, _&&_}
-use mathlib.Core.List.{List, [], _∷_}
+use mathlib.Core.Bool.{Bool, true, false}
+use mathlib.Core.List.{List}
 use lib.Dec.{leb}
 use lib.ListN.{length}
 use borrow.Author.Tests.{leb-true, le-leb}
-use Rattle.errors.specs.Refusal.{Outcome, done, refused, Refusal, _>>=_, ask, plain, enough, answered, nowhere}
+use Rattle.errors.specs.Refusal.{Outcome, done, Refusal, _>>=_, ask, enough, answered, nowhere}
 use Rattle.errors.proofs.Laws.{done-one, asked, asked-yes, bound, bound-done}
 use Rattle.blocks.specs.Name.{Name}
 use Rattle.blocks.specs.Tree.{Tree}
-use Rattle.blocks.specs.Read.{small, readSet, readLayout, readValues, nameOf}
+use Rattle.blocks.specs.Read.{small, readSet, readLayout, nameOf}
 use Rattle.blocks.specs.Write.{write}
 use Rattle.blocks.proofs.Name.{and-left, and-right}
-use Rattle.resolved.specs.Resolved.{ResolvedType}
 use Rattle.resolved.specs.Set.{typesOf}
 use Rattle.ir.specs.Ir.{TypeIr}
 use Rattle.ir.specs.Layout.{layoutTree, layoutOf}

@@ -10,7 +10,8 @@ use Rattle.errors.specs.Refusal.{done}
 use Rattle.blocks.specs.Name.{Name}
 use Rattle.blocks.specs.Tree.{Tree, name, text, part, flag, optional, entries, view, partOr, partView}
 use Rattle.blocks.specs.Read.{readLayout}
-use Rattle.blocks.specs.Write.{write, placed}
+use Rattle.blocks.specs.Write.{write}
+use Rattle.roundtrip.specs.Placed.{placed}
 use Rattle.roundtrip.specs.Shape.{cut}
 use Rattle.roundtrip.proofs.Unique.{unique}
 use Rattle.ir.specs.Ir.{NodeMetadata, IrParameter, IrArgument, BinaryOp, IrNode, SwitchCases, DefaultNode, TypeIr}

@@ -3,14 +3,14 @@
 -- that has an added case.
 use Prim.Native.Nat.{ℕ, zero, suc, _<_}
 use mathlib.Core.Path.{_≡_, refl}
-use mathlib.Core.Bool.{Bool, true, false, _&&_}
+use mathlib.Core.Bool.{Bool, true, _&&_}
 use mathlib.Core.List.{List, [], _∷_}
-use lib.Dec.{ltb, lit<}
+use lib.Dec.{ltb}
 use borrow.Author.Tests.{ltb-true}
 use lib.ListN.{getD}
 use Rattle.errors.specs.Refusal.{Outcome, done, refused}
 use Rattle.errors.proofs.Compute.{compute as errors}
-use Rattle.blocks.specs.Name.{Name, text}
+use Rattle.blocks.specs.Name.{Name, ascii}
 use Rattle.blocks.specs.Tree.{Tree, name, num, block, nil, cons}
 use Rattle.blocks.specs.Read.{readLayout, nameOf}
 use Rattle.blocks.proofs.Name.{and-left, and-right}
@@ -81,19 +81,19 @@ zone-1 =
 -- ---- their trees
 
 abbrev single : Tree
-single = (block 73 34 (cons (name (text "single")) (cons (num 8 0) (cons (block 95 1 (cons (name (text "single")) (cons (cons (num 1 0) (num 8 4)) (cons (num 8 1) (cons (block 126 32 (cons (cons (num 2 0) nil) nil)) nil))))) nil))))
+single = (block 73 34 (cons (name (ascii "single")) (cons (num 8 0) (cons (block 95 1 (cons (name (ascii "single")) (cons (cons (num 1 0) (num 8 4)) (cons (num 8 1) (cons (block 126 32 (cons (cons (num 2 0) nil) nil)) nil))))) nil))))
 
 abbrev day : Tree
-day = (block 134 34 (cons (name (text "day")) (cons (num 8 1) (cons (block 153 1 (cons (name (text "day")) (cons (cons (num 1 0) (num 8 8)) (cons (num 8 1) (cons (block 181 32 (cons (cons (num 2 0) nil) nil)) nil))))) nil))))
+day = (block 134 34 (cons (name (ascii "day")) (cons (num 8 1) (cons (block 153 1 (cons (name (ascii "day")) (cons (cons (num 1 0) (num 8 8)) (cons (num 8 1) (cons (block 181 32 (cons (cons (num 2 0) nil) nil)) nil))))) nil))))
 
 abbrev references : Tree
-references = (block 29 32 (cons (cons (num 2 1) (cons (block 37 37 (cons (name (text "Fare")) (cons (cons (num 2 1) (cons (name (text "zone")) nil)) nil))) nil)) nil))
+references = (block 29 32 (cons (cons (num 2 1) (cons (block 37 37 (cons (name (ascii "Fare")) (cons (cons (num 2 1) (cons (name (ascii "zone")) nil)) nil))) nil)) nil))
 
 abbrev tag : Tree
-tag = (block 57 65 (cons (cons (num 2 1) (cons (name (text "zone")) nil)) nil))
+tag = (block 57 65 (cons (cons (num 2 1) (cons (name (ascii "zone")) nil)) nil))
 
 abbrev fare : ℕ → Tree → Tree
-fare n variants = block 8 4 (cons (name (text "Fare")) (cons (cons (num 1 1) nil) (cons (num 8 1) (cons references (cons tag (cons (cons (num 2 n) variants) nil))))))
+fare n variants = block 8 4 (cons (name (ascii "Fare")) (cons (cons (num 1 1) nil) (cons (num 8 1) (cons references (cons tag (cons (cons (num 2 n) variants) nil))))))
 
 abbrev set : Tree → Tree
 set type = block 0 36 (cons (cons (num 2 1) (cons type nil)) nil)
@@ -179,17 +179,17 @@ extends = record { kept = kept; apart = apart }
 
 -- what the theorem says of it
 pub agrees : (values : List ℕ) (len words : ℕ) →
-    Agree (layoutOf (pair .oldLayoutTree)) (layoutOf (pair .newLayoutTree)) (validate words old-layout (text "Fare") values len) (validate words new-layout (text "Fare") values len)
+    Agree (layoutOf (pair .oldLayoutTree)) (layoutOf (pair .newLayoutTree)) (validate words old-layout (ascii "Fare") values len) (validate words new-layout (ascii "Fare") values len)
 unfolding pair blocks
 agrees = old-and-new pair extends (parameters-follow pair extends) old-fare Entry.here
 
 -- an answer that is kept
-pub kept-0 : (validate 8192 old-layout (text "Fare") zone-0 100 ≡ done 4) × (validate 8192 new-layout (text "Fare") zone-0 100 ≡ done 4)
+pub kept-0 : (validate 8192 old-layout (ascii "Fare") zone-0 100 ≡ done 4) × (validate 8192 new-layout (ascii "Fare") zone-0 100 ≡ done 4)
 unfolding errors blocks expr resolved ir builder interpreter
 kept-0 = (refl, refl)
 
 -- an old 22, at the switch, for the tag of the added case
-pub added-1 : (validate 8192 old-layout (text "Fare") zone-1 100 ≡ refused (record { number = 22; place = 0; offset = 28; value = 1 })) × (validate 8192 new-layout (text "Fare") zone-1 100 ≡ done 8)
+pub added-1 : (validate 8192 old-layout (ascii "Fare") zone-1 100 ≡ refused (record { number = 22; place = 0; offset = 28; value = 1 })) × (validate 8192 new-layout (ascii "Fare") zone-1 100 ≡ done 8)
 unfolding errors blocks expr resolved ir builder interpreter
 added-1 = (refl, refl)
 

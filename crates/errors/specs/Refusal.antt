@@ -1,7 +1,9 @@
 -- errors.rs: "only the refusals of the list". What a call answers: a value, or one refusal.
 use Prim.Native.Nat.{ℕ}
 use mathlib.Core.Bool.{Bool, true, false}
+use mathlib.Core.List.{List}
 use lib.Dec.{leb}
+use lib.ListN.{length, replicate}
 
 -- "A refusal gives number, type place in the set or layout (65,535 if none), offset and value."
 pub record Refusal : Type 0 where
@@ -50,6 +52,10 @@ atType i (refused r) = refused (record { number = r .number; place = i; offset =
 -- 19, with which each call begins: "are there 8,192 or more working words of 64 bits?"
 unfoldable pub enough : ℕ → Outcome Unit
 enough words = ask (leb 8192 words) (plain 19)
+
+-- demand 1: "working words are zero after every call", whatever they held
+abbrev pub words-after : List ℕ → List ℕ
+words-after words = replicate (length words) 0
 
 -- The questions of document 01, under the Rust's names where it has one.
 -- builder.rs, `IrBuildError`

@@ -4,7 +4,7 @@ use mathlib.Core.Path.{_≡_}
 use mathlib.Core.List.{List}
 use lib.ListN.{length, getD}
 use Rattle.blocks.specs.Bytes.{le2, le4, le8}
-use Rattle.accepted.specs.Accepted.{Accepted, tree, nameAt, Item, Entries}
+use Rattle.accepted.specs.Accepted.{Accepted, tree, Item, Entries}
 use Rattle.expr.specs.Expr.{ExprKind, LiteralExpr, literals, exprOf}
 use Rattle.resolved_parts.specs.Types.{textsOf}
 

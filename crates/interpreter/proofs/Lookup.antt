@@ -4,7 +4,7 @@ use mathlib.Core.Path.{_≡_, refl, sym, _∙_, ap}
 use mathlib.Core.Bool.{Bool, true, false}
 use mathlib.Core.List.{List, [], _∷_, _++_}
 use mathlib.Core.Option.{Option, some, none}
-use Rattle.errors.specs.Refusal.{Outcome, done, refused}
+use Rattle.errors.specs.Refusal.{done}
 use Rattle.errors.proofs.Laws.{done-one, not-done}
 use Rattle.blocks.specs.Name.{Name, same}
 use Rattle.blocks.proofs.Name.{same-eq}

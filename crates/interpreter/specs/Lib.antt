@@ -1,3 +1,4 @@
 pub mod Arithmetic
 pub mod Eval
 pub mod Validate
+pub mod Runs

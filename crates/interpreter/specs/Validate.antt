@@ -1,28 +1,27 @@
 -- interpreter.rs, `validate`: a layout, a type, values and a buffer length to a byte count.
 use Prim.Native.Nat.{ℕ}
-use mathlib.Core.Bool.{Bool, true, false, cond}
+use mathlib.Core.Bool.{cond}
 use mathlib.Core.List.{List, [], _∷_, _++_}
-use mathlib.Core.Option.{Option, some, none}
 use lib.Dec.{leb}
 use Rattle.errors.specs.Refusal.{Outcome, done, refused, _>>=_, enough, BufferTooSmall}
-use Rattle.blocks.specs.Name.{Name, text}
+use Rattle.blocks.specs.Name.{Name, ascii}
 use Rattle.blocks.specs.Tree.{Tree, first, rest, body, number, part, listed}
 use Rattle.blocks.specs.Tree.{text as textIn}
 use Rattle.blocks.specs.Read.{small, readLayout, readValues, readRun}
 use Rattle.ir.specs.Ir.{TypeIr}
 use Rattle.ir.specs.Layout.{layoutOf}
-use Rattle.interpreter.specs.Eval.{Binding, ParamMap, at, lookup-type, eval-within}
+use Rattle.interpreter.specs.Eval.{Binding, ParamMap, refusalAt, lookup-type, eval-within}
 
 -- ---- on what was read
 
 -- "`__buffer_size` is added from the buffer length only if absent, and only at the root." Behind the values it is found
 -- only if absent.
 abbrev pub with-buffer-size : ℕ → ParamMap → ParamMap
-with-buffer-size len values = values ++ (record { name = text "__buffer_size"; value = len } ∷ [])
+with-buffer-size len values = values ++ (record { name = ascii "__buffer_size"; value = len } ∷ [])
 
 -- 25, last: "is the count at most the buffer length?" The place is the asked type's, the value the required count.
 abbrev pub fits-buffer : ℕ → ℕ → ℕ → Outcome ℕ
-fits-buffer place len count = cond (leb count len) (done count) (refused (at place 0 BufferTooSmall count))
+fits-buffer place len count = cond (leb count len) (done count) (refused (refusalAt place 0 BufferTooSmall count))
 
 unfoldable pub validate-type : List TypeIr → Name → ℕ → ParamMap → Outcome ℕ
 validate-type types name len values = do

@@ -5,7 +5,7 @@ ghost use lib.ListN.{getD};
 ghost use lib.Bits.{bitAnd, bitOr, bitXor};
 ghost use Rattle.ir.specs.Ir.{BinaryOp};
 ghost use Rattle.ir.specs.Layout.{operations};
-ghost use Rattle.interpreter.specs.Arithmetic.{value, checked-add, checked-sub, checked-mul, checked-div, checked-mod, checked-left-shift, checked-right-shift, align-up};
+ghost use Rattle.interpreter.specs.Arithmetic.{value, bits, checked-add, checked-sub, checked-mul, checked-div, checked-mod, checked-left-shift, checked-right-shift, align-up};
 ghost use Rattle.interpreter.specs.Arithmetic.{operate as operation};
 ghost use Rattle.interpreter_arithmetic.specs.Num.{numOf};
 
@@ -19,8 +19,8 @@ pub enum Num {
     Fault(u64),
 }
 
-pub fn checked_add(left: u64, right: u64) -> Num
-    ensures { λ r. ⌜ r ≡ numOf (checked-add left right) ⌝ }
+fn checked_add(left: u64, right: u64) -> Num
+    ensures { λ r. ⌜ r ≡ numOf (checked-add bits left right) ⌝ }
 {
     if left <= u64::MAX - right {
         Num::Value(left + right)
@@ -29,7 +29,7 @@ pub fn checked_add(left: u64, right: u64) -> Num
     }
 }
 
-pub fn checked_sub(left: u64, right: u64) -> Num
+fn checked_sub(left: u64, right: u64) -> Num
     ensures { λ r. ⌜ r ≡ numOf (checked-sub left right) ⌝ }
 {
     if right <= left {
@@ -39,8 +39,8 @@ pub fn checked_sub(left: u64, right: u64) -> Num
     }
 }
 
-pub fn checked_mul(left: u64, right: u64) -> Num
-    ensures { λ r. ⌜ r ≡ numOf (checked-mul left right) ⌝ }
+fn checked_mul(left: u64, right: u64) -> Num
+    ensures { λ r. ⌜ r ≡ numOf (checked-mul bits left right) ⌝ }
 {
     if right == 0 {
         return Num::Value(0);
@@ -53,7 +53,7 @@ pub fn checked_mul(left: u64, right: u64) -> Num
     }
 }
 
-pub fn checked_div(left: u64, right: u64) -> Num
+fn checked_div(left: u64, right: u64) -> Num
     ensures { λ r. ⌜ r ≡ numOf (checked-div left right) ⌝ }
 {
     if right == 0 {
@@ -63,7 +63,7 @@ pub fn checked_div(left: u64, right: u64) -> Num
     }
 }
 
-pub fn checked_mod(left: u64, right: u64) -> Num
+fn checked_mod(left: u64, right: u64) -> Num
     ensures { λ r. ⌜ r ≡ numOf (checked-mod left right) ⌝ }
 {
     if right == 0 {
@@ -73,27 +73,27 @@ pub fn checked_mod(left: u64, right: u64) -> Num
     }
 }
 
-pub fn bit_and(left: u64, right: u64) -> Num
+fn bit_and(left: u64, right: u64) -> Num
     ensures { λ r. ⌜ r ≡ numOf (value (bitAnd left right)) ⌝ }
 {
     Num::Value(left & right)
 }
 
-pub fn bit_or(left: u64, right: u64) -> Num
+fn bit_or(left: u64, right: u64) -> Num
     ensures { λ r. ⌜ r ≡ numOf (value (bitOr left right)) ⌝ }
 {
     Num::Value(left | right)
 }
 
-pub fn bit_xor(left: u64, right: u64) -> Num
+fn bit_xor(left: u64, right: u64) -> Num
     ensures { λ r. ⌜ r ≡ numOf (value (bitXor left right)) ⌝ }
 {
     Num::Value(left ^ right)
 }
 
 // The amounts that the operators do not take come first: 128 and above, then 64 to 127, by which only 0 stays below 2^64.
-pub fn checked_left_shift(left: u64, right: u64) -> Num
-    ensures { λ r. ⌜ r ≡ numOf (checked-left-shift left right) ⌝ }
+fn checked_left_shift(left: u64, right: u64) -> Num
+    ensures { λ r. ⌜ r ≡ numOf (checked-left-shift bits left right) ⌝ }
 {
     if 128 <= right {
         return Num::Fault(ARITHMETIC_OVERFLOW);
@@ -112,7 +112,7 @@ pub fn checked_left_shift(left: u64, right: u64) -> Num
 }
 
 // A shift by 64 to 127 leaves no bit.
-pub fn checked_right_shift(left: u64, right: u64) -> Num
+fn checked_right_shift(left: u64, right: u64) -> Num
     ensures { λ r. ⌜ r ≡ numOf (checked-right-shift left right) ⌝ }
 {
     if 128 <= right {
@@ -125,7 +125,7 @@ pub fn checked_right_shift(left: u64, right: u64) -> Num
 }
 
 pub fn align_up(value: u64, alignment: u64) -> Num
-    ensures { λ r. ⌜ r ≡ numOf (align-up value alignment) ⌝ }
+    ensures { λ r. ⌜ r ≡ numOf (align-up bits value alignment) ⌝ }
 {
     if alignment <= 1 {
         return Num::Value(value);
@@ -140,7 +140,7 @@ pub fn align_up(value: u64, alignment: u64) -> Num
 // The operation of a node of kind 134, AddChecked, to 143, RightShift.
 pub fn operate(kind: usize, a: u64, b: u64) -> Num
     requires { ⌜ (134 ≤ kind) × (kind ≤ 143) ⌝ }
-    ensures { λ r. ⌜ r ≡ numOf (operation (getD operations (kind - 134) BinaryOp.AddChecked) a b) ⌝ }
+    ensures { λ r. ⌜ r ≡ numOf (operation bits (getD operations (kind - 134) BinaryOp.AddChecked) a b) ⌝ }
 {
     match kind {
         134 => checked_add(a, b),

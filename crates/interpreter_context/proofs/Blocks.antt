@@ -1,18 +1,16 @@
 -- The blocks of a layout that are no nodes: type trees, parameters, cases, arguments.
 use mathlib.Core.Path.{_≡_, refl, sym, _∙_, ap, subst}
 use mathlib.Core.List.{List, [], _∷_}
-use Prim.Native.Nat.{ℕ, zero, suc, _+_, _-_, _≤_, _<_}
+use Prim.Native.Nat.{ℕ, _+_, _-_, _≤_}
 use native.Mathlib.Omega.{arith}
-use lib.ListN.{length, getD, drop}
-use Rattle.blocks.specs.declared.Part.{Part}
-use Rattle.blocks.specs.declared.Part.the-variants.{Text, Number, OptText, Block, OptBlock, Blocks}
+use lib.ListN.{length}
+use Rattle.blocks.specs.declared.Part.the-variants.{Block, Blocks}
 use Rattle.blocks.specs.Bytes.{le2, le4, le8}
-use Rattle.blocks.specs.Grammar.{partsOf, nodeTable, findRow, grammar}
-use Rattle.blocks.specs.Tree.{Tree, name, num, block, nil, cons, first, rest, body, number, text, part, view}
-use Rattle.ir.specs.Ir.{IrNode, IrArgument, IrParameter, TypeIr}
+use Rattle.blocks.specs.Grammar.{partsOf, findRow, grammar}
+use Rattle.blocks.specs.Tree.{Tree, name, num, block, cons, first, rest, body, part}
 use Rattle.ir.specs.Layout.{nodeOf, argumentOf, parameterOf, typeIrOf}
 use Rattle.accepted.specs.Accepted.{Accepted, tree, Parts, Listed, nameAt, Counted}
-use Rattle.accepted.proofs.Laws.{Opened, opened, Behind, key-part, text-part, number-part, block-part, list-part}
+use Rattle.accepted.proofs.Laws.{opened, key-part, text-part, number-part, block-part, list-part}
 
 -- the kind is known
 pub sole-kind : {s : List ℕ} {k at : ℕ} (a : Accepted s k k at) → le2 s (at + 4) ≡ k

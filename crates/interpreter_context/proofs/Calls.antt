@@ -1,17 +1,17 @@
 -- From the innermost open call to the root.
 use mathlib.Core.Path.{_≡_, refl, sym, _∙_, ap, subst}
-use mathlib.Core.Bool.{Bool, true, false, _||_, cond}
-use mathlib.Core.List.{List, [], _∷_, _++_}
+use mathlib.Core.Bool.{Bool, true, false, cond}
+use mathlib.Core.List.{List, [], _∷_}
 use mathlib.Core.Option.{Option, some, none}
-use Prim.Native.Nat.{ℕ, zero, suc, _+_, _-_, _≤_, _<_}
+use Prim.Native.Nat.{ℕ, suc, _+_, _-_, _≤_, _<_}
 use native.Mathlib.Numerals.{sub-one}
 use native.Mathlib.Omega.{arith}
 use lib.ListN.{length, getD}
-use Rattle.blocks.specs.Bytes.{le2, le4, le8}
-use Rattle.blocks.specs.Name.{Name, same, text}
+use Rattle.blocks.specs.Bytes.{le2, le8}
+use Rattle.blocks.specs.Name.{Name, same, ascii}
 use Rattle.ir.specs.Ir.{IrArgument, IrParameter}
 use Rattle.accepted.specs.Accepted.{Accepted, tree, nameAt}
-use Rattle.interpreter.specs.Eval.{ParamMap, find, inherited}
+use Rattle.interpreter.specs.Eval.{ParamMap, find}
 use Rattle.interpreter.specs.Validate.{with-buffer-size, valuesOf}
 use Rattle.lookup.specs.declared.Value.{Value as InBlock}
 use Rattle.lookup.specs.declared.Value.the-variants.{At as BlockAt, Missing as BlockNone}
@@ -65,8 +65,8 @@ module _ {s : List ℕ} {f : Found} (n : Name) (xs : List IrArgument) (ps : List
 
 -- ---- the root
 
-root-is : (n : Name) (γ : ParamMap) (len : ℕ) → find n (with-buffer-size len γ) ≡ orLength (find n γ) (cond (same n (text "__buffer_size")) (some len) none)
-root-is n γ len = find-behind n γ (record { name = text "__buffer_size"; value = len })
+root-is : (n : Name) (γ : ParamMap) (len : ℕ) → find n (with-buffer-size len γ) ≡ orLength (find n γ) (cond (same n (ascii "__buffer_size")) (some len) none)
+root-is n γ len = find-behind n γ (record { name = ascii "__buffer_size"; value = len })
 
 pub block-at : {values : List ℕ} {n : Name} {γ : ParamMap} {b : InBlock} {o : ℕ} → b ≡ BlockAt o → ValueFound values n γ b → (o + 8 ≤ length values) × (find n γ ≡ some (le8 values o))
 block-at {values} {n} {γ} {o} e (ValueFound.at {o = r} h g) = let k : r ≡ o = cc in subst (λ (z : ℕ). (z + 8 ≤ length values) × (find n γ ≡ some (le8 values z))) k (h, g)
@@ -78,15 +78,15 @@ block-none e (ValueFound.missing g) = g
 
 module _ {values : List ℕ} {n : Name} {γ : ParamMap} {b : InBlock} (len : ℕ) (f : ValueFound values n γ b) where
   pub held-value : {o v : ℕ} → b ≡ BlockAt o → v ≡ le8 values o → Value v ≡ heldOf (find n (with-buffer-size len γ))
-  held-value e ev = ap Value ev ∙ sym (ap heldOf (root-is n γ len ∙ ap (λ (o : Option ℕ). orLength o (cond (same n (text "__buffer_size")) (some len) none)) (block-at e f .1)))
+  held-value e ev = ap Value ev ∙ sym (ap heldOf (root-is n γ len ∙ ap (λ (o : Option ℕ). orLength o (cond (same n (ascii "__buffer_size")) (some len) none)) (block-at e f .1)))
 
-  no-value : {t : Bool} → b ≡ BlockNone → t ≡ same n (text "__buffer_size") → find n (with-buffer-size len γ) ≡ cond t (some len) none
-  no-value e h = root-is n γ len ∙ ap (λ (o : Option ℕ). orLength o (cond (same n (text "__buffer_size")) (some len) none)) (block-none e f) ∙ ap (λ (t : Bool). cond t (some len) none) (sym h)
+  no-value : {t : Bool} → b ≡ BlockNone → t ≡ same n (ascii "__buffer_size") → find n (with-buffer-size len γ) ≡ cond t (some len) none
+  no-value e h = root-is n γ len ∙ ap (λ (o : Option ℕ). orLength o (cond (same n (ascii "__buffer_size")) (some len) none)) (block-none e f) ∙ ap (λ (t : Bool). cond t (some len) none) (sym h)
 
-  pub held-length : {t : Bool} → b ≡ BlockNone → t ≡ same n (text "__buffer_size") → t ≡ true → Value len ≡ heldOf (find n (with-buffer-size len γ))
+  pub held-length : {t : Bool} → b ≡ BlockNone → t ≡ same n (ascii "__buffer_size") → t ≡ true → Value len ≡ heldOf (find n (with-buffer-size len γ))
   held-length e h t = sym (ap heldOf (no-value e h ∙ ap (λ (t : Bool). cond t (some len) none) t))
 
-  pub held-absent : {t : Bool} → b ≡ BlockNone → t ≡ same n (text "__buffer_size") → t ≡ false → Absent ≡ heldOf (find n (with-buffer-size len γ))
+  pub held-absent : {t : Bool} → b ≡ BlockNone → t ≡ same n (ascii "__buffer_size") → t ≡ false → Absent ≡ heldOf (find n (with-buffer-size len γ))
   held-absent e h t = sym (ap heldOf (no-value e h ∙ ap (λ (t : Bool). cond t (some len) none) t))
 
 -- ---- the open calls

@@ -1,22 +1,22 @@
 -- The loops over a call's arguments and over a type's parameters.
 use mathlib.Core.Path.{_≡_, refl, sym, _∙_, ap, subst}
-use mathlib.Core.Bool.{Bool, true, false, _||_, cond}
-use mathlib.Core.List.{List, [], _∷_}
+use mathlib.Core.Bool.{Bool, true, false}
+use mathlib.Core.List.{List, _∷_}
 use mathlib.Core.Option.{Option, some, none}
 use Prim.Native.Nat.{ℕ, _+_, _-_, _≤_, _<_}
 use native.Mathlib.Omega.{arith}
-use lib.ListN.{length, drop}
+use lib.ListN.{length}
 use Rattle.blocks.specs.Bytes.{le2, le4}
 use Rattle.blocks.specs.Name.{Name, same}
 use Rattle.blocks.specs.Grammar.{partsOf, nodeTable}
-use Rattle.blocks.specs.Tree.{Tree, nil, cons, rest, body, part, entries}
+use Rattle.blocks.specs.Tree.{Tree, rest, body, part, entries}
 use Rattle.ir.specs.Ir.{IrArgument, IrParameter}
 use Rattle.ir.specs.Layout.{argumentOf, parameterOf}
 use Rattle.accepted.specs.Accepted.{Accepted, tree, Listed, nameAt}
 use Rattle.accepted.proofs.Laws.{opened, block-entry, none-left}
 use Rattle.interpreter_context.proofs.Laws.{Standing}
 use Rattle.interpreter_context.proofs.Shape.{ListAt, list-at, located}
-use Rattle.interpreter_context.proofs.Blocks.{IsArgument, argument, IsParameter, parameter, IsTree, type-tree}
+use Rattle.interpreter_context.proofs.Blocks.{IsArgument, argument, parameter, IsTree, type-tree}
 use Rattle.interpreter_context.specs.declared.Found.{Found}
 use Rattle.interpreter_context.specs.declared.Found.the-variants.{At, Missing}
 use Rattle.interpreter_context.specs.Names.{chosen, lastArgument, lists, Named}

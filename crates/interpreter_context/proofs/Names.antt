@@ -5,7 +5,7 @@ use mathlib.Core.List.{List, [], _∷_, _++_}
 use mathlib.Core.Option.{Option, some, none}
 use Prim.Native.Nat.{ℕ, _+_, _-_}
 use native.Mathlib.Omega.{arith}
-use Rattle.errors.specs.Refusal.{Outcome, done, refused, _>>=_, Refusal, MissingIrParameter}
+use Rattle.errors.specs.Refusal.{done, Refusal, MissingIrParameter}
 use Rattle.errors.proofs.Laws.{done-one, not-done, bound}
 use lib.ListN.{take, drop}
 use Rattle.blocks.specs.Bytes.{le2}
@@ -13,7 +13,7 @@ use Rattle.blocks.specs.Name.{Name, same}
 use Rattle.accepted.specs.Accepted.{nameAt}
 use Rattle.blocks.proofs.Name.{same-eq}
 use Rattle.ir.specs.Ir.{IrArgument, IrParameter}
-use Rattle.interpreter.specs.Eval.{Binding, ParamMap, find, at, valueOr, collect-arguments, bindFound, inherited}
+use Rattle.interpreter.specs.Eval.{Binding, ParamMap, find, refusalAt, valueOr, collect-arguments, bindFound, inherited}
 use Rattle.interpreter_context.specs.Names.{chosen, lastArgument, lists, callersName}
 
 -- what the caller has
@@ -36,8 +36,8 @@ pub collected : (p : ℕ) (γ ε : ParamMap) (n : Name) (xs : List IrArgument) (
 unfolding collect-arguments lastArgument find
 collected p γ ε n [] δ₀ δ o e h = subst (λ (z : ParamMap). find n (z ++ ε) ≡ via γ o) (done-one e) h
 collected p γ ε n (x ∷ xs) δ₀ δ o e h =
-    let b = bound (valueOr (at p (x .at) MissingIrParameter 0) (find (x .value) γ)) _ _ e in
-    let f = valued (at p (x .at) MissingIrParameter 0) (find (x .value) γ) (b .0) (b .1) in
+    let b = bound (valueOr (refusalAt p (x .at) MissingIrParameter 0) (find (x .value) γ)) _ _ e in
+    let f = valued (refusalAt p (x .at) MissingIrParameter 0) (find (x .value) γ) (b .0) (b .1) in
     collected p γ ε n xs (record { name = x .name; value = b .0 } ∷ δ₀) δ (chosen n x o) (b .2) (met γ (same n (x .name)) (b .0) (x .value) (find n (δ₀ ++ ε)) o f h)
 
 found-first : (n m : Name) (v : ℕ) (δ : ParamMap) (b : Bool) → same n m ≡ b → find n (record { name = m; value = v } ∷ δ) ≡ elim b [ true ↦ some v | false ↦ find n δ ]

@@ -1,22 +1,22 @@
 -- What a located part of a node says of the node.
-use mathlib.Core.Path.{_≡_, refl, sym, _∙_, ap, subst}
-use mathlib.Core.Bool.{Bool, true, false, cond}
-use mathlib.Core.List.{List, [], _∷_}
-use mathlib.Core.Option.{Option, some, none}
+use mathlib.Core.Path.{_≡_, refl, sym, _∙_, ap}
+use mathlib.Core.Bool.{cond}
+use mathlib.Core.List.{List, _∷_}
+use mathlib.Core.Option.{some, none}
 use Prim.Native.Nat.{ℕ, zero, suc, _+_, _-_, _≤_, _<_}
 use native.Mathlib.Omega.{arith}
 use lib.Dec.{eqb}
 use lib.ListN.{length, getD, drop}
-use borrow.Author.Tests.{eq-eqb, ne-eqb}
+use borrow.Author.Tests.{ne-eqb}
 use Rattle.blocks.specs.declared.Part.{Part}
-use Rattle.blocks.specs.declared.Part.the-variants.{Text, Number, OptText, Block, OptBlock, Blocks}
+use Rattle.blocks.specs.declared.Part.the-variants.{Text, Number, OptText, Block, Blocks}
 use Rattle.blocks.specs.Bytes.{le2, le4, le8}
-use Rattle.blocks.specs.Grammar.{partsOf, nodeTable}
-use Rattle.blocks.specs.Tree.{Tree, name, num, block, nil, cons, View, other, item, pair, first, rest, body, kind, offset, number, text, part, optional, entries, view, firstView, restView, itemOr, partOr, partView}
-use Rattle.ir.specs.Ir.{IrNode, SwitchCases, DefaultNode}
-use Rattle.ir.specs.Layout.{Thing, Form, formOf, asNode, makeThing, thingOf, nodeOf, nodeIn, defaultIn, casesIn, metaOf, argumentOf}
-use Rattle.accepted.specs.Accepted.{Accepted, tree, Parts, Listed, nameAt, Optional, Counted}
-use Rattle.accepted.proofs.Laws.{Opened, opened, Behind, text-part, number-part, There, optional-part, block-part, list-part}
+use Rattle.blocks.specs.Grammar.{partsOf}
+use Rattle.blocks.specs.Tree.{Tree, name, num, block, nil, cons, View, first, rest, body, number, text, part, optional, view, firstView, restView, itemOr, partOr, partView}
+use Rattle.ir.specs.Ir.{DefaultNode}
+use Rattle.ir.specs.Layout.{Thing, Form, formOf, asNode, makeThing, thingOf, nodeOf, nodeIn, defaultIn, casesIn}
+use Rattle.accepted.specs.Accepted.{Accepted, tree, Listed, nameAt, Optional, Counted}
+use Rattle.accepted.proofs.Laws.{opened, text-part, number-part, optional-part, block-part, list-part}
 use Rattle.interpreter_context.specs.Located.{rests, Located}
 use Rattle.interpreter_context.proofs.Laws.{Standing}
 

@@ -16,14 +16,13 @@ use Rattle.blocks.specs.Name.{Name}
 use Rattle.blocks.specs.Grammar.{partsOf, nodeTable}
 use Rattle.blocks.specs.Tree.{Tree, text, body, part, view, partView}
 use Rattle.blocks.specs.Read.{readLayout}
-use Rattle.blocks.specs.declared.Part.{Part}
 use Rattle.blocks.specs.declared.Part.the-variants.{Block}
 use Rattle.ir.specs.Ir.{BinaryOp, IrNode, IrArgument, SwitchCases, DefaultNode, TypeIr}
 use Rattle.ir.specs.Layout.{Form, formOf, makeThing, thingOf, nodeIn, defaultIn, nodeOf, layoutOf, typeIrOf, operations}
 use Rattle.accepted.specs.Accepted.{Accepted, tree}
 use Rattle.accepted.proofs.Laws.{each}
-use Rattle.interpreter.specs.Arithmetic.{Result, operate, align-up}
-use Rattle.interpreter.specs.Eval.{Calls, ParamMap, find, at as refusal, valueOr, lift, eval-node, eval-cases, eval-default, collect-arguments, inherited, lookup-type, eval-call, eval-within}
+use Rattle.interpreter.specs.Arithmetic.{Result, operate, align-up, bits}
+use Rattle.interpreter.specs.Eval.{Handlers, ParamMap, find, refusalAt as refusal, valueOr, lift, eval-node, eval-cases, eval-default, collect-arguments, inherited, lookup-type, eval-call, eval-within, handlers, Enter, no-more-calls}
 use Rattle.interpreter_context.proofs.Laws.{Standing}
 use Rattle.interpreter_context.proofs.Shape.{bodyOf, child-at, node-is, node-in, cases-in, default-in, located}
 use Rattle.interpreter_arithmetic.specs.declared.Num.{Num}
@@ -50,22 +49,22 @@ use Rattle.interpreter_eval.specs.Evaluates.{Ready, Evaluates}
 
 -- ---- the allowance of open calls
 
-abbrev entering : ℕ → List TypeIr → ℕ → ParamMap → ℕ → ℕ → ParamMap → IrNode → Outcome ℕ
-entering zero types p γ a i δ root = refused (refusal p a 27 0)
-entering (suc left) types p γ a i δ root = eval-within left types i δ root
+abbrev entering : ℕ → List TypeIr → Enter
+entering zero types = no-more-calls
+entering (suc left) types p a i δ root = eval-within left types i δ root
 
 -- what a call does with so many calls left
-abbrev pub callsAt : ℕ → List TypeIr → Calls
-callsAt left types = eval-call (entering left types) types
+abbrev pub handlersAt : ℕ → List TypeIr → Handlers
+handlersAt left types = handlers (entering left types) types
 
-pub within-is : (left : ℕ) (types : List TypeIr) (p : ℕ) (γ : ParamMap) (n : IrNode) → eval-within left types p γ n ≡ eval-node (callsAt left types) p γ n
+pub within-is : (left : ℕ) (types : List TypeIr) (p : ℕ) (γ : ParamMap) (n : IrNode) → eval-within left types p γ n ≡ eval-node (handlersAt left types) p γ n
 unfolding eval-within
 within-is zero types p γ n = refl
 within-is (suc left) types p γ n = refl
 
-opens : (left : ℕ) → (left ≡ 0 → ⊥) → (types : List TypeIr) (p : ℕ) (γ : ParamMap) (a i : ℕ) (δ : ParamMap) (n : IrNode) → entering left types p γ a i δ n ≡ eval-within (left - 1) types i δ n
-opens zero h types p γ a i δ n = absurd (h refl)
-opens (suc left) h types p γ a i δ n = ap (λ (l : ℕ). eval-within l types i δ n) (sym (sub-one (suc left)))
+opens : (left : ℕ) → (left ≡ 0 → ⊥) → (types : List TypeIr) (p a i : ℕ) (δ : ParamMap) (n : IrNode) → entering left types p a i δ n ≡ eval-within (left - 1) types i δ n
+opens zero h types p a i δ n = absurd (h refl)
+opens (suc left) h types p a i δ n = ap (λ (l : ℕ). eval-within l types i δ n) (sym (sub-one (suc left)))
 
 -- ---- AlignUp
 
@@ -74,20 +73,20 @@ pub unwrapped-is : {s : List ℕ} {at q : ℕ} → ((a : Accepted s 128 144 at) 
     → (a : Accepted s 128 144 at) → Tells r ws us (eval-within left types pl γ (nodeOf (tree a)))
 unwrapped-is f left types pl γ e a =
     let u = f a in
-    told-as (e (u .node)) (within-is left types pl γ (nodeOf (tree (u .node))) ∙ sym (u .same (callsAt left types) pl γ) ∙ sym (within-is left types pl γ (nodeOf (tree a))))
+    told-as (e (u .node)) (within-is left types pl γ (nodeOf (tree (u .node))) ∙ sym (u .same (handlersAt left types) pl γ) ∙ sym (within-is left types pl γ (nodeOf (tree a))))
 
 module _ {s : List ℕ} {at p q : ℕ} (st : Standing s at 2 p) (su : Standing s at 3 q) (k : le2 s (at + 4) ≡ 131) (left : ℕ) (types : List TypeIr) (pl : ℕ) (γ : ParamMap) (a : Accepted s 128 144 at) where
-  align-is : eval-within left types pl γ (nodeOf (tree a)) ≡ (eval-within left types pl γ (nodeOf (tree (align-child su a k .0))) >>= (λ v. lift pl at (align-up v (le8 s p))))
+  align-is : eval-within left types pl γ (nodeOf (tree a)) ≡ (eval-within left types pl γ (nodeOf (tree (align-child su a k .0))) >>= (λ v. lift pl at (align-up bits v (le8 s p))))
   align-is =
-      within-is left types pl γ (nodeOf (tree a)) ∙ align-node st su k (callsAt left types) pl γ a
-      ∙ ap (λ (o : Outcome ℕ). o >>= (λ v. lift pl at (align-up v (le8 s p)))) (sym (within-is left types pl γ (nodeOf (tree (align-child su a k .0)))))
+      within-is left types pl γ (nodeOf (tree a)) ∙ align-node st su k (handlersAt left types) pl γ a
+      ∙ ap (λ (o : Outcome ℕ). o >>= (λ v. lift pl at (align-up bits v (le8 s p)))) (sym (within-is left types pl γ (nodeOf (tree (align-child su a k .0)))))
 
   module _ {r : Bool} {ws us : List ℕ} (e : (c : Accepted s 128 144 q) → Tells r ws us (eval-within left types pl γ (nodeOf (tree c)))) where
     pub align-stops : not r ≡ true → Tells false ws us (eval-within left types pl γ (nodeOf (tree a)))
     align-stops f = told-as (then-stops _ _ (e (align-child su a k .0)) f) (sym align-is)
 
-    pub align-goes : {m : ℕ} {z : Num} {b : Bool} {vs : List ℕ} → not r ≡ false → m ≡ le8 s p → z ≡ numOf (align-up (getD us 0 0) m) → ((x : Result) → z ≡ numOf x → Tells b us vs (lift pl at x)) → Tells b ws vs (eval-within left types pl γ (nodeOf (tree a)))
-    align-goes f em ez eo = told-as (then-goes _ _ (e (align-child su a k .0)) f (eo (align-up (getD us 0 0) (le8 s p)) (ez ∙ ap (λ (m : ℕ). numOf (align-up (getD us 0 0) m)) em))) (sym align-is)
+    pub align-goes : {m : ℕ} {z : Num} {b : Bool} {vs : List ℕ} → not r ≡ false → m ≡ le8 s p → z ≡ numOf (align-up bits (getD us 0 0) m) → ((x : Result) → z ≡ numOf x → Tells b us vs (lift pl at x)) → Tells b ws vs (eval-within left types pl γ (nodeOf (tree a)))
+    align-goes f em ez eo = told-as (then-goes _ _ (e (align-child su a k .0)) f (eo (align-up bits (getD us 0 0) (le8 s p)) (ez ∙ ap (λ (m : ℕ). numOf (align-up bits (getD us 0 0) m)) em))) (sym align-is)
 
 -- ---- two operands
 
@@ -123,16 +122,16 @@ module _ {s : List ℕ} {at : ℕ} (a : Accepted s 128 144 at) (lo : 134 ≤ le2
     abbrev run : {q : ℕ} → Accepted s 128 144 q → Outcome ℕ
     run c = eval-within left types pl γ (nodeOf (tree c))
 
-    binary-is : run a ≡ (run (left-child st .0) >>= (λ x. run (right-child su .0) >>= (λ y. lift pl at (operate (opOf (le2 s (at + 4))) x y))))
+    binary-is : run a ≡ (run (left-child st .0) >>= (λ x. run (right-child su .0) >>= (λ y. lift pl at (operate bits (opOf (le2 s (at + 4))) x y))))
     unfolding makeThing eval-node
     binary-is =
-        let call = callsAt left types in
+        let handle = handlersAt left types in
         let op = opOf (le2 s (at + 4)) in
-        within-is left types pl γ (nodeOf (tree a)) ∙ ap (eval-node call pl γ) (node-is a refl (binary-form (le2 s (at + 4)) lo hi))
-        ∙ ap (λ (n : IrNode). eval-node call pl γ n >>= (λ x. eval-node call pl γ (nodeIn 3 (view thingOf (bodyOf a))) >>= (λ y. lift pl at (operate op x y)))) (node-in 2 (bodyOf a) ∙ left-child st .1)
-        ∙ ap (λ (n : IrNode). eval-node call pl γ (nodeOf (tree (left-child st .0))) >>= (λ x. eval-node call pl γ n >>= (λ y. lift pl at (operate op x y)))) (node-in 3 (bodyOf a) ∙ right-child su .1)
-        ∙ ap (λ (o : Outcome ℕ). o >>= (λ x. eval-node call pl γ (nodeOf (tree (right-child su .0))) >>= (λ y. lift pl at (operate op x y)))) (sym (within-is left types pl γ (nodeOf (tree (left-child st .0)))))
-        ∙ ap (λ (o : Outcome ℕ). run (left-child st .0) >>= (λ x. o >>= (λ y. lift pl at (operate op x y)))) (sym (within-is left types pl γ (nodeOf (tree (right-child su .0)))))
+        within-is left types pl γ (nodeOf (tree a)) ∙ ap (eval-node handle pl γ) (node-is a refl (binary-form (le2 s (at + 4)) lo hi))
+        ∙ ap (λ (n : IrNode). eval-node handle pl γ n >>= (λ x. eval-node handle pl γ (nodeIn 3 (view thingOf (bodyOf a))) >>= (λ y. lift pl at (operate bits op x y)))) (node-in 2 (bodyOf a) ∙ left-child st .1)
+        ∙ ap (λ (n : IrNode). eval-node handle pl γ (nodeOf (tree (left-child st .0))) >>= (λ x. eval-node handle pl γ n >>= (λ y. lift pl at (operate bits op x y)))) (node-in 3 (bodyOf a) ∙ right-child su .1)
+        ∙ ap (λ (o : Outcome ℕ). o >>= (λ x. eval-node handle pl γ (nodeOf (tree (right-child su .0))) >>= (λ y. lift pl at (operate bits op x y)))) (sym (within-is left types pl γ (nodeOf (tree (left-child st .0)))))
+        ∙ ap (λ (o : Outcome ℕ). run (left-child st .0) >>= (λ x. o >>= (λ y. lift pl at (operate bits op x y)))) (sym (within-is left types pl γ (nodeOf (tree (right-child su .0)))))
 
     module _ {r : Bool} {ws us : List ℕ} (e : (c : Accepted s 128 144 p) → Tells r ws us (run c)) where
       pub left-stops : not r ≡ true → Tells false ws us (run a)
@@ -142,24 +141,24 @@ module _ {s : List ℕ} {at : ℕ} (a : Accepted s 128 144 at) (lo : 134 ≤ le2
         pub right-stops : not b ≡ true → Tells false ws vs (run a)
         right-stops h = told-as (then-goes _ _ (e (left-child st .0)) f (then-stops _ _ (g (right-child su .0)) h)) (sym binary-is)
 
-        pub both-go : {k : ℕ} {z : Num} {d : Bool} {xs : List ℕ} → not b ≡ false → k ≡ le2 s (at + 4) → z ≡ numOf (operate (opOf k) (getD us 0 0) (getD vs 0 0)) → ((x : Result) → z ≡ numOf x → Tells d vs xs (lift pl at x)) → Tells d ws xs (run a)
+        pub both-go : {k : ℕ} {z : Num} {d : Bool} {xs : List ℕ} → not b ≡ false → k ≡ le2 s (at + 4) → z ≡ numOf (operate bits (opOf k) (getD us 0 0) (getD vs 0 0)) → ((x : Result) → z ≡ numOf x → Tells d vs xs (lift pl at x)) → Tells d ws xs (run a)
         both-go h ek ez eo =
-            let x = eo (operate (opOf (le2 s (at + 4))) (getD us 0 0) (getD vs 0 0)) (ez ∙ ap (λ (k : ℕ). numOf (operate (opOf k) (getD us 0 0) (getD vs 0 0))) ek) in
+            let x = eo (operate bits (opOf (le2 s (at + 4))) (getD us 0 0) (getD vs 0 0)) (ez ∙ ap (λ (k : ℕ). numOf (operate bits (opOf k) (getD us 0 0) (getD vs 0 0))) ek) in
             told-as (then-goes _ _ (e (left-child st .0)) f (then-goes _ _ (g (right-child su .0)) h x)) (sym binary-is)
 
 -- ---- Switch
 
-picking : Calls → ℕ → ParamMap → ℕ → ℕ → Option IrNode → Outcome ℕ
-picking call p γ a v none = refused (refusal p a InvalidTagValue v)
-picking call p γ a v (some n) = eval-node call p γ n
+picking : Handlers → ℕ → ParamMap → ℕ → ℕ → Option IrNode → Outcome ℕ
+picking handle p γ a v none = refused (refusal p a InvalidTagValue v)
+picking handle p γ a v (some n) = eval-node handle p γ n
 
-pick-is : (call : Calls) (p : ℕ) (γ : ParamMap) (a v : ℕ) (cs : SwitchCases) (d : DefaultNode) → eval-cases call p γ v cs (eval-default call p γ a v d) ≡ picking call p γ a v (pick v cs d)
+pick-is : (handle : Handlers) (p : ℕ) (γ : ParamMap) (a v : ℕ) (cs : SwitchCases) (d : DefaultNode) → eval-cases handle p γ v cs (eval-default handle p γ a v d) ≡ picking handle p γ a v (pick v cs d)
 unfolding eval-node eval-cases eval-default pick picking
-pick-is call p γ a v SwitchCases.noCase DefaultNode.noDefault = refl
-pick-is call p γ a v SwitchCases.noCase (DefaultNode.orElse n) = refl
-pick-is call p γ a v (SwitchCases.case t n ps cs) d = go (eqb t v) (pick-is call p γ a v cs d)
+pick-is handle p γ a v SwitchCases.noCase DefaultNode.noDefault = refl
+pick-is handle p γ a v SwitchCases.noCase (DefaultNode.orElse n) = refl
+pick-is handle p γ a v (SwitchCases.case t n ps cs) d = go (eqb t v) (pick-is handle p γ a v cs d)
   where
-    go : (b : Bool) → eval-cases call p γ v cs (eval-default call p γ a v d) ≡ picking call p γ a v (pick v cs d) → elim b [ true ↦ eval-node call p γ n | false ↦ eval-cases call p γ v cs (eval-default call p γ a v d) ] ≡ picking call p γ a v (cond b (some n) (pick v cs d))
+    go : (b : Bool) → eval-cases handle p γ v cs (eval-default handle p γ a v d) ≡ picking handle p γ a v (pick v cs d) → elim b [ true ↦ eval-node handle p γ n | false ↦ eval-cases handle p γ v cs (eval-default handle p γ a v d) ] ≡ picking handle p γ a v (cond b (some n) (pick v cs d))
     go true h = refl
     go false h = h
 
@@ -175,33 +174,33 @@ module _ {s : List ℕ} {at : ℕ} (k : le2 s (at + 4) ≡ 132) (left : ℕ) (ty
   missed : Refusal
   missed = refusal pl at MissingIrParameter 0
 
-  switch-is : eval-within left types pl γ (nodeOf (tree a)) ≡ (valueOr missed (find (text (part 2 (bodyOf a))) γ) >>= (λ v. picking (callsAt left types) pl γ at v (pick v (casesOf (bodyOf a)) (defaultOf (bodyOf a)))))
+  switch-is : eval-within left types pl γ (nodeOf (tree a)) ≡ (valueOr missed (find (text (part 2 (bodyOf a))) γ) >>= (λ v. picking (handlersAt left types) pl γ at v (pick v (casesOf (bodyOf a)) (defaultOf (bodyOf a)))))
   unfolding formOf makeThing eval-node missed
   switch-is =
-      let call = callsAt left types in
+      let handle = handlersAt left types in
       let o = valueOr missed (find (text (part 2 (bodyOf a))) γ) in
-      within-is left types pl γ (nodeOf (tree a)) ∙ ap (eval-node call pl γ) (node-is a k refl)
-      ∙ ap (λ (cs : SwitchCases). o >>= (λ v. eval-cases call pl γ v cs (eval-default call pl γ at v (defaultIn (part 4 (bodyOf a)) (partView 4 (view thingOf (bodyOf a))))))) (cases-in 3 (bodyOf a))
-      ∙ ap (λ (d : DefaultNode). o >>= (λ v. eval-cases call pl γ v (casesOf (bodyOf a)) (eval-default call pl γ at v d))) (default-in 4 (bodyOf a))
-      ∙ ap (λ (f : ℕ → Outcome ℕ). o >>= f) (fun-ext (λ v. pick-is call pl γ at v (casesOf (bodyOf a)) (defaultOf (bodyOf a))))
+      within-is left types pl γ (nodeOf (tree a)) ∙ ap (eval-node handle pl γ) (node-is a k refl)
+      ∙ ap (λ (cs : SwitchCases). o >>= (λ v. eval-cases handle pl γ v cs (eval-default handle pl γ at v (defaultIn (part 4 (bodyOf a)) (partView 4 (view thingOf (bodyOf a))))))) (cases-in 3 (bodyOf a))
+      ∙ ap (λ (d : DefaultNode). o >>= (λ v. eval-cases handle pl γ v (casesOf (bodyOf a)) (eval-default handle pl γ at v d))) (default-in 4 (bodyOf a))
+      ∙ ap (λ (f : ℕ → Outcome ℕ). o >>= f) (fun-ext (λ v. pick-is handle pl γ at v (casesOf (bodyOf a)) (defaultOf (bodyOf a))))
 
   module _ {r : Held} (er : r ≡ heldOf (find (text (part 2 (bodyOf a))) γ)) where
     pub switch-misses : r ≡ Absent → refused (refusal pl at 21 0) ≡ eval-within left types pl γ (nodeOf (tree a))
     unfolding valueOr _>>=_ missed
-    switch-misses f = sym (switch-is ∙ ap (λ (o : Option ℕ). valueOr missed o >>= (λ v. picking (callsAt left types) pl γ at v (pick v (casesOf (bodyOf a)) (defaultOf (bodyOf a))))) (absent-is {o = find (text (part 2 (bodyOf a))) γ} er f))
+    switch-misses f = sym (switch-is ∙ ap (λ (o : Option ℕ). valueOr missed o >>= (λ v. picking (handlersAt left types) pl γ at v (pick v (casesOf (bodyOf a)) (defaultOf (bodyOf a))))) (absent-is {o = find (text (part 2 (bodyOf a))) γ} er f))
 
     module _ {v : ℕ} (f : r ≡ Value v) where
-      switch-picks : eval-within left types pl γ (nodeOf (tree a)) ≡ picking (callsAt left types) pl γ at v (pick v (casesOf (bodyOf a)) (defaultOf (bodyOf a)))
+      switch-picks : eval-within left types pl γ (nodeOf (tree a)) ≡ picking (handlersAt left types) pl γ at v (pick v (casesOf (bodyOf a)) (defaultOf (bodyOf a)))
       unfolding valueOr _>>=_
-      switch-picks = switch-is ∙ ap (λ (o : Option ℕ). valueOr missed o >>= (λ v. picking (callsAt left types) pl γ at v (pick v (casesOf (bodyOf a)) (defaultOf (bodyOf a))))) (held-is {o = find (text (part 2 (bodyOf a))) γ} er f)
+      switch-picks = switch-is ∙ ap (λ (o : Option ℕ). valueOr missed o >>= (λ v. picking (handlersAt left types) pl γ at v (pick v (casesOf (bodyOf a)) (defaultOf (bodyOf a))))) (held-is {o = find (text (part 2 (bodyOf a))) γ} er f)
 
       pub switch-ends : {c : Choice} → c ≡ Nothing → Picked a v c → refused (refusal pl at 22 v) ≡ eval-within left types pl γ (nodeOf (tree a))
       unfolding picking
-      switch-ends g p = sym (switch-picks ∙ ap (picking (callsAt left types) pl γ at v) (picked-none g p))
+      switch-ends g p = sym (switch-picks ∙ ap (picking (handlersAt left types) pl γ at v) (picked-none g p))
 
       pub switch-goes : {c : Choice} {q : ℕ} {b : Bool} {ws us : List ℕ} → c ≡ Node q → Picked a v c → ((x : Accepted s 128 144 q) → Tells b ws us (eval-within left types pl γ (nodeOf (tree x)))) → Tells b ws us (eval-within left types pl γ (nodeOf (tree a)))
       unfolding picking
-      switch-goes g p e = let x = picked-node g p in told-as (e (x .0)) (within-is left types pl γ (nodeOf (tree (x .0))) ∙ sym (switch-picks ∙ ap (picking (callsAt left types) pl γ at v) (x .2)))
+      switch-goes g p e = let x = picked-node g p in told-as (e (x .0)) (within-is left types pl γ (nodeOf (tree (x .0))) ∙ sym (switch-picks ∙ ap (picking (handlersAt left types) pl γ at v) (x .2)))
 
 -- ---- CallNested
 
@@ -231,31 +230,31 @@ bound-all e (Bound.lacking h) = let z : _≡_ {A = ℕ} 0 1 = cc in absurd (omeg
 module _ {s : List ℕ} {at : ℕ} (k : le2 s (at + 4) ≡ 133) (left : ℕ) (types : List TypeIr) (pl : ℕ) (γ : ParamMap) (a : Accepted s 128 144 at) where
   call-is : eval-within left types pl γ (nodeOf (tree a)) ≡ eval-call (entering left types) types pl γ at (text (part 2 (bodyOf a))) (argumentsOf (tree a))
   unfolding formOf makeThing eval-node
-  call-is = within-is left types pl γ (nodeOf (tree a)) ∙ ap (eval-node (callsAt left types) pl γ) (node-is a k refl)
+  call-is = within-is left types pl γ (nodeOf (tree a)) ∙ ap (eval-node (handlersAt left types) pl γ) (node-is a k refl)
 
   pub call-lacks : {r : Arguments} {q : ℕ} → r ≡ Lacking q → Bound pl γ (argumentsOf (tree a)) r → refused (refusal pl q 21 0) ≡ eval-within left types pl γ (nodeOf (tree a))
   unfolding eval-call _>>=_
-  call-lacks e b = sym (call-is ∙ ap (λ (o : Outcome ParamMap). o >>= (λ δ. lookup-type 0 (text (part 2 (bodyOf a))) types >>= (λ t. entering left types pl γ at (t .0) (δ ++ inherited γ (t .1 .parameters)) (t .1 .root)))) (bound-lacks e b))
+  call-lacks e b = sym (call-is ∙ ap (λ (o : Outcome ParamMap). o >>= (λ δ. lookup-type 0 (text (part 2 (bodyOf a))) types >>= (λ t. entering left types pl at (t .0) (δ ++ inherited γ (t .1 .parameters)) (t .1 .root)))) (bound-lacks e b))
 
   module _ {δ : ParamMap} (b : collect-arguments pl γ (argumentsOf (tree a)) [] ≡ done δ) where
-    looked-up : eval-within left types pl γ (nodeOf (tree a)) ≡ (lookup-type 0 (text (part 2 (bodyOf a))) types >>= (λ t. entering left types pl γ at (t .0) (δ ++ inherited γ (t .1 .parameters)) (t .1 .root)))
+    looked-up : eval-within left types pl γ (nodeOf (tree a)) ≡ (lookup-type 0 (text (part 2 (bodyOf a))) types >>= (λ t. entering left types pl at (t .0) (δ ++ inherited γ (t .1 .parameters)) (t .1 .root)))
     unfolding eval-call _>>=_
-    looked-up = call-is ∙ ap (λ (o : Outcome ParamMap). o >>= (λ δ. lookup-type 0 (text (part 2 (bodyOf a))) types >>= (λ t. entering left types pl γ at (t .0) (δ ++ inherited γ (t .1 .parameters)) (t .1 .root)))) b
+    looked-up = call-is ∙ ap (λ (o : Outcome ParamMap). o >>= (λ δ. lookup-type 0 (text (part 2 (bodyOf a))) types >>= (λ t. entering left types pl at (t .0) (δ ++ inherited γ (t .1 .parameters)) (t .1 .root)))) b
 
     pub call-unknown : {r : Place} → r ≡ PlaceNone → TreeFound s (text (part 2 (bodyOf a))) types r → refused (refusal 65535 0 20 0) ≡ eval-within left types pl γ (nodeOf (tree a))
     unfolding _>>=_
-    call-unknown e f = sym (looked-up ∙ ap (λ (o : Outcome (ℕ × TypeIr)). o >>= (λ t. entering left types pl γ at (t .0) (δ ++ inherited γ (t .1 .parameters)) (t .1 .root))) (found-none e f))
+    call-unknown e f = sym (looked-up ∙ ap (λ (o : Outcome (ℕ × TypeIr)). o >>= (λ t. entering left types pl at (t .0) (δ ++ inherited γ (t .1 .parameters)) (t .1 .root))) (found-none e f))
 
     module _ {i : ℕ} {t : TypeIr} (f : lookup-type 0 (text (part 2 (bodyOf a))) types ≡ done (i, t)) where
-      call-enters : eval-within left types pl γ (nodeOf (tree a)) ≡ entering left types pl γ at i (δ ++ inherited γ (t .parameters)) (t .root)
+      call-enters : eval-within left types pl γ (nodeOf (tree a)) ≡ entering left types pl at i (δ ++ inherited γ (t .parameters)) (t .root)
       unfolding _>>=_
-      call-enters = looked-up ∙ ap (λ (o : Outcome (ℕ × TypeIr)). o >>= (λ t. entering left types pl γ at (t .0) (δ ++ inherited γ (t .1 .parameters)) (t .1 .root))) f
+      call-enters = looked-up ∙ ap (λ (o : Outcome (ℕ × TypeIr)). o >>= (λ t. entering left types pl at (t .0) (δ ++ inherited γ (t .1 .parameters)) (t .1 .root))) f
 
       pub call-stops : left ≡ 0 → refused (refusal pl at 27 0) ≡ eval-within left types pl γ (nodeOf (tree a))
-      call-stops z = sym (call-enters ∙ ap (λ (l : ℕ). entering l types pl γ at i (δ ++ inherited γ (t .parameters)) (t .root)) z)
+      call-stops z = sym (call-enters ∙ ap (λ (l : ℕ). entering l types pl at i (δ ++ inherited γ (t .parameters)) (t .root)) z)
 
       call-goes : (left ≡ 0 → ⊥) → eval-within (left - 1) types i (δ ++ inherited γ (t .parameters)) (t .root) ≡ eval-within left types pl γ (nodeOf (tree a))
-      call-goes n = sym (call-enters ∙ opens left n types pl γ at i (δ ++ inherited γ (t .parameters)) (t .root))
+      call-goes n = sym (call-enters ∙ opens left n types pl at i (δ ++ inherited γ (t .parameters)) (t .root))
 
 -- ---- words
 
@@ -336,6 +335,11 @@ module _ {s values : List ℕ} {block len : ℕ} {ws : List ℕ} {left depth at 
       told-as (ev (y .0 ++ inherited γ (parametersOf (tree (c .0)))) (opened-call pl h l ew x a k (c .0) (y .1)) t rd (z .root))
       (ap (eval-within (left - 1) (layoutOf t) i (y .0 ++ inherited γ (parametersOf (tree (c .0))))) (sym (z .is)) ∙ call-goes k left (layoutOf t) pl γ a (y .1) (c .1) n)
 
+-- "`SumOverArray` gives 24 always."
+pub sum-is : {s : List ℕ} {at k : ℕ} → k ≡ le2 s (at + 4) → k ≡ 144 → (left : ℕ) (types : List TypeIr) (pl : ℕ) (γ : ParamMap) (a : Accepted s 128 144 at) → refused (refusal pl at 24 0) ≡ eval-within left types pl γ (nodeOf (tree a))
+unfolding formOf makeThing eval-node
+sum-is ek k left types pl γ a = sym (within-is left types pl γ (nodeOf (tree a)) ∙ ap (eval-node (handlersAt left types) pl γ) (node-is a (sym ek ∙ k) refl))
+
 -- a node that holds none
-pub leaf-answers : {b : Bool} {ws us : List ℕ} {s : List ℕ} {at : ℕ} (left : ℕ) (types : List TypeIr) (pl : ℕ) (γ : ParamMap) (a : Accepted s 128 144 at) → ((call : Calls) → Tells b ws us (eval-node call pl γ (nodeOf (tree a)))) → Tells b ws us (eval-within left types pl γ (nodeOf (tree a)))
-leaf-answers left types pl γ a e = told-as (e (callsAt left types)) (sym (within-is left types pl γ (nodeOf (tree a))))
+pub leaf-answers : {b : Bool} {ws us : List ℕ} {s : List ℕ} {at : ℕ} (left : ℕ) (types : List TypeIr) (pl : ℕ) (γ : ParamMap) (a : Accepted s 128 144 at) → ((handle : Handlers) → Tells b ws us (eval-node handle pl γ (nodeOf (tree a)))) → Tells b ws us (eval-within left types pl γ (nodeOf (tree a)))
+leaf-answers left types pl γ a e = told-as (e (handlersAt left types)) (sym (within-is left types pl γ (nodeOf (tree a))))

@@ -12,8 +12,8 @@ use Rattle.blocks.specs.Tree.{number, part}
 use Rattle.ir.specs.Ir.{IrNode}
 use Rattle.ir.specs.Layout.{formOf, makeThing, nodeOf}
 use Rattle.accepted.specs.Accepted.{Accepted, tree}
-use Rattle.interpreter.specs.Arithmetic.{align-up}
-use Rattle.interpreter.specs.Eval.{Calls, ParamMap, lift, eval-node}
+use Rattle.interpreter.specs.Arithmetic.{align-up, bits}
+use Rattle.interpreter.specs.Eval.{Handlers, ParamMap, lift, eval-node}
 use Rattle.interpreter_context.proofs.Laws.{Standing}
 use Rattle.interpreter_context.proofs.Shape.{bodyOf, number-at, child-at, node-is, node-in, located}
 use Rattle.interpreter_leaves.specs.Steps.{Unwrapped}
@@ -26,24 +26,24 @@ pub align-child : {s : List ℕ} {at q : ℕ} → Standing s at 3 q → (a : Acc
 unfolding partsOf nodeTable
 align-child st a k = child-at (located 3 st a k refl)
 
-module _ {s : List ℕ} {at p q : ℕ} (st : Standing s at 2 p) (su : Standing s at 3 q) (k : le2 s (at + 4) ≡ 131) (call : Calls) (pl : ℕ) (γ : ParamMap) (a : Accepted s 128 144 at) where
-  pub align-node : eval-node call pl γ (nodeOf (tree a)) ≡ (eval-node call pl γ (nodeOf (tree (align-child su a k .0))) >>= (λ v. lift pl at (align-up v (le8 s p))))
+module _ {s : List ℕ} {at p q : ℕ} (st : Standing s at 2 p) (su : Standing s at 3 q) (k : le2 s (at + 4) ≡ 131) (handle : Handlers) (pl : ℕ) (γ : ParamMap) (a : Accepted s 128 144 at) where
+  pub align-node : eval-node handle pl γ (nodeOf (tree a)) ≡ (eval-node handle pl γ (nodeOf (tree (align-child su a k .0))) >>= (λ v. lift pl at (align-up bits v (le8 s p))))
   unfolding formOf makeThing eval-node
   align-node =
-      ap (eval-node call pl γ) (node-is a k refl)
-      ∙ ap (λ (n : IrNode). eval-node call pl γ n >>= (λ v. lift pl at (align-up v (number (part 2 (bodyOf a)))))) (node-in 3 (bodyOf a) ∙ align-child su a k .1)
-      ∙ ap (λ (m : ℕ). eval-node call pl γ (nodeOf (tree (align-child su a k .0))) >>= (λ v. lift pl at (align-up v m))) (align-number st a k .1)
+      ap (eval-node handle pl γ) (node-is a k refl)
+      ∙ ap (λ (n : IrNode). eval-node handle pl γ n >>= (λ v. lift pl at (align-up bits v (number (part 2 (bodyOf a)))))) (node-in 3 (bodyOf a) ∙ align-child su a k .1)
+      ∙ ap (λ (m : ℕ). eval-node handle pl γ (nodeOf (tree (align-child su a k .0))) >>= (λ v. lift pl at (align-up bits v m))) (align-number st a k .1)
 
 -- ---- an alignment of 0 or 1 hands the count on
 
-handed : (pl at m : ℕ) → m ≤ 1 → (o : Outcome ℕ) → (o >>= (λ v. lift pl at (align-up v m))) ≡ o
+handed : (pl at m : ℕ) → m ≤ 1 → (o : Outcome ℕ) → (o >>= (λ v. lift pl at (align-up bits v m))) ≡ o
 unfolding _>>=_ lift align-up
 handed pl at m h (done v) = rw (le-leb m 1 h)
 handed pl at m h (refused r) = refl
 
 -- the node itself
 pub whole : {s : List ℕ} {at : ℕ} (a : Accepted s 128 144 at) → Unwrapped a at
-whole a = record { node = a; short = omega arith; same = λ call pl γ. refl }
+whole a = record { node = a; short = omega arith; same = λ handle pl γ. refl }
 
 -- its operand
 pub inner : {s : List ℕ} {at r p q m : ℕ} {a : Accepted s 128 144 at} → Standing s r 2 p → Standing s r 3 q → le2 s (r + 4) ≡ 131 → m ≡ le8 s p → m ≤ 1 → Unwrapped a r → Unwrapped a q
@@ -52,5 +52,5 @@ inner {r} st su k em h u =
     record {
       node = c .0;
       short = omega (arith, c .2, u .short);
-      same = λ call pl γ. u .same call pl γ ∙ align-node st su k call pl γ (u .node) ∙ handed pl r _ (omega arith) _;
+      same = λ handle pl γ. u .same handle pl γ ∙ align-node st su k handle pl γ (u .node) ∙ handed pl r _ (omega arith) _;
     }

@@ -4,16 +4,14 @@ use mathlib.Core.List.{List, [], _∷_}
 use mathlib.Core.Option.{Option, some, none}
 use Prim.Native.Nat.{ℕ, _+_, _-_, _≤_, _<_}
 use native.Mathlib.Omega.{arith}
-use lib.ListN.{length}
-use Rattle.errors.specs.Refusal.{Outcome, done, refused, _>>=_, MissingIrParameter}
+use Rattle.errors.specs.Refusal.{refused, _>>=_, MissingIrParameter}
 use Rattle.blocks.specs.Bytes.{le2, le4}
-use Rattle.blocks.specs.Name.{Name}
-use Rattle.blocks.specs.Tree.{Tree, nil, cons, entries}
+use Rattle.blocks.specs.Tree.{Tree, entries}
 use Rattle.ir.specs.Ir.{IrArgument}
 use Rattle.ir.specs.Layout.{argumentOf}
 use Rattle.accepted.specs.Accepted.{Accepted, tree, Listed, nameAt}
 use Rattle.accepted.proofs.Laws.{block-entry, none-left}
-use Rattle.interpreter.specs.Eval.{Binding, ParamMap, find, at, valueOr, collect-arguments}
+use Rattle.interpreter.specs.Eval.{ParamMap, find, refusalAt, valueOr, collect-arguments}
 use Rattle.interpreter_context.proofs.Shape.{ListAt}
 use Rattle.interpreter_context.proofs.Blocks.{IsArgument, argument}
 use Rattle.interpreter_context.specs.declared.Held.{Held}
@@ -35,11 +33,11 @@ begin {s} {values} {block} {len} {words} {depth} {m} {from} e = subst (λ (k : �
 
 one-more : (pl : ℕ) (γ : ParamMap) (x : IrArgument) (xs : List IrArgument) (δ : ParamMap) (v : ℕ) → find (x .value) γ ≡ some v → collect-arguments pl γ (x ∷ xs) δ ≡ collect-arguments pl γ xs (record { name = x .name; value = v } ∷ δ)
 unfolding collect-arguments valueOr _>>=_
-one-more pl γ x xs δ v e = ap (λ (o : Option ℕ). valueOr (at pl (x .at) MissingIrParameter 0) o >>= (λ v. collect-arguments pl γ xs (record { name = x .name; value = v } ∷ δ))) e
+one-more pl γ x xs δ v e = ap (λ (o : Option ℕ). valueOr (refusalAt pl (x .at) MissingIrParameter 0) o >>= (λ v. collect-arguments pl γ xs (record { name = x .name; value = v } ∷ δ))) e
 
-one-missing : (pl : ℕ) (γ : ParamMap) (x : IrArgument) (xs : List IrArgument) (δ : ParamMap) → find (x .value) γ ≡ none → collect-arguments pl γ (x ∷ xs) δ ≡ refused (at pl (x .at) MissingIrParameter 0)
+one-missing : (pl : ℕ) (γ : ParamMap) (x : IrArgument) (xs : List IrArgument) (δ : ParamMap) → find (x .value) γ ≡ none → collect-arguments pl γ (x ∷ xs) δ ≡ refused (refusalAt pl (x .at) MissingIrParameter 0)
 unfolding collect-arguments valueOr _>>=_
-one-missing pl γ x xs δ e = ap (λ (o : Option ℕ). valueOr (at pl (x .at) MissingIrParameter 0) o >>= (λ v. collect-arguments pl γ xs (record { name = x .name; value = v } ∷ δ))) e
+one-missing pl γ x xs δ e = ap (λ (o : Option ℕ). valueOr (refusalAt pl (x .at) MissingIrParameter 0) o >>= (λ v. collect-arguments pl γ xs (record { name = x .name; value = v } ∷ δ))) e
 
 -- where an argument's value name stands
 pub value-at : {s : List ℕ} {p u : ℕ} → u ≡ le2 s (p + 6) → (a : Accepted s 164 164 p) → IsArgument a (p + 8 + u)
@@ -72,7 +70,7 @@ module _ {s values : List ℕ} {block len : ℕ} {words : List ℕ} {depth m fro
         let i = value-at eu (b .child) in
         Bound.lacking (x .2 ∙ ap (λ (z : Tree). collect-arguments pl γ (entries argumentOf z) (x .1)) (b .after .tree)
         ∙ one-missing pl γ (argumentOf (tree (b .child))) (entries argumentOf (b .after .rest .got .0)) (x .1) (ap (λ (y : IrArgument). find (y .value) γ) (i .is) ∙ absent-is (e γ c) f)
-        ∙ ap (λ (y : IrArgument). refused (at pl (y .at) MissingIrParameter 0)) (i .is))
+        ∙ ap (λ (y : IrArgument). refused (refusalAt pl (y .at) MissingIrParameter 0)) (i .is))
 
 pub no-more : {s values : List ℕ} {block len : ℕ} {words : List ℕ} {depth m from left p : ℕ} → left ≤ 0 → Collecting s values block len words depth m from left p →
     (pl : ℕ) (γ : ParamMap) → Context s values block len words depth γ → (l : Listed s 164 164 m from) → Bound pl γ (entries argumentOf (l .got .0)) All

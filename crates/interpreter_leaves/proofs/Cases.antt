@@ -1,18 +1,17 @@
 -- The cases of a Switch, front to back, then its default.
 use mathlib.Core.Path.{_≡_, refl, sym, _∙_, ap, subst}
-use mathlib.Core.Bool.{Bool, true, false, cond}
+use mathlib.Core.Bool.{Bool, cond}
 use mathlib.Core.List.{List, [], _∷_}
-use mathlib.Core.Option.{Option, some, none}
+use mathlib.Core.Option.{some, none}
 use Prim.Native.Nat.{ℕ, _+_, _-_, _≤_, _<_}
 use native.Mathlib.Omega.{arith}
 use lib.Dec.{eqb}
-use lib.ListN.{length, getD, drop}
+use lib.ListN.{length, getD}
 use borrow.Author.Tests.{eq-eqb, ne-eqb}
-use Rattle.blocks.specs.declared.Part.{Part}
-use Rattle.blocks.specs.declared.Part.the-variants.{Text, Number, Block, OptBlock, Blocks}
+use Rattle.blocks.specs.declared.Part.the-variants.{Block, OptBlock, Blocks}
 use Rattle.blocks.specs.Bytes.{le2, le4, le8}
 use Rattle.blocks.specs.Grammar.{partsOf, nodeTable, findRow, grammar}
-use Rattle.blocks.specs.Tree.{Tree, name, num, block, nil, cons, View, first, rest, body, number, part, listed, view, itemOr}
+use Rattle.blocks.specs.Tree.{Tree, num, block, nil, cons, first, rest, number, part, listed, view, itemOr}
 use Rattle.ir.specs.Ir.{IrNode, IrParameter, SwitchCases, DefaultNode}
 use Rattle.ir.specs.Layout.{Thing, formOf, makeThing, thingOf, nodeOf, casesIn, withCase, parameterOf}
 use Rattle.accepted.specs.Accepted.{Accepted, tree, Parts, Listed, Optional, Counted}
@@ -21,7 +20,6 @@ use Rattle.interpreter_context.specs.Located.{rests, Located}
 use Rattle.interpreter_context.proofs.Laws.{Standing}
 use Rattle.interpreter_context.proofs.Shape.{bodyOf, part-rests, located, node-in}
 use Rattle.interpreter_context.proofs.Blocks.{sole-kind}
-use Rattle.interpreter_leaves.specs.declared.Choice.{Choice}
 use Rattle.interpreter_leaves.specs.declared.Choice.the-variants.{Node, Nothing}
 use Rattle.interpreter_leaves.specs.Steps.{pick, casesOf, defaultOf, Picked}
 

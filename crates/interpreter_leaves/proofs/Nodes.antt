@@ -14,11 +14,10 @@ use Rattle.blocks.specs.Bytes.{le2, le8}
 use Rattle.blocks.specs.Name.{Name}
 use Rattle.blocks.specs.Grammar.{partsOf, nodeTable}
 use Rattle.blocks.specs.Tree.{Tree, text, number, body, part}
-use Rattle.blocks.specs.declared.Part.{Part}
 use Rattle.ir.specs.Layout.{formOf, makeThing, nodeOf, layoutOf}
 use Rattle.accepted.specs.Accepted.{Accepted, tree, nameAt}
 use Rattle.interpreter.specs.Arithmetic.{Result, value, fault}
-use Rattle.interpreter.specs.Eval.{Calls, ParamMap, find, at as refusal, valueOr, lift, chosen, eval-node}
+use Rattle.interpreter.specs.Eval.{Handlers, ParamMap, find, refusalAt as refusal, valueOr, lift, chosen, eval-node}
 use Rattle.interpreter_context.proofs.Laws.{Standing}
 use Rattle.interpreter_context.proofs.Shape.{bodyOf, text-at, number-at, MaybeText, maybe-text, node-is, located}
 use Rattle.interpreter_arithmetic.specs.declared.Num.{Num}
@@ -52,9 +51,9 @@ pub const-at : {s : List ℕ} {at p : ℕ} → Standing s at 2 p → (a : Accept
 unfolding partsOf nodeTable
 const-at st a k = number-at (located 2 st a k refl)
 
-pub const-is : {s : List ℕ} {at p v : ℕ} → Standing s at 2 p → le2 s (at + 4) ≡ 129 → v ≡ le8 s p → (call : Calls) (pl : ℕ) (γ : ParamMap) (a : Accepted s 128 144 at) → done v ≡ eval-node call pl γ (nodeOf (tree a))
+pub const-is : {s : List ℕ} {at p v : ℕ} → Standing s at 2 p → le2 s (at + 4) ≡ 129 → v ≡ le8 s p → (handle : Handlers) (pl : ℕ) (γ : ParamMap) (a : Accepted s 128 144 at) → done v ≡ eval-node handle pl γ (nodeOf (tree a))
 unfolding formOf makeThing eval-node
-const-is st k ev call pl γ a = sym (ap (eval-node call pl γ) (node-is a k refl) ∙ ap done (const-at st a k .1 ∙ sym ev))
+const-is st k ev handle pl γ a = sym (ap (eval-node handle pl γ) (node-is a k refl) ∙ ap done (const-at st a k .1 ∙ sym ev))
 
 -- ---- FieldRef
 
@@ -93,29 +92,24 @@ absent-none (some w) r e f = let z : _≡_ {A = ℕ} 0 1 = cc in absurd (omega a
 pub absent-is : {o : Option ℕ} {r : Held} → r ≡ heldOf o → r ≡ Absent → o ≡ none
 absent-is {o} {r} e f = absent-none o r e f
 
-ref-is : {s : List ℕ} {at q : ℕ} → FieldName s at q → le2 s (at + 4) ≡ 130 → (call : Calls) (pl : ℕ) (γ : ParamMap) (a : Accepted s 128 144 at) → eval-node call pl γ (nodeOf (tree a)) ≡ valueOr (refusal pl at MissingIrParameter 0) (find (nameAt s q) γ)
+ref-is : {s : List ℕ} {at q : ℕ} → FieldName s at q → le2 s (at + 4) ≡ 130 → (handle : Handlers) (pl : ℕ) (γ : ParamMap) (a : Accepted s 128 144 at) → eval-node handle pl γ (nodeOf (tree a)) ≡ valueOr (refusal pl at MissingIrParameter 0) (find (nameAt s q) γ)
 unfolding formOf makeThing eval-node
-ref-is {at} n k call pl γ a = ap (eval-node call pl γ) (node-is a k refl) ∙ ap (λ (m : Name). valueOr (refusal pl at MissingIrParameter 0) (find m γ)) (n .is a)
+ref-is {at} n k handle pl γ a = ap (eval-node handle pl γ) (node-is a k refl) ∙ ap (λ (m : Name). valueOr (refusal pl at MissingIrParameter 0) (find m γ)) (n .is a)
 
-module _ {s values : List ℕ} {block len : ℕ} {words : List ℕ} {depth at q : ℕ} {r : Held} (pl : ℕ) (n : FieldName s at q) (k : le2 s (at + 4) ≡ 130) (e : (γ : ParamMap) → Context s values block len words depth γ → r ≡ heldOf (find (nameAt s q) γ)) (call : Calls) (γ : ParamMap) (c : Context s values block len words depth γ) (a : Accepted s 128 144 at) where
-  pub ref-found : {v : ℕ} → r ≡ Value v → done v ≡ eval-node call pl γ (nodeOf (tree a))
+module _ {s values : List ℕ} {block len : ℕ} {words : List ℕ} {depth at q : ℕ} {r : Held} (pl : ℕ) (n : FieldName s at q) (k : le2 s (at + 4) ≡ 130) (e : (γ : ParamMap) → Context s values block len words depth γ → r ≡ heldOf (find (nameAt s q) γ)) (handle : Handlers) (γ : ParamMap) (c : Context s values block len words depth γ) (a : Accepted s 128 144 at) where
+  pub ref-found : {v : ℕ} → r ≡ Value v → done v ≡ eval-node handle pl γ (nodeOf (tree a))
   unfolding valueOr
-  ref-found f = sym (ref-is n k call pl γ a ∙ ap (valueOr (refusal pl at MissingIrParameter 0)) (held-value (find (nameAt s q) γ) r _ (e γ c) f))
+  ref-found f = sym (ref-is n k handle pl γ a ∙ ap (valueOr (refusal pl at MissingIrParameter 0)) (held-value (find (nameAt s q) γ) r _ (e γ c) f))
 
-  pub ref-absent : r ≡ Absent → refused (refusal pl at 21 0) ≡ eval-node call pl γ (nodeOf (tree a))
+  pub ref-absent : r ≡ Absent → refused (refusal pl at 21 0) ≡ eval-node handle pl γ (nodeOf (tree a))
   unfolding valueOr
-  ref-absent f = sym (ref-is n k call pl γ a ∙ ap (valueOr (refusal pl at MissingIrParameter 0)) (absent-none (find (nameAt s q) γ) r (e γ c) f))
+  ref-absent f = sym (ref-is n k handle pl γ a ∙ ap (valueOr (refusal pl at MissingIrParameter 0)) (absent-none (find (nameAt s q) γ) r (e γ c) f))
 
--- ---- ZeroSize, SumOverArray
+-- ---- ZeroSize
 
-pub zero-is : {s : List ℕ} {at k : ℕ} → k ≡ le2 s (at + 4) → k ≡ 128 → (call : Calls) (pl : ℕ) (γ : ParamMap) (a : Accepted s 128 144 at) → done 0 ≡ eval-node call pl γ (nodeOf (tree a))
+pub zero-is : {s : List ℕ} {at k : ℕ} → k ≡ le2 s (at + 4) → k ≡ 128 → (handle : Handlers) (pl : ℕ) (γ : ParamMap) (a : Accepted s 128 144 at) → done 0 ≡ eval-node handle pl γ (nodeOf (tree a))
 unfolding formOf makeThing eval-node
-zero-is ek k call pl γ a = sym (ap (eval-node call pl γ) (node-is a (sym ek ∙ k) refl))
-
-pub sum-is : {s : List ℕ} {at k : ℕ} → k ≡ le2 s (at + 4) → k ≡ 144 → (call : Calls) (pl : ℕ) (γ : ParamMap) (a : Accepted s 128 144 at) → refused (refusal pl at 24 0) ≡ eval-node call pl γ (nodeOf (tree a))
-unfolding formOf makeThing eval-node
-sum-is ek k call pl γ a = sym (ap (eval-node call pl γ) (node-is a (sym ek ∙ k) refl))
-
+zero-is ek k handle pl γ a = sym (ap (eval-node handle pl γ) (node-is a (sym ek ∙ k) refl))
 -- ---- the tag of a Switch, the type of a CallNested
 
 pub switch-tag : {s : List ℕ} {at p : ℕ} → Standing s at 2 p → (a : Accepted s 128 144 at) → le2 s (at + 4) ≡ 132 → (p + 2 + le2 s p ≤ length s) × (text (part 2 (bodyOf a)) ≡ nameAt s p)

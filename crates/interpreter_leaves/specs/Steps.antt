@@ -12,7 +12,7 @@ use Rattle.blocks.specs.Tree.{Tree, first, rest, body, part, number, text, opti
 use Rattle.ir.specs.Ir.{IrArgument, IrNode, SwitchCases, DefaultNode}
 use Rattle.ir.specs.Layout.{nodeOf, typeIrOf, casesIn, thingOf}
 use Rattle.accepted.specs.Accepted.{Accepted, tree, nameAt}
-use Rattle.interpreter.specs.Eval.{Calls, ParamMap, at, chosen, collect-arguments, eval-node}
+use Rattle.interpreter.specs.Eval.{Handlers, ParamMap, refusalAt, chosen, collect-arguments, eval-node}
 use Rattle.interpreter_leaves.specs.declared.Choice.{Choice}
 use Rattle.interpreter_leaves.specs.declared.Choice.the-variants.{Node, Nothing}
 use Rattle.interpreter_leaves.specs.declared.Arguments.{Arguments}
@@ -49,10 +49,10 @@ pub data Picked {s : List ℕ} {at : ℕ} (a : Accepted s 128 144 at) (v : ℕ) 
 -- the arguments of a call
 pub data Bound (p : ℕ) (γ : ParamMap) (xs : List IrArgument) : Arguments → Type 0 where
   all : (δ : ParamMap) → collect-arguments p γ xs [] ≡ done δ → Bound p γ xs All
-  lacking : {q : ℕ} → collect-arguments p γ xs [] ≡ refused (at p q MissingIrParameter 0) → Bound p γ xs (Lacking q)
+  lacking : {q : ℕ} → collect-arguments p γ xs [] ≡ refused (refusalAt p q MissingIrParameter 0) → Bound p γ xs (Lacking q)
 
 -- the node at r evaluates to what the one around it does, whatever the context; it is no longer
 pub record Unwrapped {s : List ℕ} {at : ℕ} (a : Accepted s 128 144 at) (r : ℕ) : Type 0 where
   pub node : Accepted s 128 144 r
   pub short : le4 s r ≤ le4 s at
-  pub same : (call : Calls) (p : ℕ) (γ : ParamMap) → eval-node call p γ (nodeOf (tree a)) ≡ eval-node call p γ (nodeOf (tree node))
+  pub same : (handle : Handlers) (p : ℕ) (γ : ParamMap) → eval-node handle p γ (nodeOf (tree a)) ≡ eval-node handle p γ (nodeOf (tree node))

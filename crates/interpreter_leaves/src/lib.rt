@@ -5,7 +5,6 @@ use interpreter_context::Held;
 use lookup::Place;
 ghost use mathlib.Core.Path.{_≡_};
 ghost use Prim.Native.Nat.{ℕ, _+_};
-ghost use lib.ListN.{length};
 ghost use Rattle.errors.specs.Refusal.{done, refused as stop};
 ghost use Rattle.blocks.specs.Bytes.{le2};
 ghost use Rattle.blocks.specs.Tree.{Tree, text, body, part};
@@ -13,7 +12,7 @@ ghost use Rattle.blocks.specs.Read.{readLayout};
 ghost use Rattle.ir.specs.Layout.{nodeOf, layoutOf};
 ghost use Rattle.accepted.specs.Accepted.{Accepted, tree};
 ghost use Rattle.interpreter.specs.Arithmetic.{Result};
-ghost use Rattle.interpreter.specs.Eval.{Calls, ParamMap, find, at, lift, eval-node};
+ghost use Rattle.interpreter.specs.Eval.{Handlers, ParamMap, find, refusalAt, lift, eval-node};
 ghost use Rattle.interpreter_arithmetic.specs.Num.{numOf};
 ghost use Rattle.lookup.specs.Found.{TreeFound};
 ghost use Rattle.interpreter_context.specs.Names.{heldOf};
@@ -54,7 +53,7 @@ pub fn counted(n: u64, out: &mut [u64; 4]) -> bool
 
 // A refusal, left in the caller's words.
 pub fn refused(number: u64, place: usize, offset: usize, value: u64, out: &mut [u64; 4]) -> bool
-    ensures { λ r. ⌜ Tells r (now (out .entry)) (now (out .exit)) (stop (at place offset number value)) ⌝ }
+    ensures { λ r. ⌜ Tells r (now (out .entry)) (now (out .exit)) (stop (refusalAt place offset number value)) ⌝ }
 {
     *out = [number, place as u64, offset as u64, value];
     false
@@ -73,7 +72,7 @@ pub fn lifted(place: usize, at: usize, n: Num, out: &mut [u64; 4]) -> bool
 // A Const node.
 pub fn constant(s: &[u8], at: usize, out: &mut [u64; 4]) -> bool
     requires { ⌜ Accepted (now s) 128 144 at × (le2 (now s) (at + 4) ≡ 129) ⌝ }
-    ensures { λ r. ⌜ ((call : Calls) (p : ℕ) (γ : ParamMap) (a : Accepted (now (s .entry)) 128 144 at) → Tells r (now (out .entry)) (now (out .exit)) (eval-node call p γ (nodeOf (tree a)))) ⌝ }
+    ensures { λ r. ⌜ ((handle : Handlers) (p : ℕ) (γ : ParamMap) (a : Accepted (now (s .entry)) 128 144 at) → Tells r (now (out .entry)) (now (out .exit)) (eval-node handle p γ (nodeOf (tree a)))) ⌝ }
 {
     let p = interpreter_context::first_part(s, at);
     counted(wire::read8(s, p) as u64, out)
@@ -106,7 +105,7 @@ pub fn field(
     out: &mut [u64; 4],
 ) -> bool
     requires { ⌜ Accepted (now s) 128 144 at × (le2 (now s) (at + 4) ≡ 130) × ((γ : ParamMap) × Context (now s) (now values) block len (now words) depth γ) ⌝ }
-    ensures { λ r. ⌜ ((call : Calls) (γ : ParamMap) → Context (now (s .entry)) (now (values .entry)) block len (now (words .entry)) depth γ → (a : Accepted (now (s .entry)) 128 144 at) → Tells r (now (out .entry)) (now (out .exit)) (eval-node call place γ (nodeOf (tree a)))) ⌝ }
+    ensures { λ r. ⌜ ((handle : Handlers) (γ : ParamMap) → Context (now (s .entry)) (now (values .entry)) block len (now (words .entry)) depth γ → (a : Accepted (now (s .entry)) 128 144 at) → Tells r (now (out .entry)) (now (out .exit)) (eval-node handle place γ (nodeOf (tree a)))) ⌝ }
 {
     match interpreter_context::find(s, field_name(s, at), values, block, len, words, depth) {
         Held::Value(v) => counted(v, out),

@@ -26,8 +26,8 @@ use Rattle.interpreter_validate.specs.Validator.{judge, judgementOf, GivenRun}
 use Rattle.interpreter_validate.proofs.Laws.{judge-19, judge-1, judge-1-too, layout-no, values-no, both-read, judged, run-stops, run-goes}
 use Rattle.wire.specs.Poke.{poke, Wrote}
 use Rattle.wire.proofs.Laws.{part-cleared}
-use Rattle.interpreter_runs.specs.Runs.{first-run, later-runs}
-use Rattle.interpreter_runs.specs.Told.{told}
+use Rattle.interpreter.specs.Runs.{first-run, later-runs}
+use Rattle.errors.specs.Answer.{answerWords}
 use Rattle.interpreter_runs.specs.Held.{holding, Holds, Ends}
 
 -- ---- the layout
@@ -153,17 +153,17 @@ four xs at a b c d =
     let three : at + 3 ≡ suc (suc (suc at)) = omega arith in
     record { end = refl; left = rw (add-one, two, three) }
 
-pub told-length : (o : Outcome ℕ) → length (told o) ≡ 4
-unfolding told
+pub told-length : (o : Outcome ℕ) → length (answerWords o) ≡ 4
+unfolding answerWords
 told-length (done n) = refl
 told-length (refused r) = refl
 
-pub count-told : {xs ys : List ℕ} {at r n : ℕ} {a : Answer} → a ≡ answer.Count n → Wrote xs at (0 ∷ 65535 ∷ 0 ∷ n ∷ []) ys r → Wrote xs at (told (outcomeOf a)) ys r
-unfolding told
+pub count-told : {xs ys : List ℕ} {at r n : ℕ} {a : Answer} → a ≡ answer.Count n → Wrote xs at (0 ∷ 65535 ∷ 0 ∷ n ∷ []) ys r → Wrote xs at (answerWords (outcomeOf a)) ys r
+unfolding answerWords
 count-told e w = rw e w
 
-pub refusal-told : {xs ys : List ℕ} {at r q p o v : ℕ} {a : Answer} → a ≡ answer.Refused q p o v → Wrote xs at (q ∷ p ∷ o ∷ v ∷ []) ys r → Wrote xs at (told (outcomeOf a)) ys r
-unfolding told
+pub refusal-told : {xs ys : List ℕ} {at r q p o v : ℕ} {a : Answer} → a ≡ answer.Refused q p o v → Wrote xs at (q ∷ p ∷ o ∷ v ∷ []) ys r → Wrote xs at (answerWords (outcomeOf a)) ys r
+unfolding answerWords
 refusal-told e w = rw e w
 
 -- ---- the words lent to the open calls, of n words that are zero

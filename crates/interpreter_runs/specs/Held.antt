@@ -8,7 +8,7 @@ use Rattle.blocks.specs.Tree.{Tree}
 use Rattle.blocks.specs.Read.{small, readLayout}
 use Rattle.reader_leaf.specs.declared.Read.{Read}
 use Rattle.reader.specs.Input.{inputOf}
-use Rattle.interpreter_runs.specs.Runs.{first-run, later-runs}
+use Rattle.interpreter.specs.Runs.{first-run, later-runs}
 
 -- the questions that concern the layout alone
 unfoldable pub holding : List ℕ → Outcome Tree

@@ -1,3 +1,1 @@
-pub mod Runs
-pub mod Told
 pub mod Held

@@ -5,13 +5,14 @@ use reader_leaf::Read;
 ghost use mathlib.Core.Path.{_≡_};
 ghost use mathlib.Core.List.{[], _∷_, _++_};
 ghost use Prim.Native.Nat.{_+_, _*_, _≤_, _<_};
-ghost use lib.ListN.{length, drop, replicate};
+ghost use lib.ListN.{length, drop};
+ghost use Rattle.errors.specs.Refusal.{words-after};
 ghost use Rattle.interpreter.specs.Validate.{validate-run};
 ghost use Rattle.wire.specs.Poke.{Wrote};
 ghost use Rattle.interpreter_leaves.specs.Outcome.{outcomeOf};
 ghost use Rattle.interpreter_leaves.specs.declared.Answer.the-variants.{Refused};
-ghost use Rattle.interpreter_runs.specs.Runs.{validate-runs, given};
-ghost use Rattle.interpreter_runs.specs.Told.{told, told-all};
+ghost use Rattle.interpreter.specs.Runs.{validate-runs, given};
+ghost use Rattle.errors.specs.Answer.{answerWords, allAnswerWords};
 ghost use Rattle.interpreter_runs.specs.Held.{Holds, Ends};
 
 // Whether the layout is read; if not, the number and the offset of the refusal.
@@ -90,7 +91,7 @@ fn put_four(out: &mut [u64], at: usize, number: u64, place: u64, offset: u64, va
 
 fn put_answer(out: &mut [u64], at: usize, a: Answer) -> usize
     requires { ⌜ at + 4 ≤ length (now out) ⌝ }
-    ensures { λ r. ⌜ Wrote (now (out .entry)) at (told (outcomeOf a)) (now (out .exit)) r ⌝ }
+    ensures { λ r. ⌜ Wrote (now (out .entry)) at (answerWords (outcomeOf a)) (now (out .exit)) r ⌝ }
 {
     match a {
         Answer::Count(n) => put_four(out, at, 0, 65535, 0, n),
@@ -114,7 +115,7 @@ fn answer_all(
 ) -> usize
     requires { ⌜ Holds (now layout) read × (8192 ≤ n → 16 ≤ length (now calls)) ⌝ }
     ensures { λ _. ⌜ length (now (calls .exit)) ≡ length (now (calls .entry)) ⌝ }
-    ensures { λ r. ⌜ Wrote (now (out .entry)) 0 (told-all (given (length (now (out .entry))) (validate-runs n (now (layout .entry)) (now (s .entry))))) (now (out .exit)) r ⌝ }
+    ensures { λ r. ⌜ Wrote (now (out .entry)) 0 (allAnswerWords (given (length (now (out .entry))) (validate-runs n (now (layout .entry)) (now (s .entry))))) (now (out .exit)) r ⌝ }
 {
     let mut i = 0;
     let mut at = 0;
@@ -143,8 +144,8 @@ fn few(n: usize) -> usize
 // How many runs have their answers in `answers`: those from the first on for which there is room.
 pub fn validate_runs(words: &mut [u64], layout: &[u8], runs: &[u8], answers: &mut [u64]) -> usize
     ensures { λ r. ⌜ r ≡ length (given (length (now (answers .entry))) (validate-runs (length (now (words .entry))) (now (layout .entry)) (now (runs .entry)))) ⌝ }
-    ensures { λ r. ⌜ now (answers .exit) ≡ told-all (given (length (now (answers .entry))) (validate-runs (length (now (words .entry))) (now (layout .entry)) (now (runs .entry)))) ++ drop (4 * r) (now (answers .entry)) ⌝ }
-    ensures { λ _. ⌜ now (words .exit) ≡ replicate (length (now (words .entry))) 0 ⌝ }
+    ensures { λ r. ⌜ now (answers .exit) ≡ allAnswerWords (given (length (now (answers .entry))) (validate-runs (length (now (words .entry))) (now (layout .entry)) (now (runs .entry)))) ++ drop (4 * r) (now (answers .entry)) ⌝ }
+    ensures { λ _. ⌜ now (words .exit) ≡ words-after (now (words .entry)) ⌝ }
 {
     let n = words.len();
     wire::clear_words(words);

@@ -36,7 +36,6 @@ use Rattle.interpreter_leaves.specs.Outcome.{outcomeOf, Tells}
 use Rattle.interpreter_leaves.specs.Steps.{Rooted}
 use Rattle.interpreter_eval.specs.Evaluates.{Ready, Evaluates}
 use Rattle.interpreter_eval.proofs.Laws.{found-at, found-none}
-use Rattle.interpreter_validate.specs.declared.Judgement.{Judgement}
 use Rattle.interpreter_validate.specs.declared.Judgement.the-variants as judgement
 use Rattle.interpreter_validate.specs.Validator.{judge, judgementOf, outcomeIn, fitted, Given, GivenRun}
 

@@ -8,7 +8,7 @@ use Rattle.errors.specs.Refusal.{Outcome, done, refused, _>>=_, enough}
 use Rattle.blocks.specs.Tree.{Tree}
 use Rattle.blocks.specs.Read.{small, readInput, readLayout, readRun}
 use Rattle.accepted.specs.Accepted.{Accepted}
-use Rattle.interpreter.specs.Eval.{at}
+use Rattle.interpreter.specs.Eval.{refusalAt}
 use Rattle.interpreter.specs.Validate.{fits-buffer}
 use Rattle.interpreter_validate.specs.declared.Judgement.{Judgement}
 use Rattle.interpreter_validate.specs.declared.Judgement.the-variants.{Read, Unread}
@@ -30,7 +30,7 @@ judgementOf (refused r) = Unread (r .number) (r .offset)
 -- what evaluating left: whether it is a count, then the first word, or a refusal's number, place, offset and value
 abbrev pub outcomeIn : Bool → List ℕ → Outcome ℕ
 outcomeIn true out = done (getD out 0 0)
-outcomeIn false out = refused (at (getD out 1 0) (getD out 2 0) (getD out 0 0) (getD out 3 0))
+outcomeIn false out = refused (refusalAt (getD out 1 0) (getD out 2 0) (getD out 0 0) (getD out 3 0))
 
 -- an outcome, and 25 of its count
 unfoldable pub fitted : ℕ → ℕ → Outcome ℕ → Outcome ℕ

@@ -4,8 +4,8 @@ use interpreter_leaves::Answer;
 use lookup::Place;
 use reader_leaf::Read;
 ghost use mathlib.Core.Path.{_≡_};
-ghost use lib.ListN.{length, replicate};
-ghost use Rattle.errors.specs.Refusal.{done};
+ghost use lib.ListN.{length};
+ghost use Rattle.errors.specs.Refusal.{done, words-after};
 ghost use Rattle.blocks.specs.Tree.{Tree};
 ghost use Rattle.blocks.specs.Read.{readLayout, readRun};
 ghost use Rattle.ir.specs.Layout.{layoutOf};
@@ -130,7 +130,7 @@ fn evaluated(
 
 pub fn validate(words: &mut [u64], layout: &[u8], name: &[u8], values: &[u8], len: u64) -> Answer
     ensures { λ r. ⌜ outcomeOf r ≡ validate (length (now (words .entry))) (now (layout .entry)) (now (name .entry)) (now (values .entry)) len ⌝ }
-    ensures { λ _. ⌜ now (words .exit) ≡ replicate (length (now (words .entry))) 0 ⌝ }
+    ensures { λ _. ⌜ now (words .exit) ≡ words-after (now (words .entry)) ⌝ }
 {
     let n = words.len();
     wire::clear_words(words);
@@ -185,7 +185,7 @@ pub fn evaluated_run(layout: &[u8], run: &[u8], words: &mut [u64]) -> Answer
 
 pub fn validate_run(words: &mut [u64], layout: &[u8], run: &[u8]) -> Answer
     ensures { λ r. ⌜ outcomeOf r ≡ validate-run (length (now (words .entry))) (now (layout .entry)) (now (run .entry)) ⌝ }
-    ensures { λ _. ⌜ now (words .exit) ≡ replicate (length (now (words .entry))) 0 ⌝ }
+    ensures { λ _. ⌜ now (words .exit) ≡ words-after (now (words .entry)) ⌝ }
 {
     let n = words.len();
     wire::clear_words(words);

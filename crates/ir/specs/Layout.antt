@@ -1,13 +1,12 @@
 -- From the tree of a layout (kinds 128 to 144, 160 to 164) to its type trees, and back.
 use Prim.Native.Nat.{ℕ, _+_, _-_}
 use mathlib.Core.Bool.{Bool, true, false, cond}
-use mathlib.Core.List.{List, [], _∷_, map}
+use mathlib.Core.List.{List, [], _∷_}
 use mathlib.Core.Option.{Option, some, none}
 use lib.Dec.{eqb}
 use lib.ListN.{length, getD}
-use Rattle.blocks.specs.Name.{Name}
 use Rattle.blocks.specs.Grammar.{within}
-use Rattle.blocks.specs.Tree.{Tree, name, num, block, nil, cons, View, other, item, pair, first, rest, body, kind, offset, number, text, part, flag, optional, listed, view, restView, itemOr, partOr, partView}
+use Rattle.blocks.specs.Tree.{Tree, name, num, block, nil, cons, View, other, item, pair, first, body, kind, offset, number, text, part, flag, optional, listed, view, restView, itemOr, partOr, partView}
 use Rattle.ir.specs.Ir.{NodeMetadata, IrParameter, IrArgument, BinaryOp, IrNode, SwitchCases, DefaultNode, TypeIr, aligned, unplaced}
 
 -- ---- reading

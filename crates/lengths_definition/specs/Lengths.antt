@@ -6,7 +6,7 @@ use lib.Dec.{leb, ltb, eqb}
 use lib.ListN.{length, take, drop}
 use Rattle.errors.specs.Refusal.{Outcome, done, refused, _>>=_, ask, Refusal, plain}
 use Rattle.blocks.specs.Bytes.{le4}
-use Rattle.blocks.specs.Name.{text}
+use Rattle.blocks.specs.Name.{ascii}
 use Rattle.blocks.specs.Read.{readRun}
 use Rattle.builder.specs.Build.{build-set}
 use Rattle.interpreter.specs.Validate.{validate-run, runOf}
@@ -25,11 +25,11 @@ fill count len = cond (eqb len 0) 0 ((200 * count + len) / (2 * len))
 
 -- "a line per run: run from 0, number (0 if accepted), count or value, fill"
 unfoldable pub line : ℕ → ℕ → ℕ → ℕ → List ℕ
-line run q v f = decimal run ++ (text " " ++ (decimal q ++ (text " " ++ (decimal v ++ (text " " ++ (decimal f ++ text "\n"))))))
+line run q v f = decimal run ++ (ascii " " ++ (decimal q ++ (ascii " " ++ (decimal v ++ (ascii " " ++ (decimal f ++ ascii "\n"))))))
 
 -- "A refused set or run block gives the line `S`, one space and its number, then ends."
 unfoldable pub stopped : Refusal → List ℕ
-stopped r = text "S " ++ (decimal (r .number) ++ text "\n")
+stopped r = ascii "S " ++ (decimal (r .number) ++ ascii "\n")
 
 -- "Each input block is as long as its length field says: above 65,536 bytes in all it gives 1, cut off it gives 2.": the
 -- next block, and what follows it

@@ -4,7 +4,7 @@ use mathlib.Core.Path.{_≡_, refl}
 use mathlib.Core.List.{List, [], _∷_, _++_}
 use Rattle.errors.specs.Refusal.{Outcome, done}
 use Rattle.errors.proofs.Compute.{compute as errors}
-use Rattle.blocks.specs.Name.{Name, text}
+use Rattle.blocks.specs.Name.{Name, ascii}
 use Rattle.blocks.proofs.Compute.{compute as blocks}
 use Rattle.expr.proofs.Compute.{compute as expr}
 use Rattle.resolved.proofs.Compute.{compute as resolved}
@@ -12,8 +12,7 @@ use Rattle.ir.specs.Ir.{IrNode, SwitchCases, DefaultNode, TypeIr, default-metad
 use Rattle.ir.proofs.Compute.{compute as ir}
 use Rattle.builder.specs.Names.{canonical-name, normalize-path, alternate-owner-aliases}
 use Rattle.builder.proofs.Compute.{compute as builder}
-use Rattle.interpreter.specs.Arithmetic.{Result, value, fault, align-up, checked-sub, checked-left-shift, checked-right-shift}
-use Rattle.interpreter.specs.Eval.{Binding}
+use Rattle.interpreter.specs.Arithmetic.{Result, value, fault, bits, align-up, checked-sub, checked-left-shift, checked-right-shift}
 use Rattle.interpreter.specs.Validate.{validate-type}
 use Rattle.interpreter.proofs.Compute.{compute as interpreter}
 use Rattle.lengths_definition.specs.Lengths.{digits, fill, line, stopped, next-block, run-length, answer-lines, block-lines, run-lines, set-lines, input-lines, lengths}
@@ -22,6 +21,7 @@ pub data Entry : Type 0 where
   number : Result → Entry
   count : Outcome ℕ → Entry
   name : Name → Entry
+  names : List Name → Entry
   lines : List ℕ → Entry
 
 -- ---- M8: a switch whose two cases have the tag 5
@@ -31,9 +31,9 @@ constant v = IrNode.Const 0 default-metadata v
 
 abbrev twice : List TypeIr
 twice = record {
-  type-name = text "T";
+  type-name = ascii "T";
   alignment = 1;
-  root = IrNode.Switch 0 default-metadata (text "t") (SwitchCases.case 5 (constant 1) [] (SwitchCases.case 5 (constant 2) [] SwitchCases.noCase)) DefaultNode.noDefault;
+  root = IrNode.Switch 0 default-metadata (ascii "t") (SwitchCases.case 5 (constant 1) [] (SwitchCases.case 5 (constant 2) [] SwitchCases.noCase)) DefaultNode.noDefault;
   parameters = [];
 } ∷ []
 
@@ -41,10 +41,6 @@ twice = record {
 
 abbrev alias : Name → Name → List Name
 alias owner path = alternate-owner-aliases path (normalize-path owner path)
-
-abbrev only : List Name → Name
-only [] = []
-only (n ∷ ns) = n
 
 -- ---- M13: "Trip: variable struct, alignment 1, owner `legs` with path `n`; field `n` one byte at 0; field `legs` of 4-byte
 -- elements, alignment 1, size `n`."
@@ -84,18 +80,18 @@ run-none-13 =
 
 pub answers : List Entry
 answers =
-    number (align-up 7 0) ∷ number (align-up 7 1) ∷
-    number (align-up 9 8) ∷ number (align-up 8 8) ∷
-    number (align-up (2 ^ 64 - 1) 8) ∷
-    number (align-up (2 ^ 64 - 8) 8) ∷
+    number (align-up bits 7 0) ∷ number (align-up bits 7 1) ∷
+    number (align-up bits 9 8) ∷ number (align-up bits 8 8) ∷
+    number (align-up bits (2 ^ 64 - 1) 8) ∷
+    number (align-up bits (2 ^ 64 - 8) 8) ∷
     number (checked-sub 3 4) ∷ number (checked-sub 4 4) ∷
-    number (checked-left-shift 1 63) ∷ number (checked-left-shift 1 64) ∷ number (checked-left-shift 1 128) ∷ number (checked-left-shift 0 127) ∷
+    number (checked-left-shift bits 1 63) ∷ number (checked-left-shift bits 1 64) ∷ number (checked-left-shift bits 1 128) ∷ number (checked-left-shift bits 0 127) ∷
     number (checked-right-shift 5 64) ∷ number (checked-right-shift 5 128) ∷
-    count (validate-type twice (text "T") 100 (record { name = text "t"; value = 5 } ∷ [])) ∷
-    name (canonical-name (text "a") (text "a.b")) ∷ name (normalize-path (text "a") (text "a.b")) ∷
-    name (canonical-name (text "a") (text "ab")) ∷ name (normalize-path (text "a") (text "ab")) ∷
-    name (canonical-name (text "a") (text "a")) ∷ name (normalize-path (text "a") (text "a")) ∷
-    name (only (alias (text "o") (text "p::q.r"))) ∷
+    count (validate-type twice (ascii "T") 100 (record { name = ascii "t"; value = 5 } ∷ [])) ∷
+    name (canonical-name (ascii "a") (ascii "a.b")) ∷ name (normalize-path (ascii "a") (ascii "a.b")) ∷
+    name (canonical-name (ascii "a") (ascii "ab")) ∷ name (normalize-path (ascii "a") (ascii "ab")) ∷
+    name (canonical-name (ascii "a") (ascii "a")) ∷ name (normalize-path (ascii "a") (ascii "a")) ∷
+    names (alias (ascii "o") (ascii "p::q.r")) ∷
     lines (lengths (trip-set ++ (run-3-13 ++ (run-0-8 ++ (run-3-12 ++ run-none-13))))) ∷
     []
 
@@ -118,15 +114,15 @@ expected =
     -- M8
     count (done 1) ∷
     -- M9
-    name (text "a.b") ∷ name (text "b") ∷
+    name (ascii "a.b") ∷ name (ascii "b") ∷
     -- M10
-    name (text "a.ab") ∷ name (text "ab") ∷
+    name (ascii "a.ab") ∷ name (ascii "ab") ∷
     -- M11
-    name (text "a") ∷ name (text "") ∷
+    name (ascii "a") ∷ name (ascii "") ∷
     -- M12
-    name (text "q.r") ∷
+    names (ascii "q.r" ∷ []) ∷
     -- M13
-    lines (text "0 0 13 100\n1 0 1 13\n2 25 13 0\n3 21 0 0\n") ∷
+    lines (ascii "0 0 13 100\n1 0 1 13\n2 25 13 0\n3 21 0 0\n") ∷
     []
 
 pub table : answers ≡ expected

@@ -18,7 +18,7 @@ use Rattle.blocks.specs.Tree.{Tree}
 use Rattle.blocks.specs.Read.{small, readLayout, readRun}
 use Rattle.ir.specs.Ir.{TypeIr}
 use Rattle.ir.specs.Layout.{layoutOf}
-use Rattle.interpreter.specs.Eval.{ParamMap, at, lookup-type, eval-within}
+use Rattle.interpreter.specs.Eval.{ParamMap, refusalAt, lookup-type, eval-within}
 use Rattle.interpreter.specs.Validate.{with-buffer-size, fits-buffer, validate-type, validate-run, runOf}
 use Rattle.wire.specs.Poke.{Wrote}
 use Rattle.wire.proofs.Laws.{both, none}
@@ -150,7 +150,7 @@ length-is {s} a e f = f ∙ sym (length-of s (a .read) ∙ run-at (a .read) e .l
 counted-within : (p len count c : ℕ) → fits-buffer p len count ≡ done c → c ≤ len
 counted-within p len count c e = go (leb count len) refl e
   where
-    go : (b : Bool) → leb count len ≡ b → cond b (done count) (refused (at p 0 BufferTooSmall count)) ≡ done c → c ≤ len
+    go : (b : Bool) → leb count len ≡ b → cond b (done count) (refused (refusalAt p 0 BufferTooSmall count)) ≡ done c → c ≤ len
     go true h d = omega (arith, done-one d, leb-true count len h)
     go false h d = absurd (not-done d)
 
@@ -190,7 +190,7 @@ module _ (n : ℕ) (s v : List ℕ) {a : Answer} {c : ℕ} (e : outcomeOf a ≡ 
   answers-count run h g w = rw (is-done) (Answered.line w (λ more. rw (g, h)))
 
 module _ (n : ℕ) (s v : List ℕ) {a : Answer} {q p o x : ℕ} (e : outcomeOf a ≡ validate-run n s v) (f : a ≡ answer.Refused q p o x) where
-  is-refused : validate-run n s v ≡ refused (at p o q x)
+  is-refused : validate-run n s v ≡ refused (refusalAt p o q x)
   is-refused = sym e ∙ ap outcomeOf f
 
   pub answers-stop : (run : ℕ) {c r : ℕ} {xs ys : List ℕ} → q ≤ 6 → Wrote xs c (stopped (plain q)) ys r → Answered (answer-lines run (run-length v) (validate-run n s v)) xs c ys (printed.Last r)

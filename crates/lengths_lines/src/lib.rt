@@ -4,8 +4,8 @@ use interpreter_leaves::Answer;
 ghost use mathlib.Core.Path.{_≡_};
 ghost use mathlib.Core.List.{List, [], _∷_, _++_};
 ghost use Prim.Native.Nat.{ℕ, _+_, _^_, _≤_, _<_};
-ghost use lib.ListN.{length, take, replicate};
-ghost use Rattle.errors.specs.Refusal.{plain};
+ghost use lib.ListN.{length, take};
+ghost use Rattle.errors.specs.Refusal.{plain, words-after};
 ghost use Rattle.interpreter.specs.Validate.{validate-run};
 ghost use Rattle.wire.specs.Poke.{Wrote};
 ghost use Rattle.lengths_definition.specs.Lengths.{digits, decimal, fill, line, stopped, next-block, run-length, answer-lines, run-lines};
@@ -29,7 +29,7 @@ pub enum Printed {
 
 // A hundred times the count is added up without a product that could be too large: whole lengths are counted, and rest, below
 // the length, is what is left. A half goes up.
-pub fn fill(count: u64, len: u64) -> u64
+fn fill(count: u64, len: u64) -> u64
     requires { ⌜ count ≤ len ⌝ }
     ensures { λ r. ⌜ r ≡ fill count len ⌝ }
 {
@@ -71,7 +71,7 @@ fn put_digits(out: &mut [u8], at: usize, k: usize, n: u64) -> usize
     wire::put_byte(out, p, (0x30 + n % 10) as u8)
 }
 
-pub fn put_decimal(out: &mut [u8], at: usize, n: u64) -> usize
+fn put_decimal(out: &mut [u8], at: usize, n: u64) -> usize
     requires { ⌜ at < 2 ^ 60 ⌝ }
     ensures { λ r. ⌜ Wrote (now (out .entry)) at (decimal n) (now (out .exit)) r ⌝ }
     ensures { λ r. ⌜ r ≤ at + 20 ⌝ }
@@ -89,7 +89,7 @@ fn put_number(out: &mut [u8], at: usize, n: u64, behind: u8) -> usize
     wire::put_byte(out, p, behind)
 }
 
-pub fn put_line(out: &mut [u8], at: usize, run: u64, number: u64, value: u64, fill: u64) -> usize
+fn put_line(out: &mut [u8], at: usize, run: u64, number: u64, value: u64, fill: u64) -> usize
     requires { ⌜ at < 2 ^ 59 ⌝ }
     ensures { λ r. ⌜ Wrote (now (out .entry)) at (line run number value fill) (now (out .exit)) r ⌝ }
     ensures { λ r. ⌜ r ≤ at + 84 ⌝ }
@@ -145,7 +145,7 @@ fn answer_at(
 ) -> Printed
     requires { ⌜ at < 2 ^ 59 ⌝ }
     ensures { λ r. ⌜ Answered (answer-lines run (run-length (now (block .entry))) (validate-run (length (now (words .entry))) (now (layout .entry)) (now (block .entry)))) (now (out .entry)) at (now (out .exit)) r ⌝ }
-    ensures { λ _. ⌜ now (words .exit) ≡ replicate (length (now (words .entry))) 0 ⌝ }
+    ensures { λ _. ⌜ now (words .exit) ≡ words-after (now (words .entry)) ⌝ }
     ensures { λ r. ⌜ bytesOf r ≤ at + 84 ⌝ }
 {
     match interpreter_validate::validate_run(words, layout, block) {
@@ -177,7 +177,7 @@ pub fn answer_run(
     out: &mut [u8],
 ) -> Printed
     ensures { λ r. ⌜ Answered (answer-lines run (run-length (now (block .entry))) (validate-run (length (now (words .entry))) (now (layout .entry)) (now (block .entry)))) (now (out .entry)) 0 (now (out .exit)) r ⌝ }
-    ensures { λ _. ⌜ now (words .exit) ≡ replicate (length (now (words .entry))) 0 ⌝ }
+    ensures { λ _. ⌜ now (words .exit) ≡ words-after (now (words .entry)) ⌝ }
     ensures { λ r. ⌜ bytesOf r ≤ 84 ⌝ }
 {
     answer_at(run, layout, block, words, out, 0)
@@ -204,7 +204,7 @@ pub fn whole_block(s: &[u8]) -> Header
 pub fn run_lines(layout: &[u8], s: &[u8], words: &mut [u64], out: &mut [u8]) -> usize
     requires { ⌜ (length (now words) ≡ 8192) × (length (now s) < 2 ^ 48) ⌝ }
     ensures { λ r. ⌜ Wrote (now (out .entry)) 0 (run-lines (length (now (s .entry))) (now (layout .entry)) 0 (now (s .entry))) (now (out .exit)) r ⌝ }
-    ensures { λ _. ⌜ now (words .exit) ≡ replicate (length (now (words .entry))) 0 ⌝ }
+    ensures { λ _. ⌜ now (words .exit) ≡ words-after (now (words .entry)) ⌝ }
 {
     wire::clear_words(words);
     let mut at = 0;

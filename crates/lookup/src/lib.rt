@@ -6,7 +6,7 @@ ghost use Rattle.errors.specs.Refusal.{done};
 ghost use Rattle.blocks.specs.Bytes.{le2};
 ghost use Rattle.blocks.specs.Name.{same};
 ghost use Rattle.blocks.specs.Tree.{Tree};
-ghost use Rattle.blocks.specs.Read.{readSet, readLayout, readValues};
+ghost use Rattle.blocks.specs.Read.{readSet, readLayout};
 ghost use Rattle.resolved.specs.Set.{typesOf};
 ghost use Rattle.ir.specs.Layout.{layoutOf};
 ghost use Rattle.interpreter.specs.Validate.{valuesOf};
@@ -128,12 +128,4 @@ pub fn value_in(s: &[u8], block: usize, name: &[u8]) -> Value
         left -= 1;
     }
     Value::Missing
-}
-
-// The value of a name in accepted values.
-pub fn find_value(values: &[u8], name: &[u8]) -> Value
-    requires { ⌜ ((t : Tree) × (readValues (now values) ≡ done t)) ⌝ }
-    ensures { λ r. ⌜ ((t : Tree) → readValues (now (values .entry)) ≡ done t → ValueFound (now (values .entry)) (now (name .entry)) (valuesOf t) r) ⌝ }
-{
-    value_in(values, 0, name)
 }

@@ -95,13 +95,13 @@ module _ (s : List ℕ) (e : Earlier) (lo hi at end : ℕ) where
 -- ---- the parts of a kind, from its table
 
 -- the part in a column of the table
-pub record Told (kind i : ℕ) (p : Part) : Type 0 where
+pub record Decoded (kind i : ℕ) (p : Part) : Type 0 where
   pub keyed : Keyed p
   pub rest : drop i (partsOf kind) ≡ p ∷ drop (i + 1) (partsOf kind)
   pub below : i < 7
 
-pub told : (kind i code : ℕ) (r : Part) → code ≡ codeAt kind i → (code ≡ 0 → ⊥) → ((p : Part) → Coded p → code ≡ codeOf p → r ≡ p) → Told kind i r
-told kind i code r e h g =
+pub decoded : (kind i code : ℕ) (r : Part) → code ≡ codeAt kind i → (code ≡ 0 → ⊥) → ((p : Part) → Coded p → code ≡ codeOf p → r ≡ p) → Decoded kind i r
+decoded kind i code r e h g =
     let c = column kind i (λ z. h (e ∙ z)) in
     let f : r ≡ c .part = g (c .part) (c .coded) (e ∙ c .code) in
     rw f (record { keyed = c .keyed; rest = c .rest; below = c .below })

@@ -1,7 +1,8 @@
 // The calls that read one input: a set, a layout, values or a run. Whatever they answer, the working words are zero after.
 use reader_leaf::Read;
 ghost use mathlib.Core.Path.{_≡_};
-ghost use lib.ListN.{length, replicate};
+ghost use lib.ListN.{length};
+ghost use Rattle.errors.specs.Refusal.{words-after};
 ghost use Rattle.blocks.specs.Read.{readInput, readSet, readLayout, readValues, readRun};
 ghost use Rattle.reader_calls.specs.Inputs.{readCall, answerOf};
 
@@ -32,7 +33,7 @@ fn judged(n: usize, s: &[u8], room: usize, kind: usize) -> Answer
 
 pub fn read_set(words: &mut [u64], set: &[u8]) -> Answer
     ensures { λ r. ⌜ r ≡ answerOf (readCall readSet (length (now (words .entry))) (now (set .entry))) ⌝ }
-    ensures { λ _. ⌜ now (words .exit) ≡ replicate (length (now (words .entry))) 0 ⌝ }
+    ensures { λ _. ⌜ now (words .exit) ≡ words-after (now (words .entry)) ⌝ }
 {
     let n = words.len();
     wire::clear_words(words);
@@ -41,7 +42,7 @@ pub fn read_set(words: &mut [u64], set: &[u8]) -> Answer
 
 pub fn read_layout(words: &mut [u64], layout: &[u8]) -> Answer
     ensures { λ r. ⌜ r ≡ answerOf (readCall readLayout (length (now (words .entry))) (now (layout .entry))) ⌝ }
-    ensures { λ _. ⌜ now (words .exit) ≡ replicate (length (now (words .entry))) 0 ⌝ }
+    ensures { λ _. ⌜ now (words .exit) ≡ words-after (now (words .entry)) ⌝ }
 {
     let n = words.len();
     wire::clear_words(words);
@@ -50,7 +51,7 @@ pub fn read_layout(words: &mut [u64], layout: &[u8]) -> Answer
 
 pub fn read_values(words: &mut [u64], values: &[u8]) -> Answer
     ensures { λ r. ⌜ r ≡ answerOf (readCall readValues (length (now (words .entry))) (now (values .entry))) ⌝ }
-    ensures { λ _. ⌜ now (words .exit) ≡ replicate (length (now (words .entry))) 0 ⌝ }
+    ensures { λ _. ⌜ now (words .exit) ≡ words-after (now (words .entry)) ⌝ }
 {
     let n = words.len();
     wire::clear_words(words);
@@ -59,7 +60,7 @@ pub fn read_values(words: &mut [u64], values: &[u8]) -> Answer
 
 pub fn read_run(words: &mut [u64], run: &[u8]) -> Answer
     ensures { λ r. ⌜ r ≡ answerOf (readCall readRun (length (now (words .entry))) (now (run .entry))) ⌝ }
-    ensures { λ _. ⌜ now (words .exit) ≡ replicate (length (now (words .entry))) 0 ⌝ }
+    ensures { λ _. ⌜ now (words .exit) ≡ words-after (now (words .entry)) ⌝ }
 {
     let n = words.len();
     wire::clear_words(words);

@@ -7,7 +7,6 @@ use native.Mathlib.Omega.{arith}
 use lib.Dec.{eqb, leb, ltb}
 use lib.ListN.{length, getD, replicate, getD-replicate, List·getD-eq-default}
 use borrow.Author.Tests.{lt-leb, leb-true, leb-false, ltb-true, ne-eqb}
-use Rattle.blocks.specs.declared.Part.{Part}
 use Rattle.blocks.specs.Grammar.{Row, grammar, findRow}
 use Rattle.blocks.proofs.Name.{and-left, and-right}
 use Rattle.ir.specs.Codes.{codeOf}

@@ -12,7 +12,7 @@ use Rattle.errors.specs.Refusal.{done, refused, _>>=_, ask, unread}
 use Rattle.errors.proofs.Laws.{asked}
 use Rattle.blocks.specs.Bytes.{le2, le4, bytesAt}
 use Rattle.blocks.specs.Name.{Name, isText, same, less, among}
-use Rattle.blocks.specs.Tree.{Tree, name, num, cons, number}
+use Rattle.blocks.specs.Tree.{Tree, name, num, cons}
 use Rattle.blocks.specs.Read.{Step, Earlier, pathsBefore, inOrder, nameOf, signedIn, inType, readText, readKey, readFlag, readIf, readOptional}
 use types.Run.{OneOf, miss}
 use denote.Enum.Declared.{tagOf}

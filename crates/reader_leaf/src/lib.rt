@@ -3,7 +3,7 @@ use blocks::Part;
 ghost use mathlib.Core.Path.{_≡_};
 ghost use mathlib.Core.Bool.{not, _||_};
 ghost use mathlib.Core.List.{[]};
-ghost use Prim.Native.Nat.{ℕ, _+_, _-_, _≤_, _<_};
+ghost use Prim.Native.Nat.{_+_, _-_, _≤_, _<_};
 ghost use lib.Dec.{ltb, leb};
 ghost use lib.ListN.{length};
 ghost use Rattle.blocks.specs.Name.{among};
@@ -42,7 +42,7 @@ pub enum Seen {
 }
 
 // A name or a text.
-pub fn text(s: &[u8], start: usize, at: usize, end: usize) -> Read
+fn text(s: &[u8], start: usize, at: usize, end: usize) -> Read
     requires { ⌜ (at ≤ end) × (end ≤ length (now s)) ⌝ }
     ensures { λ r. ⌜ (r ≡ forget (readText (now (s .entry)) start end at)) × (TextIn r (now (s .entry)) at end) ⌝ }
 {
@@ -62,7 +62,7 @@ pub fn text(s: &[u8], start: usize, at: usize, end: usize) -> Read
     }
 }
 
-pub fn number(s: &[u8], start: usize, at: usize, end: usize) -> Read
+fn number(s: &[u8], start: usize, at: usize, end: usize) -> Read
     requires { ⌜ (at ≤ end) × (end ≤ length (now s)) ⌝ }
     ensures { λ r. ⌜ (r ≡ forget (readNumber (now (s .entry)) start end at)) × (WideIn r 8 at end) ⌝ }
 {
@@ -87,7 +87,7 @@ pub fn flag(s: &[u8], start: usize, at: usize, end: usize) -> Read
 }
 
 // A flag, and behind it a number or a text if the flag is `on`.
-pub fn optional(s: &[u8], on: u8, numeric: bool, start: usize, at: usize, end: usize) -> Read
+fn optional(s: &[u8], on: u8, numeric: bool, start: usize, at: usize, end: usize) -> Read
     requires { ⌜ (at ≤ end) × (end ≤ length (now s)) ⌝ }
     ensures { λ r. ⌜ (r ≡ forget (readOptional (announced numeric (now (s .entry)) start end) on (now (s .entry)) start end at)) × (Inside r end) ⌝ }
 {
@@ -134,7 +134,7 @@ fn in_type(code: u8, v: usize) -> bool
 }
 
 // A code and a number.
-pub fn literal(s: &[u8], start: usize, at: usize, end: usize) -> Read
+fn literal(s: &[u8], start: usize, at: usize, end: usize) -> Read
     requires { ⌜ (at ≤ end) × (end ≤ length (now s)) ⌝ }
     ensures { λ r. ⌜ (r ≡ forget (readLiteral (now (s .entry)) start end at)) × (Inside r end) ⌝ }
 {
@@ -251,7 +251,7 @@ fn in_order(s: &[u8], seen: Seen, at: usize) -> bool
 }
 
 // A block's name, then question 6.
-pub fn key(s: &[u8], seen: Seen, start: usize, at: usize, end: usize) -> Read
+fn key(s: &[u8], seen: Seen, start: usize, at: usize, end: usize) -> Read
     requires { ⌜ (at ≤ end) × (end ≤ length (now s)) × (Valid (now s) seen) ⌝ }
     ensures { λ r. ⌜ (r ≡ forget (readKey (now (s .entry)) start end (earlierOf (now (s .entry)) seen) at)) × (TextIn r (now (s .entry)) at end) ⌝ }
 {
@@ -268,7 +268,7 @@ pub fn key(s: &[u8], seen: Seen, start: usize, at: usize, end: usize) -> Read
 }
 
 // A count and names, of which nothing is asked.
-pub fn names(s: &[u8], limit: usize, start: usize, at: usize, end: usize) -> Read
+fn names(s: &[u8], limit: usize, start: usize, at: usize, end: usize) -> Read
     requires { ⌜ (at ≤ end) × (end ≤ length (now s)) ⌝ }
     ensures { λ r. ⌜ (r ≡ forget (readList (readKey (now (s .entry)) start end) Earlier.any limit (now (s .entry)) start end at)) × (Inside r end) ⌝ }
 {

@@ -6,24 +6,23 @@ use mathlib.Core.Logic.{inr}
 use Prim.Native.Nat.{ℕ, zero, suc, _+_, _-_, _*_, _/_, _%_, _<_, _≤_}
 use native.Mathlib.Omega.{arith}
 use native.Mathlib.Numerals.{add-one}
-use lib.Dec.{leb, eqb, ltb}
+use lib.Dec.{eqb, ltb}
 use lib.ListN.{length, getD, set, length-set, take, drop, drop-of-length-le}
 use lib.Seq.{drop-cons, getD-set-same, getD-set-other}
-use borrow.Author.Tests.{lt-ltb, le-ltb, leb-true, leb-false, eqb-true, eqb-false}
-use Rattle.blocks.specs.declared.Part.{Part}
+use borrow.Author.Tests.{lt-ltb, le-ltb, eqb-true, eqb-false}
 use Rattle.blocks.specs.declared.Part.the-variants.{Key, Number, Blocks, Distinct}
-use Rattle.blocks.specs.Bytes.{le2, le4, le8}
+use Rattle.blocks.specs.Bytes.{le2, le8}
 use Rattle.blocks.specs.Name.{Name, same, among}
 use Rattle.blocks.proofs.Name.{same-eq}
 use Rattle.blocks.specs.Grammar.{partsOf, findRow, grammar, node}
-use Rattle.blocks.specs.Read.{Step, Earlier, inOrder, readText, readKey, readNumber, readList, readEntries, readPart, readBlock, readInput}
+use Rattle.blocks.specs.Read.{Step, Earlier, inOrder, readText, readList, readEntries, readPart, readBlock, readInput}
 use Rattle.reader_leaf.specs.declared.Read.the-variants.{Ok}
 use Rattle.reader_leaf.specs.declared.Seen.the-variants.{Types}
 use Rattle.reader_leaf.specs.Answer.{forget}
 use Rattle.reader_leaf.specs.Seen.{nameAt, NameIn, behind, namesBefore, Stand, Valid, earlierOf, grownOf}
 use Rattle.reader_leaf.proofs.Laws.{taken, name-part, text-done, key-yes}
 use Rattle.reader_leaf.proofs.Lists.{entries-none}
-use Rattle.reader.specs.Before.{Here, Suits, Before}
+use Rattle.reader.specs.Before.{Here, Before}
 use Rattle.reader.specs.Input.{inputOf}
 use Rattle.reader.proofs.Input.{input-ok}
 use Rattle.reader.proofs.Lists.{list-go, types-before}

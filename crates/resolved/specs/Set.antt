@@ -1,7 +1,7 @@
 -- The types of a type set that was read: kinds 1 to 7, 32 to 37.
 use Prim.Native.Nat.{ℕ}
 use mathlib.Core.Bool.{cond}
-use mathlib.Core.List.{List, [], _∷_}
+use mathlib.Core.List.{List, []}
 use mathlib.Core.Option.{Option}
 use lib.Dec.{eqb}
 use Rattle.blocks.specs.Name.{Name}

@@ -9,7 +9,7 @@ use lib.Seq.{length-take-le}
 use borrow.Author.Tests.{leb-true}
 use Rattle.blocks.specs.Bytes.{le2, le4}
 use Rattle.blocks.specs.Name.{isText}
-use Rattle.blocks.specs.Tree.{Tree, block, view}
+use Rattle.blocks.specs.Tree.{Tree, view}
 use Rattle.blocks.proofs.Name.{and-left}
 use Rattle.resolved.specs.Resolved.{ResolvedTypeKind, kindOf}
 use Rattle.resolved.specs.Set.{typeOf, thingOf, makeThing, formOf}

@@ -3,7 +3,7 @@
 use Prim.Native.Nat.{ℕ, _+_, _≤_}
 use mathlib.Core.Path.{_≡_}
 use mathlib.Core.Bool.{Bool, true, false, cond}
-use mathlib.Core.List.{List, [], _∷_}
+use mathlib.Core.List.{List, _∷_}
 use mathlib.Core.Option.{Option, some, none}
 use lib.ListN.{length}
 use Rattle.blocks.specs.Bytes.{le2, le4}
@@ -11,7 +11,7 @@ use Rattle.blocks.specs.Name.{Name}
 use Rattle.blocks.specs.Tree.{Tree, cons, body, part, text, entries, listed, view}
 use Rattle.accepted.specs.Accepted.{Accepted, tree, nameAt, Item, Entries, Listed}
 use Rattle.expr.specs.Expr.{exprOf}
-use Rattle.resolved.specs.Resolved.{Owner, Size, ResolvedTypeKind, ResolvedField, ResolvedVariant, head, kindOf, fields, variants, get}
+use Rattle.resolved.specs.Resolved.{Owner, Size, ResolvedTypeKind, head, kindOf, fields, variants, get}
 use Rattle.resolved.specs.Set.{ownerOf, thingOf, fieldsIn, variantsIn, typeOf}
 use Rattle.resolved_parts.specs.Places.{nameEnd, alignmentAt, headEnd}
 use Rattle.resolved_parts.specs.declared.TypeHead.{TypeHead}

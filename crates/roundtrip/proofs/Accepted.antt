@@ -17,7 +17,8 @@ use Rattle.blocks.specs.Name.{isText}
 use Rattle.blocks.specs.Grammar.{partsOf, within}
 use Rattle.blocks.specs.Tree.{Tree, name, num, block, nil, cons, number}
 use Rattle.blocks.specs.Read.{Step, Earlier, pathsBefore, inOrder, nameOf, met, inType, Reader, readText, readKey, readNumber, readFlag, readIf, readOptional, readLiteral, readCount, readEntries, readList, readValue, readPart, readParts, readHeader, readBlock, readInput}
-use Rattle.blocks.specs.Write.{write, placed}
+use Rattle.blocks.specs.Write.{write}
+use Rattle.roundtrip.specs.Placed.{placed}
 use Rattle.roundtrip.specs.Fits.{Limits, Nothing, nothing, Both, both, TextFits, text, KeyFits, NumberFits, held, FlagFits, IfFits, there, absent, OptionalFits, LiteralFits, CountFits, EntriesFits, ListFits, ValueFits, InBlocks, PartFits, PartsFits, Inside, inside, BlockFits}
 use Rattle.roundtrip.proofs.Bytes.{le, le-one, le-two, le-four, le-eight, width, text-length, frame, below, spelt}
 

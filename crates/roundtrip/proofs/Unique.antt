@@ -16,7 +16,8 @@ use Rattle.blocks.specs.Name.{isText}
 use Rattle.blocks.specs.Grammar.{partsOf}
 use Rattle.blocks.specs.Tree.{Tree, name, num, block, nil, cons, number}
 use Rattle.blocks.specs.Read.{Step, Earlier, pathsBefore, inOrder, nameOf, met, inType, Reader, readText, readKey, readNumber, readFlag, readIf, readOptional, readLiteral, readCount, readEntries, readList, readValue, readPart, readParts, readHeader, readBlock, readInput}
-use Rattle.blocks.specs.Write.{write, placed}
+use Rattle.blocks.specs.Write.{write}
+use Rattle.roundtrip.specs.Placed.{placed}
 use Rattle.roundtrip.specs.Shape.{Form, formOf, formsOf, times, Shaped, BlockShaped, cut}
 use Rattle.roundtrip.proofs.Bytes.{le, le-one, le-two, le-eight, width, text-length, frame, after, behind, back, text-back, block-back}
 use Rattle.roundtrip.proofs.Accepted.{header-got}

@@ -1,2 +1,3 @@
 pub mod Fits
 pub mod Shape
+pub mod Placed

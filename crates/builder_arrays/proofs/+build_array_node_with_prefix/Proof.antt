@@ -1,12 +1,11 @@
 -- An array's node meets its contract; it is built on its element, which is a shorter block. Assumes nothing.
-use mathlib.Core.Path.{_≡_, sym, _∙_}
-use Rattle.blocks.specs.Bytes.{le2, le4}
+use mathlib.Core.Path.{sym, _∙_}
+use Rattle.blocks.specs.Bytes.{le4}
 use Rattle.builder_expressions.proofs.Laws.{header-inside, stays}
 use Rattle.builder_arrays.proofs.Laws.{sums-leave, counted-stops, element-stops, element-nests, element-made, count-ready, sum-within, nested-ready, constant-cursor, finish-ready, finish-within, constant-within}
 use borrow.Author.Needs.{needs}
 use native.Mathlib.Omega.{arith}
-use lib.ListN.{length}
-use Prim.Native.Nat.{ℕ, _<_, _+_, _*_, _-_}
+use Prim.Native.Nat.{ℕ, _<_, _+_, _-_}
 use borrow.Fn.Kinds.{In}
 use borrow.Fn.PlainCycle.{Measures, is, falls, and}
 use Rattle.builder_arrays.proofs.build_array_node_with_prefix.Reads as build-array-node-with-prefix

@@ -2,11 +2,6 @@ use Rattle.builder_arrays.proofs.Laws.{behind-both, begins}
 use borrow.Author.Needs.{needs}
 use Rattle.builder_arrays.proofs.build_count.Statement.{statement}
 use Rattle.builder_arrays.proofs.build_count.Tie as tie
-use Rattle.builder_arrays.proofs.build_count.Reads as reads
-use Rattle.builder_arrays.proofs.build_count.Lts as lts
-use Rattle.builder_expressions.proofs.build_expr_ir.Reads as build-expr-ir-reads
-use Rattle.builder_nodes.proofs.open_align.Reads as open-align-reads
-use Rattle.builder_nodes.proofs.open_node.Reads as open-node-reads
 
 -- src/lib.rt:80:9
 open-align-requires : tie.Need-open-align-requires

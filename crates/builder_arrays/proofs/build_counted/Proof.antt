@@ -1,12 +1,7 @@
-use native.Mathlib.Omega.{arith}
 use Rattle.builder_arrays.proofs.Laws.{count-stops, count-goes}
 use borrow.Author.Needs.{needs}
 use Rattle.builder_arrays.proofs.build_counted.Statement.{statement}
 use Rattle.builder_arrays.proofs.build_counted.Tie as tie
-use Rattle.builder_arrays.proofs.build_counted.Reads as reads
-use Rattle.builder_arrays.proofs.build_counted.Lts as lts
-use Rattle.builder_arrays.proofs.build_count.Reads as build-count-reads
-use Rattle.builder_registry.proofs.extend_with.Reads as extend-with-reads
 
 -- src/lib.rt:102:9
 build-count-requires : tie.Need-build-count-requires

@@ -1,5 +1,4 @@
 -- `build_under` meets its contract.
-use native.Mathlib.Omega.{arith}
 use Rattle.builder_arrays.proofs.Owner.{inside-ready, key-yes, key-no}
 use borrow.Author.Needs.{needs}
 use Rattle.builder_arrays.proofs.build_under.Statement.{statement}

@@ -2,9 +2,6 @@ use Rattle.builder_arrays.specs.Begun.{Finished}
 use borrow.Author.Needs.{needs}
 use Rattle.builder_arrays.proofs.finish.Statement.{statement}
 use Rattle.builder_arrays.proofs.finish.Tie as tie
-use Rattle.builder_arrays.proofs.finish.Reads as reads
-use Rattle.builder_arrays.proofs.finish.Lts as lts
-use Rattle.builder_arrays.proofs.close_array.Reads as close-array-reads
 
 -- src/lib.rt:129:9
 returns : tie.Need-returns

@@ -3,11 +3,6 @@ use Rattle.builder_arrays.proofs.Laws.{shaped}
 use borrow.Author.Needs.{needs}
 use Rattle.builder_arrays.proofs.read_shape.Statement.{statement}
 use Rattle.builder_arrays.proofs.read_shape.Tie as tie
-use Rattle.builder_arrays.proofs.read_shape.Reads as reads
-use Rattle.builder_arrays.proofs.read_shape.Lts as lts
-use Rattle.builder_arrays.proofs.both.Reads as both-reads
-use Rattle.resolved_parts.proofs.array_parts.Reads as array-parts-reads
-use Rattle.resolved_parts.proofs.type_head.Reads as type-head-reads
 
 -- src/lib.rt:48:9
 type-head-requires : tie.Need-type-head-requires

@@ -1,19 +1,10 @@
 use native.Mathlib.Omega.{arith}
-use Rattle.accepted.specs.Accepted.{Accepted}
 use Rattle.resolved_parts.specs.Types.{Named}
 use Rattle.builder_expressions.proofs.Laws.{header-inside, stays}
 use Rattle.builder_arrays.proofs.Laws.{named-short, sum-count-stops, sum-element-stops, sum-made}
 use borrow.Author.Needs.{needs}
 use Rattle.builder_arrays.proofs.sum_over_array.Statement.{statement}
 use Rattle.builder_arrays.proofs.sum_over_array.Tie as tie
-use Rattle.builder_arrays.proofs.sum_over_array.Reads as reads
-use Rattle.builder_arrays.proofs.sum_over_array.Lts as lts
-use Rattle.builder_arrays.proofs.build_count.Reads as build-count-reads
-use Rattle.builder_arrays.proofs.close_array.Reads as close-array-reads
-use Rattle.wire.proofs.read2.Reads as read2-reads
-use Rattle.wire.proofs.put_name.Reads as put-name-reads
-use Rattle.resolved_parts.proofs.name_at.Reads as name-at-reads
-use Rattle.resolved_parts.proofs.target.Reads as target-reads
 
 -- src/lib.rt:161:9
 build-count-requires : tie.Need-build-count-requires

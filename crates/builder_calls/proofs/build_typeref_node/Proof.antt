@@ -3,13 +3,6 @@ use native.Mathlib.Omega.{arith}
 use Rattle.builder_calls.proofs.Laws.{short-name, callee-at, typeref-missing, typeref-done}
 use Rattle.builder_calls.proofs.build_typeref_node.Statement.{statement}
 use Rattle.builder_calls.proofs.build_typeref_node.Tie as tie
-use Rattle.builder_calls.proofs.build_typeref_node.Reads as reads
-use Rattle.builder_calls.proofs.build_typeref_node.Lts as lts
-use Rattle.builder_calls.proofs.put_call.Reads as put-call-reads
-use Rattle.lookup.proofs.get_type_info.Reads as get-type-info-reads
-use Rattle.resolved_parts.proofs.name_at.Reads as name-at-reads
-use Rattle.resolved_parts.proofs.target.Reads as target-reads
-use Rattle.resolved_parts.proofs.type_head.Reads as type-head-reads
 
 -- src/lib.rt:181:9
 target-requires : tie.Need-target-requires

@@ -3,11 +3,6 @@ use native.Mathlib.Omega.{arith}
 use Rattle.builder_calls.proofs.Laws.{Count, count-begin, count-next, count-end, count-here, count-inside, owners-inside, owners-few}
 use Rattle.builder_calls.proofs.count_paths.Statement.{statement}
 use Rattle.builder_calls.proofs.count_paths.Tie as tie
-use Rattle.builder_calls.proofs.count_paths.Reads as reads
-use Rattle.builder_calls.proofs.count_paths.Lts as lts
-use Rattle.wire.proofs.read2.Reads as read2-reads
-use Rattle.wire.proofs.read4.Reads as read4-reads
-use Rattle.resolved_parts.proofs.owner_paths.Reads as owner-paths-reads
 
 abbrev Inv-loop : tie.InvT-loop
 Inv-loop s references left₀ at₀ n₀ left at n = (n + 64 * left ≤ 4096) × Count s references left at n

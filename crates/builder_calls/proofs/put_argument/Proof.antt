@@ -3,14 +3,6 @@ use native.Mathlib.Omega.{arith}
 use Rattle.builder_calls.proofs.Laws.{argument-long, argument-full, argument-many, argument-done, short-name}
 use Rattle.builder_calls.proofs.put_argument.Statement.{statement}
 use Rattle.builder_calls.proofs.put_argument.Tie as tie
-use Rattle.builder_calls.proofs.put_argument.Reads as reads
-use Rattle.builder_calls.proofs.put_argument.Lts as lts
-use Rattle.builder_names.proofs.canonical_length.Reads as canonical-length-reads
-use Rattle.builder_names.proofs.put_canonical_name.Reads as put-canonical-name-reads
-use Rattle.wire.proofs.close_block.Reads as close-block-reads
-use Rattle.wire.proofs.open_block.Reads as open-block-reads
-use Rattle.builder_registry.proofs.ensure.Reads as ensure-reads
-use Rattle.resolved_parts.proofs.name_at.Reads as name-at-reads
 
 -- src/lib.rt:55:9
 name-at-requires : tie.Need-name-at-requires

@@ -3,16 +3,6 @@ use native.Mathlib.Omega.{arith}
 use Rattle.builder_calls.proofs.Laws.{owners-inside, owners-at, call-stop, call-done}
 use Rattle.builder_calls.proofs.put_call.Statement.{statement}
 use Rattle.builder_calls.proofs.put_call.Tie as tie
-use Rattle.builder_calls.proofs.put_call.Reads as reads
-use Rattle.builder_calls.proofs.put_call.Lts as lts
-use Rattle.builder_calls.proofs.count_paths.Reads as count-paths-reads
-use Rattle.builder_calls.proofs.put_owners.Reads as put-owners-reads
-use Rattle.wire.proofs.read2.Reads as read2-reads
-use Rattle.wire.proofs.close_block.Reads as close-block-reads
-use Rattle.wire.proofs.put_le.Reads as put-le-reads
-use Rattle.wire.proofs.put_name.Reads as put-name-reads
-use Rattle.builder_nodes.proofs.open_node.Reads as open-node-reads
-use Rattle.resolved_parts.proofs.type_head.Reads as type-head-reads
 
 -- src/lib.rt:152:22
 type-head-requires : tie.Need-type-head-requires

@@ -2,7 +2,7 @@
 use mathlib.Core.Path.{sym, _∙_}
 use native.Mathlib.Omega.{arith}
 use borrow.Author.Needs.{needs}
-use Rattle.builder_set.proofs.Laws.{count-few, ready-again, types-no, layout-yes, layout-no}
+use Rattle.builder_set.proofs.Laws.{count-few, types-no, layout-yes, layout-no}
 use Rattle.builder_set.proofs.build_layout.Statement.{statement}
 use Rattle.builder_set.proofs.build_layout.Tie as tie
 

@@ -1,12 +1,10 @@
 -- `build_types` meets its contract. The invariant: the types that were passed are built, and stand in the output. The measure
 -- is the types that are left.
-use Prim.Native.Nat.{_+_, _*_, _^_, _≤_, _<_}
+use Prim.Native.Nat.{_+_, _*_, _^_, _≤_}
 use mathlib.Core.Path.{_≡_, refl}
 use native.Mathlib.Omega.{arith}
 use borrow.Author.Needs.{needs}
 use lib.ListN.{length}
-use Rattle.blocks.specs.Bytes.{le2}
-use Rattle.lookup.proofs.Types.{set-list}
 use Rattle.builder_set.specs.Sets.{Ready}
 use Rattle.builder_set.proofs.Laws.{Loop, begin, go-on, stopped, no-more, type-ready, ready-again, next-end, next-inside, count-few}
 use Rattle.builder_set.proofs.build_types.Statement.{statement}

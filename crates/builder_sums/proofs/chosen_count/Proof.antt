@@ -1,14 +1,8 @@
-use mathlib.Core.Path.{_≡_, refl}
-use Prim.Native.Nat.{ℕ, _+_, _≤_}
 use native.Mathlib.Omega.{arith}
 use borrow.Author.Needs.{needs}
 use Rattle.builder_sums.proofs.Chosen.{Counting, count-begin, count-more, count-end, named, name-in}
 use Rattle.builder_sums.proofs.chosen_count.Statement.{statement}
 use Rattle.builder_sums.proofs.chosen_count.Tie as tie
-use Rattle.builder_sums.proofs.chosen_count.Reads as reads
-use Rattle.builder_sums.proofs.chosen_count.Lts as lts
-use Rattle.wire.proofs.read2.Reads as read2-reads
-use Rattle.builder_sums.proofs.weight.Reads as weight-reads
 
 abbrev Inv-loop : tie.InvT-loop
 Inv-loop s only paths left₀ q₀ m₀ left q m = Counting s only paths left q m

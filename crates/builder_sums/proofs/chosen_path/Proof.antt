@@ -1,14 +1,8 @@
-use mathlib.Core.Path.{_≡_, refl}
-use Prim.Native.Nat.{ℕ, _+_, _≤_}
 use native.Mathlib.Omega.{arith}
 use borrow.Author.Needs.{needs}
 use Rattle.builder_sums.proofs.Chosen.{Seeking, seek-begin, seek-more, seek-hit, seek-never, named, name-in}
 use Rattle.builder_sums.proofs.chosen_path.Statement.{statement}
 use Rattle.builder_sums.proofs.chosen_path.Tie as tie
-use Rattle.builder_sums.proofs.chosen_path.Reads as reads
-use Rattle.builder_sums.proofs.chosen_path.Lts as lts
-use Rattle.wire.proofs.read2.Reads as read2-reads
-use Rattle.builder_sums.proofs.weight.Reads as weight-reads
 
 abbrev Inv-loop : tie.InvT-loop
 Inv-loop s only paths i left₀ q₀ j₀ left q j = Seeking s only paths i left q j

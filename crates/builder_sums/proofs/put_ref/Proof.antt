@@ -4,12 +4,6 @@ use Rattle.builder_sums.proofs.Sums.{entry-in, ref-missing, ref-long, r
 use borrow.Author.Needs.{needs}
 use Rattle.builder_sums.proofs.put_ref.Statement.{statement}
 use Rattle.builder_sums.proofs.put_ref.Tie as tie
-use Rattle.builder_sums.proofs.put_ref.Reads as reads
-use Rattle.builder_sums.proofs.put_ref.Lts as lts
-use Rattle.builder_registry.proofs.lookup_name.Reads as lookup-name-reads
-use Rattle.builder_nodes.proofs.put_size_ref.Reads as put-size-ref-reads
-use Rattle.builder_sums.proofs.chosen_path.Reads as chosen-path-reads
-use Rattle.resolved_parts.proofs.name_at.Reads as name-at-reads
 
 chosen-path-requires : tie.Need-chosen-path-requires
 chosen-path-requires c κs = search needs

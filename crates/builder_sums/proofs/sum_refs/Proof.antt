@@ -3,10 +3,6 @@ use borrow.Author.Needs.{needs}
 use Rattle.builder_sums.proofs.Sums.{sum-none, sum-all, stopped, widened}
 use Rattle.builder_sums.proofs.sum_refs.Statement.{statement}
 use Rattle.builder_sums.proofs.sum_refs.Tie as tie
-use Rattle.builder_sums.proofs.sum_refs.Reads as reads
-use Rattle.builder_sums.proofs.sum_refs.Lts as lts
-use Rattle.builder_sums.proofs.chosen_count.Reads as chosen-count-reads
-use Rattle.builder_sums.proofs.put_sum.Reads as put-sum-reads
 
 chosen-count-requires : tie.Need-chosen-count-requires
 chosen-count-requires c κs = search needs

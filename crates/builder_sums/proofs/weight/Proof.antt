@@ -3,10 +3,6 @@ use Rattle.builder_sums.proofs.Chosen.{weighs}
 use borrow.Author.Needs.{needs}
 use Rattle.builder_sums.proofs.weight.Statement.{statement}
 use Rattle.builder_sums.proofs.weight.Tie as tie
-use Rattle.builder_sums.proofs.weight.Reads as reads
-use Rattle.builder_sums.proofs.weight.Lts as lts
-use Rattle.builder_names.proofs.ends_with.Reads as ends-with-reads
-use Rattle.resolved_parts.proofs.name_at.Reads as name-at-reads
 
 name-at-requires : tie.Need-name-at-requires
 name-at-requires c κs = search needs

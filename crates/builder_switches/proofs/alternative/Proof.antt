@@ -4,11 +4,6 @@ use native.Mathlib.Omega.{arith}
 use Rattle.builder_switches.proofs.Cases.{at-kind, not-union, alt-union, alt-enum, alt-sized}
 use Rattle.builder_switches.proofs.alternative.Statement.{statement}
 use Rattle.builder_switches.proofs.alternative.Tie as tie
-use Rattle.builder_switches.proofs.alternative.Reads as reads
-use Rattle.builder_switches.proofs.alternative.Lts as lts
-use Rattle.resolved_parts.proofs.field_parts.Reads as field-parts-reads
-use Rattle.resolved_parts.proofs.type_head.Reads as type-head-reads
-use Rattle.resolved_parts.proofs.variant_parts.Reads as variant-parts-reads
 
 field-parts-requires : tie.Need-field-parts-requires
 field-parts-requires c κs = search (needs, at-kind (c .if1 .taken) (c .before .before .pre .block))

@@ -6,13 +6,6 @@ use Rattle.builder_sums.proofs.Sums.{stopped}
 use Rattle.builder_switches.proofs.Switch.{tag-in, enum-refs-stop, enum-tag-stops, enum-done}
 use Rattle.builder_switches.proofs.build_enum_node.Statement.{statement}
 use Rattle.builder_switches.proofs.build_enum_node.Tie as tie
-use Rattle.builder_switches.proofs.build_enum_node.Reads as reads
-use Rattle.builder_switches.proofs.build_enum_node.Lts as lts
-use Rattle.builder_registry.proofs.extend_with.Reads as extend-with-reads
-use Rattle.builder_switches.proofs.enum_tag_parameter.Reads as enum-tag-parameter-reads
-use Rattle.builder_switches.proofs.put_switch.Reads as put-switch-reads
-use Rattle.resolved_parts.proofs.enum_parts.Reads as enum-parts-reads
-use Rattle.resolved_parts.proofs.type_head.Reads as type-head-reads
 
 type-head-requires : tie.Need-type-head-requires
 type-head-requires c κs = search needs

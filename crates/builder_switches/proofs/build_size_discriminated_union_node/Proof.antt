@@ -6,13 +6,6 @@ use Rattle.builder_sums.proofs.Sums.{stopped}
 use Rattle.builder_switches.proofs.Switch.{tag-in, sized-refs-stop, sized-none, sized-tag-stops, sized-done}
 use Rattle.builder_switches.proofs.build_size_discriminated_union_node.Statement.{statement}
 use Rattle.builder_switches.proofs.build_size_discriminated_union_node.Tie as tie
-use Rattle.builder_switches.proofs.build_size_discriminated_union_node.Reads as reads
-use Rattle.builder_switches.proofs.build_size_discriminated_union_node.Lts as lts
-use Rattle.builder_registry.proofs.add_synthetic.Reads as add-synthetic-reads
-use Rattle.builder_registry.proofs.extend_with.Reads as extend-with-reads
-use Rattle.builder_switches.proofs.put_switch.Reads as put-switch-reads
-use Rattle.resolved_parts.proofs.sized_list.Reads as sized-list-reads
-use Rattle.resolved_parts.proofs.type_head.Reads as type-head-reads
 
 type-head-requires : tie.Need-type-head-requires
 type-head-requires c κs = search needs

@@ -7,13 +7,6 @@ use Rattle.builder_switches.proofs.Marks.{block-in}
 use Rattle.builder_switches.proofs.Tags.{owned, tag-known, tag-unknown, tag-made}
 use Rattle.builder_switches.proofs.enum_tag_parameter.Statement.{statement}
 use Rattle.builder_switches.proofs.enum_tag_parameter.Tie as tie
-use Rattle.builder_switches.proofs.enum_tag_parameter.Reads as reads
-use Rattle.builder_switches.proofs.enum_tag_parameter.Lts as lts
-use Rattle.wire.proofs.read2.Reads as read2-reads
-use Rattle.builder_registry.proofs.add_synthetic.Reads as add-synthetic-reads
-use Rattle.builder_switches.proofs.mark_expression_field_refs.Reads as mark-expression-field-refs-reads
-use Rattle.builder_switches.proofs.tag_lookup.Reads as tag-lookup-reads
-use Rattle.resolved_parts.proofs.name_at.Reads as name-at-reads
 
 add-name-at : tie.Need-add-name-at
 add-name-at c = omega (arith, c .before .before .pre .named .inside, c .before .before .pre .standing .size)

@@ -5,12 +5,6 @@ use mathlib.Core.Path.{refl}
 use Rattle.builder_switches.proofs.Marks.{part-long, mark-none, mark-long, mark-path}
 use Rattle.builder_switches.proofs.mark_path.Statement.{statement}
 use Rattle.builder_switches.proofs.mark_path.Tie as tie
-use Rattle.builder_switches.proofs.mark_path.Reads as reads
-use Rattle.builder_switches.proofs.mark_path.Lts as lts
-use Rattle.builder_paths.proofs.joined_length.Reads as joined-length-reads
-use Rattle.builder_paths.proofs.no_segments.Reads as no-segments-reads
-use Rattle.builder_paths.proofs.put_joined.Reads as put-joined-reads
-use Rattle.builder_registry.proofs.mark_derived.Reads as mark-derived-reads
 
 no-segments-requires : tie.Need-no-segments-requires
 no-segments-requires c κs = search needs

@@ -8,15 +8,6 @@ use Rattle.builder_switches.proofs.Marks.{block-in}
 use Rattle.builder_switches.proofs.Cases.{ends-at, case-stops, case-done}
 use Rattle.builder_switches.proofs.put_case.Statement.{statement}
 use Rattle.builder_switches.proofs.put_case.Tie as tie
-use Rattle.builder_switches.proofs.put_case.Reads as reads
-use Rattle.builder_switches.proofs.put_case.Lts as lts
-use Rattle.wire.proofs.close_block.Reads as close-block-reads
-use Rattle.wire.proofs.open_block.Reads as open-block-reads
-use Rattle.wire.proofs.put_le.Reads as put-le-reads
-use Rattle.builder_registry.proofs.put_owner_parameters.Reads as put-owner-parameters-reads
-use Rattle.builder_switches.proofs.alternative.Reads as alternative-reads
-use Rattle.builder_switches.proofs.put_node.Reads as put-node-reads
-use Rattle.resolved_parts.proofs.name_at.Reads as name-at-reads
 
 alternative-requires : tie.Need-alternative-requires
 alternative-requires c κs = search needs

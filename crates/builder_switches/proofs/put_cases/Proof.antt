@@ -8,10 +8,6 @@ use Rattle.builder_sums.proofs.Sums.{stopped}
 use Rattle.builder_switches.proofs.Cases.{ends-at, Written, cases-begin, next-block, next-low, cases-stop, cases-more, cases-end}
 use Rattle.builder_switches.proofs.put_cases.Statement.{statement}
 use Rattle.builder_switches.proofs.put_cases.Tie as tie
-use Rattle.builder_switches.proofs.put_cases.Reads as reads
-use Rattle.builder_switches.proofs.put_cases.Lts as lts
-use Rattle.wire.proofs.read4.Reads as read4-reads
-use Rattle.builder_switches.proofs.put_case.Reads as put-case-reads
 
 abbrev Inv-loop : tie.InvT-loop
 Inv-loop s words n references k count first out₀ at i₀ q₀ p₀ m₀ out i q p m = Written s out₀ at words n references k count first i q out p m

@@ -6,14 +6,6 @@ use Rattle.builder_switches.proofs.Tags.{owned}
 use Rattle.builder_switches.proofs.Cases.{below-60, behind, ends-at, paths-at, node-const, node-missing, node-stops, node-done}
 use Rattle.builder_switches.proofs.put_node.Statement.{statement}
 use Rattle.builder_switches.proofs.put_node.Tie as tie
-use Rattle.builder_switches.proofs.put_node.Reads as reads
-use Rattle.builder_switches.proofs.put_node.Lts as lts
-use Rattle.wire.proofs.close_block.Reads as close-block-reads
-use Rattle.builder_nodes.proofs.open_align.Reads as open-align-reads
-use Rattle.builder_nodes.proofs.put_const_or_zero.Reads as put-const-or-zero-reads
-use Rattle.builder_sums.proofs.sum_refs.Reads as sum-refs-reads
-use Rattle.resolved_parts.proofs.get.Reads as get-reads
-use Rattle.resolved_parts.proofs.name_at.Reads as name-at-reads
 
 name-at-requires : tie.Need-name-at-requires
 name-at-requires c κs = search needs

@@ -6,15 +6,6 @@ use Rattle.builder_switches.proofs.Cases.{ends-at, start-60, tag-59}
 use Rattle.builder_switches.proofs.Switch.{switch-stops, switch-done}
 use Rattle.builder_switches.proofs.put_switch.Statement.{statement}
 use Rattle.builder_switches.proofs.put_switch.Tie as tie
-use Rattle.builder_switches.proofs.put_switch.Reads as reads
-use Rattle.builder_switches.proofs.put_switch.Lts as lts
-use Rattle.wire.proofs.close_block.Reads as close-block-reads
-use Rattle.wire.proofs.put_flag.Reads as put-flag-reads
-use Rattle.wire.proofs.put_le.Reads as put-le-reads
-use Rattle.builder_registry.proofs.put_entry_name.Reads as put-entry-name-reads
-use Rattle.builder_nodes.proofs.open_node.Reads as open-node-reads
-use Rattle.builder_switches.proofs.put_cases.Reads as put-cases-reads
-use Rattle.resolved_parts.proofs.type_head.Reads as type-head-reads
 
 type-head-requires : tie.Need-type-head-requires
 type-head-requires c κs = search needs

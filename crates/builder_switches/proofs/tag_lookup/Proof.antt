@@ -6,12 +6,6 @@ use Rattle.builder_switches.proofs.Marks.{part-long}
 use Rattle.builder_switches.proofs.Tags.{tag-long, tag-found, tag-other}
 use Rattle.builder_switches.proofs.tag_lookup.Statement.{statement}
 use Rattle.builder_switches.proofs.tag_lookup.Tie as tie
-use Rattle.builder_switches.proofs.tag_lookup.Reads as reads
-use Rattle.builder_switches.proofs.tag_lookup.Lts as lts
-use Rattle.builder_paths.proofs.joined_length.Reads as joined-length-reads
-use Rattle.builder_paths.proofs.put_joined.Reads as put-joined-reads
-use Rattle.builder_registry.proofs.lookup_name.Reads as lookup-name-reads
-use Rattle.builder_registry.proofs.lookup_qualified.Reads as lookup-qualified-reads
 
 joined-length-requires : tie.Need-joined-length-requires
 joined-length-requires c κs = search needs

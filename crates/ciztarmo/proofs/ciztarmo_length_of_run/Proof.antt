@@ -1,6 +1,6 @@
 -- `ciztarmo::ciztarmo_length_of_run` meets its contract. Assumes nothing.
 use mathlib.Core.Path.{ap, _∙_}
-use Rattle.ciztarmo.specs.Told.{told}
+use Rattle.ciztarmo.specs.Outcomes.{answerWords}
 use borrow.Author.Needs.{needs}
 use Rattle.ciztarmo.proofs.ciztarmo_length_of_run.Statement.{statement}
 use Rattle.ciztarmo.proofs.ciztarmo_length_of_run.Tie as tie
@@ -12,7 +12,7 @@ tell-count-requires : tie.Need-tell-count-requires
 tell-count-requires c κs = search needs
 
 returns : tie.Need-returns
-returns c = c .tell-count .ensures ∙ ap told (c .before .before .length-of-run .ensures)
+returns c = c .tell-count .ensures ∙ ap answerWords (c .before .before .length-of-run .ensures)
 
 pub ciztarmo-length-of-run-spec : {M : Type 1} → statement M
 ciztarmo-length-of-run-spec = tie.close (tie.spec length-of-run-requires tell-count-requires returns)

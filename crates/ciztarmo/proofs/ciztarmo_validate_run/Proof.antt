@@ -1,6 +1,6 @@
 -- `ciztarmo::ciztarmo_validate_run` meets its contract. Assumes nothing.
 use mathlib.Core.Path.{ap, _∙_}
-use Rattle.ciztarmo.specs.Told.{told}
+use Rattle.ciztarmo.specs.Outcomes.{answerWords}
 use borrow.Author.Needs.{needs}
 use Rattle.ciztarmo.proofs.ciztarmo_validate_run.Statement.{statement}
 use Rattle.ciztarmo.proofs.ciztarmo_validate_run.Tie as tie
@@ -15,7 +15,7 @@ same-length : tie.Need-same-length
 same-length c = search needs
 
 returns : tie.Need-returns
-returns c = let call = c .before .before .before .before .validate-run in (c .tell-count .ensures ∙ ap told (call .ensures .0), call .ensures .1)
+returns c = let call = c .before .before .before .before .validate-run in (c .tell-count .ensures ∙ ap answerWords (call .ensures .0), call .ensures .1)
 
 pub ciztarmo-validate-run-spec : {M : Type 1} → statement M
 ciztarmo-validate-run-spec =

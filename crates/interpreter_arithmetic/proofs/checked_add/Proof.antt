@@ -14,11 +14,11 @@ add-t6 c = omega arith
 
 returns : tie.Need-returns
 unfolding checked-add
-returns c = rw (exact-in (c .before .args .left + c .before .args .right) (omega arith))
+returns c = rw (exact-in 64 (c .before .args .left + c .before .args .right) (omega arith))
 
 returns-2 : tie.Need-returns-2
 unfolding checked-add
-returns-2 c = rw (exact-over (c .before .args .left + c .before .args .right) (omega arith))
+returns-2 c = rw (exact-over 64 (c .before .args .left + c .before .args .right) (omega arith))
 
 pub checked-add-spec : {M : Type 1} → statement M
 checked-add-spec = tie.close (tie.spec sub-if1 add-t6 returns returns-2)

@@ -1,13 +1,7 @@
 -- `interpreter_context::at_root` meets its contract. Assumes nothing.
-use mathlib.Core.Path.{_≡_, refl, sym, _∙_, ap}
-use mathlib.Core.List.{List}
-use mathlib.Core.Bool.{Bool}
-use Prim.Native.Nat.{ℕ, _+_, _-_, _≤_}
-use native.Mathlib.Omega.{arith}
-use lib.ListN.{length}
-use Rattle.blocks.specs.Bytes.{le2, le4}
-use Rattle.blocks.specs.Name.{Name, same}
-use Rattle.accepted.specs.Accepted.{nameAt}
+use mathlib.Core.Path.{_∙_, ap}
+use Prim.Native.Nat.{_-_}
+use Rattle.blocks.specs.Name.{Name}
 use Rattle.interpreter_context.proofs.Names.{slice-is}
 use Rattle.interpreter.specs.Eval.{find}
 use Rattle.interpreter.specs.Validate.{with-buffer-size, valuesOf}
@@ -17,12 +11,6 @@ use Rattle.interpreter_context.proofs.Calls.{block-at, held-value, held
 use borrow.Author.Needs.{needs}
 use Rattle.interpreter_context.proofs.at_root.Statement.{statement}
 use Rattle.interpreter_context.proofs.at_root.Tie as tie
-use Rattle.interpreter_context.proofs.at_root.Reads as reads
-use Rattle.interpreter_context.proofs.at_root.Lts as lts
-use Rattle.wire.proofs.read2.Reads as read2-reads
-use Rattle.wire.proofs.read8.Reads as read8-reads
-use Rattle.wire.proofs.same_name.Reads as same-name-reads
-use Rattle.lookup.proofs.value_in.Reads as value-in-reads
 
 add-from : tie.Need-add-from
 add-from c = search needs

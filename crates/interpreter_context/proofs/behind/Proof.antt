@@ -3,10 +3,6 @@ use native.Mathlib.Omega.{arith}
 use Rattle.interpreter_context.proofs.Laws.{step, past}
 use Rattle.interpreter_context.proofs.behind.Statement.{statement}
 use Rattle.interpreter_context.proofs.behind.Tie as tie
-use Rattle.interpreter_context.proofs.behind.Reads as reads
-use Rattle.interpreter_context.proofs.behind.Lts as lts
-use Rattle.wire.proofs.read2.Reads as read2-reads
-use Rattle.wire.proofs.read4.Reads as read4-reads
 
 add-result : tie.Need-add-result
 add-result c = omega (arith, step (c .before .before .pre .2) (c .before .before .pre .3) (c .before .before .pre .4) .number (c .if1 .taken) .inside, c .before .before .pre .4 .fits)

@@ -1,21 +1,10 @@
 -- `interpreter_context::callers_name` meets its contract. Assumes nothing.
-use mathlib.Core.Path.{_≡_, refl, sym, _∙_, ap}
-use mathlib.Core.List.{List}
-use mathlib.Core.Bool.{Bool}
-use Prim.Native.Nat.{ℕ, _+_, _-_, _≤_}
-use native.Mathlib.Omega.{arith}
-use lib.ListN.{length}
-use Rattle.blocks.specs.Bytes.{le2, le4}
-use Rattle.blocks.specs.Name.{Name, same}
-use Rattle.accepted.specs.Accepted.{nameAt}
+use mathlib.Core.Path.{refl}
+use Prim.Native.Nat.{_-_}
 use Rattle.interpreter_context.proofs.Calls.{from-argument, from-parameter, from-nothing}
 use borrow.Author.Needs.{needs}
 use Rattle.interpreter_context.proofs.callers_name.Statement.{statement}
 use Rattle.interpreter_context.proofs.callers_name.Tie as tie
-use Rattle.interpreter_context.proofs.callers_name.Reads as reads
-use Rattle.interpreter_context.proofs.callers_name.Lts as lts
-use Rattle.interpreter_context.proofs.is_listed.Reads as is-listed-reads
-use Rattle.interpreter_context.proofs.last_argument.Reads as last-argument-reads
 
 last-argument-requires : tie.Need-last-argument-requires
 last-argument-requires c κs = (c .before .pre .0 .call, c .before .pre .0 .kind, c .before .pre .1)

@@ -1,21 +1,10 @@
 use borrow.Author.Needs.{needs}
 -- `interpreter_context::find` meets its contract. Assumes nothing.
-use mathlib.Core.Path.{_≡_, refl, sym, _∙_, ap}
-use mathlib.Core.List.{List}
-use mathlib.Core.Bool.{Bool}
-use Prim.Native.Nat.{ℕ, _+_, _-_, _≤_}
+use Prim.Native.Nat.{_-_}
 use native.Mathlib.Omega.{arith}
-use lib.ListN.{length}
-use Rattle.blocks.specs.Bytes.{le2, le4}
-use Rattle.blocks.specs.Name.{Name, same}
-use Rattle.accepted.specs.Accepted.{nameAt}
 use Rattle.interpreter_context.proofs.Calls.{Wanted, asked, the-call, caller-has, caller-lacks, at-the-root, bottom}
 use Rattle.interpreter_context.proofs.find.Statement.{statement}
 use Rattle.interpreter_context.proofs.find.Tie as tie
-use Rattle.interpreter_context.proofs.find.Reads as reads
-use Rattle.interpreter_context.proofs.find.Lts as lts
-use Rattle.interpreter_context.proofs.at_root.Reads as at-root-reads
-use Rattle.interpreter_context.proofs.callers_name.Reads as callers-name-reads
 
 abbrev Inv-loop : tie.InvT-loop
 Inv-loop s name values block len words depth d₀ wanted₀ d wanted = Wanted s values block len words name depth wanted d

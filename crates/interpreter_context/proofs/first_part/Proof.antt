@@ -3,9 +3,6 @@ use native.Mathlib.Omega.{arith}
 use Rattle.interpreter_context.proofs.Laws.{flagged-part, behind-metadata, within}
 use Rattle.interpreter_context.proofs.first_part.Statement.{statement}
 use Rattle.interpreter_context.proofs.first_part.Tie as tie
-use Rattle.interpreter_context.proofs.first_part.Reads as reads
-use Rattle.interpreter_context.proofs.first_part.Lts as lts
-use Rattle.interpreter_context.proofs.behind.Reads as behind-reads
 
 add-behind : tie.Need-add-behind
 add-behind c = omega (arith, within (c .before .pre))

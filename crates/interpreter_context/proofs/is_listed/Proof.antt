@@ -1,22 +1,13 @@
 -- `interpreter_context::is_listed` meets its contract. Assumes nothing.
-use mathlib.Core.Path.{_≡_, refl, sym, _∙_, ap}
-use mathlib.Core.List.{List}
-use mathlib.Core.Bool.{Bool}
-use Prim.Native.Nat.{ℕ, _+_, _-_, _≤_}
+use mathlib.Core.Path.{refl}
+use Prim.Native.Nat.{_+_, _-_}
 use native.Mathlib.Omega.{arith}
-use lib.ListN.{length}
-use Rattle.blocks.specs.Bytes.{le2, le4}
-use Rattle.blocks.specs.Name.{Name, same}
+use Rattle.blocks.specs.Bytes.{le2}
 use Rattle.accepted.specs.Accepted.{nameAt}
 use Rattle.interpreter_context.proofs.Blocks.{parameter}
 use Rattle.interpreter_context.proofs.Lists.{Unlisted, start, next-parameter, another, ends, tree-of, parameters-at, listed-of, unlisted-of}
 use Rattle.interpreter_context.proofs.is_listed.Statement.{statement}
 use Rattle.interpreter_context.proofs.is_listed.Tie as tie
-use Rattle.interpreter_context.proofs.is_listed.Reads as reads
-use Rattle.interpreter_context.proofs.is_listed.Lts as lts
-use Rattle.interpreter_context.proofs.same_at.Reads as same-at-reads
-use Rattle.wire.proofs.read2.Reads as read2-reads
-use Rattle.wire.proofs.read4.Reads as read4-reads
 
 abbrev Inv-loop : tie.InvT-loop
 Inv-loop s callee name root list left₀ at₀ left at = Unlisted s (nameAt s name) (le2 s list) (list + 2) left at

@@ -6,12 +6,6 @@ use Rattle.accepted.specs.Accepted.{nameAt}
 use Rattle.interpreter_context.proofs.Lists.{Passed, begin, next-one, go-on, arguments-at, has-three, last-of, ends}
 use Rattle.interpreter_context.proofs.last_argument.Statement.{statement}
 use Rattle.interpreter_context.proofs.last_argument.Tie as tie
-use Rattle.interpreter_context.proofs.last_argument.Reads as reads
-use Rattle.interpreter_context.proofs.last_argument.Lts as lts
-use Rattle.interpreter_context.proofs.later.Reads as later-reads
-use Rattle.wire.proofs.read2.Reads as read2-reads
-use Rattle.wire.proofs.read4.Reads as read4-reads
-use Rattle.interpreter_context.proofs.second_part.Reads as second-part-reads
 
 abbrev Inv-loop : tie.InvT-loop
 Inv-loop s call name list left₀ at₀ last₀ left at last = Passed s (nameAt s name) (le2 s list) (list + 2) left at last

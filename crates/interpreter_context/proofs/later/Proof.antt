@@ -1,20 +1,9 @@
 -- `interpreter_context::later` meets its contract. Assumes nothing.
-use mathlib.Core.Path.{_≡_, refl, sym, _∙_, ap}
-use mathlib.Core.List.{List}
-use mathlib.Core.Bool.{Bool}
-use Prim.Native.Nat.{ℕ, _+_, _-_, _≤_}
+use Prim.Native.Nat.{_-_}
 use native.Mathlib.Omega.{arith}
-use lib.ListN.{length}
-use Rattle.blocks.specs.Bytes.{le2, le4}
-use Rattle.blocks.specs.Name.{Name, same}
-use Rattle.accepted.specs.Accepted.{nameAt}
 use Rattle.interpreter_context.proofs.Lists.{arg, this-one, not-this}
 use Rattle.interpreter_context.proofs.later.Statement.{statement}
 use Rattle.interpreter_context.proofs.later.Tie as tie
-use Rattle.interpreter_context.proofs.later.Reads as reads
-use Rattle.interpreter_context.proofs.later.Lts as lts
-use Rattle.interpreter_context.proofs.same_at.Reads as same-at-reads
-use Rattle.wire.proofs.read2.Reads as read2-reads
 
 add-same-at : tie.Need-add-same-at
 add-same-at c = omega (arith, arg (c .before .pre .0) .name)

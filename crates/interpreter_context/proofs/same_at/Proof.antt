@@ -1,21 +1,9 @@
 -- `interpreter_context::same_at` meets its contract. Assumes nothing.
-use mathlib.Core.Path.{_≡_, refl, sym, _∙_, ap}
-use mathlib.Core.List.{List}
-use mathlib.Core.Bool.{Bool}
-use Prim.Native.Nat.{ℕ, _+_, _-_, _≤_}
-use native.Mathlib.Omega.{arith}
-use lib.ListN.{length}
-use Rattle.blocks.specs.Bytes.{le2, le4}
-use Rattle.blocks.specs.Name.{Name, same}
-use Rattle.accepted.specs.Accepted.{nameAt}
+use Prim.Native.Nat.{_-_}
 use Rattle.interpreter_context.proofs.Names.{same-slice}
 use borrow.Author.Needs.{needs}
 use Rattle.interpreter_context.proofs.same_at.Statement.{statement}
 use Rattle.interpreter_context.proofs.same_at.Tie as tie
-use Rattle.interpreter_context.proofs.same_at.Reads as reads
-use Rattle.interpreter_context.proofs.same_at.Lts as lts
-use Rattle.wire.proofs.read2.Reads as read2-reads
-use Rattle.lookup.proofs.is_named.Reads as is-named-reads
 
 add-from : tie.Need-add-from
 add-from c = search needs

@@ -4,12 +4,6 @@ use native.Mathlib.Omega.{arith}
 use Rattle.interpreter_context.proofs.Laws.{kinds, stands, stands-next}
 use Rattle.interpreter_context.proofs.second_part.Statement.{statement}
 use Rattle.interpreter_context.proofs.second_part.Tie as tie
-use Rattle.interpreter_context.proofs.second_part.Reads as reads
-use Rattle.interpreter_context.proofs.second_part.Lts as lts
-use Rattle.wire.proofs.read2.Reads as read2-reads
-use Rattle.ir.proofs.node_part.Reads as node-part-reads
-use Rattle.interpreter_context.proofs.behind.Reads as behind-reads
-use Rattle.interpreter_context.proofs.first_part.Reads as first-part-reads
 
 add-read2 : tie.Need-add-read2
 add-read2 c = omega (arith, kinds (c .before .pre .0) .2, kinds (c .before .pre .0) .3)

@@ -8,12 +8,11 @@ use Rattle.interpreter_context.proofs.Lists.{ends}
 use Rattle.interpreter_context.proofs.Calls.{context-same}
 use Rattle.interpreter_context.proofs.Laws.{kinds}
 use Rattle.interpreter_leaves.proofs.Told.{told-as}
-use Rattle.interpreter_leaves.proofs.Nodes.{enough, zero-is, sum-is}
+use Rattle.interpreter_leaves.proofs.Nodes.{enough, zero-is}
 use Rattle.interpreter_leaves.proofs.Align.{align-number, align-child}
-use Rattle.interpreter_eval.proofs.Laws.{unwrapped-is, align-stops, align-goes, left-child, right-child, left-stops, right-stops, both-go, picked-node, switch-misses, switch-ends, switch-goes, found-at, bound-all, call-lacks, call-unknown, call-stops, call-ready, call-answers, still-ready, child-ready, leaf-answers}
+use Rattle.interpreter_eval.proofs.Laws.{sum-is, unwrapped-is, align-stops, align-goes, left-child, right-child, left-stops, right-stops, both-go, picked-node, switch-misses, switch-ends, switch-goes, found-at, bound-all, call-lacks, call-unknown, call-stops, call-ready, call-answers, still-ready, child-ready, leaf-answers}
 use borrow.Author.Needs.{needs}
 use native.Mathlib.Omega.{arith}
-use lib.ListN.{length}
 use Prim.Native.Nat.{ℕ, _<_, _+_, _*_}
 use borrow.Fn.Kinds.{In}
 use borrow.Fn.PlainCycle.{Measures, is, falls, and}
@@ -378,7 +377,7 @@ eval-kind-returns-6 : (t : ℕ) → eval-kind-lts.Need-returns-6 (eval-kind-with
 eval-kind-returns-6 t c = (c .before .before .eval-call .ensures .0, c .before .before .eval-call .ensures .1)
 
 eval-kind-returns-7 : (t : ℕ) → eval-kind-lts.Need-returns-7 (eval-kind-with t) (eval-kind-at t) eval-kind.Post
-eval-kind-returns-7 t c = ((λ i h. refl), λ γ x t rd a. leaf-answers _ (layoutOf t) _ γ a (λ k. told-as (c .refused .ensures) (sum-is (c .before .before .before .read2 .ensures .0) (c .before .before .match .keys7) k _ γ a)))
+eval-kind-returns-7 t c = ((λ i h. refl), λ γ x t rd a. told-as (c .refused .ensures) (sum-is (c .before .before .before .read2 .ensures .0) (c .before .before .match .keys7) _ (layoutOf t) _ γ a))
 
 eval-kind-same-length-5 : (t : ℕ) → eval-kind-lts.Need-same-length-5 (eval-kind-with t) (eval-kind-at t) eval-kind.Post
 eval-kind-same-length-5 t c = search needs

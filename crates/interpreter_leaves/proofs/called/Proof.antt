@@ -4,12 +4,6 @@ use Rattle.interpreter_leaves.proofs.Nodes.{call-type, type-is, held-he
 use borrow.Author.Needs.{needs}
 use Rattle.interpreter_leaves.proofs.called.Statement.{statement}
 use Rattle.interpreter_leaves.proofs.called.Tie as tie
-use Rattle.interpreter_leaves.proofs.called.Reads as reads
-use Rattle.interpreter_leaves.proofs.called.Lts as lts
-use Rattle.wire.proofs.read2.Reads as read2-reads
-use Rattle.lookup.proofs.lookup_near.Reads as lookup-near-reads
-use Rattle.lookup.proofs.lookup_type.Reads as lookup-type-reads
-use Rattle.interpreter_context.proofs.first_part.Reads as first-part-reads
 
 first-part-requires : tie.Need-first-part-requires
 first-part-requires c κs = search needs

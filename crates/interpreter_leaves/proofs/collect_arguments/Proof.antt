@@ -9,12 +9,6 @@ use Rattle.interpreter_leaves.proofs.Binding.{Collecting, begin, value-
 use borrow.Author.Needs.{needs}
 use Rattle.interpreter_leaves.proofs.collect_arguments.Statement.{statement}
 use Rattle.interpreter_leaves.proofs.collect_arguments.Tie as tie
-use Rattle.interpreter_leaves.proofs.collect_arguments.Reads as reads
-use Rattle.interpreter_leaves.proofs.collect_arguments.Lts as lts
-use Rattle.interpreter_context.proofs.find.Reads as find-reads
-use Rattle.wire.proofs.read2.Reads as read2-reads
-use Rattle.wire.proofs.read4.Reads as read4-reads
-use Rattle.interpreter_context.proofs.second_part.Reads as second-part-reads
 
 abbrev Inv-loop : tie.InvT-loop
 Inv-loop s values block len words depth at list left₀ p₀ left p = Collecting s values block len words depth (le2 s list) (list + 2) left p

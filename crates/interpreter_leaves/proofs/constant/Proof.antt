@@ -4,11 +4,6 @@ use Rattle.interpreter_leaves.proofs.Nodes.{const-at, const-is}
 use borrow.Author.Needs.{needs}
 use Rattle.interpreter_leaves.proofs.constant.Statement.{statement}
 use Rattle.interpreter_leaves.proofs.constant.Tie as tie
-use Rattle.interpreter_leaves.proofs.constant.Reads as reads
-use Rattle.interpreter_leaves.proofs.constant.Lts as lts
-use Rattle.wire.proofs.read8.Reads as read8-reads
-use Rattle.interpreter_leaves.proofs.counted.Reads as counted-reads
-use Rattle.interpreter_context.proofs.first_part.Reads as first-part-reads
 
 first-part-requires : tie.Need-first-part-requires
 first-part-requires c κs = c .before .pre .0

@@ -1,21 +1,10 @@
 -- `interpreter_leaves::field` meets its contract. Assumes nothing.
-use mathlib.Core.Path.{_≡_, refl, sym, _∙_, ap}
-use mathlib.Core.List.{List}
-use Prim.Native.Nat.{ℕ, _+_, _-_, _≤_}
-use native.Mathlib.Omega.{arith}
-use lib.ListN.{length}
-use Rattle.blocks.specs.Bytes.{le2, le4}
-use Rattle.accepted.specs.Accepted.{nameAt}
+use Prim.Native.Nat.{_-_}
 use Rattle.interpreter_leaves.proofs.Told.{told-as}
-use Rattle.interpreter_leaves.proofs.Nodes.{enough}
 use Rattle.interpreter_leaves.proofs.Nodes.{ref-found, ref-absent}
 use borrow.Author.Needs.{needs}
 use Rattle.interpreter_leaves.proofs.field.Statement.{statement}
 use Rattle.interpreter_leaves.proofs.field.Tie as tie
-use Rattle.interpreter_leaves.proofs.field.Reads as reads
-use Rattle.interpreter_leaves.proofs.field.Lts as lts
-use Rattle.interpreter_context.proofs.find.Reads as find-reads
-use Rattle.interpreter_leaves.proofs.field_name.Reads as field-name-reads
 
 field-name-requires : tie.Need-field-name-requires
 field-name-requires c κs = (c .before .before .before .pre .0, c .before .before .before .pre .1)

@@ -4,10 +4,6 @@ use Rattle.interpreter_leaves.proofs.Nodes.{enough}
 use Rattle.interpreter_leaves.proofs.Nodes.{ref-three, by-parameter, by-path}
 use Rattle.interpreter_leaves.proofs.field_name.Statement.{statement}
 use Rattle.interpreter_leaves.proofs.field_name.Tie as tie
-use Rattle.interpreter_leaves.proofs.field_name.Reads as reads
-use Rattle.interpreter_leaves.proofs.field_name.Lts as lts
-use Rattle.interpreter_context.proofs.first_part.Reads as first-part-reads
-use Rattle.interpreter_context.proofs.second_part.Reads as second-part-reads
 
 first-part-requires : tie.Need-first-part-requires
 first-part-requires c κs = c .before .pre .0

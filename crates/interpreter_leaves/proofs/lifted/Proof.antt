@@ -4,10 +4,6 @@ use Rattle.interpreter_leaves.proofs.Nodes.{lifted-value, lifted-fault}
 use borrow.Author.Needs.{needs}
 use Rattle.interpreter_leaves.proofs.lifted.Statement.{statement}
 use Rattle.interpreter_leaves.proofs.lifted.Tie as tie
-use Rattle.interpreter_leaves.proofs.lifted.Reads as reads
-use Rattle.interpreter_leaves.proofs.lifted.Lts as lts
-use Rattle.interpreter_leaves.proofs.counted.Reads as counted-reads
-use Rattle.interpreter_leaves.proofs.refused.Reads as refused-reads
 
 enum-known-n : tie.Need-enum-known-n
 enum-known-n c = search needs

@@ -1,19 +1,10 @@
 -- `interpreter_leaves::root` meets its contract. Assumes nothing.
-use mathlib.Core.Path.{_≡_, refl, sym, _∙_, ap}
-use mathlib.Core.List.{List}
-use Prim.Native.Nat.{ℕ, _+_, _-_, _≤_}
+use mathlib.Core.Path.{refl}
+use Prim.Native.Nat.{_-_}
 use native.Mathlib.Omega.{arith}
-use lib.ListN.{length}
-use Rattle.blocks.specs.Bytes.{le2, le4}
-use Rattle.accepted.specs.Accepted.{nameAt}
-use Rattle.interpreter_leaves.proofs.Nodes.{enough}
 use Rattle.interpreter_context.proofs.Lists.{tree-of}
-use borrow.Author.Needs.{needs}
 use Rattle.interpreter_leaves.proofs.root.Statement.{statement}
 use Rattle.interpreter_leaves.proofs.root.Tie as tie
-use Rattle.interpreter_leaves.proofs.root.Reads as reads
-use Rattle.interpreter_leaves.proofs.root.Lts as lts
-use Rattle.wire.proofs.read2.Reads as read2-reads
 
 add-result : tie.Need-add-result
 add-result c = omega (arith, tree-of (c .before .pre) refl .low)

@@ -7,12 +7,6 @@ use Rattle.interpreter_leaves.proofs.Nodes.{enough}
 use Rattle.interpreter_leaves.proofs.Cases.{Tried, begin, switch-at, next-case, another, hit, ended, flag-in, default-given, default-absent}
 use Rattle.interpreter_leaves.proofs.selected.Statement.{statement}
 use Rattle.interpreter_leaves.proofs.selected.Tie as tie
-use Rattle.interpreter_leaves.proofs.selected.Reads as reads
-use Rattle.interpreter_leaves.proofs.selected.Lts as lts
-use Rattle.wire.proofs.read2.Reads as read2-reads
-use Rattle.wire.proofs.read4.Reads as read4-reads
-use Rattle.wire.proofs.read8.Reads as read8-reads
-use Rattle.interpreter_context.proofs.second_part.Reads as second-part-reads
 
 abbrev Inv-loop : tie.InvT-loop
 Inv-loop s at tag list left₀ p₀ left p = Tried s tag (le2 s list) (list + 2) left p

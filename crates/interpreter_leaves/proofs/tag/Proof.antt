@@ -2,10 +2,6 @@
 use Rattle.interpreter_leaves.proofs.Nodes.{switch-tag, tag-is}
 use Rattle.interpreter_leaves.proofs.tag.Statement.{statement}
 use Rattle.interpreter_leaves.proofs.tag.Tie as tie
-use Rattle.interpreter_leaves.proofs.tag.Reads as reads
-use Rattle.interpreter_leaves.proofs.tag.Lts as lts
-use Rattle.interpreter_context.proofs.find.Reads as find-reads
-use Rattle.interpreter_context.proofs.first_part.Reads as first-part-reads
 
 first-part-requires : tie.Need-first-part-requires
 first-part-requires c κs = c .before .before .before .pre .0

@@ -9,12 +9,6 @@ use Rattle.interpreter_leaves.proofs.Nodes.{enough}
 use Rattle.interpreter_leaves.proofs.Align.{align-number, align-child, whole, inner}
 use Rattle.interpreter_leaves.proofs.unwrapped.Statement.{statement}
 use Rattle.interpreter_leaves.proofs.unwrapped.Tie as tie
-use Rattle.interpreter_leaves.proofs.unwrapped.Reads as reads
-use Rattle.interpreter_leaves.proofs.unwrapped.Lts as lts
-use Rattle.wire.proofs.read2.Reads as read2-reads
-use Rattle.wire.proofs.read8.Reads as read8-reads
-use Rattle.interpreter_context.proofs.first_part.Reads as first-part-reads
-use Rattle.interpreter_context.proofs.second_part.Reads as second-part-reads
 
 abbrev Inv-loop : tie.InvT-loop
 Inv-loop s at p₀ p = (a : Accepted s 128 144 at) → Unwrapped a p

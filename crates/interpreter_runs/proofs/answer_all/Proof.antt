@@ -5,7 +5,7 @@ use borrow.Author.Needs.{needs}
 use native.Mathlib.Omega.{arith}
 use lib.ListN.{length}
 use Rattle.interpreter.specs.Validate.{validate-run}
-use Rattle.interpreter_runs.specs.Runs.{validate-runs}
+use Rattle.interpreter.specs.Runs.{validate-runs}
 use Rattle.interpreter_runs.proofs.Loop.{Answering, answering-start, answering-end, answering-full, answering-more}
 use Rattle.interpreter_runs.proofs.answer_all.Statement.{statement}
 use Rattle.interpreter_runs.proofs.answer_all.Tie as tie

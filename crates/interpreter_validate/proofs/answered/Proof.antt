@@ -5,8 +5,6 @@ use Rattle.interpreter_validate.specs.Validator.{outcomeIn}
 use borrow.Author.Needs.{needs}
 use Rattle.interpreter_validate.proofs.answered.Statement.{statement}
 use Rattle.interpreter_validate.proofs.answered.Tie as tie
-use Rattle.interpreter_validate.proofs.answered.Reads as reads
-use Rattle.interpreter_validate.proofs.answered.Lts as lts
 
 element-copy-out-t6 : tie.Need-element-copy-out-t6
 element-copy-out-t6 c = search needs

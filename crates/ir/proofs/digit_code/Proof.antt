@@ -1,7 +1,4 @@
 -- `ir::digit_code` meets its contract, digit by digit. Assumes nothing.
-use mathlib.Core.Path.{_≡_}
-use Prim.Native.Nat.{ℕ, _<_}
-use native.Mathlib.Omega.{arith}
 use Rattle.ir.proofs.Rows.{last-digit}
 use Rattle.ir.proofs.digit_code.Statement.{statement}
 use Rattle.ir.proofs.digit_code.Tie as tie

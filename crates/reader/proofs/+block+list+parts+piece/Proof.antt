@@ -22,7 +22,7 @@ use Rattle.reader_leaf.proofs.heading.Reads as heading-reads
 use Rattle.reader_leaf.proofs.plain.Reads as plain-reads
 use Rattle.reader.specs.Before.{Before}
 use Rattle.reader.proofs.Lists.{list-grows, list-go, nothing-before, nothing-valid, owners-before, types-before, plain}
-use Rattle.reader.proofs.Blocks.{parts-none, parts-stop, parts-go, block-no, block-full, block-stop, block-ok, block-rest, told}
+use Rattle.reader.proofs.Blocks.{parts-none, parts-stop, parts-go, block-no, block-full, block-stop, block-ok, block-rest, decoded}
 use Rattle.reader.proofs.block.Reads as block
 use Rattle.reader.proofs.block.Kinds as block-kinds
 use Rattle.reader.proofs.+block+list+parts+piece.Lts-block as block-lts
@@ -195,7 +195,7 @@ parts-part-of-requires : (t : ℕ) → parts-lts.Need-part-of-requires (parts-wi
 parts-part-of-requires t c κs = search needs
 
 parts-piece-requires : (t : ℕ) → parts-lts.Need-piece-requires (parts-with t) (parts-at t) parts.Post parts-Inv-loop parts-μ-loop
-parts-piece-requires t c κs = (omega arith, (c .before .before .before .loop .inv .1, omega arith, c .before .before .before .before .before .pre .1 .2, told _ _ _ _ (c .before .before .code-at .ensures) (c .before .if1 .left) (c .part-of .ensures .0) .keyed))
+parts-piece-requires t c κs = (omega arith, (c .before .before .before .loop .inv .1, omega arith, c .before .before .before .before .before .pre .1 .2, decoded _ _ _ _ (c .before .before .code-at .ensures) (c .before .if1 .left) (c .part-of .ensures .0) .keyed))
 
 parts-enum-known-next : (t : ℕ) → parts-lts.Need-enum-known-next (parts-with t) (parts-at t) parts.Post parts-Inv-loop parts-μ-loop
 parts-enum-known-next t c = search needs
@@ -204,7 +204,7 @@ parts-enum-known-q : (t : ℕ) → parts-lts.Need-enum-known-q (parts-with t) (p
 parts-enum-known-q t c = search needs
 
 parts-returns-2 : (t : ℕ) → parts-lts.Need-returns-2 (parts-with t) (parts-at t) parts.Post parts-Inv-loop parts-μ-loop
-parts-returns-2 t c = (sym (c .before .before .before .before .before .before .before .loop .inv .2 ∙ parts-stop _ _ _ _ _ (told _ _ _ _ (c .before .before .before .before .before .before .code-at .ensures) (c .before .before .before .before .before .if1 .left) (c .before .before .before .before .part-of .ensures .0) .rest) _ (sym (c .before .before .before .piece .ensures .0) ∙ c .before .q .given .1)), tt)
+parts-returns-2 t c = (sym (c .before .before .before .before .before .before .before .loop .inv .2 ∙ parts-stop _ _ _ _ _ (decoded _ _ _ _ (c .before .before .before .before .before .before .code-at .ensures) (c .before .before .before .before .before .if1 .left) (c .before .before .before .before .part-of .ensures .0) .rest) _ (sym (c .before .before .before .piece .ensures .0) ∙ c .before .q .given .1)), tt)
 
 parts-add-i : (t : ℕ) → parts-lts.Need-add-i (parts-with t) (parts-at t) parts.Post parts-Inv-loop parts-μ-loop
 parts-add-i t c = omega arith
@@ -213,7 +213,7 @@ parts-loop-less : (t : ℕ) → parts-lts.Need-loop-less (parts-with t) (parts-a
 parts-loop-less t c = omega arith
 
 parts-loop-again : (t : ℕ) → parts-lts.Need-loop-again (parts-with t) (parts-at t) parts.Post parts-Inv-loop parts-μ-loop
-parts-loop-again t c = let p = told _ _ _ _ (c .before .before .before .before .before .before .code-at .ensures) (c .before .before .before .before .before .if1 .left) (c .before .before .before .before .part-of .ensures .0) in (omega (arith, p .below), rw (c .before .next .given .1) at (c .before .before .before .piece .ensures .1), c .before .before .before .before .before .before .before .loop .inv .2 ∙ parts-go _ _ _ _ _ (p .rest) _ (sym (c .before .before .before .piece .ensures .0) ∙ c .before .next .given .1))
+parts-loop-again t c = let p = decoded _ _ _ _ (c .before .before .before .before .before .before .code-at .ensures) (c .before .before .before .before .before .if1 .left) (c .before .before .before .before .part-of .ensures .0) in (omega (arith, p .below), rw (c .before .next .given .1) at (c .before .before .before .piece .ensures .1), c .before .before .before .before .before .before .before .loop .inv .2 ∙ parts-go _ _ _ _ _ (p .rest) _ (sym (c .before .before .before .piece .ensures .0) ∙ c .before .next .given .1))
 
 piece-enum-known-p : (t : ℕ) → piece-lts.Need-enum-known-p (piece-with t) (piece-at t) piece.Post
 piece-enum-known-p t c = search needs

@@ -1,5 +1,4 @@
 -- `reader_quick::all_read` meets its contract. Assumes nothing.
-use mathlib.Core.Path.{_≡_}
 use native.Mathlib.Omega.{arith}
 use borrow.Author.Tests.{eqb-true}
 use Rattle.blocks.proofs.Name.{false-true}

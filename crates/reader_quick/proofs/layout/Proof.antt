@@ -1,6 +1,5 @@
 -- `reader_quick::layout` meets its contract. Assumes nothing.
 use native.Mathlib.Omega.{arith}
-use borrow.Author.Needs.{needs}
 use borrow.Author.Tests.{eqb-true}
 use Rattle.blocks.proofs.Name.{false-true}
 use Rattle.reader_quick.proofs.Laws.{ends}

@@ -1,6 +1,4 @@
 -- `reader_quick::quickly` meets its contract. Assumes nothing.
-use mathlib.Core.Path.{_≡_}
-use native.Mathlib.Omega.{arith}
 use borrow.Author.Needs.{needs}
 use Rattle.blocks.proofs.Name.{false-true}
 use Rattle.reader_quick.proofs.Listed.{layout-is, all-yes}

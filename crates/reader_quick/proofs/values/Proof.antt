@@ -1,5 +1,4 @@
 -- `reader_quick::values` meets its contract. Assumes nothing.
-use mathlib.Core.Path.{_≡_, sym, _∙_}
 use native.Mathlib.Omega.{arith}
 use borrow.Author.Needs.{needs}
 use Rattle.reader_quick.proofs.Laws.{ends, values-yes}

@@ -1,5 +1,4 @@
 -- `wire::is_text` meets its contract, length by length. Assumes nothing.
-use native.Mathlib.Omega.{arith}
 use Rattle.wire.proofs.Texts.{text-long, text-all, text-four, text-two, text-one, text-none}
 use borrow.Author.Needs.{needs}
 use Rattle.wire.proofs.is_text.Statement.{statement}

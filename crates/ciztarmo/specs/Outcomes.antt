@@ -4,7 +4,7 @@ use mathlib.Core.List.{List}
 use lib.ListN.{length}
 use Rattle.errors.specs.Refusal.{Outcome, done, refused}
 use Rattle.blocks.specs.Tree.{Tree}
-unfoldable pub use Rattle.interpreter_runs.specs.Told.{told}
+unfoldable pub use Rattle.errors.specs.Answer.{answerWords}
 
 -- an accepted reading has no count
 unfoldable pub read : Outcome Tree → Outcome ℕ
