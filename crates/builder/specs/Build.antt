@@ -11,7 +11,7 @@ use Rattle.resolved.specs.Resolved.{ResolvedType}
 use Rattle.resolved.specs.Set.{typesOf}
 use Rattle.ir.specs.Ir.{TypeIr}
 use Rattle.ir.specs.Layout.{layoutTree}
-use Rattle.builder.specs.Type.{build-type-ir}
+use Rattle.builder.specs.BuildType.{build-type-ir}
 
 -- ---- one type
 

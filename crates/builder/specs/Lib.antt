@@ -1,5 +1,5 @@
 pub mod Names
 pub mod Registry
 pub mod Nodes
-pub mod Type
+pub mod BuildType
 pub mod Build

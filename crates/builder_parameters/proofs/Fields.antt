@@ -21,7 +21,7 @@ use Rattle.resolved_parts.specs.declared.FieldParts.{FieldParts}
 use Rattle.resolved_parts.specs.declared.ListParts.{ListParts}
 use Rattle.resolved_parts.specs.Types.{ArrayAt, FieldAt, FieldsAt}
 use Rattle.builder.specs.Names.{orElse, split, before-element, replace-colons}
-use Rattle.builder.specs.Type.{fieldsOf, has-jagged, jagged-before, is-jagged-element-parameter}
+use Rattle.builder.specs.BuildType.{fieldsOf, has-jagged, jagged-before, is-jagged-element-parameter}
 use Rattle.builder_parameters.proofs.Tests.{was-true, was-false}
 use Rattle.builder_parameters.specs.Listed.{Jagged}
 

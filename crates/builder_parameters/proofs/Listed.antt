@@ -20,7 +20,7 @@ use Rattle.wire.specs.Poke.{poke, Wrote}
 use Rattle.wire.proofs.Laws.{parts, no-parts, bytes-length}
 use Rattle.builder.specs.Names.{replace-colons, split, before-element}
 use Rattle.builder.specs.Registry.{Registry, firsts, into-parameters}
-use Rattle.builder.specs.Type.{fieldsOf, has-jagged, jagged-before, is-jagged-element-parameter, filter-jagged-element-parameters}
+use Rattle.builder.specs.BuildType.{fieldsOf, has-jagged, jagged-before, is-jagged-element-parameter, filter-jagged-element-parameters}
 use Rattle.builder_registry.specs.Words.{Standing, entryOf, entriesOf}
 use Rattle.builder_parameters.specs.declared.Segment.{Segment}
 use Rattle.builder_parameters.specs.declared.Segment.the-variants.{Part, Missing}

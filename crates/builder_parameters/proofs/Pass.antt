@@ -12,7 +12,7 @@ use Rattle.resolved.specs.Set.{typeOf}
 use Rattle.ir.specs.Layout.{parameterTree, listTree}
 use Rattle.wire.specs.Poke.{Wrote}
 use Rattle.builder.specs.Registry.{into-parameters}
-use Rattle.builder.specs.Type.{filter-jagged-element-parameters}
+use Rattle.builder.specs.BuildType.{filter-jagged-element-parameters}
 use Rattle.builder_registry.specs.Words.{entryOf, entriesOf}
 use Rattle.builder_parameters.specs.Listed.{lists, Jagged, Asks}
 use Rattle.builder_parameters.specs.Ready.{Ready}

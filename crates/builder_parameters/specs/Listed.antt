@@ -9,7 +9,7 @@ use Rattle.blocks.specs.Name.{Name, among}
 use Rattle.accepted.specs.Accepted.{Accepted, tree}
 use Rattle.resolved.specs.Resolved.{ResolvedType}
 use Rattle.resolved.specs.Set.{typeOf}
-use Rattle.builder.specs.Type.{is-jagged-element-parameter}
+use Rattle.builder.specs.BuildType.{is-jagged-element-parameter}
 use Rattle.builder_registry.specs.Words.{Standing, entryName}
 
 abbrev pub nameIn : List ℕ → List ℕ → ℕ → Name

@@ -13,7 +13,7 @@ ghost use Rattle.resolved.specs.Set.{typeOf, thingOf, fieldsIn};
 ghost use Rattle.ir.specs.Layout.{parameterTree, listTree};
 ghost use Rattle.builder.specs.Names.{replace-colons, split, before-element, orElse};
 ghost use Rattle.builder.specs.Registry.{into-parameters};
-ghost use Rattle.builder.specs.Type.{fieldsOf, has-jagged, is-jagged-element-parameter, filter-jagged-element-parameters};
+ghost use Rattle.builder.specs.BuildType.{fieldsOf, has-jagged, is-jagged-element-parameter, filter-jagged-element-parameters};
 ghost use Rattle.wire.specs.Poke.{Wrote};
 ghost use Rattle.builder_registry.specs.Words.{Standing, entriesOf};
 ghost use Rattle.builder_parameters.specs.Ready.{Ready};

@@ -211,10 +211,16 @@ fn enter(s: &[u8], words: &mut [u64], n: usize, w: u64) -> Held
     ensures { λ r. ⌜ (r .number ≡ 0 → (r .count ≡ n + 1) × (getD (now (words .exit)) n 0 ≡ w)) ⌝ }
 {
     if 255 < name_length(s, w) {
-        return Held { count: n, number: 17 };
+        return Held {
+            count: n,
+            number: 17,
+        };
     }
     if 512 <= n {
-        return Held { count: n, number: 17 };
+        return Held {
+            count: n,
+            number: 17,
+        };
     }
     words[n] = w;
     Held {
@@ -233,7 +239,10 @@ pub fn ensure(s: &[u8], words: &mut [u64], n: usize, owner: usize, path: usize) 
     let p = held_at(s, path);
     let i = place(s, words, n, false, o, p);
     if i < n {
-        return Held { count: n, number: 0 };
+        return Held {
+            count: n,
+            number: 0,
+        };
     }
     enter(s, words, n, owner as u64 + 65536 * path as u64)
 }

@@ -21,7 +21,7 @@ use Rattle.wire.specs.Poke.{Wrote, opened}
 use Rattle.wire.proofs.Laws.{both, parts, no-parts, closed}
 use Rattle.builder.specs.Registry.{Registry, _>>=_, give, reads, extend-with, into-parameters}
 use Rattle.builder.specs.Nodes.{node-from-resolved}
-use Rattle.builder.specs.Type.{filter-jagged-element-parameters, build-type-ir}
+use Rattle.builder.specs.BuildType.{filter-jagged-element-parameters, build-type-ir}
 use Rattle.builder.specs.Build.{build-type}
 use Rattle.builder_registry.specs.declared.Held.{Held}
 use Rattle.builder_registry.specs.Words.{Kept, entriesOf}

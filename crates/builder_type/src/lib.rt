@@ -72,7 +72,10 @@ pub fn build_type(s: &[u8], words: &mut [u64], kind: usize, out: &mut [u8], at: 
     let held = builder_registry::extend_with(s, words, 0, references);
     let entered = held.count;
     if held.number != 0 {
-        return TypeTree { at, number: held.number };
+        return TypeTree {
+            at,
+            number: held.number,
+        };
     }
     let name = resolved_parts::name_at(s, kind + 6);
     let body = wire::open_block(out, at, 161);
@@ -80,7 +83,10 @@ pub fn build_type(s: &[u8], words: &mut [u64], kind: usize, out: &mut [u8], at: 
     let start = wire::put_le(out, aligned, 8, head.alignment);
     let root = node_from_resolved(s, words, entered, kind, out, start);
     if root.number != 0 {
-        return TypeTree { at, number: root.number };
+        return TypeTree {
+            at,
+            number: root.number,
+        };
     }
     let count = root.count;
     let end = builder_parameters::put_parameters(s, words, count, kind, out, root.at);

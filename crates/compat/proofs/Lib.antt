@@ -1,4 +1,15 @@
 pub mod Table
 pub mod Kept
-pub mod Types
+pub mod FromTrees
 pub mod Set
+pub mod Keeps
+pub mod Nodes
+pub mod Types
+pub mod Built
+pub mod Shapes
+pub mod Reread
+pub mod Extends
+pub mod Places
+pub mod Evaluated
+pub mod OldAndNew
+pub mod Worked

@@ -21,7 +21,7 @@ use Rattle.roundtrip.proofs.Accepted.{accepted}
 use Rattle.compat.specs.Grown.{Entry, TypeOf, Extends}
 use Rattle.compat.specs.Types.{TypeGrown, TypesGrown}
 use Rattle.compat.proofs.Table.{table, agree, only}
-use Rattle.compat.proofs.Types.{type-grown}
+use Rattle.compat.proofs.FromTrees.{type-grown}
 
 -- ---- one type
 

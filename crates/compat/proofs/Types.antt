@@ -1,154 +1,257 @@
--- A block of a type and what it became stand for a type and what it became.
-use Prim.Native.Nat.{ℕ, zero, suc, _≤_}
-use native.Mathlib.Omega.{arith}
-use mathlib.Core.Path.{_≡_, refl}
-use mathlib.Core.Bool.{Bool, true, false, _&&_, cond}
+-- A type and what it has grown to are built to a node and its extension, from one registry to one registry.
+use mathlib.Core.Path.{_≡_, refl, sym, _∙_, ap}
+use mathlib.Core.Bool.{Bool, true, false, _&&_}
 use mathlib.Core.List.{List, [], _∷_}
-use lib.Dec.{eqb}
-use Rattle.blocks.specs.declared.Part.{Part}
-use Rattle.blocks.specs.declared.Part.the-variants.{Text, Number, OptNumber, Block}
-use Rattle.blocks.specs.Grammar.{grammar, findRow, partsOf, within}
-use Rattle.blocks.specs.Tree.{Tree, part, view, firstView, restView, itemOr, partOr, partView}
-use Rattle.blocks.specs.Read.{Earlier}
-use Rattle.blocks.proofs.Name.{false-true}
-use Rattle.resolved.specs.Resolved.{Head, ResolvedType, ResolvedTypeKind, Fields, Variants}
-use Rattle.resolved.specs.Set.{Thing, asType, withField, withVariant, fieldsIn, variantsIn, Form, formOf, headOf, makeThing, thingOf, typeOf}
-use Rattle.builder.specs.Nodes.{isVariable}
-use Rattle.roundtrip.specs.Fits.{nothing, both, text, EntriesFits, InBlocks, PartFits, PartsFits, inside, BlockFits}
-use Rattle.compat.specs.Grown.{Grown, GrownLast, GrownEntries, growing}
-use Rattle.compat.specs.Types.{TypeGrown, KindGrown, FieldsGrown, VariantsGrown}
-use Rattle.compat.proofs.Table.{table, bounds, agree, Opened, opened, open-kind}
-use Rattle.compat.proofs.Kept.{number-kept, text-kept, offset-kept, expr-kept, head-kept}
+use mathlib.Core.Option.{Option, some, none}
+use Prim.Native.Nat.{ℕ, suc}
+use Rattle.blocks.specs.Name.{Name}
+use Rattle.expr.specs.Expr.{ExprKind}
+use Rattle.resolved.specs.Resolved.{Owner, Size, Head, ResolvedType, ResolvedTypeKind, Fields, Variants}
+use Rattle.resolved.specs.Resolved.{head, kindOf, fields, variants, get, get-type-info, targetOf, jaggedOf}
+use Rattle.ir.specs.Ir.{IrNode}
+use Rattle.builder.specs.Names.{orElse}
+use Rattle.builder.specs.Registry.{Build}
+use Rattle.builder.specs.Nodes.{isVariable, build-typeref-node, sum-over-array, build-element, build-elements}
+use Rattle.builder.specs.Nodes.{build-array-node-with-prefix, build-array-kind, build-array-node}
+use Rattle.builder.specs.Nodes.{enum-alternatives, union-alternatives, sized-alternatives}
+use Rattle.builder.specs.Nodes.{build-enum-node, build-union-node, build-size-discriminated-union-node}
+use Rattle.builder.specs.Nodes.{payload-paths, build-field-enum, build-field-refs, build-variable-field, build-field, build-fields}
+use Rattle.builder.specs.Nodes.{build-variable-struct, build-variable, node-from-resolved}
+use Rattle.compat.specs.Types.{TypeGrown, KindGrown, FieldsGrown, VariantsGrown, TypesGrown}
+use Rattle.compat.specs.Nodes.{NodeExtended}
+use Rattle.compat.proofs.Keeps.{Keeps, gives, refuses, needs, requires, binds, first}
+use Rattle.compat.proofs.Nodes.{same-arguments, Added, Extends, NodesExtended, align-extends, const-or-zero-extends}
+use Rattle.compat.proofs.Nodes.{combine-extends, sum-extends, expr-extends, switch-extends, padding-extends}
 
--- ---- parts and entries; the flag: entries may have been added behind the last
+pub some-one : {A : Type 0} {x y : A} → some x ≡ some y → x ≡ y
+some-one e = cc
 
-data Longer : Bool → Tree → Tree → Type 0 where
-  kept : {es es′ : Tree} (v : Bool) → Grown es es′ → Longer v es es′
-  grown : {es es′ : Tree} → GrownEntries es es′ → Longer true es es′
+-- ---- what growing keeps
 
--- parts, of which the last may be a list with entries added
-data Parts : Bool → Tree → Tree → Type 0 where
-  none : (v : Bool) → Parts v Tree.nil Tree.nil
-  more : {v : Bool} {a a′ t t′ : Tree} → Grown a a′ → Parts v t t′ → Parts v (Tree.cons a t) (Tree.cons a′ t′)
-  last : {n n′ es es′ : Tree} → GrownEntries es es′ → Parts true (Tree.cons (Tree.cons n es) Tree.nil) (Tree.cons (Tree.cons n′ es′) Tree.nil)
+head-kept : {t t′ : ResolvedType} → TypeGrown t t′ → head t ≡ head t′
+head-kept (TypeGrown.resolved h g) = refl
 
-parts-kept : (v : Bool) (B : InBlocks) (e : Earlier) (ps : List Part) {t t′ : Tree} → PartsFits B e ps t → Grown t t′ → Parts v t t′
-unfolding PartsFits
-parts-kept v B e [] nothing Grown.nil = none v
-parts-kept v B e (p ∷ ps) (both x y) (Grown.cons g h) = more g (parts-kept v B e ps y h)
+target-kept : {v : Bool} {k k′ : ResolvedTypeKind} → KindGrown v k k′ → targetOf k ≡ targetOf k′
+target-kept (KindGrown.Primitive v) = refl
+target-kept (KindGrown.Struct v g) = refl
+target-kept (KindGrown.Union g) = refl
+target-kept (KindGrown.Enum e g) = refl
+target-kept (KindGrown.Array v e j g) = refl
+target-kept (KindGrown.SizeDiscriminatedUnion g) = refl
+target-kept (KindGrown.TypeRef v n) = refl
 
-parts-grown : {t t′ : Tree} → GrownLast t t′ → Parts true t t′
-parts-grown (GrownLast.last n n′ h) = last h
-parts-grown (GrownLast.before g l) = more g (parts-grown l)
+pub jagged-kept : {v : Bool} {k k′ : ResolvedTypeKind} → KindGrown v k k′ → jaggedOf k ≡ jaggedOf k′
+jagged-kept (KindGrown.Primitive v) = refl
+jagged-kept (KindGrown.Struct v g) = refl
+jagged-kept (KindGrown.Union g) = refl
+jagged-kept (KindGrown.Enum e g) = refl
+jagged-kept (KindGrown.Array v e j g) = refl
+jagged-kept (KindGrown.SizeDiscriminatedUnion g) = refl
+jagged-kept (KindGrown.TypeRef v n) = refl
 
--- the entries of a last part
-ended : {v : Bool} {n es t′ : Tree} → Parts v (Tree.cons (Tree.cons n es) Tree.nil) t′ → (es′ : Tree) × Longer v es es′ × (restView (firstView (view thingOf t′)) ≡ view thingOf es′)
-unfolding view
-ended (more (Grown.cons m g) (none v)) = (_, kept v g, refl)
-ended (last h) = (_, grown h, refl)
+-- The alternatives of a union, enum or sized union stay, since of a nested type they show its head alone; more may stand
+-- behind them.
+union-added : {v : Bool} {fs fs′ : Fields} (i : ℕ) → FieldsGrown v fs fs′
+    → Added (union-alternatives i (fields fs)) (union-alternatives i (fields fs′))
+unfolding union-alternatives fields
+union-added i (FieldsGrown.noField v) = Added.last _
+union-added i (FieldsGrown.addedFields fs) = Added.last _
+union-added i (FieldsGrown.field n o (TypeGrown.resolved h k) g) = Added.more _ (union-added (suc i) g)
 
--- ---- fields and variants
+enum-added : {v : Bool} {vs vs′ : Variants} → VariantsGrown v vs vs′
+    → Added (enum-alternatives (variants vs)) (enum-alternatives (variants vs′))
+unfolding enum-alternatives variants
+enum-added (VariantsGrown.noVariant v) = Added.last _
+enum-added (VariantsGrown.addedVariants vs) = Added.last _
+enum-added (VariantsGrown.variant n x (TypeGrown.resolved h k) g) = Added.more _ (enum-added g)
 
--- the block of a field or variant, and the one that it became: a name, an offset or number, a type
-data Entered (i : ℕ) : Tree → Tree → Type 0 where
-  entered : {at at′ : ℕ} {a a′ b b′ c c′ : Tree} → Grown a a′ → Grown b b′ → TypeGrown (typeOf c) (typeOf c′) →
-      Entered i (Tree.block at i (Tree.cons a (Tree.cons b (Tree.cons c Tree.nil)))) (Tree.block at′ i (Tree.cons a′ (Tree.cons b′ (Tree.cons c′ Tree.nil))))
+sized-added : {v : Bool} {vs vs′ : Variants} → VariantsGrown v vs vs′
+    → Added (sized-alternatives (variants vs)) (sized-alternatives (variants vs′))
+unfolding sized-alternatives variants
+sized-added (VariantsGrown.noVariant v) = Added.last _
+sized-added (VariantsGrown.addedVariants vs) = Added.last _
+sized-added (VariantsGrown.variant n x (TypeGrown.resolved h k) g) = Added.more _ (sized-added g)
 
--- what is shown of blocks with B: of types; of fields and variants
-abbrev TypesGrow : InBlocks → Type 0
-TypesGrow B = (e : Earlier) (b b′ : Tree) → B e 1 7 b → Grown b b′ → TypeGrown (typeOf b) (typeOf b′)
+module _ {Known : Name → Type 0} where
+  -- ---- arrays
 
-abbrev EntriesGrow : InBlocks → Type 0
-EntriesGrow B = (i : ℕ) → within 33 35 i ≡ true → (e : Earlier) (b b′ : Tree) → B e i i b → Grown b b′ → Entered i b b′
+  sum-over-array-extends : (h : Head) (owner : Name) {v : Bool} {k k′ : ResolvedTypeKind} {c c′ : IrNode}
+      → NodeExtended Known c c′ → KindGrown v k k′
+      → Extends Known (sum-over-array h owner c k) (sum-over-array h owner c′ k′)
+  unfolding sum-over-array
+  sum-over-array-extends h owner x g =
+      rw (target-kept g)
+      (first _ (λ target.
+      gives _ _ (align-extends (h .alignment) (NodeExtended.SumOverArray _ _ _ target owner x))))
 
-abbrev thing : Tree → Thing
-thing b = itemOr Thing.nothing (view thingOf b)
+  module _ {inside inside′ : Build IrNode} (inner : Extends Known inside inside′) where
+    element-extends : (s : Size) (a : ℕ) {v : Bool} {k k′ : ResolvedTypeKind} → KindGrown v k k′
+        → Extends Known (build-element inside s a k) (build-element inside′ s a k′)
+    unfolding build-element
+    element-extends (Size.Const v) a g = gives _ _ (NodeExtended.Const _ _ _ v)
+    element-extends Size.Variable a g = rw (jagged-kept g) (first _ (λ _. inner))
 
-with-field : {v : Bool} {b b′ : Tree} {fs fs′ : Fields} → Entered 33 b b′ → FieldsGrown v fs fs′ → FieldsGrown v (withField (thing b) fs) (withField (thing b′) fs′)
-unfolding view thingOf makeThing formOf part partOr typeOf
-with-field (entered a b c) h = rw (text-kept a, offset-kept b) (FieldsGrown.field _ _ c h)
+    elements-extend : (h : Head) (owner : Name) (b : Bool) (eh : Head) {v : Bool} {k k′ : ResolvedTypeKind} {c c′ : IrNode}
+        → NodeExtended Known c c′ → KindGrown v k k′
+        → Extends Known (build-elements inside h owner c b eh k) (build-elements inside′ h owner c′ b eh k′)
+    unfolding build-elements
+    elements-extend h owner true eh x g = sum-over-array-extends h owner x g
+    elements-extend h owner false eh x g =
+        first _ (λ _.
+        binds (element-extends (eh .size) (eh .alignment) g) (λ n n′ y.
+        gives _ _ (align-extends (h .alignment) (NodeExtended.Binary _ _ _ _ x y))))
 
-with-variant : {i : ℕ} {v : Bool} {b b′ : Tree} {vs vs′ : Variants} → formOf i ≡ Form.variant → Entered i b b′ → VariantsGrown v vs vs′ → VariantsGrown v (withVariant (thing b) vs) (withVariant (thing b′) vs′)
-unfolding view thingOf makeThing part partOr typeOf
-with-variant f (entered a b c) h = rw (f, text-kept a, number-kept b) (VariantsGrown.variant _ _ c h)
+    -- the same, from the element's type
+    inner-extends : (h : Head) (owner : Name) (j : Bool) {t t′ : ResolvedType} {c c′ : IrNode}
+        → NodeExtended Known c c′ → TypeGrown t t′
+        → Extends Known
+        (build-elements inside h owner c (j && isVariable (head t .size)) (head t) (kindOf t))
+        (build-elements inside′ h owner c′ (j && isVariable (head t′ .size)) (head t′) (kindOf t′))
+    inner-extends h owner j x (TypeGrown.resolved eh g) = elements-extend h owner (j && isVariable (eh .size)) eh x g
 
--- lists of them
-module _ (B : InBlocks) (entry : EntriesGrow B) where
-  fields-grown : (n : ℕ) (e : Earlier) {v : Bool} {t t′ : Tree} → EntriesFits (λ f. B f 33 33) e n t → Longer v t t′ → FieldsGrown v (fieldsIn (view thingOf t)) (fieldsIn (view thingOf t′))
-  unfolding EntriesFits fieldsIn view
-  fields-grown zero e nothing (kept v Grown.nil) = FieldsGrown.noField v
-  fields-grown zero e nothing (grown (GrownEntries.behind a)) = FieldsGrown.addedFields _
-  fields-grown (suc n) e (both p ps) (kept v (Grown.cons g h)) = with-field (entry 33 refl e _ _ p g) (fields-grown n _ ps (kept v h))
-  fields-grown (suc n) e (both p ps) (grown (GrownEntries.entry g h)) = with-field (entry 33 refl e _ _ p g) (fields-grown n _ ps (grown h))
+  mutual
+    unfolding build-array-node-with-prefix build-array-kind
 
-  module _ (i : ℕ) (w : within 33 35 i ≡ true) (f : formOf i ≡ Form.variant) where
-    variants-grown : (n : ℕ) (e : Earlier) {v : Bool} {t t′ : Tree} → EntriesFits (λ f. B f i i) e n t → Longer v t t′ → VariantsGrown v (variantsIn (view thingOf t)) (variantsIn (view thingOf t′))
-    unfolding EntriesFits variantsIn view
-    variants-grown zero e nothing (kept v Grown.nil) = VariantsGrown.noVariant v
-    variants-grown zero e nothing (grown (GrownEntries.behind a)) = VariantsGrown.addedVariants _
-    variants-grown (suc n) e (both p ps) (kept v (Grown.cons g h)) = with-variant f (entry i w e _ _ p g) (variants-grown n _ ps (kept v h))
-    variants-grown (suc n) e (both p ps) (grown (GrownEntries.entry g h)) = with-variant f (entry i w e _ _ p g) (variants-grown n _ ps (grown h))
+    array-extends : {t t′ : ResolvedType} → TypeGrown t t′ → (owner prefix : Name)
+        → Extends Known (build-array-node-with-prefix owner prefix t) (build-array-node-with-prefix owner prefix t′)
+    array-extends (TypeGrown.resolved h g) owner prefix = array-kind-extends g owner prefix h
 
--- ---- types
+    array-kind-extends : {v : Bool} {k k′ : ResolvedTypeKind} → KindGrown v k k′ → (owner prefix : Name) (h : Head)
+        → Extends Known (build-array-kind owner prefix h k) (build-array-kind owner prefix h k′)
+    array-kind-extends (KindGrown.Primitive v) owner prefix h = refuses _ _
+    array-kind-extends (KindGrown.Struct v g) owner prefix h = refuses _ _
+    array-kind-extends (KindGrown.Union g) owner prefix h = refuses _ _
+    array-kind-extends (KindGrown.Enum e g) owner prefix h = refuses _ _
+    array-kind-extends (KindGrown.Array v e j g) owner prefix h =
+        binds (expr-extends owner prefix e) (λ c c′ x.
+        inner-extends (array-extends g owner _) h owner j x g)
+    array-kind-extends (KindGrown.SizeDiscriminatedUnion g) owner prefix h = refuses _ _
+    array-kind-extends (KindGrown.TypeRef v n) owner prefix h = refuses _ _
 
--- the same head, and a kind that became another
-made : {v : Bool} {h h′ : Head} {k k′ : ResolvedTypeKind} → h ≡ h′ → isVariable (h .size) ≡ v → KindGrown v k k′ → TypeGrown (ResolvedType.resolved h k) (ResolvedType.resolved h′ k′)
-made e q g = rw (← e) (TypeGrown.resolved _ (rw (← q) at g))
+  array-root-extends : {t t′ : ResolvedType} → TypeGrown t t′ → Extends Known (build-array-node t) (build-array-node t′)
+  unfolding build-array-node
+  array-root-extends (TypeGrown.resolved h g) = first _ (λ owner. array-extends (TypeGrown.resolved h g) owner [])
 
--- type, entry: of the blocks inside
-module _ (room : ℕ) (e : Earlier) (type : TypesGrow (BlockFits room)) (entry : EntriesGrow (BlockFits room)) where
-  -- by kind, from 0 on; there is no type 0; entries are added only in a 3, 4 or 6 of variable size
-  parts-type : (k : ℕ) → k ≤ 7 → {v : Bool} {t t′ : Tree} → PartsFits (BlockFits room) e (partsOf k) t → (growing k && isVariable (headOf t .size)) ≡ v → Parts v t t′ →
-      TypeGrown (asType (makeThing (formOf k) t (view thingOf t))) (asType (makeThing (formOf k) t′ (view thingOf t′)))
-  unfolding PartsFits PartFits partsOf findRow grammar formOf makeThing view part partView partOr typeOf
-  parts-type zero w p d g = TypeGrown.resolved _ (KindGrown.Primitive true)
-  parts-type (suc zero) w (both n (both z (both a (both r nothing)))) d (more gn (more gz (more ga (more gr (none v))))) = made (head-kept room _ gn gz ga r gr) refl (KindGrown.Primitive _)
-  parts-type (suc zero) w (both n (both z (both a (both r nothing)))) d (more gn (more gz (more ga (last h)))) = false-true d
-  parts-type (suc (suc zero)) w (both n (both z (both a (both r (both (both c q) nothing))))) d (more gn (more gz (more ga (more gr g)))) =
-      let x = ended g in made (head-kept room _ gn gz ga r gr) refl (KindGrown.Struct _ (rw (x .2, d) (fields-grown (BlockFits room) entry _ _ q (x .1))))
-  parts-type (suc (suc (suc zero))) w (both n (both z (both a (both r (both (both c q) nothing))))) d (more gn (more gz (more ga (more gr g)))) =
-      let x = ended g in made (head-kept room _ gn gz ga r gr) d (KindGrown.Union (rw (x .2) (fields-grown (BlockFits room) entry _ _ q (x .1))))
-  parts-type (suc (suc (suc (suc zero)))) w (both n (both z (both a (both r (both y (both (both c q) nothing)))))) d (more gn (more gz (more ga (more gr (more gy g))))) =
-      let x = ended g in made (head-kept room _ gn gz ga r gr) d (rw (expr-kept room _ _ _ y gy, x .2) (KindGrown.Enum _ (variants-grown (BlockFits room) entry 34 refl refl _ _ q (x .1))))
-  parts-type (suc (suc (suc (suc (suc zero))))) w (both n (both z (both a (both r (both j (both t (both y nothing))))))) d (more gn (more gz (more ga (more gr (more gj (more gt (more gy (none v)))))))) =
-      made (head-kept room _ gn gz ga r gr) refl (rw (expr-kept room _ _ _ y gy, number-kept gj) (KindGrown.Array _ _ _ (type _ _ _ t gt)))
-  parts-type (suc (suc (suc (suc (suc zero))))) w (both n (both z (both a (both r (both j (both t (both y nothing))))))) d (more gn (more gz (more ga (more gr (more gj (more gt (last h))))))) = false-true d
-  parts-type (suc (suc (suc (suc (suc (suc zero)))))) w (both n (both z (both a (both r (both (both c q) nothing))))) d (more gn (more gz (more ga (more gr g)))) =
-      let x = ended g in made (head-kept room _ gn gz ga r gr) d (KindGrown.SizeDiscriminatedUnion (rw (x .2) (variants-grown (BlockFits room) entry 35 refl refl _ _ q (x .1))))
-  parts-type (suc (suc (suc (suc (suc (suc (suc zero))))))) w (both n (both z (both a (both r (both (text y) nothing))))) d (more gn (more gz (more ga (more gr (more gy (none v)))))) =
-      made (head-kept room _ gn gz ga r gr) refl (rw (text-kept gy) (KindGrown.TypeRef _ _))
-  parts-type (suc (suc (suc (suc (suc (suc (suc (suc k)))))))) w p d g = absurd (omega arith)
+  -- ---- switches
 
-  type-block : (b b′ : Tree) → BlockFits (suc room) e 1 7 b → Grown b b′ → TypeGrown (typeOf b) (typeOf b′)
-  unfolding BlockFits typeOf view thingOf
-  type-block b b′ (inside w _ _ p) (Grown.block at at′ k g) = parts-type k (bounds 1 7 k w .1) p refl (parts-kept _ _ e (partsOf k) p g)
-  type-block b b′ (inside w _ _ p) (Grown.grows at at′ k d x l) = parts-type k (bounds 1 7 k w .1) p (rw (d, x)) (parts-grown l)
+  union-extends : (h : Head) {v : Bool} {fs fs′ : Fields} → FieldsGrown v fs fs′
+      → Extends Known (build-union-node h fs) (build-union-node h fs′)
+  unfolding build-union-node
+  union-extends h g = first _ (λ _. first _ (λ tag. switch-extends h tag (union-added 0 g)))
 
--- ---- the block of a field or variant
+  enum-extends : (h : Head) (e : ExprKind) {v : Bool} {vs vs′ : Variants} → VariantsGrown v vs vs′
+      → Extends Known (build-enum-node h e vs) (build-enum-node h e vs′)
+  unfolding build-enum-node
+  enum-extends h e g = first _ (λ _. first _ (λ tag. switch-extends h tag (enum-added g)))
 
--- "name, flag with offset or without, type"; "name, tag, type"; "name, expected size, type"
-abbrev entryParts : ℕ → List Part
-entryParts k = Text ∷ cond (eqb k 33) OptNumber Number ∷ Block 1 7 ∷ []
+  sized-extends : (h : Head) {v : Bool} {vs vs′ : Variants} → VariantsGrown v vs vs′
+      → Extends Known (build-size-discriminated-union-node h vs) (build-size-discriminated-union-node h vs′)
+  unfolding build-size-discriminated-union-node
+  sized-extends h g =
+      first _ (λ _.
+      binds (requires _ _ _) (λ _ _ _.
+      first _ (λ tag. switch-extends h tag (sized-added g))))
 
-entry-parts : (k : ℕ) → within 33 35 k ≡ true → partsOf k ≡ entryParts k
-unfolding table partsOf findRow grammar
-entry-parts = agree partsOf entryParts 33 2 refl
+  -- ---- fields that look up no type
 
-enter : (B : InBlocks) (e : Earlier) → TypesGrow B → {b b′ : Tree} (i : ℕ) → within 33 35 i ≡ true → Opened (λ k. PartsFits B e (partsOf k)) i b b′ → Entered i b b′
-unfolding PartsFits PartFits
-enter B e type i w (opened {at} {at′} p g) = found (rw (entry-parts i w) at p) g
-  where
-    found : {t t′ : Tree} → PartsFits B e (entryParts i) t → Grown t t′ → Entered i (Tree.block at i t) (Tree.block at′ i t′)
-    found (both x (both y (both z nothing))) (Grown.cons a (Grown.cons b (Grown.cons c Grown.nil))) = entered a b (type _ _ _ z c)
+  field-refs-extend : (refs : List Owner) (n : Name) (h : Head)
+      → Extends Known (build-field-refs refs n h) (build-field-refs refs n h)
+  unfolding build-field-refs
+  field-refs-extend refs n h = first _ (λ paths. binds (sum-extends n paths) (λ m m′ x. first _ (λ _. gives _ _ x)))
 
--- ---- all blocks
+  field-enum-extends : (paths : List Name) (n : Name) (h : Head) (e : ExprKind) {v : Bool} {vs vs′ : Variants}
+      → VariantsGrown v vs vs′ → Extends Known (build-field-enum paths n h e vs) (build-field-enum paths n h e vs′)
+  unfolding build-field-enum
+  field-enum-extends [] n h e g =
+      binds (enum-extends h e g) (λ m m′ x.
+      first _ (λ _. gives _ _ (align-extends (h .alignment) x)))
+  field-enum-extends (p ∷ ps) n h e g =
+      binds (sum-extends n (p ∷ ps)) (λ m m′ x.
+      gives _ _ (align-extends (h .alignment) x))
 
-blocks-grown : (room : ℕ) → TypesGrow (BlockFits room) × EntriesGrow (BlockFits room)
-unfolding BlockFits table
-blocks-grown zero = ((λ e b b′ p g. absurd p), (λ i w e b b′ p g. absurd p))
-blocks-grown (suc room) =
-    let r = blocks-grown room in
-    ((λ e. type-block room e (r .0) (r .1)), (λ i w e b b′ p g. enter (BlockFits room) e (r .0) i w (open-kind i (agree growing (λ k. false) 33 2 refl i w) p g)))
+-- ---- nodes in a set of types; a name that the old set has is known
 
-pub type-grown : (room : ℕ) (e : Earlier) (b b′ : Tree) → BlockFits room e 1 7 b → Grown b b′ → TypeGrown (typeOf b) (typeOf b′)
-type-grown room = blocks-grown room .0
+module _ (Known : Name → Type 0) (old new : List ResolvedType) (grown : TypesGrown old new)
+    (known : (n : Name) (t : ResolvedType) → get-type-info n old ≡ some t → Known n) where
+  -- the target of a call has the same references in both sets
+  target-found : (n : Name) (t t′ : ResolvedType) → get-type-info n old ≡ some t → get-type-info n new ≡ some t′
+      → (head t ≡ head t′) × Known n
+  target-found n t t′ e e′ =
+      let g = grown n t e in
+      let i : g .type ≡ t′ = some-one (sym (g .found) ∙ e′) in
+      (head-kept (g .grown) ∙ ap head i, known n t e)
+
+  typeref-extends : (h : Head) (target : Name)
+      → Extends Known (build-typeref-node old h target) (build-typeref-node new h target)
+  unfolding build-typeref-node
+  typeref-extends h target =
+      binds (needs (get-type-info target old) (get-type-info target new) _ (target-found target)) (λ t t′ x.
+      rw (x .0)
+      (first _ (λ xs.
+      gives _ _ (NodeExtended.CallNested _ _ _ target (x .1) (same-arguments xs)))))
+
+  variable-field-extends : (refs : List Owner) (n : Name) (h : Head) {v : Bool} {k k′ : ResolvedTypeKind} → KindGrown v k k′
+      → Extends Known (build-variable-field old refs n h k) (build-variable-field new refs n h k′)
+  unfolding build-variable-field
+  variable-field-extends refs n h (KindGrown.Primitive v) = field-refs-extend refs n h
+  variable-field-extends refs n h (KindGrown.Struct v g) = field-refs-extend refs n h
+  variable-field-extends refs n h (KindGrown.Union g) = field-refs-extend refs n h
+  variable-field-extends refs n h (KindGrown.Enum e g) = field-enum-extends (payload-paths (orElse [] (get n refs))) n h e g
+  variable-field-extends refs n h (KindGrown.Array v e j g) =
+      binds (array-extends (TypeGrown.resolved h (KindGrown.Array _ e j g)) n []) (λ m m′ x.
+      first _ (λ _. gives _ _ x))
+  variable-field-extends refs n h (KindGrown.SizeDiscriminatedUnion g) =
+      binds (sized-extends h g) (λ m m′ x.
+      first _ (λ _. gives _ _ (align-extends (h .alignment) x)))
+  variable-field-extends refs n h (KindGrown.TypeRef v target) =
+      binds (typeref-extends h target) (λ m m′ x.
+      gives _ _ (align-extends (h .alignment) x))
+
+  field-extends : (refs : List Owner) (n : Name) (s : Size) (h : Head) {v : Bool} {k k′ : ResolvedTypeKind} → KindGrown v k k′
+      → Extends Known (build-field old refs n s h k) (build-field new refs n s h k′)
+  unfolding build-field
+  field-extends refs n (Size.Const v) h g = first _ (λ _. gives _ _ (const-or-zero-extends v (h .alignment)))
+  field-extends refs n Size.Variable h g = variable-field-extends refs n h g
+
+  -- a struct gets no field
+  fields-extend : (refs : List Owner) (end : ℕ) {fs fs′ : Fields} → FieldsGrown false fs fs′
+      → Keeps (NodesExtended Known) (build-fields old refs end (fields fs)) (build-fields new refs end (fields fs′))
+  unfolding build-fields fields
+  fields-extend refs end (FieldsGrown.noField v) = gives _ _ NodesExtended.noNode
+  fields-extend refs end (FieldsGrown.field n o (TypeGrown.resolved h k) g) =
+      first _ (λ next.
+      binds (field-extends refs n (h .size) h k) (λ m m′ x.
+      binds (fields-extend refs next g) (λ ns ns′ xs.
+      gives _ _ (padding-extends end o (NodesExtended.node x xs)))))
+
+  struct-extends : (h : Head) {fs fs′ : Fields} → FieldsGrown false fs fs′
+      → Extends Known (build-variable-struct old h fs) (build-variable-struct new h fs′)
+  unfolding build-variable-struct
+  struct-extends h g =
+      binds (fields-extend (h .dynamic-params) 0 g) (λ ns ns′ xs.
+      binds (combine-extends xs) (λ m m′ x.
+      gives _ _ (align-extends (h .alignment) x)))
+
+  variable-extends : (h : Head) {v : Bool} {k k′ : ResolvedTypeKind} → KindGrown v k k′
+      → Extends Known (build-variable old h k) (build-variable new h k′)
+  unfolding build-variable
+  variable-extends h (KindGrown.Primitive v) = refuses _ _
+  variable-extends h (KindGrown.Struct v g) = struct-extends h g
+  variable-extends h (KindGrown.Union g) = union-extends h g
+  variable-extends h (KindGrown.Enum e g) = enum-extends h e g
+  variable-extends h (KindGrown.Array v e j g) = array-root-extends (TypeGrown.resolved h (KindGrown.Array _ e j g))
+  variable-extends h (KindGrown.SizeDiscriminatedUnion g) = sized-extends h g
+  variable-extends h (KindGrown.TypeRef v target) = typeref-extends h target
+
+  -- by the kind's target and the size
+  kind-extends : (h : Head) {v : Bool} {k k′ : ResolvedTypeKind} → KindGrown v k k′
+      → (o : Option Name) (s : Size) → targetOf k ≡ o → targetOf k′ ≡ o → h .size ≡ s
+      → Extends Known (node-from-resolved old (ResolvedType.resolved h k)) (node-from-resolved new (ResolvedType.resolved h k′))
+  unfolding node-from-resolved
+  kind-extends h g (some target) s e e′ i = rw (e, e′) (typeref-extends h target)
+  kind-extends h g none (Size.Const v) e e′ i = rw (e, e′, i) (gives _ _ (NodeExtended.Const _ _ _ v))
+  kind-extends h g none Size.Variable e e′ i = rw (e, e′, i) (variable-extends _ g)
+
+  pub root-extends : {t t′ : ResolvedType} → TypeGrown t t′
+      → Extends Known (node-from-resolved old t) (node-from-resolved new t′)
+  root-extends (TypeGrown.resolved {k} h g) = kind-extends h g (targetOf k) (h .size) refl (sym (target-kept g)) refl

@@ -110,6 +110,7 @@ module _ {s values : List ℕ} {block len : ℕ} {words : List ℕ} {depth at q 
 pub zero-is : {s : List ℕ} {at k : ℕ} → k ≡ le2 s (at + 4) → k ≡ 128 → (handle : Handlers) (pl : ℕ) (γ : ParamMap) (a : Accepted s 128 144 at) → done 0 ≡ eval-node handle pl γ (nodeOf (tree a))
 unfolding formOf makeThing eval-node
 zero-is ek k handle pl γ a = sym (ap (eval-node handle pl γ) (node-is a (sym ek ∙ k) refl))
+
 -- ---- the tag of a Switch, the type of a CallNested
 
 pub switch-tag : {s : List ℕ} {at p : ℕ} → Standing s at 2 p → (a : Accepted s 128 144 at) → le2 s (at + 4) ≡ 132 → (p + 2 + le2 s p ≤ length s) × (text (part 2 (bodyOf a)) ≡ nameAt s p)

@@ -23,9 +23,9 @@ use Rattle.ir.proofs.Compute.{compute as ir}
 use Rattle.builder.proofs.Compute.{compute as builder}
 use Rattle.interpreter.specs.Validate.{validate}
 use Rattle.interpreter.proofs.Compute.{compute as interpreter}
 use Rattle.compat.specs.Grown.{NoOwner, AllAdded, Grown, GrownLast, GrownEntries, Entry, TypeOf, Refers, Extends}
 use Rattle.compat.specs.Statement.{Agree, Pair}
-use Rattle.compat_proof.proofs.OldAndNew.{parameters-follow, old-and-new}
+use Rattle.compat.proofs.OldAndNew.{parameters-follow, old-and-new}
 
 abbrev pub old-set : List ℕ
 old-set =

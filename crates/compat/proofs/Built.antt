@@ -12,13 +12,13 @@ use Rattle.resolved.specs.Resolved.{ResolvedType, ResolvedTypeKind, Fields, hea
 use Rattle.ir.specs.Ir.{IrParameter, TypeIr}
 use Rattle.interpreter.specs.Eval.{lookup-type}
 use Rattle.builder.specs.Names.{replace-colons, split, before-element}
-use Rattle.builder.specs.Type.{fieldsOf, has-jagged, is-jagged-element-parameter, filter-jagged-element-parameters}
-use Rattle.builder.specs.Type.{build-type-ir}
+use Rattle.builder.specs.BuildType.{fieldsOf, has-jagged, is-jagged-element-parameter, filter-jagged-element-parameters}
+use Rattle.builder.specs.BuildType.{build-type-ir}
 use Rattle.builder.specs.Build.{build-type, build-types}
 use Rattle.compat.specs.Types.{TypeGrown, KindGrown, FieldsGrown, TypesGrown}
 use Rattle.compat.specs.Nodes.{NodeExtended, Found, LayoutExtended}
-use Rattle.compat_proof.proofs.Keeps.{Keeps, gives, binds, first}
-use Rattle.compat_proof.proofs.Types.{some-one, jagged-kept, root-extends}
+use Rattle.compat.proofs.Keeps.{Keeps, gives, binds, first}
+use Rattle.compat.proofs.Types.{some-one, jagged-kept, root-extends}
 
 -- ---- parameters
 

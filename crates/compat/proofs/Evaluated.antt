@@ -14,10 +14,10 @@ use Rattle.ir.specs.Layout.{caseCount}
 use Rattle.interpreter.specs.Arithmetic.{Result, value, fault, operate, align-up, bits}
 use Rattle.interpreter.specs.Eval.{ParamMap, Handlers, Enter, handlers, refusalAt, find, chosen, valueOr, lift, eval-node, eval-cases, eval-default, collect-arguments, lookup-type, eval-call, eval-within}
 use Rattle.interpreter.specs.Validate.{with-buffer-size, fits-buffer, validate-type}
 use Rattle.compat.specs.Nodes.{SameArguments, NodeExtended, CasesExtended, Found, TypeExtended, LayoutExtended}
 use Rattle.compat.specs.Ways.{CaseAt, Reached}
 use Rattle.compat.specs.Statement.{SamePlace, Agree}
-use Rattle.compat_proof.proofs.Places.{Stand, down, same-place, roots, found-at}
+use Rattle.compat.proofs.Places.{Stand, down, same-place, roots, found-at}
 
 -- ---- values and arguments
 

@@ -12,9 +12,9 @@ use Rattle.builder.specs.Names.{join, apply-path-prefix}
 use Rattle.builder.specs.Registry.{Build}
 use Rattle.builder.specs.Nodes.{Alternative, align-node, const-or-zero, add-all, combine-checked-add, build-field-ref-nodes}
 use Rattle.builder.specs.Nodes.{build-path, build-expr-ir, buffer-size, build-alternative, build-cases, build-switch, sum-refs, padding}
 use Rattle.compat.specs.Nodes.{SameArguments, NodeExtended, CasesExtended}
-use Rattle.compat_proof.proofs.Keeps.{Keeps, gives, refuses, binds, first}
-use Rattle.compat_proof.proofs.Keeps.{Still, still-give, still-refuse, still-need, still-reads, still-require, still-binds, beside}
+use Rattle.compat.proofs.Keeps.{Keeps, gives, refuses, binds, first}
+use Rattle.compat.proofs.Keeps.{Still, still-give, still-refuse, still-need, still-reads, still-require, still-binds, beside}
 
 -- arguments are the same as themselves
 pub same-arguments : (xs : List IrArgument) → SameArguments xs xs

@@ -20,14 +20,14 @@ use Rattle.ir.specs.Layout.{layoutTree, layoutOf}
 use Rattle.builder.specs.Build.{build-types, write-layout, build-set, holds}
 use Rattle.interpreter.specs.Eval.{ParamMap}
 use Rattle.interpreter.specs.Validate.{validate, validate-type, valuesOf}
 use Rattle.compat.specs.Nodes.{Found, LayoutExtended}
 use Rattle.compat.specs.Grown.{Extends, TypeOf}
 use Rattle.compat.specs.Statement.{SamePlace, SameParameters, Agree, Pair, OldAndNew}
 use Rattle.compat.proofs.Set.{types-grown, type-found}
-use Rattle.compat_proof.proofs.Built.{built, known}
-use Rattle.compat_proof.proofs.Reread.{layout-read}
-use Rattle.compat_proof.proofs.Extends.{reread, found-read}
-use Rattle.compat_proof.proofs.Evaluated.{evaluated}
+use Rattle.compat.proofs.Built.{built, known}
+use Rattle.compat.proofs.Reread.{layout-read}
+use Rattle.compat.proofs.Extends.{reread, found-read}
+use Rattle.compat.proofs.Evaluated.{evaluated}
 use Rattle.blocks.proofs.Refusals.{Unread, input-unread}
 
 -- what a built set says: the type trees that were written

@@ -13,8 +13,8 @@ use Rattle.blocks.specs.Write.{write}
 use Rattle.ir.specs.Ir.{IrArgument, IrNode, SwitchCases, TypeIr}
 use Rattle.ir.specs.Layout.{layoutOf, layoutTree}
 use Rattle.interpreter.specs.Eval.{lookup-type}
 use Rattle.compat.specs.Nodes.{Found, SameArguments, NodeExtended, CasesExtended, LayoutExtended}
-use Rattle.compat_proof.proofs.Reread.{held, heldMeta, NodeReread, CasesReread, DefaultReread, TypeReread, LayoutReread, layout-read}
+use Rattle.compat.proofs.Reread.{held, heldMeta, NodeReread, CasesReread, DefaultReread, TypeReread, LayoutReread, layout-read}
 
 -- ---- nodes
 

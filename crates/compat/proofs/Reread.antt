@@ -16,8 +16,8 @@ use Rattle.roundtrip.specs.Shape.{cut}
 use Rattle.roundtrip.proofs.Unique.{unique}
 use Rattle.ir.specs.Ir.{NodeMetadata, IrParameter, IrArgument, BinaryOp, IrNode, SwitchCases, DefaultNode, TypeIr}
 use Rattle.ir.specs.Layout.{parameterOf, argumentOf, casesIn, defaultIn, formOf, makeThing, thingOf, nodeOf, typeIrOf, layoutOf, flagTree, optionalTree, entriesTree, parameterTree, argumentTree, nodeTree, casesTree, defaultTree, typeIrTree, layoutTree}
 use Rattle.compat.specs.Nodes.{SameArguments}
-use Rattle.compat_proof.proofs.Shapes.{operation, shaped}
+use Rattle.compat.proofs.Shapes.{operation, shaped}
 
 -- ---- what is read, against what was written
 
