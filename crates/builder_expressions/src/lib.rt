@@ -1,7 +1,7 @@
 // builder.rs, `build_expr_ir` and `build_binary_expr_ir`: the nodes of a size expression.
 use builder_nodes::Built;
 use builder_registry::Found;
-use ir::NodeMetadata;
+use ir_nodes::NodeMetadata;
 ghost use mathlib.Core.Path.{_≡_};
 ghost use mathlib.Core.Bool.{cond};
 ghost use mathlib.Core.Option.{some, none};

@@ -13,7 +13,7 @@ use Rattle.blocks.specs.Grammar.{partsOf, nodeTable}
 use Rattle.blocks.specs.Tree.{Tree, name, num, nil, cons}
 use Rattle.blocks.specs.Write.{write}
 use Rattle.ir.specs.Ir.{IrNode, aligned, default-alignment, default-metadata, unplaced}
-use Rattle.ir.specs.Codes.{codeAt}
+use Rattle.ir_nodes.specs.Codes.{codeAt}
 use Rattle.ir.specs.Layout.{nodeTree, optionalTree}
 use Rattle.builder.specs.Nodes.{const-or-zero, refText, buffer-size}
 use Rattle.wire.specs.Poke.{Wrote, opened}

@@ -1,5 +1,5 @@
 // builder.rs, the small nodes: written into the output, by the table of the node kinds.
-use ir::NodeMetadata;
+use ir_nodes::NodeMetadata;
 ghost use mathlib.Core.Path.{_≡_};
 ghost use mathlib.Core.List.{_++_};
 ghost use mathlib.Core.Option.{some, none};
@@ -8,7 +8,7 @@ ghost use lib.ListN.{length};
 ghost use Rattle.blocks.specs.Tree.{name, num, nil, cons};
 ghost use Rattle.blocks.specs.Write.{write};
 ghost use Rattle.ir.specs.Ir.{IrNode, aligned, default-alignment, default-metadata, unplaced};
-ghost use Rattle.ir.specs.Codes.{codeAt};
+ghost use Rattle.ir_nodes.specs.Codes.{codeAt};
 ghost use Rattle.ir.specs.Layout.{nodeTree, optionalTree};
 ghost use Rattle.builder.specs.Nodes.{const-or-zero, refText, buffer-size};
 ghost use Rattle.wire.specs.Poke.{Wrote};
@@ -28,7 +28,7 @@ fn put_number_part(out: &mut [u8], at: usize, kind: usize, i: usize, v: u64) -> 
     ensures { λ r. ⌜ Wrote (now (out .entry)) at (numberPart (codeAt kind i) v) (now (out .exit)) r ⌝ }
     ensures { λ r. ⌜ (at ≤ r) × (r ≤ at + 8) ⌝ }
 {
-    if ir::node_part(kind, i) == ir::NUMBER {
+    if ir_nodes::node_part(kind, i) == ir_nodes::NUMBER {
         return wire::put_le(out, at, 8, v);
     }
     at
@@ -40,7 +40,7 @@ fn open_text_part(out: &mut [u8], at: usize, kind: usize, i: usize) -> usize
     ensures { λ r. ⌜ Wrote (now (out .entry)) at (textFlag (codeAt kind i)) (now (out .exit)) r ⌝ }
     ensures { λ r. ⌜ (at ≤ r) × (r ≤ at + 1) ⌝ }
 {
-    if ir::node_part(kind, i) == ir::OPT_TEXT {
+    if ir_nodes::node_part(kind, i) == ir_nodes::OPT_TEXT {
         return wire::put_flag(out, at, true);
     }
     at
@@ -62,7 +62,7 @@ fn put_absent(out: &mut [u8], at: usize, kind: usize, i: usize) -> usize
     ensures { λ r. ⌜ Wrote (now (out .entry)) at (absentText (codeAt kind i)) (now (out .exit)) r ⌝ }
     ensures { λ r. ⌜ (at ≤ r) × (r ≤ at + 1) ⌝ }
 {
-    if ir::node_part(kind, i) == ir::OPT_TEXT {
+    if ir_nodes::node_part(kind, i) == ir_nodes::OPT_TEXT {
         return wire::put_flag(out, at, false);
     }
     at

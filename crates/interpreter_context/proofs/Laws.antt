@@ -12,9 +12,9 @@ use Rattle.blocks.specs.Bytes.{le2, le4}
 use Rattle.blocks.specs.Grammar.{partsOf, nodeTable}
 use Rattle.blocks.specs.Tree.{Tree, cons, num, first, rest, body}
 use Rattle.blocks.proofs.Name.{and-left, and-right}
-use Rattle.ir.specs.Codes.{codeOf, codeAt}
-use Rattle.ir.proofs.Table.{entry}
-use Rattle.ir.proofs.Rows.{rowed, part-0, part-1}
+use Rattle.ir_nodes.specs.Codes.{codeOf, codeAt}
+use Rattle.ir_nodes.proofs.Table.{entry}
+use Rattle.ir_nodes.proofs.Rows.{rowed, part-0, part-1}
 use Rattle.accepted.specs.Accepted.{Accepted, tree, Parts, Optional}
 use Rattle.accepted.proofs.Laws.{opened, Behind, text-part, number-part, There, optional-part, block-part}
 use Rattle.interpreter_context.specs.Located.{Simple, Next, rests, Located}

@@ -10,7 +10,7 @@ ghost use Rattle.blocks.specs.declared.Part.{Part};
 ghost use Rattle.blocks.specs.Bytes.{le2};
 ghost use Rattle.blocks.specs.Grammar.{partsOf};
 ghost use Rattle.blocks.specs.Name.{same};
-ghost use Rattle.ir.specs.Codes.{codeOf};
+ghost use Rattle.ir_nodes.specs.Codes.{codeOf};
 ghost use Rattle.ir.specs.Layout.{argumentOf};
 ghost use Rattle.interpreter.specs.Eval.{ParamMap, find as finding};
 ghost use Rattle.interpreter.specs.Validate.{with-buffer-size, valuesOf};
@@ -24,13 +24,13 @@ fn behind(s: &[u8], at: usize, code: u32) -> usize
     requires { ⌜ ((p : Part) × (ps : List Part) × Simple p × (code ≡ codeOf p) × Parts (now s) (p ∷ ps) at) ⌝ }
     ensures { λ r. ⌜ ((p : Part) (ps : List Part) (c : Parts (now (s .entry)) (p ∷ ps) at) → Simple p → code ≡ codeOf p → Next c r) ⌝ }
 {
-    if code == ir::NUMBER {
+    if code == ir_nodes::NUMBER {
         return at + 8;
     }
-    if code == ir::TEXT {
+    if code == ir_nodes::TEXT {
         return at + 2 + wire::read2(s, at);
     }
-    if code == ir::OPT_TEXT {
+    if code == ir_nodes::OPT_TEXT {
         let b = s[at];
         if b == 1 {
             return at + 3 + wire::read2(s, at + 1);
@@ -45,7 +45,7 @@ pub fn first_part(s: &[u8], at: usize) -> usize
     requires { ⌜ Accepted (now s) 128 144 at ⌝ }
     ensures { λ r. ⌜ ((a : Accepted (now (s .entry)) 128 144 at) (ps : List Part) → drop 2 (partsOf (le2 (now (s .entry)) (at + 4))) ≡ ps → Located a ps 2 r) ⌝ }
 {
-    behind(s, at + 14, ir::OPT_TEXT)
+    behind(s, at + 14, ir_nodes::OPT_TEXT)
 }
 
 // The offset of the part behind that.
@@ -54,7 +54,7 @@ pub fn second_part(s: &[u8], at: usize) -> usize
     ensures { λ r. ⌜ ((a : Accepted (now (s .entry)) 128 144 at) (ps : List Part) → drop 3 (partsOf (le2 (now (s .entry)) (at + 4))) ≡ ps → Located a ps 3 r) ⌝ }
 {
     let kind = wire::read2(s, at + 4);
-    behind(s, first_part(s, at), ir::node_part(kind, 2))
+    behind(s, first_part(s, at), ir_nodes::node_part(kind, 2))
 }
 
 // A name's value in the context of an open call. A context is no map: it is found through the open calls, from the innermost

@@ -8,7 +8,7 @@ use native.Mathlib.Omega.{arith}
 use lib.Dec.{leb}
 use lib.ListN.{length, getD, take, drop, getD-replicate}
 use borrow.Author.Tests.{leb-true}
-use Rattle.ir.proofs.Table.{entry}
+use Rattle.ir_nodes.proofs.Table.{entry}
 use Rattle.errors.specs.Refusal.{done, refused, MissingIrParameter}
 use Rattle.blocks.specs.Bytes.{le2, le8}
 use Rattle.blocks.specs.Name.{Name}

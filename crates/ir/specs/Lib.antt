@@ -1,4 +1,2 @@
 pub mod Ir
 pub mod Layout
-pub mod Codes
-pub mod Rows

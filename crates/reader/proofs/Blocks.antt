@@ -16,7 +16,7 @@ use Rattle.reader_leaf.specs.declared.Read.the-variants.{Ok, Refused}
 use Rattle.reader_leaf.specs.declared.Head.the-variants.{Found, No}
 use Rattle.reader_leaf.specs.Answer.{forget, headOf}
 use Rattle.reader_leaf.proofs.Laws.{stopped, goes}
-use Rattle.ir.specs.Codes.{codeOf, codeAt}
+use Rattle.ir_nodes.specs.Codes.{codeOf, codeAt}
 use Rattle.reader_grammar.specs.Parts.{Coded, Keyed}
 use Rattle.reader_grammar.proofs.Laws.{column}
 

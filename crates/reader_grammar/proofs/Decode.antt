@@ -4,7 +4,7 @@ use Prim.Native.Nat.{ℕ, _+_, _*_, _/_, _%_, _<_}
 use native.Mathlib.Omega.{arith}
 use Rattle.blocks.specs.declared.Part.{Part}
 use Rattle.blocks.specs.declared.Part.the-variants.{Text, Key, Number, Flag, Size, OptNumber, OptText, Literal, Block, OptBlock, Blocks, Ascending, Distinct, Names, Paths, Values}
-use Rattle.ir.specs.Codes.{codeOf}
+use Rattle.ir_nodes.specs.Codes.{codeOf}
 use Rattle.reader_grammar.specs.Parts.{Coded, made, decoded}
 
 split : (tag lo hi limit : ℕ) → tag < 32 → lo < 256 → hi < 256 → decoded (tag + 32 * lo + 8192 * hi + 2097152 * limit) ≡ made tag lo hi limit

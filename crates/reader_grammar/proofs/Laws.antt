@@ -15,8 +15,8 @@ use Rattle.blocks.specs.declared.Part.{Part}
 use Rattle.blocks.specs.declared.Part.the-variants.{Key}
 use Rattle.blocks.specs.Grammar.{within, Row, grammar, metadata, nodeTable, findRow, partsOf}
 use Rattle.blocks.proofs.Name.{and-left, and-right}
-use Rattle.ir.specs.Codes.{fieldsOf, codeOf, codeAt}
-use Rattle.ir.proofs.Table.{entry}
+use Rattle.ir_nodes.specs.Codes.{fieldsOf, codeOf, codeAt}
+use Rattle.ir_nodes.proofs.Table.{entry}
 use Rattle.reader_grammar.specs.Parts.{Coded, Keyed}
 
 -- ---- a test of the parts of every kind

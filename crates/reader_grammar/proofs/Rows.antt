@@ -9,8 +9,8 @@ use lib.ListN.{length, getD, replicate, getD-replicate, List·getD-eq-default}
 use borrow.Author.Tests.{lt-leb, leb-true, leb-false, ltb-true, ne-eqb}
 use Rattle.blocks.specs.Grammar.{Row, grammar, findRow}
 use Rattle.blocks.proofs.Name.{and-left, and-right}
-use Rattle.ir.specs.Codes.{codeOf}
-use Rattle.ir.proofs.Table.{tabulate, entry}
+use Rattle.ir_nodes.specs.Codes.{codeOf}
+use Rattle.ir_nodes.proofs.Table.{tabulate, entry}
 
 -- ---- a row
 

@@ -6,7 +6,7 @@ use mathlib.Core.Logic.{_⊎_}
 use lib.Dec.{eqb}
 use Rattle.blocks.specs.declared.Part.{Part}
 use Rattle.blocks.specs.declared.Part.the-variants.{Text, Key, Number, Flag, Size, OptNumber, OptText, Literal, Block, OptBlock, Blocks, Ascending, Distinct, Names, Paths, Values}
-use Rattle.ir.specs.Codes.{fieldsOf}
+use Rattle.ir_nodes.specs.Codes.{fieldsOf}
 
 -- the part is told by its code
 pub record Coded (p : Part) : Type 0 where

@@ -1,15 +1,15 @@
 // The parts of every kind of block, as codes, and back from a code to the part.
 use blocks::Part;
-use ir::NODE;
-use ir::NUMBER;
-use ir::OPT_TEXT;
-use ir::TEXT;
+use ir_nodes::NODE;
+use ir_nodes::NUMBER;
+use ir_nodes::OPT_TEXT;
+use ir_nodes::TEXT;
 ghost use mathlib.Core.Path.{_≡_};
 ghost use mathlib.Core.List.{[], _∷_, _++_, map};
 ghost use Prim.Native.Nat.{_≤_, _<_};
 ghost use lib.ListN.{getD};
 ghost use Rattle.blocks.specs.Grammar.{head, grammar, findRow};
-ghost use Rattle.ir.specs.Codes.{codeOf, codeAt};
+ghost use Rattle.ir_nodes.specs.Codes.{codeOf, codeAt};
 ghost use Rattle.reader_grammar.specs.Parts.{Coded, made, decoded};
 
 // The codes of the parts that nodes do not have: the part's place in `Part`, from 1, then lo, hi and the limit of a count.
@@ -178,7 +178,7 @@ pub fn code_at(kind: usize, i: usize) -> u32
         return layout_code(kind, i);
     }
     if i < 5 {
-        return ir::node_part(kind, i);
+        return ir_nodes::node_part(kind, i);
     }
     0
 }

@@ -21,7 +21,7 @@ use Rattle.reader_leaf.specs.Answer.{forget, readEntry, headOf, countOf}
 use Rattle.reader_leaf.proofs.Laws.{text-is, optional-on, optional-off}
 use Rattle.reader_leaf.proofs.Lists.{list-of}
 use Rattle.reader.proofs.Blocks.{parts-none, parts-go, block-ok}
-use Rattle.ir.specs.Rows.{partOf, Row}
+use Rattle.ir_nodes.specs.Rows.{partOf, Row}
 use Rattle.reader_quick.specs.Quick.{Reads, Sized, Begun, Body}
 
 -- ---- parts

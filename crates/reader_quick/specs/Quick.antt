@@ -9,7 +9,7 @@ use Rattle.blocks.specs.Bytes.{le2, le4, le8, nameAt}
 use Rattle.blocks.specs.Name.{Name}
 use Rattle.blocks.specs.declared.Part.{Part}
 use Rattle.blocks.specs.Read.{Step, Earlier, readText, readOptional, readParts, readBlock}
-use Rattle.ir.specs.Rows.{Row}
+use Rattle.ir_nodes.specs.Rows.{Row}
 use Rattle.reader_leaf.specs.declared.Read.the-variants.{Ok}
 use Rattle.reader_leaf.specs.Answer.{forget}
 use Rattle.reader_leaf.specs.Seen.{behind}

@@ -12,7 +12,7 @@ ghost use Rattle.blocks.specs.Read.{Earlier, Reader, inOrder, readText, readFla
 ghost use Rattle.reader_leaf.specs.declared.Read.the-variants.{Ok};
 ghost use Rattle.reader_leaf.specs.Answer.{forget};
 ghost use Rattle.reader_leaf.specs.Seen.{nameAt, NameIn, namesBefore, Stand};
-ghost use Rattle.ir.specs.Rows.{partOf};
+ghost use Rattle.ir_nodes.specs.Rows.{partOf};
 ghost use Rattle.reader.specs.Input.{inputOf};
 ghost use Rattle.reader_quick.specs.Quick.{Reads, Sized, Begun, Body, Counted, placeOf, Marked};
 
@@ -313,10 +313,10 @@ fn body(s: &[u8], room: usize, row: u16, at: usize, stop: usize) -> usize
     requires { ⌜ (at ≤ stop) × (stop ≤ length (now s)) ⌝ }
     ensures { λ r. ⌜ (0 < r → (r ≡ stop) × Body room (now (s .entry)) row at stop) × (r ≤ stop) ⌝ }
 {
-    if row == ir::CONST_ROW {
+    if row == ir_nodes::CONST_ROW {
         return closed(at + 8, stop);
     }
-    if row == ir::CALL_ROW {
+    if row == ir_nodes::CALL_ROW {
         let i = text(s, at, stop);
         if i == 0 {
             return 0;
@@ -326,7 +326,7 @@ fn body(s: &[u8], room: usize, row: u16, at: usize, stop: usize) -> usize
         }
         return closed(entries(s, 164, i, stop), stop);
     }
-    if row == ir::FIELD_ROW {
+    if row == ir_nodes::FIELD_ROW {
         let i = text(s, at, stop);
         if i == 0 {
             return 0;
@@ -351,7 +351,7 @@ fn node(s: &[u8], room: usize, at: usize, end: usize) -> usize
         return 0;
     }
     let mut left = room - 1;
-    let mut row = ir::node_row(wire::read2(s, at + 4));
+    let mut row = ir_nodes::node_row(wire::read2(s, at + 4));
     while row / 8 == 4 {
         let q = leading(s, left, row % 8, i, stop);
         if q == 0 {
@@ -365,7 +365,7 @@ fn node(s: &[u8], room: usize, at: usize, end: usize) -> usize
             return 0;
         }
         left -= 1;
-        row = ir::node_row(wire::read2(s, q + 4));
+        row = ir_nodes::node_row(wire::read2(s, q + 4));
     }
     body(s, left, row, i, stop)
 }

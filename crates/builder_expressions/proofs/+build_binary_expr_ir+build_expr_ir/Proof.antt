@@ -16,7 +16,7 @@ use Rattle.builder_expressions.proofs.build_field_ref.Reads as build-fi
 use Rattle.builder_expressions.proofs.build_literal.Reads as build-literal-reads
 use Rattle.wire.proofs.read2.Reads as read2-reads
 use Rattle.wire.proofs.read4.Reads as read4-reads
-use Rattle.ir.proofs.NodeMetadata.default_alignment.Reads as default-alignment-reads
+use Rattle.ir_nodes.proofs.NodeMetadata.default_alignment.Reads as default-alignment-reads
 use Rattle.wire.proofs.close_block.Reads as close-block-reads
 use Rattle.builder_nodes.proofs.open_node.Reads as open-node-reads
 use Rattle.builder_expressions.proofs.+build_binary_expr_ir+build_expr_ir.{statement}

@@ -3,7 +3,7 @@ use mathlib.Core.List.{[], _∷_, _++_, map}
 use Prim.Native.Nat.{_≤_}
 use native.Mathlib.Omega.{arith}
 use Rattle.blocks.specs.Grammar.{head}
-use Rattle.ir.specs.Codes.{codeOf}
+use Rattle.ir_nodes.specs.Codes.{codeOf}
 use Rattle.reader_grammar.proofs.Rows.{behind}
 use Rattle.reader_grammar.proofs.typed.Statement.{statement}
 use Rattle.reader_grammar.proofs.typed.Tie as tie

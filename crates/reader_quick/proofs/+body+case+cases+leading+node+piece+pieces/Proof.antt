@@ -34,7 +34,7 @@ use Rattle.reader_quick.proofs.pieces.Reads as pieces
 use Rattle.reader_quick.proofs.pieces.Kinds as pieces-kinds
 use Rattle.reader_quick.proofs.+body+case+cases+leading+node+piece+pieces.Lts-pieces as pieces-lts
 use Rattle.wire.proofs.read2.Reads as read2-reads
-use Rattle.ir.proofs.node_row.Reads as node-row-reads
+use Rattle.ir_nodes.proofs.node_row.Reads as node-row-reads
 use Rattle.reader_quick.proofs.begun.Reads as begun-reads
 use Rattle.reader_quick.proofs.closed.Reads as closed-reads
 use Rattle.reader_quick.proofs.entries.Reads as entries-reads

@@ -8,8 +8,8 @@ use native.Mathlib.Numerals.{add-one}
 use borrow.Author.Tests.{ne-eqb, le-leb}
 use Rattle.blocks.specs.declared.Part.{Part}
 use Rattle.blocks.specs.Grammar.{partsOf, metadata, nodeTable}
-use Rattle.ir.specs.Codes.{codeOf, codeAt}
-use Rattle.ir.specs.Rows.{partOf, Row, digitCode}
+use Rattle.ir_nodes.specs.Codes.{codeOf, codeAt}
+use Rattle.ir_nodes.specs.Rows.{partOf, Row, digitCode}
 
 -- below 8 and none of 0 to 6
 above : (d : ℕ) → (d ≡ 0 → ⊥) → (d ≡ 1 → ⊥) → (d ≡ 2 → ⊥) → (d ≡ 3 → ⊥) → 4 ≤ d

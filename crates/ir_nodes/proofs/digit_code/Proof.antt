@@ -1,7 +1,7 @@
 -- `ir::digit_code` meets its contract, digit by digit. Assumes nothing.
-use Rattle.ir.proofs.Rows.{last-digit}
-use Rattle.ir.proofs.digit_code.Statement.{statement}
-use Rattle.ir.proofs.digit_code.Tie as tie
+use Rattle.ir_nodes.proofs.Rows.{last-digit}
+use Rattle.ir_nodes.proofs.digit_code.Statement.{statement}
+use Rattle.ir_nodes.proofs.digit_code.Tie as tie
 
 returns : tie.Need-returns
 returns c = rw (c .match .keys1)

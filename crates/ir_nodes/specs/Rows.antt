@@ -7,7 +7,7 @@ use lib.ListN.{getD}
 use Rattle.blocks.specs.declared.Part.{Part}
 use Rattle.blocks.specs.declared.Part.the-variants.{Text, Number, OptText, OptBlock, Blocks}
 use Rattle.blocks.specs.Grammar.{node}
-use Rattle.ir.specs.Codes.{codeOf}
+use Rattle.ir_nodes.specs.Codes.{codeOf}
 
 -- the parts that nodes have, from 1
 abbrev pub partOf : ℕ → Part

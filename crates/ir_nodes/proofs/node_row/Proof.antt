@@ -1,8 +1,8 @@
 -- `ir::node_row` meets its contract: an entry of the table. Assumes nothing.
-use Rattle.ir.proofs.Rows.{rowed}
+use Rattle.ir_nodes.proofs.Rows.{rowed}
 use borrow.Author.Needs.{needs}
-use Rattle.ir.proofs.node_row.Statement.{statement}
-use Rattle.ir.proofs.node_row.Tie as tie
+use Rattle.ir_nodes.proofs.node_row.Statement.{statement}
+use Rattle.ir_nodes.proofs.node_row.Tie as tie
 
 sub-result : tie.Need-sub-result
 sub-result c = search needs

@@ -1,8 +1,8 @@
 -- `ir::node_part` meets its contract: the metadata, then the digits of the row. Assumes nothing.
-use Rattle.ir.proofs.Rows.{part-0, part-1, part-2, part-3, part-4}
+use Rattle.ir_nodes.proofs.Rows.{part-0, part-1, part-2, part-3, part-4}
 use borrow.Author.Needs.{needs}
-use Rattle.ir.proofs.node_part.Statement.{statement}
-use Rattle.ir.proofs.node_part.Tie as tie
+use Rattle.ir_nodes.proofs.node_part.Statement.{statement}
+use Rattle.ir_nodes.proofs.node_part.Tie as tie
 
 returns : tie.Need-returns
 returns c = part-0 _ _ (c .before .pre .0) (c .before .pre .1) (c .if1 .taken)
