@@ -1,4 +1,5 @@
--- What reading gives: a tree that holds every byte, in which each block has its offset. And how a tree stands for something.
+-- The section "Blocks", as trees: what reading gives holds every byte, and each block its offset, since "Offset is the block's start".
+-- "`Box` trees become nested blocks read as parts of the slice": and how a tree stands for something.
 use Prim.Native.Nat.{ℕ, zero, suc}
 use mathlib.Core.Bool.{Bool, cond}
 use mathlib.Core.List.{List, [], _∷_}
@@ -6,8 +7,9 @@ use mathlib.Core.Option.{Option, some, none}
 use lib.Dec.{eqb}
 use Rattle.blocks.specs.Name.{Name}
 
--- A name or text; a number of so many bytes; a block's offset, kind and parts; nothing; one part, then others. An
--- optional part is its flag, then itself or nothing; a list is its count, then its entries.
+-- "A name or a text is a 2-byte length and its bytes"; a number of so many bytes ("A count is 2 bytes, a number 8, a flag one byte"); "a
+-- 2-byte kind, a body", with the block's offset; no part; one part, then others. An optional part is its flag, then itself or nothing; "a
+-- list stands behind its count".
 pub data Tree : Type 0 where
   name : Name → Tree
   num : ℕ → ℕ → Tree
@@ -15,7 +17,8 @@ pub data Tree : Type 0 where
   nil : Tree
   cons : Tree → Tree → Tree
 
--- the parts of a tree; where it has another shape, an empty one
+-- The parts of a tree; where it has another shape, an empty one. Reading gives each kind the shape of its row in the grammar, so that no
+-- empty part is met where a kind is read by its own row.
 abbrev pub first : Tree → Tree
 first (name n) = nil
 first (num w v) = nil
@@ -74,11 +77,11 @@ part (suc i) t = part i (rest t)
 abbrev pub flag : Tree → Bool
 flag t = eqb (number t) 1
 
--- what an optional part's flag announces
+-- "flag with offset or without", "flag with size text or without": what an optional part's flag announces
 abbrev pub optional : {A : Type 0} → (Tree → A) → Tree → Option A
 optional f t = cond (flag (first t)) (some (f (rest t))) none
 
--- the entries of a list, behind its count
+-- "a list stands behind its count": its entries
 unfoldable pub entries : {A : Type 0} → (Tree → A) → Tree → List A
 entries f (name n) = []
 entries f (num w v) = []

@@ -55,7 +55,7 @@ build-field-ref-nodes owner (path ∷ ps) = do
   nodes ← build-field-ref-nodes owner ps
   give (IrNode.FieldRef unplaced (record { alignment = default-alignment; size-expr = some (refText owner path) }) path (some parameter) ∷ nodes)
 
--- the references of an owner, summed
+-- `build_field_ref_nodes`, then `combine_checked_add`: the references of an owner, summed
 unfoldable pub sum-refs : Name → List Name → Build IrNode
 sum-refs owner paths = do
   nodes ← build-field-ref-nodes owner paths
@@ -130,20 +130,20 @@ build-typeref-node types h target = do
 
 -- ---- arrays
 
--- a jagged array of elements of variable size: only of a type reference
+-- `build_array_node_with_prefix`, a jagged array of elements of variable size: only of a type reference, else 13
 unfoldable pub sum-over-array : Head → Name → IrNode → ResolvedTypeKind → Build IrNode
 sum-over-array h owner count k = do
   target ← need (targetOf k) UnsupportedArrayElement
   give (align-node (IrNode.SumOverArray unplaced (aligned (h .alignment)) count target owner) (h .alignment))
 
--- an element; `inside` builds it where it is a variable array
+-- `build_array_node_with_prefix`, the element's node: a constant, or for a variable array what `inside` builds, else 13
 unfoldable pub build-element : Build IrNode → Size → ℕ → ResolvedTypeKind → Build IrNode
 build-element inside (Size.Const v) a k = give (IrNode.Const unplaced (aligned a) v)
 build-element inside Size.Variable a k = do
   _ ← need (jaggedOf k) UnsupportedArrayElement
   inside
 
--- count times element
+-- `build_array_node_with_prefix`: count times element, aligned
 abbrev pub product : Head → IrNode → IrNode → IrNode
 product h count element = align-node (IrNode.Binary unplaced (aligned (h .alignment)) BinaryOp.MulChecked count element) (h .alignment)
 
@@ -201,13 +201,15 @@ build-array-node t = do
 
 -- ---- enums, unions, size-discriminated unions: one switch over alternatives
 
+-- what `build_enum_node`, `build_union_node` and `build_size_discriminated_union_node` take of a variant
 pub record Alternative : Type 0 where
   pub tag : ℕ
   pub name : Name
   pub size : Size
   pub alignment : ℕ
 
--- the node of an alternative; refs: the references of the type that has it
+-- the variant's node in each of the three: `const_or_zero`, or the sum of its references, else 11; refs: the references of the type
+-- that has it
 unfoldable pub build-alternative : List Owner → Name → Size → ℕ → Build IrNode
 build-alternative refs n (Size.Const v) a = give (const-or-zero v a)
 build-alternative refs n Size.Variable a = do
@@ -215,6 +217,7 @@ build-alternative refs n Size.Variable a = do
   sum ← sum-refs n paths
   give (align-node sum a)
 
+-- the cases in each of the three: a variant's node, then `owner_parameters` of its name
 unfoldable pub build-cases : List Owner → List Alternative → Build SwitchCases
 build-cases refs [] = give SwitchCases.noCase
 build-cases refs (x ∷ xs) = do
@@ -223,6 +226,7 @@ build-cases refs (x ∷ xs) = do
   cases ← build-cases refs xs
   give (SwitchCases.case (x .tag) node parameters cases)
 
+-- the Switch in each of the three, with no default
 unfoldable pub build-switch : Head → Name → List Alternative → Build IrNode
 build-switch h tag xs = do
   cases ← build-cases (h .dynamic-params) xs
@@ -320,6 +324,7 @@ build-size-discriminated-union-node h vs = do
 
 -- ---- structs
 
+-- `build_variable_struct`: the paths that end in `.payload_size`
 unfoldable pub payload-paths : List Name → List Name
 payload-paths [] = []
 payload-paths (p ∷ ps) = cond (ends-with (ascii ".payload_size") p) (p ∷ payload-paths ps) (payload-paths ps)
@@ -335,7 +340,7 @@ build-field-enum (p ∷ ps) n h e vs = do
   sum ← sum-refs n (p ∷ ps)
   give (align-node sum (h .alignment))
 
--- a field of variable size whose sum is that of the struct's references for it
+-- `build_variable_struct`, a field of variable size of the other kinds: the sum of the struct's references for it, else 11
 unfoldable pub build-field-refs : List Owner → Name → Head → Build IrNode
 build-field-refs refs n h = do
   paths ← need (get n refs) MissingDynamicRefs
@@ -369,7 +374,7 @@ build-field types refs n (Size.Const v) h k = do
   give (const-or-zero v (h .alignment))
 build-field types refs n Size.Variable h k = build-variable-field types refs n h k
 
--- the padding before a field
+-- `build_variable_struct`: a constant for the padding between the prefix's end and a field's offset
 unfoldable pub padding : ℕ → Option ℕ → List IrNode
 padding prefix-end none = []
 padding prefix-end (some o) = cond (ltb prefix-end o) (const-or-zero (o - prefix-end) 1 ∷ []) []
@@ -383,6 +388,7 @@ prefix-after prefix-end (some o) (Size.Const v) = do
   give (o + v)
 prefix-after prefix-end (some o) Size.Variable = give prefix-end
 
+-- `build_variable_struct`, field by field
 unfoldable pub build-fields : List ResolvedType → List Owner → ℕ → List ResolvedField → Build (List IrNode)
 build-fields types refs prefix-end [] = give []
 build-fields types refs prefix-end (f ∷ fs) = do
@@ -400,7 +406,7 @@ build-variable-struct types h fs = do
 
 -- ---- any type
 
--- of variable size
+-- `node_from_resolved`, a type of variable size by its kind
 unfoldable pub build-variable : List ResolvedType → Head → ResolvedTypeKind → Build IrNode
 build-variable types h ResolvedTypeKind.Primitive = refuse UnsupportedSize
 build-variable types h (ResolvedTypeKind.Struct fs) = build-variable-struct types h fs
@@ -410,6 +416,7 @@ build-variable types h (ResolvedTypeKind.Array t e j) = build-array-node (Resolv
 build-variable types h (ResolvedTypeKind.SizeDiscriminatedUnion vs) = build-size-discriminated-union-node h vs
 build-variable types h (ResolvedTypeKind.TypeRef target) = build-typeref-node types h target
 
+-- `node_from_resolved`: a type of constant size is a constant
 abbrev pub sized : List ResolvedType → Size → Head → ResolvedTypeKind → Build IrNode
 sized types (Size.Const v) h k = const-node h
 sized types Size.Variable h k = build-variable types h k

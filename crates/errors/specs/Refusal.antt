@@ -1,4 +1,4 @@
--- errors.rs: "only the refusals of the list". What a call answers: a value, or one refusal.
+-- errors.rs: "only the refusals of the list below". What a call answers: a value, or one refusal.
 use Prim.Native.Nat.{ℕ}
 use mathlib.Core.Bool.{Bool, true, false}
 use mathlib.Core.List.{List}

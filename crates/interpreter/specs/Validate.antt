@@ -39,7 +39,8 @@ unfoldable pub valuesOf : Tree → ParamMap
 valuesOf t = listed bindingOf (part 0 (body t))
 
 -- From the number of working words, the layout's bytes, the type's name, the values' bytes and the buffer length. "A set
--- or layout is read before a run or values."
+-- or layout is read before a run or values." "Validation writes only working words": the code's calls are lent the layout, the name and
+-- the values by shared borrows, which nothing can be written through; the words are `words-after`.
 unfoldable pub validate : ℕ → List ℕ → Name → List ℕ → ℕ → Outcome ℕ
 validate words layout name values len = do
   _ ← enough words
