@@ -23,7 +23,7 @@ use Rattle.resolved.specs.Set.{thingOf, fieldsIn, variantsIn, typeOf}
 use Rattle.ir.specs.Ir.{IrNode, IrParameter, SwitchCases, unplaced}
 use Rattle.ir.specs.Layout.{nodeTree, casesTree, caseCount, listTree, parameterTree}
 use Rattle.builder.specs.Registry.{Registry, _>>=_, give, refuse, need, reads, owner-parameters}
-use Rattle.builder.specs.Nodes.{Alternative, enum-alternatives, union-alternatives, sized-alternatives, align-node, const-or-zero, build-field-ref-nodes, combine-checked-add, sum-refs, build-alternative, build-cases}
+use Rattle.builder.specs.Nodes.{Alternative, enum-alternatives, union-alternatives, sized-alternatives, align-node, const-or-zero, sum-refs, build-alternative, build-cases}
 use Rattle.wire.specs.Poke.{Wrote, opened}
 use Rattle.wire.proofs.Laws.{both, parts, no-parts, closed}
 use Rattle.resolved_parts.specs.declared.TypeHead.{TypeHead}
@@ -121,16 +121,12 @@ alignIf a (done x) = done (align-node (x .0) a, x .1)
 alignIf a (refused q) = refused q
 
 variable-node : (os : List Owner) (n : Name) (a : ℕ) (g : Registry) (ps : List Name) → get n os ≡ some ps → build-alternative os n Size.Variable a g ≡ alignIf a (sum-refs n ps g)
-unfolding build-alternative sum-refs _>>=_ _andThen_ need give
-variable-node os n a g ps e = rw e (go (build-field-ref-nodes n ps g))
+unfolding build-alternative _>>=_ _andThen_ need give
+variable-node os n a g ps e = rw e (go (sum-refs n ps g))
   where
-    go : (o : Outcome (List IrNode × Registry)) → _andThen_ o (λ x. _andThen_ (combine-checked-add (x .0) (x .1)) (λ y. done (align-node (y .0) a, y .1))) ≡ alignIf a (_andThen_ o (λ x. combine-checked-add (x .0) (x .1)))
+    go : (o : Outcome (IrNode × Registry)) → _andThen_ o (λ y. done (align-node (y .0) a, y .1)) ≡ alignIf a o
+    go (done y) = refl
     go (refused q) = refl
-    go (done x) = into (combine-checked-add (x .0) (x .1))
-      where
-        into : (o : Outcome (IrNode × Registry)) → _andThen_ o (λ y. done (align-node (y .0) a, y .1)) ≡ alignIf a o
-        into (done y) = refl
-        into (refused q) = refl
 
 missing-node : (os : List Owner) (n : Name) (a : ℕ) (g : Registry) → get n os ≡ none → build-alternative os n Size.Variable a g ≡ refused (plain MissingDynamicRefs)
 unfolding build-alternative _>>=_ _andThen_ need refuse

@@ -43,13 +43,16 @@ still-refs owner (p ∷ ps) =
     still-binds (still-require _ _) (λ _.
     still-binds (still-refs owner ps) (λ nodes. still-give _))))
 
+still-sum : (owner : Name) (paths : List Name) → Still (sum-refs owner paths)
+unfolding sum-refs
+still-sum owner paths = still-binds (still-refs owner paths) (λ nodes. still-combine nodes)
+
 still-alternative : (refs : List Owner) (n : Name) (s : Size) (a : ℕ) → Still (build-alternative refs n s a)
 unfolding build-alternative
 still-alternative refs n (Size.Const v) a = still-give _
 still-alternative refs n Size.Variable a =
     still-binds (still-need (get n refs) _) (λ paths.
-    still-binds (still-refs n paths) (λ nodes.
-    still-binds (still-combine nodes) (λ sum. still-give _)))
+    still-binds (still-sum n paths) (λ sum. still-give _))
 
 still-cases : (refs : List Owner) (xs : List Alternative) → Still (build-cases refs xs)
 unfolding build-cases
@@ -150,9 +153,8 @@ module _ {Known : Name → Type 0} where
   alternative-extends refs n (Size.Const v) a = gives _ _ (const-or-zero-extends v a)
   alternative-extends refs n Size.Variable a =
       first _ (λ paths.
-      binds (refs-extend n paths) (λ ns ns′ xs.
-      binds (combine-extends xs) (λ m m′ x.
-      gives _ _ (align-extends a x))))
+      binds (sum-extends n paths) (λ m m′ x.
+      gives _ _ (align-extends a x)))
 
   cases-extend : (refs : List Owner) {xs ys : List Alternative} → Added xs ys
       → Keeps (CasesExtended Known) (build-cases refs xs) (build-cases refs ys)

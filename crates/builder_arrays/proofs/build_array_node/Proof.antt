@@ -10,91 +10,69 @@ use borrow.Author.Needs.{needs}
 use Rattle.builder_arrays.proofs.build_array_node.Statement.{statement}
 use Rattle.builder_arrays.proofs.build_array_node.Tie as tie
 
--- src/lib.rt:84:9
 type-head-requires : tie.Need-type-head-requires
 type-head-requires c κs = search needs
 
--- src/lib.rt:86:22
 add-read2 : tie.Need-add-read2
 add-read2 c = omega (arith, inside (c .type-head .ensures (c .before .before .before .before .pre .type) .references), long (c .type-head .ensures (c .before .before .before .before .pre .type) .references), c .before .before .before .before .pre .standing .size)
 
--- src/lib.rt:86:8
 read2-requires : tie.Need-read2-requires
 read2-requires c κs = omega (arith, references-inside (c .type-head .ensures (c .before .before .before .before .pre .type) .references))
 
--- src/lib.rt:87:9
 returns : tie.Need-returns
 returns c = (record { low = omega arith; high = omega arith; count = c .before .before .before .before .before .before .pre .standing .count }, root-none (c .before .before .type-head .ensures) _ (c .before .read2 .ensures .0) (c .if1 .taken) refl)
 
--- src/lib.rt:93:34
 add-name-at : tie.Need-add-name-at
 add-name-at c = omega (arith, c .before .before .type-head .ensures (c .before .before .before .before .before .before .pre .type) .named .inside, c .before .before .before .before .before .before .pre .standing .size)
 
--- src/lib.rt:93:9
 name-at-requires : tie.Need-name-at-requires
 name-at-requires c κs = c .before .before .type-head .ensures (c .before .before .before .before .before .before .pre .type) .named
 
--- src/lib.rt:94:11
 last-colons-requires : tie.Need-last-colons-requires
 last-colons-requires c κs = search needs
 
--- src/lib.rt:95:19
 enum-known-i : tie.Need-enum-known-i
 enum-known-i c = search needs
 
--- src/lib.rt:96:26
 add-behind : tie.Need-add-behind
 add-behind c = omega (arith, behind-fits _ (c .before .before .before .last-colons .ensures .1) (c .before .i .given .1), name-short _ (c .before .before .before .before .before .before .before .type-head .ensures (c .before .before .before .before .before .before .before .before .before .before .before .pre .type) .named) (c .before .before .before .before .name-at .ensures))
 
--- src/lib.rt:97:50
 sub-build-under : tie.Need-sub-build-under
 sub-build-under c = omega (arith, behind-fits _ (c .before .before .before .before .last-colons .ensures .1) (c .before .before .i .given .1))
 
--- src/lib.rt:97:50
 part-build-under-start : tie.Need-part-build-under-start
 part-build-under-start c = omega (arith, behind-fits _ (c .before .before .before .before .last-colons .ensures .1) (c .before .before .i .given .1))
 
--- src/lib.rt:97:50
 part-build-under-end : tie.Need-part-build-under-end
 part-build-under-end c = search needs
 
--- src/lib.rt:97:13
 build-under-requires : tie.Need-build-under-requires
 build-under-requires c κs = (root-ready (c .before .before .before .before .before .before .before .before .before .before .type-head .ensures) (c .before .before .before .before .before .before .before .before .before .before .before .before .before .before .pre) (c .before .before .before .before .before .before .before .before .before .read2 .ensures .0) (c .before .before .before .before .before .before .before .before .if1 .left), behind-short (now (c .before .before .before .before .before .before .before .name-at .result)) (c .before .before .before .before .i .given .0 .0 + 2) (name-short _ (c .before .before .before .before .before .before .before .before .before .before .type-head .ensures (c .before .before .before .before .before .before .before .before .before .before .before .before .before .before .pre .type) .named) (c .before .before .before .before .before .before .before .name-at .ensures)))
 
--- src/lib.rt:99:42
 enum-told : tie.Need-enum-told
 enum-told c = search needs
 
--- src/lib.rt:99:64
 slice-aggregate-build-under : tie.Need-slice-aggregate-build-under
 slice-aggregate-build-under c = search needs
 
--- src/lib.rt:99:27
 build-under-requires-2 : tie.Need-build-under-requires-2
 build-under-requires-2 c κs = (root-ready (c .before .before .before .before .before .before .before .before .before .type-head .ensures) (c .before .before .before .before .before .before .before .before .before .before .before .before .before .pre) (c .before .before .before .before .before .before .before .before .read2 .ensures .0) (c .before .before .before .before .before .before .before .if1 .left), omega arith)
 
--- src/lib.rt:79:1
 same-length : tie.Need-same-length
 same-length c = search needs
 
--- src/lib.rt:79:1
 same-length-2 : tie.Need-same-length-2
 same-length-2 c = search needs
 
--- src/lib.rt:79:1
 returns-2 : tie.Need-returns-2
 returns-2 c = (c .before .before .before .before .build-under .ensures .0, root-is (c .before .before .before .before .before .before .before .before .before .before .before .before .before .before .before .type-head .ensures) _ _ (key-behind _ _ (c .before .before .before .before .before .before .before .before .before .before .before .before .name-at .ensures) (c .before .before .before .before .before .before .before .before .before .before .before .last-colons .ensures .1) (c .before .before .before .before .before .before .before .before .before .i .given .1)) (omega (arith, c .before .before .before .before .before .before .before .before .before .before .before .before .before .before .read2 .ensures .0, c .before .before .before .before .before .before .before .before .before .before .before .before .before .if1 .left)) (c .before .before .before .before .build-under .ensures .1))
 
--- src/lib.rt:79:1
 same-length-3 : tie.Need-same-length-3
 same-length-3 c = search needs
 
--- src/lib.rt:79:1
 same-length-4 : tie.Need-same-length-4
 same-length-4 c = search needs
 
--- src/lib.rt:79:1
 returns-3 : tie.Need-returns-3
 returns-3 c = (c .before .before .before .before .build-under2 .ensures .0, root-is (c .before .before .before .before .before .before .before .before .before .before .before .before .before .before .type-head .ensures) _ _ (key-array _ _ (c .before .before .before .before .before .before .before .before .before .before .before .name-at .ensures) (c .before .before .before .before .before .before .before .before .before .before .last-colons .ensures .1) (c .before .before .before .before .before .before .before .before .enum-told .given .1)) (omega (arith, c .before .before .before .before .before .before .before .before .before .before .before .before .before .read2 .ensures .0, c .before .before .before .before .before .before .before .before .before .before .before .before .if1 .left)) (c .before .before .before .before .build-under2 .ensures .1))
 

@@ -3,23 +3,18 @@ use borrow.Author.Needs.{needs}
 use Rattle.builder_arrays.proofs.build_count.Statement.{statement}
 use Rattle.builder_arrays.proofs.build_count.Tie as tie
 
--- src/lib.rt:80:9
 open-align-requires : tie.Need-open-align-requires
 open-align-requires c κs = search needs
 
--- src/lib.rt:81:9
 open-node-requires : tie.Need-open-node-requires
 open-node-requires c κs = search needs
 
--- src/lib.rt:82:5
 build-expr-ir-requires : tie.Need-build-expr-ir-requires
 build-expr-ir-requires c κs = search needs
 
--- src/lib.rt:64:1
 same-length : tie.Need-same-length
 same-length c = search needs
 
--- src/lib.rt:64:1
 returns : tie.Need-returns
 returns c = (behind-both _ (c .before .before .before .before .before .before .before .before .before .before .open-align .ensures .1) (c .before .before .before .before .before .before .open-node .ensures .1) (c .before .before .build-expr-ir .ensures .0), λ e. begins _ _ (c .before .before .before .before .before .before .before .before .before .before .open-align .ensures .1) (c .before .before .before .before .before .before .before .before .before .before .open-align .ensures .0) (c .before .before .before .before .before .before .open-node .ensures .0) (c .before .before .build-expr-ir .ensures .1 e))
 

@@ -5,35 +5,27 @@ use borrow.Author.Needs.{needs}
 use Rattle.builder_arrays.proofs.build_named.Statement.{statement}
 use Rattle.builder_arrays.proofs.build_named.Tie as tie
 
--- src/lib.rt:47:34
 add-name-at : tie.Need-add-name-at
 add-name-at c = omega (arith, c .before .before .before .pre .named .inside, c .before .before .before .pre .ready .standing .size)
 
--- src/lib.rt:47:9
 name-at-requires : tie.Need-name-at-requires
 name-at-requires c κs = c .before .before .before .pre .named
 
--- src/lib.rt:48:11
 get-requires : tie.Need-get-requires
 get-requires c κs = search needs
 
--- src/lib.rt:49:57
 enum-told : tie.Need-enum-told
 enum-told c = search needs
 
--- src/lib.rt:49:25
 build-array-node-with-prefix-requires : tie.Need-build-array-node-with-prefix-requires
 build-array-node-with-prefix-requires c κs = inside-ready (c .before .before .before .before .before .before .before .before .before .pre .ready) (name-short _ (c .before .before .before .before .before .before .before .before .before .pre .named) (c .before .before .before .before .before .name-at .ensures))
 
--- src/lib.rt:51:43
 enum-told-2 : tie.Need-enum-told-2
 enum-told-2 c = search needs
 
--- src/lib.rt:51:43
 add-name-at-2 : tie.Need-add-name-at-2
 add-name-at-2 c = omega (arith, first-is (c .before .before .before .before .before .before .before .pre .owners) (c .before .before .before .before .before .before .before .pre .some-owner) .0 .inside, c .before .before .before .before .before .before .before .pre .ready .standing .size)
 
--- src/lib.rt:51:17
 add-name-at-3 : tie.Need-add-name-at-3
 add-name-at-3 c = omega (arith, first-is (c .before .before .before .before .before .before .before .pre .owners) (c .before .before .before .before .before .before .before .pre .some-owner) .0 .inside, c .before .before .before .before .before .before .before .pre .ready .standing .size)
 
@@ -43,31 +35,24 @@ add-name-at-4 c = omega (arith, first-is (c .before .before .before .before .bef
 name-at-requires-2 : tie.Need-name-at-requires-2
 name-at-requires-2 c κs = first-is (c .before .before .before .before .before .before .before .pre .owners) (c .before .before .before .before .before .before .before .pre .some-owner) .0
 
--- src/lib.rt:52:13
 build-array-node-with-prefix-requires-2 : tie.Need-build-array-node-with-prefix-requires-2
 build-array-node-with-prefix-requires-2 c κs = inside-ready (c .before .before .before .before .before .before .before .before .before .before .pre .ready) (name-short _ (first-is (c .before .before .before .before .before .before .before .before .before .before .pre .owners) (c .before .before .before .before .before .before .before .before .before .before .pre .some-owner) .0) (c .before .before .name-at2 .ensures))
 
--- src/lib.rt:42:1
 same-length : tie.Need-same-length
 same-length c = search needs
 
--- src/lib.rt:42:1
 same-length-2 : tie.Need-same-length-2
 same-length-2 c = search needs
 
--- src/lib.rt:42:1
 returns : tie.Need-returns
 returns c = (c .before .before .before .before .build-array-node-with-prefix .ensures .0, name-yes _ _ (c .before .before .before .before .before .before .before .before .before .before .name-at .ensures) (c .before .before .before .before .before .before .before .before .before .get .ensures) (c .before .before .before .before .before .before .before .enum-told .given .1) (c .before .before .before .before .build-array-node-with-prefix .ensures .1))
 
--- src/lib.rt:42:1
 same-length-3 : tie.Need-same-length-3
 same-length-3 c = search needs
 
--- src/lib.rt:42:1
 same-length-4 : tie.Need-same-length-4
 same-length-4 c = search needs
 
--- src/lib.rt:42:1
 returns-2 : tie.Need-returns-2
 returns-2 c = (c .before .before .before .before .build-array-node-with-prefix2 .ensures .0, name-no _ _ (c .before .before .before .before .before .before .before .before .before .before .before .before .before .before .before .pre .some-owner) (c .before .before .before .before .before .before .before .before .before .before .before .name-at .ensures) (c .before .before .before .before .before .before .before .before .before .before .get .ensures) (c .before .before .before .before .before .before .before .before .enum-told2 .given .1) (c .before .before .before .before .before .before .before .name-at2 .ensures) (c .before .before .before .before .build-array-node-with-prefix2 .ensures .1))
 

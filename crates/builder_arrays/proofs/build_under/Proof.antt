@@ -4,47 +4,36 @@ use borrow.Author.Needs.{needs}
 use Rattle.builder_arrays.proofs.build_under.Statement.{statement}
 use Rattle.builder_arrays.proofs.build_under.Tie as tie
 
--- src/lib.rt:72:11
 get-requires : tie.Need-get-requires
 get-requires c κs = search needs
 
--- src/lib.rt:73:57
 enum-told : tie.Need-enum-told
 enum-told c = search needs
 
--- src/lib.rt:73:25
 build-array-node-with-prefix-requires : tie.Need-build-array-node-with-prefix-requires
 build-array-node-with-prefix-requires c κs = inside-ready (c .before .before .before .before .before .before .before .before .before .pre .0 .ready) (c .before .before .before .before .before .before .before .before .before .pre .1)
 
--- src/lib.rt:74:42
 enum-told-2 : tie.Need-enum-told-2
 enum-told-2 c = search needs
 
--- src/lib.rt:74:27
 build-named-requires : tie.Need-build-named-requires
 build-named-requires c κs = search needs
 
--- src/lib.rt:58:1
 same-length : tie.Need-same-length
 same-length c = search needs
 
--- src/lib.rt:58:1
 same-length-2 : tie.Need-same-length-2
 same-length-2 c = search needs
 
--- src/lib.rt:58:1
 returns : tie.Need-returns
 returns c = (c .before .before .before .before .build-array-node-with-prefix .ensures .0, key-yes _ _ (c .before .before .before .before .before .before .before .before .before .get .ensures) (c .before .before .before .before .before .before .before .enum-told .given .1) (c .before .before .before .before .build-array-node-with-prefix .ensures .1))
 
--- src/lib.rt:58:1
 same-length-3 : tie.Need-same-length-3
 same-length-3 c = search needs
 
--- src/lib.rt:58:1
 same-length-4 : tie.Need-same-length-4
 same-length-4 c = search needs
 
--- src/lib.rt:58:1
 returns-2 : tie.Need-returns-2
 returns-2 c = (c .before .before .before .before .build-named .ensures .0, key-no _ _ (c .before .before .before .before .before .before .before .before .before .get .ensures) (c .before .before .before .before .before .before .before .enum-told2 .given .1) (c .before .before .before .before .build-named .ensures .1))
 

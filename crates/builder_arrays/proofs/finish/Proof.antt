@@ -3,19 +3,15 @@ use borrow.Author.Needs.{needs}
 use Rattle.builder_arrays.proofs.finish.Statement.{statement}
 use Rattle.builder_arrays.proofs.finish.Tie as tie
 
--- src/lib.rt:129:9
 returns : tie.Need-returns
 returns c = Finished.stopped (c .if1 .taken)
 
--- src/lib.rt:136:5
 close-array-requires : tie.Need-close-array-requires
 close-array-requires c κs = search needs
 
--- src/lib.rt:124:1
 same-length : tie.Need-same-length
 same-length c = search needs
 
--- src/lib.rt:124:1
 returns-2 : tie.Need-returns-2
 returns-2 c = Finished.closed (c .before .before .before .before .if1 .left) (c .before .before .close-array .ensures)
 

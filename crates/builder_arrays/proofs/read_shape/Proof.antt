@@ -4,23 +4,18 @@ use borrow.Author.Needs.{needs}
 use Rattle.builder_arrays.proofs.read_shape.Statement.{statement}
 use Rattle.builder_arrays.proofs.read_shape.Tie as tie
 
--- src/lib.rt:48:9
 type-head-requires : tie.Need-type-head-requires
 type-head-requires c κs = search needs
 
--- src/lib.rt:49:9
 array-parts-requires : tie.Need-array-parts-requires
 array-parts-requires c κs = search needs
 
--- src/lib.rt:50:9
 type-head-requires-2 : tie.Need-type-head-requires-2
 type-head-requires-2 c κs = let e : Accepted _ 1 7 _ = c .array-parts .ensures (c .before .before .before .before .pre .1) .element in search needs
 
--- src/lib.rt:52:15
 both-requires : tie.Need-both-requires
 both-requires c κs = search needs
 
--- src/lib.rt:44:1
 returns : tie.Need-returns
 returns c = λ a. shaped (c .before .before .before .type-head .ensures a) (c .before .before .array-parts .ensures a) (c .before .type-head2 .ensures (c .before .before .array-parts .ensures a .element)) (c .both .ensures)
 

@@ -6,59 +6,45 @@ use borrow.Author.Needs.{needs}
 use Rattle.builder_arrays.proofs.sum_over_array.Statement.{statement}
 use Rattle.builder_arrays.proofs.sum_over_array.Tie as tie
 
--- src/lib.rt:161:9
 build-count-requires : tie.Need-build-count-requires
 build-count-requires c κs = search needs
 
--- src/lib.rt:163:9
 same-length : tie.Need-same-length
 same-length c = search needs
 
--- src/lib.rt:163:9
 returns : tie.Need-returns
 returns c = (stays (c .before .before .before .before .before .before .before .before .before .before .pre .0 .standing .count), sum-count-stops _ _ _ _ (c .before .before .before .before .build-count .ensures .1) (c .if1 .taken))
 
--- src/lib.rt:169:22
 add-read2 : tie.Need-add-read2
 add-read2 c = omega (arith, header-inside (c .before .before .before .before .before .before .before .before .before .before .pre .1), c .before .before .before .before .before .before .before .before .before .before .pre .0 .standing .size)
 
--- src/lib.rt:169:8
 read2-requires : tie.Need-read2-requires
 read2-requires c κs = omega (arith, header-inside (c .before .before .before .before .before .before .before .before .before .before .pre .1))
 
--- src/lib.rt:170:9
 same-length-2 : tie.Need-same-length-2
 same-length-2 c = search needs
 
--- src/lib.rt:170:9
 returns-2 : tie.Need-returns-2
 returns-2 c = (stays (c .before .before .before .before .before .before .before .before .before .before .before .before .pre .0 .standing .count), sum-element-stops _ _ _ _ (c .before .before .before .before .before .before .build-count .ensures .1) (c .before .before .if1 .left) (c .before .read2 .ensures .0) (c .if2 .taken))
 
--- src/lib.rt:176:36
 target-requires : tie.Need-target-requires
 target-requires c κs = search needs
 
--- src/lib.rt:176:9
 name-at-requires : tie.Need-name-at-requires
 name-at-requires c κs = let n : Named _ _ = c .target .ensures (c .before .before .before .before .before .before .before .before .before .before .before .before .before .pre .1) .named in search needs
 
--- src/lib.rt:177:9
 put-name-requires : tie.Need-put-name-requires
 put-name-requires c κs = omega (arith, c .before .before .before .before .before .before .before .before .before .build-count .ensures .0 .high, c .before .before .before .before .before .before .before .before .before .before .before .before .before .before .before .pre .0 .cursor, named-short (c .before .before .target .ensures (c .before .before .before .before .before .before .before .before .before .before .before .before .before .before .before .pre .1) .named) (c .before .name-at .ensures))
 
--- src/lib.rt:178:9
 put-name-requires-2 : tie.Need-put-name-requires-2
 put-name-requires-2 c κs = omega (arith, c .before .before .before .before .before .before .before .before .before .before .before .before .before .build-count .ensures .0 .high, c .before .before .before .before .before .before .before .before .before .before .before .before .before .before .before .before .before .before .before .pre .0 .cursor, c .before .before .before .before .before .before .before .before .before .before .before .before .before .before .before .before .before .before .before .pre .0 .owned, named-short (c .before .before .before .before .before .before .target .ensures (c .before .before .before .before .before .before .before .before .before .before .before .before .before .before .before .before .before .before .before .pre .1) .named) (c .before .before .before .before .before .name-at .ensures), c .before .before .before .put-name .ensures .1)
 
--- src/lib.rt:179:5
 close-array-requires : tie.Need-close-array-requires
 close-array-requires c κs = omega (arith, c .before .before .before .before .before .before .before .before .before .before .before .before .before .before .before .before .before .build-count .ensures .0 .low, c .before .before .before .before .before .before .before .before .before .before .before .before .before .before .before .before .before .build-count .ensures .0 .high, c .before .before .before .before .before .before .before .before .before .before .before .before .before .before .before .before .before .before .before .before .before .before .before .pre .0 .cursor, c .before .before .before .before .before .before .before .before .before .before .before .before .before .before .before .before .before .before .before .before .before .before .before .pre .0 .owned, named-short (c .before .before .before .before .before .before .before .before .before .before .target .ensures (c .before .before .before .before .before .before .before .before .before .before .before .before .before .before .before .before .before .before .before .before .before .before .before .pre .1) .named) (c .before .before .before .before .before .before .before .before .before .name-at .ensures), c .before .before .before .before .before .before .before .put-name .ensures .1, c .before .before .before .put-name2 .ensures .1)
 
--- src/lib.rt:145:1
 same-length-3 : tie.Need-same-length-3
 same-length-3 c = search needs
 
--- src/lib.rt:145:1
 returns-3 : tie.Need-returns-3
 returns-3 c = (record { low = omega (arith, c .before .before .before .before .before .before .before .before .before .before .before .before .before .before .before .before .before .before .before .before .build-count .ensures .0 .low, c .before .before .before .before .before .before .before .before .before .before .put-name .ensures .1, c .before .before .before .before .before .before .put-name2 .ensures .1); high = omega (arith, c .before .before .before .before .before .before .before .before .before .before .before .before .before .before .before .before .before .before .before .before .build-count .ensures .0 .high, c .before .before .before .before .before .before .before .before .before .before .before .before .before .before .before .before .before .before .before .before .before .before .before .before .before .before .pre .0 .owned, named-short (c .before .before .before .before .before .before .before .before .before .before .before .before .before .target .ensures (c .before .before .before .before .before .before .before .before .before .before .before .before .before .before .before .before .before .before .before .before .before .before .before .before .before .before .pre .1) .named) (c .before .before .before .before .before .before .before .before .before .before .before .before .name-at .ensures), c .before .before .before .before .before .before .before .before .before .before .put-name .ensures .1, c .before .before .before .before .before .before .put-name2 .ensures .1); count = c .before .before .before .before .before .before .before .before .before .before .before .before .before .before .before .before .before .before .before .before .build-count .ensures .0 .count }, sum-made _ _ _ _ (c .before .before .before .before .before .before .before .before .before .before .before .before .before .before .before .before .before .before .before .before .build-count .ensures .1) (c .before .before .before .before .before .before .before .before .before .before .before .before .before .before .before .before .if1 .left) (c .before .before .before .before .before .before .before .before .before .before .before .before .before .target .ensures) (c .before .before .before .before .before .before .before .before .before .before .before .before .name-at .ensures) (c .before .before .before .before .before .before .before .before .before .before .put-name .ensures .0) (c .before .before .before .before .before .before .put-name2 .ensures .0) (c .before .before .close-array .ensures))
 

@@ -4,71 +4,54 @@ use Rattle.builder_calls.proofs.Laws.{owners-inside, owners-at, call-st
 use Rattle.builder_calls.proofs.put_call.Statement.{statement}
 use Rattle.builder_calls.proofs.put_call.Tie as tie
 
--- src/lib.rt:152:22
 type-head-requires : tie.Need-type-head-requires
 type-head-requires c κs = search needs
 
--- src/lib.rt:153:9
 count-paths-requires : tie.Need-count-paths-requires
 count-paths-requires c κs = c .type-head .ensures (c .before .before .before .before .before .pre .type-at) .references
 
--- src/lib.rt:154:30
 add-read2 : tie.Need-add-read2
 add-read2 c = omega (arith, owners-inside (c .before .type-head .ensures (c .before .before .before .before .before .before .pre .type-at) .references))
 
--- src/lib.rt:154:9
 read2-requires : tie.Need-read2-requires
 read2-requires c κs = omega (arith, owners-inside (c .before .type-head .ensures (c .before .before .before .before .before .before .pre .type-at) .references))
 
--- src/lib.rt:155:9
 open-node-requires : tie.Need-open-node-requires
 open-node-requires c κs = search needs
 
--- src/lib.rt:156:9
 put-name-requires : tie.Need-put-name-requires
 put-name-requires c κs = omega (arith, c .before .before .before .open-node .ensures .1, c .before .before .before .before .before .before .before .before .before .before .before .before .pre .cursor, c .before .before .before .before .before .before .before .before .before .before .before .before .pre .short)
 
--- src/lib.rt:157:9
 put-le-requires : tie.Need-put-le-requires
 put-le-requires c κs = omega (arith, c .before .before .before .put-name .ensures .1, c .before .before .before .before .before .before .before .open-node .ensures .1, c .before .before .before .before .before .before .before .before .before .before .before .before .before .before .before .before .pre .cursor, c .before .before .before .before .before .before .before .before .before .before .before .before .before .before .before .before .pre .short)
 
--- src/lib.rt:158:43
 add-put-owners : tie.Need-add-put-owners
 add-put-owners c = omega (arith, owners-inside (c .before .before .before .before .before .before .before .before .before .before .before .before .before .before .before .type-head .ensures (c .before .before .before .before .before .before .before .before .before .before .before .before .before .before .before .before .before .before .before .before .pre .type-at) .references))
 
--- src/lib.rt:158:43
 add-put-owners-2 : tie.Need-add-put-owners-2
 add-put-owners-2 c = omega (arith, owners-inside (c .before .before .before .before .before .before .before .before .before .before .before .before .before .before .before .type-head .ensures (c .before .before .before .before .before .before .before .before .before .before .before .before .before .before .before .before .before .before .before .before .pre .type-at) .references))
 
--- src/lib.rt:158:9
 put-owners-requires : tie.Need-put-owners-requires
 put-owners-requires c κs = record { room = record { standing = c .before .before .before .before .before .before .before .before .before .before .before .before .before .before .before .before .before .before .before .before .before .pre .standing; few = omega arith; cursor = omega (arith, c .before .before .before .before .put-le .ensures .1, c .before .before .before .before .before .before .before .before .put-name .ensures .1, c .before .before .before .before .before .before .before .before .before .before .before .before .open-node .ensures .1, c .before .before .before .before .before .before .before .before .before .before .before .before .before .before .before .before .before .before .before .before .before .pre .cursor, c .before .before .before .before .before .before .before .before .before .before .before .before .before .before .before .before .before .before .before .before .before .pre .short) }; list = owners-at (c .before .before .before .before .before .before .before .before .before .before .before .before .before .before .read2 .ensures .0) (c .before .before .before .before .before .before .before .before .before .before .before .before .before .before .before .before .type-head .ensures (c .before .before .before .before .before .before .before .before .before .before .before .before .before .before .before .before .before .before .before .before .before .pre .type-at) .references) }
 
--- src/lib.rt:160:9
 same-length : tie.Need-same-length
 same-length c = search needs
 
--- src/lib.rt:160:9
 same-length-2 : tie.Need-same-length-2
 same-length-2 c = search needs
 
--- src/lib.rt:160:9
 returns : tie.Need-returns
 returns c = (record { low = omega arith; high = omega arith; count = c .before .before .before .before .before .before .before .before .before .before .before .before .before .before .before .before .before .before .before .before .before .before .before .before .before .before .before .before .pre .standing .count }, call-stop _ (c .before .before .before .before .before .before .before .before .before .before .before .before .before .before .before .before .before .before .before .before .before .before .before .type-head .ensures) (c .before .before .before .before .before .before .before .before .before .before .before .before .before .before .before .before .before .before .before .before .before .read2 .ensures .0) (c .before .before .before .before .before .before .put-owners .ensures .1) _ _ (c .if1 .taken))
 
--- src/lib.rt:167:5
 close-block-requires : tie.Need-close-block-requires
 close-block-requires c κs = (omega (arith, c .before .before .before .before .before .before .before .put-owners .ensures .0 .low, c .before .before .before .before .before .before .before .before .before .before .before .before .put-le .ensures .1, c .before .before .before .before .before .before .before .before .before .before .before .before .before .before .before .before .put-name .ensures .1, c .before .before .before .before .before .before .before .before .before .before .before .before .before .before .before .before .before .before .before .before .open-node .ensures .1), omega (arith, c .before .before .before .before .before .before .before .put-owners .ensures .0 .high, c .before .before .before .before .before .before .before .put-owners .ensures .0 .most, c .before .before .before .before .before .before .before .before .before .before .before .before .put-le .ensures .1, c .before .before .before .before .before .before .before .before .before .before .before .before .before .before .before .before .put-name .ensures .1, c .before .before .before .before .before .before .before .before .before .before .before .before .before .before .before .before .before .before .before .before .open-node .ensures .1, c .before .before .before .before .before .before .before .before .before .before .before .before .before .before .before .before .before .before .before .before .before .before .before .before .before .before .before .before .before .pre .cursor, c .before .before .before .before .before .before .before .before .before .before .before .before .before .before .before .before .before .before .before .before .before .before .before .before .before .before .before .before .before .pre .short))
 
--- src/lib.rt:147:1
 same-length-3 : tie.Need-same-length-3
 same-length-3 c = search needs
 
--- src/lib.rt:147:1
 same-length-4 : tie.Need-same-length-4
 same-length-4 c = search needs
 
--- src/lib.rt:147:1
 returns-2 : tie.Need-returns-2
 returns-2 c = (record { low = omega (arith, c .before .before .before .before .before .before .before .before .before .before .put-owners .ensures .0 .low, c .before .before .before .before .before .before .before .before .before .before .before .before .before .before .before .put-le .ensures .1, c .before .before .before .before .before .before .before .before .before .before .before .before .before .before .before .before .before .before .before .put-name .ensures .1, c .before .before .before .before .before .before .before .before .before .before .before .before .before .before .before .before .before .before .before .before .before .before .before .open-node .ensures .1); high = omega (arith, c .before .before .before .before .before .before .before .before .before .before .put-owners .ensures .0 .high, c .before .before .before .before .before .before .before .before .before .before .put-owners .ensures .0 .most, c .before .before .before .before .before .before .before .before .before .before .before .before .before .before .before .put-le .ensures .1, c .before .before .before .before .before .before .before .before .before .before .before .before .before .before .before .before .before .before .before .put-name .ensures .1, c .before .before .before .before .before .before .before .before .before .before .before .before .before .before .before .before .before .before .before .before .before .before .before .open-node .ensures .1, c .before .before .before .before .before .before .before .before .before .before .before .before .before .before .before .before .before .before .before .before .before .before .before .before .before .before .before .before .before .before .before .before .pre .cursor, c .before .before .before .before .before .before .before .before .before .before .before .before .before .before .before .before .before .before .before .before .before .before .before .before .before .before .before .before .before .before .before .before .pre .short); count = c .before .before .before .before .before .before .before .before .before .before .put-owners .ensures .0 .count }, call-done _ (c .before .before .before .before .before .before .before .before .before .before .before .before .before .before .before .before .before .before .before .before .before .before .before .before .before .before .before .type-head .ensures) (c .before .before .before .before .before .before .before .before .before .before .before .before .before .before .before .before .before .before .before .before .before .before .before .before .before .read2 .ensures .0) (c .before .before .before .before .before .before .before .before .before .before .put-owners .ensures .1) _ _ _ (c .before .before .before .before .before .before .before .before .before .before .before .before .before .before .before .before .before .before .before .before .before .before .before .before .before .before .count-paths .ensures .1) (c .before .before .before .before .before .before .before .before .before .before .before .before .before .before .before .before .before .before .before .before .before .before .before .open-node .ensures .0) (c .before .before .before .before .before .before .before .before .before .before .before .before .before .before .before .before .before .before .before .put-name .ensures .0) (c .before .before .before .before .before .before .before .before .before .before .before .before .before .before .before .put-le .ensures .0) (c .before .before .before .before .if1 .left) (c .before .before .close-block .ensures .0))
 

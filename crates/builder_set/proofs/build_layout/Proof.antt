@@ -6,63 +6,48 @@ use Rattle.builder_set.proofs.Laws.{count-few, types-no, layout-yes, la
 use Rattle.builder_set.proofs.build_layout.Statement.{statement}
 use Rattle.builder_set.proofs.build_layout.Tie as tie
 
--- src/lib.rt:84:9
 open-block-requires : tie.Need-open-block-requires
 open-block-requires c κs = search needs
 
--- src/lib.rt:85:36
 read2-requires : tie.Need-read2-requires
 read2-requires c κs = omega (arith, count-few (c .before .before .before .before .before .before .before .before .pre) .0)
 
--- src/lib.rt:85:9
 put-le-requires : tie.Need-put-le-requires
 put-le-requires c κs = search needs
 
--- src/lib.rt:86:9
 build-types-requires : tie.Need-build-types-requires
 build-types-requires c κs = (c .before .before .before .before .before .before .before .before .before .before .before .before .before .before .pre, omega (arith, c .before .before .before .before .before .before .before .before .before .open-block .ensures .1, c .before .before .before .before .put-le .ensures .1))
 
--- src/lib.rt:88:9
 same-length : tie.Need-same-length
 same-length c = search needs
 
--- src/lib.rt:88:9
 same-length-2 : tie.Need-same-length-2
 same-length-2 c = search needs
 
--- src/lib.rt:88:9
 returns : tie.Need-returns
 returns c = types-no _ (c .before .before .before .before .before .before .before .before .before .before .before .before .before .before .before .before .open-block .ensures .0) (c .before .before .before .before .before .before .before .before .before .before .before .put-le .ensures .0) (c .before .before .before .before .before .before .before .before .before .before .before .before .read2 .ensures .0) (c .before .before .before .before .before .before .build-types .ensures .1) (c .if1 .taken)
 
--- src/lib.rt:91:5
 close-block-requires : tie.Need-close-block-requires
 close-block-requires c κs = (omega (arith, c .before .before .before .before .before .before .before .before .before .before .before .before .before .before .before .before .before .open-block .ensures .1, c .before .before .before .before .before .before .before .before .before .before .before .before .put-le .ensures .1, c .before .before .before .before .before .before .before .build-types .ensures .0), omega (arith, c .before .before .before .before .before .before .before .before .before .before .before .before .before .before .before .before .before .open-block .ensures .1, c .before .before .before .before .before .before .before .before .before .before .before .before .put-le .ensures .1, c .before .before .before .before .before .before .before .build-types .ensures .0))
 
--- src/lib.rt:92:8
 holds-requires : tie.Need-holds-requires
 holds-requires c κs = search needs
 
--- src/lib.rt:93:9
 same-length-3 : tie.Need-same-length-3
 same-length-3 c = search needs
 
--- src/lib.rt:93:9
 same-length-4 : tie.Need-same-length-4
 same-length-4 c = search needs
 
--- src/lib.rt:93:9
 returns-2 : tie.Need-returns-2
 returns-2 c t e = layout-yes _ (c .before .before .before .before .before .before .before .before .before .before .before .before .before .before .before .before .before .before .before .before .before .before .before .open-block .ensures .0) (c .before .before .before .before .before .before .before .before .before .before .before .before .before .before .before .before .before .before .put-le .ensures .0) (c .before .before .before .before .before .before .before .before .before .before .before .before .before .before .before .before .before .before .before .read2 .ensures .0) (c .before .before .before .before .before .before .before .before .before .before .before .before .before .build-types .ensures .1) (c .before .before .before .before .before .before .before .if1 .left) (c .before .before .before .before .before .close-block .ensures .0) t e (sym (c .if2 .taken) ∙ c .before .holds .ensures)
 
--- src/lib.rt:80:1
 same-length-5 : tie.Need-same-length-5
 same-length-5 c = search needs
 
--- src/lib.rt:80:1
 same-length-6 : tie.Need-same-length-6
 same-length-6 c = search needs
 
--- src/lib.rt:80:1
 returns-3 : tie.Need-returns-3
 returns-3 c t e = layout-no _ (c .before .before .before .before .before .before .before .before .before .before .before .before .before .before .before .before .before .before .before .before .before .before .before .open-block .ensures .0) (c .before .before .before .before .before .before .before .before .before .before .before .before .before .before .before .before .before .before .put-le .ensures .0) (c .before .before .before .before .before .before .before .before .before .before .before .before .before .before .before .before .before .before .before .read2 .ensures .0) (c .before .before .before .before .before .before .before .before .before .before .before .before .before .build-types .ensures .1) (c .before .before .before .before .before .before .before .if1 .left) (c .before .before .before .before .before .close-block .ensures .0) t e (sym (c .if2 .left) ∙ c .before .holds .ensures)
 

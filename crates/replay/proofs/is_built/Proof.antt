@@ -6,67 +6,51 @@ use borrow.Author.Needs.{needs}
 use Rattle.replay.proofs.is_built.Statement.{statement}
 use Rattle.replay.proofs.is_built.Tie as tie
 
--- src/main.rt:240:23
 enum-known-got : tie.Need-enum-known-got
 enum-known-got c = search needs
 
--- src/main.rt:242:17
 returns : tie.Need-returns
 returns c = search needs
 
--- src/main.rt:244:13
 is-stored-requires : tie.Need-is-stored-requires
 is-stored-requires c κs = search needs
 
--- src/main.rt:244:66
 slice-aggregate-same-name : tie.Need-slice-aggregate-same-name
 slice-aggregate-same-name c = sym (length-take-le _ _ (omega arith))
 
--- src/main.rt:244:51
 same-name-requires : tie.Need-same-name-requires
 same-name-requires c κs = search needs
 
--- src/main.rt:244:95
 sub-is-all : tie.Need-sub-is-all
 sub-is-all c = search needs
 
--- src/main.rt:244:95
 part-is-all-start : tie.Need-part-is-all-start
 part-is-all-start c = search needs
 
--- src/main.rt:244:95
 part-is-all-end : tie.Need-part-is-all-end
 part-is-all-end c = search needs
 
--- src/main.rt:244:88
 is-all-requires : tie.Need-is-all-requires
 is-all-requires c κs = search needs
 
--- src/main.rt:246:24
 enum-known-got-2 : tie.Need-enum-known-got-2
 enum-known-got-2 c = search needs
 
--- src/main.rt:246:57
 is-stored-requires-2 : tie.Need-is-stored-requires-2
 is-stored-requires-2 c κs = search needs
 
--- src/main.rt:246:107
 is-all-requires-2 : tie.Need-is-all-requires-2
 is-all-requires-2 c κs = search needs
 
--- src/main.rt:238:1
 returns-2 : tie.Need-returns-2
 returns-2 c = search needs
 
--- src/main.rt:238:1
 returns-3 : tie.Need-returns-3
 returns-3 c = search needs
 
--- src/main.rt:238:1
 returns-4 : tie.Need-returns-4
 returns-4 c = search needs
 
--- src/main.rt:238:1
 returns-5 : tie.Need-returns-5
 returns-5 c = search needs
 
