@@ -202,17 +202,14 @@ module _ (old new : List TypeIr) where
         agree-same _ _ s (same-arguments p q x γ [])
         (λ δ. agree-looked n f _ _ (λ i j t t′ c r y. rw c (h p q a b i j _ (t .root) (t′ .root) s r y)))
 
-    -- 24 in both
-    agree-sum : (e e′ : Enter) → AgreeSums (handlers e old) (handlers e′ new)
-    agree-sum e e′ p q γ a b x y t f s h = Agree.refusal _ _ refl refl s
-
+    -- with so many calls left; a sum over an array gives 24 in both
     agree-within : (left : ℕ) {n n′ : IrNode} → NodeExtended (Found old) n n′ → (p q : ℕ) (γ : ParamMap) → Stand old new p q n n′
         → Agree old new (eval-within left old p γ n) (eval-within left new q γ n′)
     unfolding eval-within
     agree-within zero x p q γ s =
-        agree-node _ _ (agree-call _ _ (λ p q a b i j δ n n′ e t y. Agree.refusal _ _ refl refl e)) (agree-sum _ _) γ p q x s
+        agree-node _ _ (agree-call _ _ (λ p q a b i j δ n n′ e t y. Agree.refusal _ _ refl refl e)) (λ p q γ a b x y t f e h. Agree.refusal _ _ refl refl e) γ p q x s
     agree-within (suc left) x p q γ s =
-        agree-node _ _ (agree-call _ _ (λ p q a b i j δ n n′ e t y. agree-within left y i j δ t)) (agree-sum _ _) γ p q x s
+        agree-node _ _ (agree-call _ _ (λ p q a b i j δ n n′ e t y. agree-within left y i j δ t)) (λ p q γ a b x y t f e h. Agree.refusal _ _ refl refl e) γ p q x s
 
 -- For every type that the old layout has, all values and every buffer length.
 pub evaluated : (old new : List TypeIr) → LayoutExtended old new → (n : Name) → Found old n → (len : ℕ) (values : ParamMap)

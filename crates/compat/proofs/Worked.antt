@@ -5,7 +5,7 @@ use Prim.Native.Nat.{ℕ, zero, suc, _<_}
 use mathlib.Core.Path.{_≡_, refl}
 use mathlib.Core.Bool.{Bool, true, _&&_}
 use mathlib.Core.List.{List, [], _∷_}
-use lib.Dec.{ltb}
+use lib.Dec.{ltb, lit<}
 use borrow.Author.Tests.{ltb-true}
 use lib.ListN.{getD}
 use Rattle.errors.specs.Refusal.{Outcome, done, refused}
