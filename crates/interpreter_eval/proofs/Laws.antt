@@ -50,7 +50,7 @@ use Rattle.interpreter_eval.specs.Evaluates.{Ready, Evaluates}
 -- ---- the allowance of open calls
 
 abbrev entering : ℕ → List TypeIr → Enter
-entering zero types = no-more-calls
+entering zero types p a i δ root = no-more-calls p a i δ root
 entering (suc left) types p a i δ root = eval-within left types i δ root
 
 -- what a call does with so many calls left
