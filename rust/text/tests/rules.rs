@@ -1,4 +1,5 @@
 //! docs/RULES.md: its examples print what stands there, and its sections are those that others name.
+//! At the end, the first screen of README.md.
 //!
 //! An example is a fence `example`: a text, then commands `$ ./text COMMAND t.txt`, each with what it
 //! prints. Where a message of the tool was changed on purpose, RULES_WRITE=1 writes the page anew:
@@ -10,7 +11,7 @@
 mod common;
 
 use ciztarmo_text::commands;
-use common::{read, repository};
+use common::{blocks, cut, read, repository};
 use std::collections::BTreeSet;
 
 const PAGE: &str = "docs/RULES.md";
@@ -199,5 +200,28 @@ fn every_refusal_has_its_section_and_example() {
         let shown = examples.contains(&format!("refused {number}:"));
         let expected = !WITHOUT_EXAMPLE.contains(&number);
         assert_eq!(shown, expected, "refusal {number}");
+    }
+}
+
+/// README.md shows the type Trip, and what two commands print of it.
+#[test]
+fn the_first_screen() {
+    let readme = String::from_utf8(read("README.md")).unwrap();
+    let indented = |text: &str| -> String { text.lines().map(|l| format!("    {l}\n")).collect() };
+    let begin = readme
+        .find("    struct Trip")
+        .expect("README.md has no type Trip");
+    let shown = readme[begin..].split("\n\n").next().unwrap();
+    let lines = shown.lines().map(|line| format!("{}\n", &line[2..]));
+    let set: String = std::iter::once("set\n".to_string()).chain(lines).collect();
+    assert_eq!(blocks(&set), cut(&read("examples/trip")).unwrap()[0]);
+    let words = commands::lengths("examples/trip.txt", &read("examples/trip.txt")).unwrap();
+    let lines = read("examples/trip.out");
+    for (command, output) in [
+        ("$ ./text lengths examples/trip.txt", words.output),
+        ("$ ./lengths < examples/trip", lines),
+    ] {
+        let printed = format!("{command}\n{}", String::from_utf8(output).unwrap());
+        assert!(readme.contains(&indented(&printed)), "{printed}");
     }
 }
