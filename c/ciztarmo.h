@@ -2,7 +2,7 @@
  * Ciztarmo: record layouts for ticket validators, for C and C++ programs.
  *
  * Link libciztarmo.a (the command `archive` of the repository prints its folder). Of the C library it needs memset alone. Compile
- * ciztarmo.c too if you want the names and sentences of refusals. Byte forms, limits and refusals: docs/FORMAT.md.
+ * ciztarmo.c too, as C or C++, if you want the names and sentences of refusals. Byte forms, limits and refusals: docs/FORMAT.md.
  *
  * What holds for every call:
  *
@@ -36,6 +36,17 @@
 #ifdef __cplusplus
 extern "C" {
 #endif
+
+/*
+ * The version of this header, a number each for comparisons and together as a text, "0.1.0". This is the one place where it stands:
+ * the commands of the repository read it here, and a test holds the Rust crate's to it.
+ */
+#define CIZTARMO_VERSION_MAJOR 0
+#define CIZTARMO_VERSION_MINOR 1
+#define CIZTARMO_VERSION_PATCH 0
+#define CIZTARMO_VERSION CIZTARMO_DOTTED(CIZTARMO_VERSION_MAJOR, CIZTARMO_VERSION_MINOR, CIZTARMO_VERSION_PATCH)
+#define CIZTARMO_DOTTED(a, b, c) CIZTARMO_TEXT(a) "." CIZTARMO_TEXT(b) "." CIZTARMO_TEXT(c)
+#define CIZTARMO_TEXT(a) #a
 
 /* Working words that a call needs; with fewer it answers 19. More may be lent; they are cleared like the others. */
 #define CIZTARMO_WORDS 8192
@@ -167,6 +178,9 @@ size_t ciztarmo_validate_runs(uint64_t *words, size_t words_len, const uint8_t *
  */
 const char *ciztarmo_refusal_name(uint64_t number);
 const char *ciztarmo_refusal_sentence(uint64_t number);
+
+/* In ciztarmo.c. The version that ciztarmo.c was compiled with; a program's header is another if it differs from CIZTARMO_VERSION. */
+const char *ciztarmo_version(void);
 
 #ifdef __cplusplus
 }
