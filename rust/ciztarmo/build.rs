@@ -41,7 +41,7 @@ fn named(folder: PathBuf) -> Result<PathBuf, String> {
 fn made() -> Result<PathBuf, String> {
     let top = Path::new(env!("CARGO_MANIFEST_DIR")).join("../..");
     let script = top.join("archive");
-    for from in ["archive", "crates", "crates.txt"] {
+    for from in ["archive", "lib.sh", "crates", "crates.txt"] {
         println!("cargo:rerun-if-changed={}", top.join(from).display());
     }
     let help = format!("set CIZTARMO_LIB to the folder that holds {FILE}");
