@@ -2,7 +2,9 @@
  * Ciztarmo: record layouts for ticket validators, for C and C++ programs.
  *
  * Link libciztarmo.a (the command `archive` of the repository prints its folder). Of the C library it needs memset alone. Compile
- * ciztarmo.c too, as C or C++, if you want the names and sentences of refusals. Byte forms, limits and refusals: docs/FORMAT.md.
+ * ciztarmo.c too, as C or C++, if you want the names and sentences of refusals, and values.c if you want blocks of values written.
+ * The command `install` puts all of it into one archive, with files for pkg-config and CMake. Byte forms, limits and refusals:
+ * docs/FORMAT.md.
  *
  * What holds for every call:
  *
@@ -171,6 +173,24 @@ void ciztarmo_length_of_run(const uint8_t *layout, size_t layout_len, const uint
  */
 size_t ciztarmo_validate_runs(uint64_t *words, size_t words_len, const uint8_t *layout, size_t layout_len, const uint8_t *runs,
                               size_t runs_len, uint64_t *answers, size_t answers_len);
+
+/*
+ * In values.c. Writes a block of values (192), as ciztarmo_validate and ciztarmo_length_of take it. The values may stand in any
+ * order; they are written in the order of their names, and are neither changed nor kept. Names are texts that end with a zero.
+ *
+ * Answers 0, no place, 0 and the block's length in bytes; out then begins with the block, and its bytes behind it stay as they were.
+ * Where it refuses, nothing is written. Refuses with 4 (more than 512 values), 3 (a name is NULL, longer than 255 bytes or has a byte
+ * outside 0x20 to 0x7E), 6 (a name is given twice), 1 (the block would be longer than 65,536 bytes) and 25 (out does not hold the
+ * block), in this order. The place is, for 3 and 6, that of the value, from 0; the value is, for 1 and 25, the length that the block
+ * would have. So an out_len of 0, with which out may be NULL, measures.
+ *
+ * Nothing is allocated. For names that ascend already the time grows with the count, else with its square.
+ */
+struct ciztarmo_value {
+    const char *name;
+    uint64_t number;
+};
+void ciztarmo_write_values(const struct ciztarmo_value *values, size_t count, uint8_t *out, size_t out_len, uint64_t answer[4]);
 
 /*
  * In ciztarmo.c. The name of a refusal, such as "BufferTooSmall", and a sentence about it; "Accepted" for 0. For a number that no

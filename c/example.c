@@ -1,7 +1,9 @@
 /*
  * How long is the next record? Builds the layout of the type Trip of document 01 once, then asks for a record's length.
  *
- *     cc -std=c99 example.c ciztarmo.c -L "$(../archive)" -lciztarmo -o example && ./example
+ *     cc -std=c99 example.c ciztarmo.c values.c -L "$(../archive)" -lciztarmo -o example && ./example
+ *
+ * or, where it is installed (../install), `cc -std=c99 example.c $(pkg-config --cflags --libs ciztarmo) -o example`.
  *
  * Trip has one byte n and then n legs of 4 bytes each; its layout asks for the value of legs.n.
  */
@@ -31,10 +33,8 @@ static const uint8_t set[] = {
     7, 0, 0, 0, 65, 0, 1, 0, 1, 0, 'n',                                    /* of which there are n */
 };
 
-/* What the validator read so far: legs.n is 3. A block 192 with one name and number. */
-static const uint8_t values[] = {
-    20, 0, 0, 0, 192, 0, 1, 0, 6, 0, 'l', 'e', 'g', 's', '.', 'n', 3, 0, 0, 0, 0, 0, 0, 0,
-};
+/* What the validator read so far. */
+static const struct ciztarmo_value read_so_far[] = {{"legs.n", 3}};
 
 static int refused(const char *what, const uint64_t answer[4])
 {
@@ -51,13 +51,19 @@ int main(void)
     static const uint8_t name[] = {'T', 'r', 'i', 'p'};
     const uint64_t bytes_left = 40; /* in the buffer that the record is read from */
     uint64_t answer[CIZTARMO_ANSWER_WORDS];
+    uint8_t values[64];
 
     ciztarmo_layout_of(set, sizeof set, layout, sizeof layout, answer);
     if (refused("the set", answer))
         return 1;
     const size_t layout_len = (size_t)answer[CIZTARMO_VALUE];
 
-    ciztarmo_length_of(layout, layout_len, name, sizeof name, values, sizeof values, bytes_left, answer);
+    ciztarmo_write_values(read_so_far, sizeof read_so_far / sizeof read_so_far[0], values, sizeof values, answer);
+    if (refused("the values", answer))
+        return 1;
+    const size_t values_len = (size_t)answer[CIZTARMO_VALUE];
+
+    ciztarmo_length_of(layout, layout_len, name, sizeof name, values, values_len, bytes_left, answer);
     if (refused("the record", answer))
         return 1;
     printf("%llu\n", (unsigned long long)answer[CIZTARMO_VALUE]);
