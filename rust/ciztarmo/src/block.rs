@@ -2,7 +2,8 @@
 //! counts what follows it, a 2-byte kind and a body.
 
 use crate::error::Error;
-use crate::names::number;
+use crate::names::Parts;
+use alloc::vec::Vec;
 
 /// The bytes of a block, or why it can't be written.
 pub(crate) type Block = Result<Vec<u8>, Error>;
@@ -95,8 +96,8 @@ pub(crate) fn count_blocks(mut bytes: &[u8]) -> usize {
 
 /// What stands behind the first block, if that is whole.
 fn behind_block(bytes: &[u8]) -> Option<&[u8]> {
-    let length = number(bytes, 0, 4)?;
-    bytes.get(4..)?.get(length..)
+    let length = Parts::of(bytes, 0).number(4)?;
+    bytes.get(4..)?.get(usize::try_from(length).ok()?..)
 }
 
 #[cfg(test)]

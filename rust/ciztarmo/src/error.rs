@@ -1,7 +1,8 @@
 //! What goes wrong before a block is written, and what the proved code refuses.
 
 use crate::refusal::Refusal;
-use std::fmt;
+use alloc::string::String;
+use core::fmt;
 
 /// Why a block can't be written, a value can't be taken, or a set does not build.
 #[derive(Clone, Debug, PartialEq, Eq)]
@@ -60,11 +61,12 @@ impl fmt::Display for Error {
             ),
             Error::BlockTooLong => f.write_str("a block would be longer than 4,294,967,295 bytes"),
             Error::ValueTwice { name } => write!(f, "the value \"{name}\" is given twice"),
-            Error::Refused { refusal, type_name } => refusal.write(f, type_name.as_deref()),
+            Error::Refused { refusal, type_name } => refusal.write(f, type_name.as_deref(), None),
         }
     }
 }
 
+#[cfg(feature = "std")]
 impl std::error::Error for Error {}
 
 impl From<Refusal> for Error {

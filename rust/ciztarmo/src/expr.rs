@@ -1,7 +1,8 @@
 //! Expressions: sizes of arrays and tags of enumerations.
 
 use crate::block::{Block, Body};
-use std::ops;
+use alloc::vec::Vec;
+use core::ops;
 
 /// A literal with its type, in document 01's order of codes 0 to 7.
 #[derive(Clone, Copy, Debug, PartialEq, Eq, Hash)]

@@ -79,7 +79,7 @@ extern "C" {
 }
 
 /// What stands in the four words before a call; no call answers it.
-const UNANSWERED: Answer = [u64::MAX; 4];
+pub const UNANSWERED: Answer = [u64::MAX; 4];
 
 pub fn read_set(words: &mut [u64], set: &[u8]) -> Answer {
     let mut a = UNANSWERED;
@@ -169,15 +169,19 @@ pub fn length_of_run(layout: &[u8], run: &[u8]) -> Answer {
     a
 }
 
-/// The answers to the runs that stand one behind the other, from the first on, at most `most`.
-pub fn validate_runs(words: &mut [u64], layout: &[u8], runs: &[u8], most: usize) -> Vec<Answer> {
-    let mut all = vec![UNANSWERED; most];
+/// Puts the answers to the runs that stand one behind the other into `all`, from the first on, and
+/// gives how many there are.
+pub fn validate_runs(
+    words: &mut [u64],
+    layout: &[u8],
+    runs: &[u8],
+    all: &mut [crate::work::Answer],
+) -> usize {
     let (w, wn) = (words.as_mut_ptr(), words.len());
     let (l, ln) = (layout.as_ptr(), layout.len());
     let (r, rn) = (runs.as_ptr(), runs.len());
     let (a, an) = (all.as_mut_ptr().cast::<u64>(), 4 * all.len());
-    // SAFETY: as in `validate`; so many answers are four times as many words without gaps.
-    let given = unsafe { ciztarmo_validate_runs(w, wn, l, ln, r, rn, a, an) };
-    all.truncate(given);
-    all
+    // SAFETY: as in `validate`; an answer is four words and nothing else (`repr(transparent)`), so
+    // that so many answers are four times as many words without gaps.
+    unsafe { ciztarmo_validate_runs(w, wn, l, ln, r, rn, a, an) }
 }

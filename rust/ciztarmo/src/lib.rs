@@ -46,6 +46,11 @@
 //! let refusal = layout.length_of("Trip", &Values::new(), 13).unwrap_err();
 //! assert_eq!(refusal.number(), Number::MissingIrParameter);
 //! assert_eq!(refusal.place(), Some(0));
+//! assert_eq!(
+//!     layout.explain(&refusal).to_string(),
+//!     "21: the value \"legs.n\", which the layout needs, is missing \
+//!      (type 0 \"Trip\", node at byte 150 of the layout)"
+//! );
 //! # Ok::<(), ciztarmo::Error>(())
 //! ```
 //!
@@ -55,15 +60,25 @@
 //! [`build_set`], [`validate`] and so on. [`Layout::read`] takes the bytes of a stored layout.
 //! [`validate_runs`] takes many runs that stand one behind the other.
 //!
-//! [`build_set`], [`validate`] and [`validate_run`] have the working words that they need. The
-//! other functions make them for each call; where there are many calls, a [`Work`] keeps them. A
+//! All functions but [`read_set`] and [`validate_runs`] have the working words that they need.
+//! These two make them for each call; where there are many calls, a [`Work`] keeps them. A
 //! [`Work`] has every call, with words that are counted and zero afterwards, as the rules have it.
+//!
+//! # Without an allocator
+//!
+//! The features `std` and `alloc`, of which the first is on and brings the second, can be off. The
+//! crate then needs neither and has what takes no memory of its own: the functions
+//! [`build_set_into`], [`validate`], [`validate_run`], [`read_layout`], [`read_values`] and
+//! [`read_run`]; every call over words that the caller lends ([`Lent`]); a layout in the caller's
+//! bytes ([`LayoutRef`]), with its types and their parameters; values written into the caller's
+//! bytes ([`write_values`]); and all of [`Refusal`] with its sentences. Sets are then drawn
+//! elsewhere. libciztarmo.a needs `memset` from somewhere, and the panics of this crate a handler.
 //!
 //! # Linking
 //!
 //! The build script takes the folder that holds libciztarmo.a from the variable CIZTARMO_LIB. If
 //! it is not set, it runs the repository's script `archive`, which makes the archive where it is
-//! missing or old; that needs the Rattle toolchain. The archive is for x86-64.
+//! missing or old; that needs the Rattle toolchain.
 //!
 //! # What to know
 //!
@@ -71,29 +86,50 @@
 //! in which each type calls the next k times can take k^16 steps. Do not count over a layout from
 //! somebody that you do not trust.
 
+#![no_std]
 #![deny(missing_docs)]
 #![deny(unsafe_code)]
 
+#[cfg(feature = "alloc")]
+extern crate alloc;
+#[cfg(feature = "std")]
+extern crate std;
+
+#[cfg(feature = "alloc")]
 mod block;
+#[cfg(feature = "alloc")]
 mod error;
+#[cfg(feature = "alloc")]
 mod expr;
 #[allow(unsafe_code)]
 mod ffi;
+mod layout;
 mod names;
 mod refusal;
+#[cfg(feature = "alloc")]
 mod set;
+#[cfg(feature = "alloc")]
 mod types;
+#[cfg(feature = "alloc")]
 mod values;
 mod work;
+mod write;
 
-pub use error::Error;
-pub use expr::{Expr, Literal};
-pub use names::type_names;
+pub use layout::{Explained, LayoutRef, Parameter, Parameters, TypeTree, Types};
 pub use refusal::{Number, Refusal};
-pub use set::{Layout, Set};
-pub use types::{Field, SizedVariant, Type, Variant};
-pub use values::{Run, Values};
 pub use work::{
-    build_set, build_set_into, read_layout, read_run, read_set, read_values, validate,
-    validate_run, validate_runs, Work, LIMIT, WORDS,
+    build_set_into, read_layout, read_run, read_values, validate, validate_run, Answer, Lent,
+    LIMIT, WORDS,
+};
+pub use write::{write_values, WriteError};
+
+#[cfg(feature = "alloc")]
+pub use {
+    error::Error,
+    expr::{Expr, Literal},
+    names::type_names,
+    set::{Layout, Set},
+    types::{Field, SizedVariant, Type, Variant},
+    values::{Run, Values},
+    work::{build_set, read_set, validate_runs, Work},
 };

@@ -1,7 +1,7 @@
 //! What a refused call tells.
 
 use crate::ffi::Answer;
-use std::fmt;
+use core::fmt;
 
 /// Which question of document 01 was answered "no".
 ///
@@ -228,7 +228,7 @@ impl fmt::Display for Number {
 /// It prints as a sentence behind its number:
 ///
 /// ```
-/// let refusal = ciztarmo::read_set(b"no block").unwrap_err();
+/// let refusal = ciztarmo::read_run(b"no block").unwrap_err();
 /// assert_eq!(refusal.number(), ciztarmo::Number::BlockDoesNotFit);
 /// assert_eq!(
 ///     refusal.to_string(),
@@ -295,13 +295,31 @@ impl Refusal {
         }
     }
 
-    /// The sentence, with the name of the type where it is known.
-    pub(crate) fn write(&self, f: &mut fmt::Formatter<'_>, name: Option<&str>) -> fmt::Result {
+    /// The sentence, with the name of the type and of the value that is missing, where they are
+    /// known.
+    pub(crate) fn write(
+        &self,
+        f: &mut fmt::Formatter<'_>,
+        type_name: Option<&str>,
+        missing: Option<&str>,
+    ) -> fmt::Result {
         let Refusal { number, offset, .. } = *self;
         let (_, at, sentence) = number.row();
-        let sentence = sentence.replace("{value}", &self.value.to_string());
-        let place = self.place_text(name);
-        write!(f, "{number}: {sentence}")?;
+        let place = Place {
+            place: self.place,
+            name: type_name,
+        };
+        write!(f, "{number}: ")?;
+        match (missing, sentence.split_once("{value}")) {
+            (Some(name), _) => {
+                write!(
+                    f,
+                    "the value \"{name}\", which the layout needs, is missing"
+                )
+            }
+            (None, Some((before, behind))) => write!(f, "{before}{}{behind}", self.value),
+            (None, None) => f.write_str(sentence),
+        }?;
         match at {
             At::None => Ok(()),
             At::Input => write!(f, ", at byte {offset} of the input"),
@@ -309,23 +327,32 @@ impl Refusal {
             At::Node => write!(f, " ({place}, node at byte {offset} of the layout)"),
         }
     }
-
-    fn place_text(&self, name: Option<&str>) -> String {
-        match (self.place, name) {
-            (Some(place), Some(name)) => format!("type {place} \"{name}\""),
-            (Some(place), None) => format!("type {place}"),
-            (None, _) => "no type".to_string(),
-        }
-    }
 }
 
 impl fmt::Display for Refusal {
     fn fmt(&self, f: &mut fmt::Formatter<'_>) -> fmt::Result {
-        self.write(f, None)
+        self.write(f, None, None)
     }
 }
 
+#[cfg(feature = "std")]
 impl std::error::Error for Refusal {}
+
+/// The place of a type, with its name if that is known.
+struct Place<'a> {
+    place: Option<u16>,
+    name: Option<&'a str>,
+}
+
+impl fmt::Display for Place<'_> {
+    fn fmt(&self, f: &mut fmt::Formatter<'_>) -> fmt::Result {
+        match (self.place, self.name) {
+            (Some(place), Some(name)) => write!(f, "type {place} \"{name}\""),
+            (Some(place), None) => write!(f, "type {place}"),
+            (None, _) => f.write_str("no type"),
+        }
+    }
+}
 
 /// A refusal with the name of its type, if it has one.
 struct Named<'a> {
@@ -335,7 +362,7 @@ struct Named<'a> {
 
 impl fmt::Display for Named<'_> {
     fn fmt(&self, f: &mut fmt::Formatter<'_>) -> fmt::Result {
-        self.refusal.write(f, self.name)
+        self.refusal.write(f, self.name, None)
     }
 }
 

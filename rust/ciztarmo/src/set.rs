@@ -2,11 +2,14 @@
 
 use crate::block::{Block, Body};
 use crate::error::Error;
+use crate::layout::{Explained, LayoutRef, TypeTree};
 use crate::names::type_names;
 use crate::refusal::Refusal;
 use crate::types::Type;
 use crate::values::{Run, Values};
 use crate::work::{build_set, validate, validate_run, Work};
+use alloc::string::ToString;
+use alloc::vec::Vec;
 
 const SET: u16 = 36;
 
@@ -78,8 +81,35 @@ impl Layout {
     /// Takes the bytes of a layout (a block 160) if they are accepted.
     pub fn read(bytes: impl Into<Vec<u8>>) -> Result<Self, Refusal> {
         let bytes = bytes.into();
-        Work::new().read_layout(&bytes)?;
+        LayoutRef::read(&bytes)?;
         Ok(Layout { bytes })
+    }
+
+    /// The same layout, borrowed: it lists the types with their parameters.
+    pub fn borrowed(&self) -> LayoutRef<'_> {
+        LayoutRef::accepted(&self.bytes)
+    }
+
+    /// The type of this name, if there is one, with its parameters.
+    ///
+    /// ```
+    /// use ciztarmo::{Expr, Field, Set, Type};
+    ///
+    /// let legs = Type::array("legs", Type::primitive("leg", 4), Expr::field("n"));
+    /// let trip = Type::structure("Trip", [Field::new("legs", legs)]).references("legs", ["n"]);
+    /// let layout = Set::new().with(trip).build()?;
+    /// let trip = layout.type_named("Trip").unwrap();
+    /// let names: Vec<&str> = trip.parameters().map(|p| p.name).collect();
+    /// assert_eq!(names, ["legs.n"]);
+    /// # Ok::<(), ciztarmo::Error>(())
+    /// ```
+    pub fn type_named(&self, name: &str) -> Option<TypeTree<'_>> {
+        self.borrowed().type_named(name)
+    }
+
+    /// A refusal of this layout for printing, with names; see [`LayoutRef::explain`].
+    pub fn explain(&self, refusal: &Refusal) -> Explained<'_> {
+        self.borrowed().explain(refusal)
     }
 
     /// The block 160.

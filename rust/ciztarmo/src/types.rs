@@ -2,7 +2,9 @@
 
 use crate::block::{Block, Body};
 use crate::expr::Expr;
-use std::collections::{BTreeMap, BTreeSet};
+use alloc::collections::{BTreeMap, BTreeSet};
+use alloc::string::String;
+use alloc::vec::Vec;
 
 /// Kinds of types and of their parts.
 mod kind {

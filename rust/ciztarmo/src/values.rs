@@ -2,7 +2,10 @@
 
 use crate::block::{block_length, name_length, Body};
 use crate::error::Error;
-use std::collections::BTreeMap;
+use crate::write::{in_order, WriteError, HEAD};
+use alloc::collections::BTreeMap;
+use alloc::string::String;
+use alloc::vec::Vec;
 
 const VALUES: u16 = 192;
 const RUN: u16 = 193;
@@ -65,6 +68,14 @@ impl Values {
     /// The block 192.
     pub fn to_bytes(&self) -> Vec<u8> {
         self.written().expect("what was taken can be written")
+    }
+
+    /// The block 192 in the caller's bytes; those behind it stay as they were.
+    ///
+    /// [`write_values`](crate::write_values) does it without a `Values`.
+    pub fn write_into<'o>(&self, out: &'o mut [u8]) -> Result<&'o [u8], WriteError> {
+        let needed = HEAD + self.length as usize;
+        in_order(needed, self.numbers.iter().map(|(n, v)| (&n[..], *v)), out)
     }
 
     /// The map's order is the byte order of the names.

@@ -39,6 +39,7 @@ impl Answer {
     }
 }
 
+#[allow(dead_code)] // not every test asks for every part
 pub enum Call {
     Build {
         words: usize,
