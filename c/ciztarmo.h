@@ -25,7 +25,8 @@
  *   type Trip of document 01 no call takes more than 12 KB. A thread that validates with sets or layouts from somebody whom it
  *   does not trust should have CIZTARMO_STACK_BYTES left. The proofs say nothing of the stack.
  *
- * What the calls answer is proved (README.md, "What is proved"); what is said here of stack and NULL is measured and tested.
+ * What the calls answer is proved (README.md, "What is proved"); what is said here of stack and NULL is measured and tested. The
+ * archive is for x86-64, or for 64-bit Arm (`archive --target aarch64`; c/README.md says what that rests on).
  *
  * Licence: Apache-2.0.
  */

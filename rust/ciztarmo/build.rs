@@ -36,7 +36,7 @@ fn named(folder: PathBuf) -> Result<PathBuf, String> {
     Ok(folder)
 }
 
-/// The folder that the script prints. It makes the archive where it is missing or old, so that a
+/// The folder that the script prints for the processor that is compiled for. It makes the archive where it is missing or old, so that a
 /// change of what it is made from runs it again.
 fn made() -> Result<PathBuf, String> {
     let top = Path::new(env!("CARGO_MANIFEST_DIR")).join("../..");
@@ -45,7 +45,9 @@ fn made() -> Result<PathBuf, String> {
         println!("cargo:rerun-if-changed={}", top.join(from).display());
     }
     let help = format!("set CIZTARMO_LIB to the folder that holds {FILE}");
+    let target = std::env::var("CARGO_CFG_TARGET_ARCH").unwrap_or_default();
     let output = Command::new(&script)
+        .args(["--target", &target])
         .stderr(Stdio::inherit())
         .output()
         .map_err(|e| format!("{} does not run ({e}); {help}", script.display()))?;

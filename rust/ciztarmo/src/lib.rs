@@ -78,7 +78,7 @@
 //!
 //! The build script takes the folder that holds libciztarmo.a from the variable CIZTARMO_LIB. If
 //! it is not set, it runs the repository's script `archive`, which makes the archive where it is
-//! missing or old; that needs the Rattle toolchain.
+//! missing or old; that needs the Rattle toolchain. It is for x86-64 or 64-bit Arm.
 //!
 //! # What to know
 //!
