@@ -212,7 +212,7 @@ fn the_named_value_is_the_one_that_is_missing() {
         let missing = layout.missing_value(&refusal).expect("a name");
         // The kind of a call; the bytes may be something else, but they are there if a call is.
         let calls = layout.as_bytes().windows(2).any(|w| *w == [133, 0]);
-        let changed = with_value(values, missing).map_or(false, |more| {
+        let changed = with_value(values, missing).is_some_and(|more| {
             let again = layout.length_of(name, &more, *length);
             again.map_err(|no| (no.number(), no.offset()))
                 != Err((refusal.number(), refusal.offset()))
