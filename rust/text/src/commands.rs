@@ -4,7 +4,7 @@ use crate::decode::decode;
 use crate::lines::written;
 use crate::model::*;
 use crate::show;
-use crate::source::Source;
+use crate::source::{Piece, Source};
 use crate::tree;
 use crate::words;
 use ciztarmo::Work;
@@ -82,6 +82,11 @@ pub fn check(file: &str, input: &[u8]) -> Answer {
     roomy(|| checked(file, input))
 }
 
+/// The bytes of the one layout of an input, or of its one set.
+pub fn layout(file: &str, input: &[u8]) -> Answer {
+    roomy(|| to_layout(file, input))
+}
+
 fn to_blocks(file: &str, input: &[u8], unchecked: bool) -> Answer {
     let source = Source::read_text(file, input)?;
     let mut work = Work::new();
@@ -115,11 +120,10 @@ fn to_tree(file: &str, input: &[u8]) -> Answer {
     let mut drawn = Vec::new();
     for piece in &source.pieces {
         source.accepted(&mut work, piece)?;
-        let layout = match piece.kind {
-            SET => source.built(&mut work, piece)?,
-            LAYOUT => piece.bytes.clone(),
-            _ => continue,
-        };
+        if !is_types(piece) {
+            continue;
+        }
+        let layout = built_or_as_is(&source, &mut work, piece)?;
         drawn.push(tree::draw(&layout_of(file, &layout)?));
     }
     if drawn.is_empty() {
@@ -127,6 +131,47 @@ fn to_tree(file: &str, input: &[u8]) -> Answer {
     }
     drawn.retain(|drawing| !drawing.is_empty());
     Ok(Done::only(drawn.join("\n")))
+}
+
+fn to_layout(file: &str, input: &[u8]) -> Answer {
+    let source = Source::read(file, input)?;
+    let mut work = Work::new();
+    // All is asked, so that no layout comes from a file that is wrong elsewhere.
+    for piece in &source.pieces {
+        source.accepted(&mut work, piece)?;
+    }
+    let piece = the_types(&source)?;
+    Ok(Done::only(built_or_as_is(&source, &mut work, piece)?))
+}
+
+/// The one piece of an input that holds types. A device has one layout, so there is no choice of
+/// two.
+fn the_types(source: &Source) -> Result<&Piece, String> {
+    let mut pieces = source.pieces.iter().filter(|p| is_types(p));
+    let file = &source.file;
+    let Some(first) = pieces.next() else {
+        return Err(format!("{file}: neither a set nor a layout stands in it"));
+    };
+    match pieces.next() {
+        None => Ok(first),
+        Some(second) => Err(format!(
+            "{}: a second set or layout, and one is asked for (the first: {})",
+            source.place(second),
+            source.place(first)
+        )),
+    }
+}
+
+fn is_types(piece: &Piece) -> bool {
+    matches!(piece.kind, SET | LAYOUT)
+}
+
+/// The bytes of the layout that a set is built to, or of a layout.
+fn built_or_as_is(source: &Source, work: &mut Work, piece: &Piece) -> Result<Vec<u8>, String> {
+    match piece.kind {
+        SET => source.built(work, piece),
+        _ => Ok(piece.bytes.clone()),
+    }
 }
 
 fn layout_of(file: &str, layout: &[u8]) -> Result<Layout, String> {

@@ -11,6 +11,7 @@ usage: text blocks FILE [-o OUT] [--unchecked]   text to blocks
        text tree FILE                            a set's or layout's types as trees
        text lengths FILE                         the answers to the runs behind a set, in words
        text check FILE                           says nothing, or where FILE is wrong
+       text layout FILE [-o OUT]                 the layout of a set, as bytes for a device
 FILE - is standard input. --unchecked writes also what the proved reader refuses.
 ";
 
@@ -37,14 +38,15 @@ fn main() -> ExitCode {
         Ok(args) => args,
         Err(_) => return told(usage("an argument is not UTF-8")),
     };
-    if matches!(
+    let wants_help = matches!(
         args.first().map(String::as_str),
         Some("-h" | "--help" | "help")
-    ) {
-        print!("{USAGE}");
-        return ExitCode::SUCCESS;
-    }
-    match Call::read(&args).and_then(|call| call.run()) {
+    );
+    let done = match wants_help {
+        true => written("standard output", print(USAGE.as_bytes())),
+        false => Call::read(&args).and_then(|call| call.run()),
+    };
+    match done {
         Ok(()) => ExitCode::SUCCESS,
         Err(failure) => told(failure),
     }
@@ -62,6 +64,7 @@ enum Command {
     Tree,
     Lengths,
     Check,
+    Layout,
 }
 
 struct Call {
@@ -80,9 +83,11 @@ impl Call {
             "tree" => Command::Tree,
             "lengths" => Command::Lengths,
             "check" => Command::Check,
+            "layout" => Command::Layout,
             _ => return Err(usage(format!("there is no command {name}"))),
         };
-        let writes = matches!(command, Command::Blocks | Command::Show);
+        let both_ways = matches!(command, Command::Blocks | Command::Show);
+        let writes = both_ways || command == Command::Layout;
         let (mut files, mut out, mut unchecked) = (Vec::new(), None, false);
         let mut rest = rest.iter();
         while let Some(arg) = rest.next() {
@@ -91,7 +96,7 @@ impl Call {
                     let path = rest.next().ok_or_else(|| usage("-o needs a file"))?;
                     out = Some(PathBuf::from(path));
                 }
-                "--unchecked" if writes => unchecked = true,
+                "--unchecked" if both_ways => unchecked = true,
                 option if option.starts_with('-') && option != "-" => {
                     return Err(usage(format!("{name} does not take {option}")));
                 }
@@ -119,13 +124,14 @@ impl Call {
             Command::Tree => commands::tree(&name, &input),
             Command::Lengths => commands::lengths(&name, &input),
             Command::Check => commands::check(&name, &input),
+            Command::Layout => commands::layout(&name, &input),
         };
         let Done { output, remarks } = done.map_err(|message| Failure { status: 1, message })?;
         for remark in remarks {
             eprintln!("{remark}");
         }
         match &self.out {
-            None => written("standard output", std::io::stdout().write_all(&output)),
+            None => written("standard output", print(&output)),
             Some(path) => write_whole(path, &output),
         }
     }
@@ -150,6 +156,14 @@ fn written(name: &str, result: std::io::Result<()>) -> Result<(), Failure> {
         status: 2,
         message: format!("{name}: {e}"),
     })
+}
+
+/// Writes to standard output. What is left in its buffer at the end would be lost without a word
+/// if it can't be written, so it is flushed here.
+fn print(output: &[u8]) -> std::io::Result<()> {
+    let mut out = std::io::stdout().lock();
+    out.write_all(output)?;
+    out.flush()
 }
 
 /// Writes a file under a temporary name and renames it, so that it is whole or as it was.

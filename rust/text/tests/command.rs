@@ -65,6 +65,10 @@ fn misuse() {
     );
     misused(&["tree", "trip.txt", "-o", "x"], "tree does not take -o");
     misused(
+        &["layout", "--unchecked", "trip.txt"],
+        "layout does not take --unchecked",
+    );
+    misused(
         &["check", "--unchecked", "trip.txt"],
         "check does not take --unchecked",
     );
@@ -83,7 +87,7 @@ fn help() {
 
 #[test]
 fn files_that_cannot_be_read() {
-    for command in ["blocks", "show", "tree", "lengths", "check"] {
+    for command in ["blocks", "show", "tree", "lengths", "check", "layout"] {
         for file in ["nowhere.txt", "."] {
             let output = run(&[command, file]);
             assert_eq!(output.status.code(), Some(2));
