@@ -3,6 +3,7 @@
 use crate::decode::decode;
 use crate::lines::written;
 use crate::model::*;
+use crate::parameters;
 use crate::show;
 use crate::source::{Piece, Source};
 use crate::tree;
@@ -85,6 +86,11 @@ pub fn check(file: &str, input: &[u8]) -> Answer {
 /// The bytes of the one layout of an input, or of its one set.
 pub fn layout(file: &str, input: &[u8]) -> Answer {
     roomy(|| to_layout(file, input))
+}
+
+/// What a record of a type wants to be told.
+pub fn parameters(file: &str, input: &[u8], name: &str) -> Answer {
+    roomy(|| to_parameters(file, input, name))
 }
 
 fn to_blocks(file: &str, input: &[u8], unchecked: bool) -> Answer {
@@ -182,6 +188,57 @@ fn layout_of(file: &str, layout: &[u8]) -> Result<Layout, String> {
             "{file}: the layout can't be drawn: {}",
             fault.message
         )),
+    }
+}
+
+/// A set or layout of an input: its layout, and the set's types if it was a set.
+struct Types {
+    layout: Layout,
+    set: Vec<Type>,
+}
+
+impl Types {
+    fn read(source: &Source, work: &mut Work, piece: &Piece) -> Result<Types, String> {
+        let layout = built_or_as_is(source, work, piece)?;
+        let set = match piece.block() {
+            Ok(Block::Set(set)) => set.types,
+            _ => Vec::new(),
+        };
+        Ok(Types {
+            layout: layout_of(&source.file, &layout)?,
+            set,
+        })
+    }
+
+    fn tree(&self, name: &str) -> Option<&TypeTree> {
+        self.layout.types.iter().find(|t| t.name == name)
+    }
+
+    fn drawn(&self, name: &str) -> Option<&Type> {
+        self.set.iter().find(|t| t.name == name)
+    }
+}
+
+/// What is said where a type is asked for that is not there.
+fn no_type(file: &str, name: &str, types: &[TypeTree]) -> String {
+    let names: Vec<String> = types.iter().map(|t| written(&t.name)).collect();
+    let there = match names.is_empty() {
+        true => "there are no types".to_string(),
+        false => format!("there are {}", names.join(", ")),
+    };
+    format!("{file}: no type has the name {}; {there}", written(name))
+}
+
+fn to_parameters(file: &str, input: &[u8], name: &str) -> Answer {
+    let source = Source::read(file, input)?;
+    let mut work = Work::new();
+    for piece in &source.pieces {
+        source.accepted(&mut work, piece)?;
+    }
+    let types = Types::read(&source, &mut work, the_types(&source)?)?;
+    match types.tree(name) {
+        Some(tree) => Ok(Done::only(parameters::describe(tree, types.drawn(name)))),
+        None => Err(no_type(file, name, &types.layout.types)),
     }
 }
 

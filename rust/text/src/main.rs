@@ -12,6 +12,7 @@ usage: text blocks FILE [-o OUT] [--unchecked]   text to blocks
        text lengths FILE                         the answers to the runs behind a set, in words
        text check FILE                           says nothing, or where FILE is wrong
        text layout FILE [-o OUT]                 the layout of a set, as bytes for a device
+       text parameters FILE TYPE                 what a record of a type wants to be told
 FILE - is standard input. --unchecked writes also what the proved reader refuses.
 ";
 
@@ -65,11 +66,14 @@ enum Command {
     Lengths,
     Check,
     Layout,
+    Parameters,
 }
 
 struct Call {
     command: Command,
     file: String,
+    /// The type that is asked for, of the commands that take one.
+    asked: String,
     out: Option<PathBuf>,
     unchecked: bool,
 }
@@ -84,6 +88,7 @@ impl Call {
             "lengths" => Command::Lengths,
             "check" => Command::Check,
             "layout" => Command::Layout,
+            "parameters" => Command::Parameters,
             _ => return Err(usage(format!("there is no command {name}"))),
         };
         let both_ways = matches!(command, Command::Blocks | Command::Show);
@@ -103,13 +108,21 @@ impl Call {
                 file => files.push(file.to_string()),
             }
         }
-        match files.len() {
-            0 => return Err(usage(format!("{name} needs a file"))),
-            1 => {}
-            _ => return Err(usage(format!("{name} takes one file"))),
+        let of_a_type = command == Command::Parameters;
+        match (files.len(), of_a_type) {
+            (0, false) => return Err(usage(format!("{name} needs a file"))),
+            (0 | 1, true) => return Err(usage(format!("{name} needs a file and a type"))),
+            (1, false) | (2, true) => {}
+            (_, false) => return Err(usage(format!("{name} takes one file"))),
+            (_, true) => return Err(usage(format!("{name} takes one file and one type"))),
         }
         Ok(Call {
             command,
+            asked: if of_a_type {
+                files.remove(1)
+            } else {
+                String::new()
+            },
             file: files.remove(0),
             out,
             unchecked,
@@ -125,6 +138,7 @@ impl Call {
             Command::Lengths => commands::lengths(&name, &input),
             Command::Check => commands::check(&name, &input),
             Command::Layout => commands::layout(&name, &input),
+            Command::Parameters => commands::parameters(&name, &input, &self.asked),
         };
         let Done { output, remarks } = done.map_err(|message| Failure { status: 1, message })?;
         for remark in remarks {

@@ -65,6 +65,14 @@ fn misuse() {
     );
     misused(&["tree", "trip.txt", "-o", "x"], "tree does not take -o");
     misused(
+        &["parameters", "trip.txt"],
+        "parameters needs a file and a type",
+    );
+    misused(
+        &["parameters", "trip.txt", "Trip", "Trip"],
+        "parameters takes one file and one type",
+    );
+    misused(
         &["layout", "--unchecked", "trip.txt"],
         "layout does not take --unchecked",
     );
@@ -142,6 +150,8 @@ fn each_command() {
     assert_eq!(run(&["tree", "trip"]).stdout, read("examples/trip.tree"));
     let shown = run(&["show", "trip"]).stdout;
     assert_eq!(fed(&["blocks", "-"], &shown).stdout, read("examples/trip"));
+    let said = String::from_utf8(run(&["parameters", "trip", "Trip"]).stdout).unwrap();
+    assert_eq!(said, "Trip, 1 parameter\n  legs.n: count of field legs\n");
     let said = String::from_utf8(run(&["lengths", "trip"]).stdout).unwrap();
     assert!(
         said.starts_with("trip: byte 205: Trip: 13 bytes of 13\n"),

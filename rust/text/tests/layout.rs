@@ -88,7 +88,11 @@ fn output_files() {
 #[cfg(target_os = "linux")]
 #[test]
 fn standard_output_that_is_full() {
-    for args in [&["layout", "trip.txt"][..], &["tree", "trip.txt"], &["help"]] {
+    for args in [
+        &["layout", "trip.txt"][..],
+        &["tree", "trip.txt"],
+        &["help"],
+    ] {
         let full = std::fs::OpenOptions::new()
             .write(true)
             .open("/dev/full")
