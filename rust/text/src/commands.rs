@@ -226,7 +226,12 @@ fn no_type(file: &str, name: &str, types: &[TypeTree]) -> String {
         true => "there are no types".to_string(),
         false => format!("there are {}", names.join(", ")),
     };
-    format!("{file}: no type has the name {}; {there}", written(name))
+    let ascii = match name.bytes().all(|b| matches!(b, 0x20..=0x7e)) {
+        true => "",
+        false => " (a name has characters from 0x20 to 0x7E only)",
+    };
+    let name = written(name);
+    format!("{file}: no type has the name {name}{ascii}; {there}")
 }
 
 fn to_parameters(file: &str, input: &[u8], name: &str) -> Answer {

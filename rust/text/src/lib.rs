@@ -11,6 +11,7 @@ pub mod commands;
 pub mod decode;
 pub mod encode;
 pub mod expr;
+pub mod foreign;
 pub mod lines;
 pub mod model;
 pub mod parameters;

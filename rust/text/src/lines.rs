@@ -1,5 +1,6 @@
 //! A text as lines, each with its depth, and the words of a line.
 
+use crate::foreign;
 use crate::model::*;
 
 /// The lines of a text that hold words. A line that can't be split keeps its problem until it is
@@ -55,7 +56,7 @@ fn split(number: u32, line: &[u8]) -> Read<Option<Line<'_>>> {
         line: number,
         column: at as u32 + 1,
     };
-    let end = words_end(line).map_err(|at| Problem::new(spot(at), byte_message(line[at])))?;
+    let end = words_end(line).map_err(|at| Problem::new(spot(at), foreign::byte(&line[at..])))?;
     if indent >= end {
         return Ok(None);
     }
@@ -95,13 +96,6 @@ fn words_end(line: &[u8]) -> Result<usize, usize> {
         escaped = quoted && *byte == b'\\' && !escaped;
     }
     Ok(line.len())
-}
-
-fn byte_message(byte: u8) -> String {
-    match byte {
-        b'\t' => "a tab: write spaces".to_string(),
-        _ => format!("the byte 0x{byte:02x} may stand only in a comment"),
-    }
 }
 
 /// Is it a name that needs no quotes?

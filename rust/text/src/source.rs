@@ -2,6 +2,7 @@
 
 use crate::decode;
 use crate::encode::{encode, Written};
+use crate::foreign;
 use crate::model::*;
 use crate::parse;
 use crate::words;
@@ -45,8 +46,9 @@ impl Source {
     }
 
     pub fn read_text(file: &str, input: &[u8]) -> Result<Source, String> {
+        not_foreign(file, input)?;
         if is_blocks(input) {
-            return Err(format!("{file}: these are blocks, not text"));
+            return Err(format!("{file}: {}", foreign::not_text(input)));
         }
         let told = |p: Problem| {
             let Problem { spot, message } = p;
@@ -72,8 +74,10 @@ impl Source {
         if input.is_empty() {
             return Err(format!("{file}: byte 0: refused 2: no block begins here"));
         }
+        not_foreign(file, input)?;
         if !is_blocks(input) {
-            return Err(format!("{file}: this is text, not blocks"));
+            let help = "`text blocks` writes it as blocks";
+            return Err(format!("{file}: this is text, not blocks: {help}"));
         }
         let mut pieces = Vec::new();
         let mut at = 0;
@@ -141,6 +145,13 @@ impl Source {
             let place = self.place_at(piece, offset);
             format!("{place}: refused {number}: {sentence}")
         })
+    }
+}
+
+fn not_foreign(file: &str, input: &[u8]) -> Result<(), String> {
+    match foreign::named(input) {
+        Some(message) => Err(format!("{file}: {message}")),
+        None => Ok(()),
     }
 }
 

@@ -64,15 +64,36 @@ fn indentation() {
     says("set\n  primitive a\tsize 1\n", "2:14: a tab: write spaces");
 }
 
+const ASCII: &str =
+    "may stand only in a comment: a name has characters from 0x20 to 0x7E only (ASCII)";
+
 #[test]
 fn bytes() {
     says(
         "set\n  primitive é size 1\n",
-        "2:13: the byte 0xc3 may stand only in a comment",
+        &format!("2:13: `é` (U+00E9) {ASCII}"),
     );
     says(
         "set\n  primitive \"é\" size 1\n",
-        "2:14: the byte 0xc3 may stand only in a comment",
+        &format!("2:14: `é` (U+00E9) {ASCII}"),
+    );
+    says(
+        "set\n  primitive 切符 size 1\n",
+        &format!("2:13: `切` (U+5207) {ASCII}"),
+    );
+    says("run 🚌 length 1\n", &format!("1:5: U+1F68C {ASCII}"));
+    says(
+        "run “T” length 1\n",
+        &format!("1:5: `“` (U+201C) {ASCII}; a name in quotes has \" around it"),
+    );
+    says(
+        "run\u{a0}T length 1\n",
+        &format!("1:4: U+00A0 {ASCII}; between words stand spaces (0x20)"),
+    );
+    // Latin-1, also at the line's end.
+    says(
+        b"run a\xe9",
+        &format!("1:6: the byte 0xe9, which is not UTF-8, {ASCII}"),
     );
     says(
         "set\n  primitive a size 1\r \n",

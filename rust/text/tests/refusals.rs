@@ -345,9 +345,13 @@ fn files_that_are_cut() {
         "byte 0: refused 2: the file ends inside this block",
     );
     says(b"", "byte 0: refused 2: no block begins here");
-    says(b"set\n  x", "this is text, not blocks");
+    says(
+        b"set\n  x",
+        "this is text, not blocks: `text blocks` writes it as blocks",
+    );
     let texts = commands::blocks("t", &run, false).unwrap_err();
-    assert_eq!(texts, "t: these are blocks, not text");
+    let message = "t: these are blocks (a run first), not text: `text show` writes them as text";
+    assert_eq!(texts, message);
 }
 
 /// Refused blocks can be shown unchecked as far as they have a text.
