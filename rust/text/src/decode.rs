@@ -84,6 +84,14 @@ impl<'b> Reader<'b> {
         })
     }
 
+    /// The open block's start, as a spot.
+    fn spot(&self) -> Spot {
+        Spot {
+            line: 0,
+            column: self.start as u32,
+        }
+    }
+
     fn bytes(&mut self, count: usize) -> Taken<&'b [u8]> {
         if count > self.end - self.at {
             return self.fault("a part runs past the end of its block");
@@ -171,7 +179,7 @@ impl<'b> Reader<'b> {
     fn ty(&mut self) -> Taken<Type> {
         self.block(|r, kind| {
             Ok(Type {
-                spot: Spot::default(),
+                spot: r.spot(),
                 name: r.name()?,
                 size: r.optional(false, Reader::number)?,
                 align: r.number()?,
@@ -201,7 +209,7 @@ impl<'b> Reader<'b> {
     fn owner(&mut self) -> Taken<Owner> {
         self.only(37, |r| {
             Ok(Owner {
-                spot: Spot::default(),
+                spot: r.spot(),
                 name: r.name()?,
                 paths: r.list(Reader::name)?,
             })
@@ -211,7 +219,7 @@ impl<'b> Reader<'b> {
     fn field(&mut self) -> Taken<Field> {
         self.only(33, |r| {
             Ok(Field {
-                spot: Spot::default(),
+                spot: r.spot(),
                 name: r.name()?,
                 offset: r.optional(true, Reader::number)?,
                 ty: r.ty()?,
@@ -222,7 +230,7 @@ impl<'b> Reader<'b> {
     fn variant(&mut self, wanted: u16) -> Taken<Variant> {
         self.only(wanted, |r| {
             Ok(Variant {
-                spot: Spot::default(),
+                spot: r.spot(),
                 name: r.name()?,
                 number: r.number()?,
                 ty: r.ty()?,
@@ -231,7 +239,9 @@ impl<'b> Reader<'b> {
     }
 
     fn expr(&mut self) -> Taken<Expr> {
+        let mut spot = Spot::default();
         let form = self.block(|r, kind| {
+            spot = r.spot();
             Ok(match kind {
                 64 => r.literal()?,
                 65 => Form::Path(r.list(Reader::name)?),
@@ -244,10 +254,7 @@ impl<'b> Reader<'b> {
                 }
             })
         })?;
-        Ok(Expr {
-            spot: Spot::default(),
-            form,
-        })
+        Ok(Expr { spot, form })
     }
 
     fn literal(&mut self) -> Taken<Form> {

@@ -1,9 +1,10 @@
 //! The blocks of document 01 as values.
 //!
 //! Each block knows the spot of the text that it was read from, so that a refusal's offset can be
-//! told as a line. Blocks that were read from bytes have the spot 0, 0.
+//! told as a line. The parts of a set that was read from bytes have line 0, and the offset of their
+//! block as column; other blocks that were read from bytes have the spot 0, 0.
 
-/// A line and a column of a text, both from 1.
+/// A line and a column of a text, both from 1; or line 0 and an offset.
 #[derive(Clone, Copy, Debug, Default, PartialEq, Eq)]
 pub struct Spot {
     pub line: u32,

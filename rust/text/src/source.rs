@@ -5,6 +5,7 @@ use crate::encode::{encode, Written};
 use crate::foreign;
 use crate::model::*;
 use crate::parse;
+use crate::stumble::{self, Stumble};
 use crate::words;
 use ciztarmo::{Refusal, Work, LIMIT};
 
@@ -141,10 +142,57 @@ impl Source {
             let Some(place) = refusal.place() else {
                 return format!("{}: refused {number}: {sentence}", self.place(piece));
             };
-            let offset = piece.type_at(usize::from(place));
-            let place = self.place_at(piece, offset);
-            format!("{place}: refused {number}: {sentence}")
+            let place = usize::from(place);
+            match self.stumbled(piece, place).filter(|s| s.number == number) {
+                Some(stumble) => self.culprit(piece, &stumble),
+                // The walk does not arrive where the call did: only what the call says is told.
+                None => {
+                    let at = self.place_at(piece, piece.type_at(place));
+                    format!("{at}: refused {number}: {sentence}")
+                }
+            }
         })
+    }
+
+    fn stumbled(&self, piece: &Piece, place: usize) -> Option<Stumble> {
+        match piece.block() {
+            Ok(Block::Set(set)) => stumble::walk(&set.types, set.types.get(place)?),
+            _ => None,
+        }
+    }
+
+    /// A refusal of a build with what it stumbled on.
+    fn culprit(&self, piece: &Piece, stumble: &Stumble) -> String {
+        let Stumble { number, words, .. } = stumble;
+        let at = self.place_of(piece, stumble.spot);
+        let sentence = words::building(*number);
+        let mut message = format!("{at}: refused {number}: {sentence}: {words}");
+        if stumble.in_line && stumble.spot.line > 0 {
+            message += &format!(" (column {})", stumble.spot.column);
+        }
+        if let Some(help) = &stumble.help {
+            message += &format!("; what would help: {}", help.words);
+            if let Some((place, spot)) = &help.place {
+                message += &format!(" {place} ({})", self.near(piece, *spot));
+            }
+        }
+        message
+    }
+
+    /// Where a part of a set stands, for a message.
+    pub fn place_of(&self, piece: &Piece, spot: Spot) -> String {
+        match spot.line {
+            0 => self.place_at(piece, spot.column as usize),
+            line => format!("{}:{line}", self.file),
+        }
+    }
+
+    /// The same within a message about the file.
+    pub fn near(&self, piece: &Piece, spot: Spot) -> String {
+        match spot.line {
+            0 => format!("byte {}", piece.file_offset() + spot.column as usize),
+            line => format!("line {line}"),
+        }
     }
 }
 

@@ -186,7 +186,8 @@ fn inputs_without_what_is_asked_for() {
     says(
         "lengths",
         "set\n  struct a variable\n",
-        "<stdin>:2: refused 11: references that the layout needs are missing",
+        "<stdin>:2: refused 11: references that the layout needs are missing: \
+            struct a is variable and has no fields; what would help: a field, or a constant size",
     );
 }
 

@@ -234,39 +234,41 @@ fn names_out_of_order() {
     );
 }
 
-/// A refusal of the build, at the type that it is about: the set's second, in line 3.
+/// A refusal of the build, in the set's second type, from line 3 on.
 fn at(types: &str, message: &str) {
     let text = format!("set\n  primitive first size 1\n{types}");
-    assert_eq!(unbuilt(&text), format!("t:{message}"));
+    let told = unbuilt(&text);
+    assert!(told.starts_with(&format!("t:{message}")), "{told}");
 }
 
+/// Each number of a build; tests/stumbles.rs has what is told behind it.
 #[test]
 fn builds() {
     at(
         "  primitive a variable\n",
-        "3: refused 10: a type of this shape has no variable size",
+        "3: refused 10: a type of this shape has no variable size: ",
     );
     at(
         "  struct a variable\n",
-        "3: refused 11: references that the layout needs are missing",
+        "3: refused 11: references that the layout needs are missing: ",
     );
     at(
         "  enum a variable tag n\n",
-        "3: refused 12: a path names no parameter",
+        "3: refused 12: a path names no parameter: ",
     );
     let array = "  array a variable count n\n    owner array paths n\n    element";
     at(
         &format!("{array} primitive b variable\n"),
-        "3: refused 13: an array can't have elements of this shape",
+        "5: refused 13: an array can't have elements of this shape: ",
     );
     let array = "  array a variable count -1i8\n    owner array\n    element primitive b size 1\n";
     at(
         array,
-        "3: refused 14: an expression of this kind can't be a size",
+        "3: refused 14: an expression of this kind can't be a size: ",
     );
     at(
         "  reference a variable to b\n",
-        "3: refused 15: a type that is referred to is not in the set",
+        "3: refused 15: a type that is referred to is not in the set: ",
     );
 }
 
@@ -275,13 +277,13 @@ fn builds_too_large() {
     let field = "    field f at 18446744073709551615 primitive b size 1\n";
     at(
         &format!("  struct a variable\n{field}"),
-        "3: refused 16: a field's offset and size together reach 2^64",
+        "4: refused 16: a field's offset and size together reach 2^64: ",
     );
     let owner = "x".repeat(200);
     at(
         &format!("  union a variable\n    owner {owner} paths {owner}y\n"),
         "3: refused 17: a name or text of more than 255 bytes, or more than 512 parameters or \
-            arguments, would be written",
+            arguments, would be written: ",
     );
     let fields = lines(64, |i| format!("    field f{i} primitive u8 size 1\n"));
     let structs = lines(20, |i| format!("  struct s{i:02} variable\n{fields}"));
