@@ -7,6 +7,7 @@ use crate::parameters;
 use crate::show;
 use crate::source::{Piece, Source};
 use crate::tree;
+use crate::warn;
 use crate::words;
 use ciztarmo::Work;
 
@@ -78,7 +79,8 @@ pub fn lengths(file: &str, input: &[u8]) -> Answer {
     roomy(|| to_words(file, input))
 }
 
-/// Whether every block is accepted and every set is built.
+/// Whether every block is accepted and every set is built; the remarks warn of what is drawn and
+/// not counted.
 pub fn check(file: &str, input: &[u8]) -> Answer {
     roomy(|| checked(file, input))
 }
@@ -275,11 +277,25 @@ fn to_words(file: &str, input: &[u8]) -> Answer {
 fn checked(file: &str, input: &[u8]) -> Answer {
     let source = Source::read(file, input)?;
     let mut work = Work::new();
+    let mut done = Done::default();
+    // The types that runs are of: those of the last set or layout before them.
+    let mut types = Vec::new();
     for piece in &source.pieces {
         source.accepted(&mut work, piece)?;
-        if piece.kind == SET {
-            source.built(&mut work, piece)?;
+        if is_types(piece) {
+            let layout = built_or_as_is(&source, &mut work, piece)?;
+            types = layout_of(file, &layout)?.types;
+        }
+        let found = match piece.block() {
+            Ok(Block::Set(set)) => warn::of_set(&set),
+            Ok(Block::Run(run)) => warn::of_run(&types, &run),
+            _ => Vec::new(),
+        };
+        for warning in found {
+            let place = source.place_of(piece, warning.spot);
+            let remark = format!("{place}: warning: {}", warning.words);
+            done.remarks.push(remark);
         }
     }
-    Ok(Done::default())
+    Ok(done)
 }

@@ -23,4 +23,5 @@ pub mod show;
 pub mod source;
 pub mod stumble;
 pub mod tree;
+pub mod warn;
 pub mod words;

@@ -10,7 +10,7 @@ usage: text blocks FILE [-o OUT] [--unchecked]   text to blocks
        text show FILE [-o OUT] [--unchecked]     blocks to text
        text tree FILE                            a set's or layout's types as trees
        text lengths FILE                         the answers to the runs behind a set, in words
-       text check FILE                           says nothing, or where FILE is wrong
+       text check FILE                           says nothing, or where FILE is wrong, or warns
        text layout FILE [-o OUT]                 the layout of a set, as bytes for a device
        text parameters FILE TYPE                 what a record of a type wants to be told
 FILE - is standard input. --unchecked writes also what the proved reader refuses.

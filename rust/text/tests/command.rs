@@ -142,6 +142,13 @@ fn each_command() {
         ),
         (Some(0), 0, 0)
     );
+    // A warning goes to standard error, and the status stays 0.
+    let warned = fed(
+        &["check", "-"],
+        b"set\n  array T size 4 count 2u8\n    element primitive p size 3\n",
+    );
+    assert_eq!((warned.status.code(), warned.stdout.len()), (Some(0), 0));
+    assert!(error(&warned).starts_with("<stdin>:2: warning: drawn: "));
     assert_eq!(run(&["blocks", "trip.txt"]).stdout, read("examples/trip"));
     assert_eq!(
         run(&["tree", "transfers.txt"]).stdout,
