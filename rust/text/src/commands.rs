@@ -128,11 +128,10 @@ fn to_tree(file: &str, input: &[u8]) -> Answer {
     let mut drawn = Vec::new();
     for piece in &source.pieces {
         source.accepted(&mut work, piece)?;
-        if !is_types(piece) {
-            continue;
+        if is_types(piece) {
+            let types = Types::read(&source, &mut work, piece)?;
+            drawn.push(tree::draw(&types.layout, &types.set));
         }
-        let layout = built_or_as_is(&source, &mut work, piece)?;
-        drawn.push(tree::draw(&layout_of(file, &layout)?));
     }
     if drawn.is_empty() {
         return Err(format!("{file}: neither a set nor a layout stands in it"));

@@ -1,9 +1,11 @@
 //! A layout drawn for reading: for each type its parameters, its count as a formula where that is
 //! short, and its nodes, a line each. Only sums are drawn differently from the nodes: a builder adds
-//! one field after the other, and all that are added stand side by side under one line.
+//! one field after the other, and all that are added stand side by side under one line. Where the
+//! set is known, a node's line ends with the field or variant that it stands for.
 
 use crate::lines::written;
 use crate::model::*;
+use crate::parts::{self, Part, Role};
 
 /// Formulas longer than this are left out: that of a type, and that of a node.
 const MOST_FOR_TYPE: usize = 100;
@@ -26,8 +28,8 @@ const TWO: [(&str, &str); 10] = [
     ("shift right", ">>"),
 ];
 
-/// The drawing of a layout.
-pub fn draw(layout: &Layout) -> String {
+/// The drawing of a layout, with names from the types of the set that it was built from.
+pub fn draw(layout: &Layout, set: &[Type]) -> String {
     let mut out = String::new();
     for tree in &layout.types {
         if !out.is_empty() {
@@ -45,7 +47,8 @@ pub fn draw(layout: &Layout) -> String {
             out: &mut out,
             margin: "  ".to_string(),
         };
-        pen.node("", true, &tree.root);
+        let ty = set.iter().find(|ty| ty.name == tree.name);
+        pen.part("", true, &parts::of_tree(&tree.root, ty));
     }
     out
 }
@@ -65,41 +68,77 @@ struct Pen<'o> {
 
 impl Pen<'_> {
     /// A node and those below it. The label says what it is to the node above.
-    fn node(&mut self, label: &str, last: bool, node: &Node) {
+    fn part(&mut self, label: &str, last: bool, part: &Part) {
         let (corner, below) = match last {
             true => ("└─ ", "   "),
             false => ("├─ ", "│  "),
         };
-        let words = words(node);
-        *self.out += &format!("{}{corner}{label}{words}\n", self.margin);
+        let words = words(part.node);
+        let role = part.role.and_then(role_words);
+        let role = role.map_or(String::new(), |role| format!("  [{role}]"));
+        *self.out += &format!("{}{corner}{label}{words}{role}\n", self.margin);
         let length = self.margin.len();
         self.margin += below;
-        self.below(&node.op);
+        self.below(part);
         self.margin.truncate(length);
     }
 
-    fn below(&mut self, op: &Op) {
-        match op {
-            Op::ZeroSize | Op::Const(_) | Op::FieldRef { .. } | Op::CallNested { .. } => {}
-            Op::AlignUp(_, node) => self.node("", true, node),
-            Op::Switch { cases, default, .. } => {
-                for (i, case) in cases.iter().enumerate() {
-                    let last = i + 1 == cases.len() && default.is_none();
-                    self.node(&case_label(case), last, &case.node);
-                }
-                if let Some(node) = default {
-                    self.node("any other: ", true, node);
-                }
-            }
-            Op::Two(kind, left, right) => {
-                let mut operands = operands(*kind, left);
-                operands.push(right);
-                for (i, node) in operands.iter().enumerate() {
-                    self.node("", i + 1 == operands.len(), node);
-                }
-            }
-            Op::SumOverArray { count, .. } => self.node("count: ", true, count),
+    fn below(&mut self, part: &Part) {
+        let below = match part.node.op {
+            Op::Two(ADD, ..) => added(part),
+            _ => part.below.clone(),
+        };
+        for (i, child) in below.iter().enumerate() {
+            let label = match &part.node.op {
+                Op::Switch { cases, .. } => cases.get(i).map_or("any other: ".into(), case_label),
+                Op::SumOverArray { .. } => "count: ".to_string(),
+                _ => String::new(),
+            };
+            self.part(&label, i + 1 == below.len(), child);
         }
+    }
+}
+
+/// All that a sum adds, with the sums at its left. What such a sum stands for, its parts stand for.
+fn added<'a>(sum: &Part<'a>) -> Vec<Part<'a>> {
+    let [left, right] = &sum.below[..] else {
+        return sum.below.clone();
+    };
+    let mut all = match left.node.op {
+        Op::Two(ADD, ..) => added(left),
+        _ => vec![left.clone()],
+    };
+    if let Some(Role::Field { field, place }) = left.role {
+        for (i, part) in all.iter_mut().enumerate() {
+            let place = place.filter(|_| i == 0);
+            part.role = Some(Role::Field { field, place });
+        }
+    }
+    all.push(right.clone());
+    all
+}
+
+/// The field, variant or element that a node stands for.
+fn role_words(role: Role) -> Option<String> {
+    match role {
+        Role::Padding { place: Some(at) } => Some(format!("padding at {at}")),
+        Role::Padding { place: None } => Some("padding".to_string()),
+        Role::Field { field, place } => Some(field_words(field, place)),
+        Role::Variant { name, .. } => Some(format!("variant {}", written(name))),
+        Role::Element(_) => Some("element".to_string()),
+        Role::Count => None,
+    }
+}
+
+/// A field with the place where it is counted, if that is known, and its offset, if that is another.
+fn field_words(field: &Field, place: Option<u64>) -> String {
+    let mut words = format!("field {}", written(&field.name));
+    if let Some(at) = place {
+        words += &format!(" at {at}");
+    }
+    match field.offset {
+        Some(offset) if place != Some(offset) => words + &format!(", drawn at {offset}"),
+        _ => words,
     }
 }
 

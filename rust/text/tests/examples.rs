@@ -67,22 +67,25 @@ fn outputs_have_the_refusals() {
     }
 }
 
+/// From the text and from the set's blocks, the stored trees; from the layout that is built, the same
+/// without the names of the set.
 #[test]
 fn trees() {
     for example in EXAMPLES {
         let stored = String::from_utf8(read(&format!("examples/{example}.tree"))).unwrap();
-        // From the text, from the set's blocks, and from the layout that is built.
+        let bare = |line: &str| line.split("  [").next().unwrap().to_string() + "\n";
+        let nameless: String = stored.lines().map(bare).collect();
+        assert_ne!(nameless, stored);
         let input = blocks(&text(example));
         let layout = Work::new().build_set(cut(&input).unwrap()[0]).unwrap();
-        for source in [
-            text(example).as_bytes(),
-            &input,
-            &layout,
-            show(&layout).as_bytes(),
-        ] {
-            let drawn = commands::tree(example, source).unwrap().output;
-            assert_eq!(String::from_utf8(drawn).unwrap(), stored, "{example}");
-        }
+        let drawn = |source: &[u8]| {
+            let done = commands::tree(example, source).unwrap();
+            String::from_utf8(done.output).unwrap()
+        };
+        assert_eq!(drawn(text(example).as_bytes()), stored, "{example}");
+        assert_eq!(drawn(&input), stored, "{example}");
+        assert_eq!(drawn(&layout), nameless, "{example}");
+        assert_eq!(drawn(show(&layout).as_bytes()), nameless, "{example}");
     }
 }
 

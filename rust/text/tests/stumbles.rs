@@ -4,10 +4,8 @@ mod common;
 
 use ciztarmo::Work;
 use ciztarmo_text::commands;
-use ciztarmo_text::decode::decode;
-use ciztarmo_text::model::{Block, Type};
 use ciztarmo_text::stumble;
-use common::{blocks, read, unbuilt};
+use common::{blocks, stored_sets, unbuilt};
 
 /// The message for a set with these lines, from line 2; the file's name is `t`.
 fn told(types: &str, message: &str) {
@@ -241,31 +239,6 @@ fn in_blocks() {
              say; what would help: `owner v paths size` below struct S (byte {name})"
         )
     );
-}
-
-/// The sets of the stored list (judge/vectors/README.md) that are read.
-fn stored_sets() -> Vec<(Vec<u8>, Vec<Type>)> {
-    let file = read("judge/vectors/answers.bin");
-    let mut rest = &file[..];
-    let mut work = Work::new();
-    let mut sets = Vec::new();
-    while !rest.is_empty() {
-        let length = u32::from_le_bytes(rest[2..6].try_into().unwrap()) as usize;
-        let (kind, record) = (rest[0], &rest[6..6 + length]);
-        rest = &rest[6 + length..];
-        if kind != 1 {
-            continue;
-        }
-        let length = u32::from_le_bytes(record[8..12].try_into().unwrap()) as usize;
-        let set = &record[12..12 + length];
-        if work.read_set(set).is_ok() {
-            let Ok(Block::Set(types)) = decode(set) else {
-                panic!("a set that is read has its parts");
-            };
-            sets.push((set.to_vec(), types.types));
-        }
-    }
-    sets
 }
 
 /// On every stored set the walk stops at the type where the proved build does, with its number.

@@ -2,7 +2,10 @@
 
 mod common;
 
+use ciztarmo::Work;
 use ciztarmo_text::commands;
+use ciztarmo_text::model::{Shape, Type};
+use common::stored_sets;
 
 fn drawn(layout: &str) -> String {
     let done = commands::tree("t", layout.as_bytes()).unwrap();
@@ -139,6 +142,123 @@ fn several_types() {
         drawn(&format!("{two}layout\n{two}")),
         format!("{both}\n{both}")
     );
+}
+
+/// The lines of a set's only type that end with a name of the set, without their margins.
+fn named(set: &str) -> Vec<String> {
+    let tree = drawn(&format!("set\n{set}"));
+    let named = tree.lines().filter(|l| l.ends_with(']'));
+    let bare = |line: &str| {
+        line.trim_start_matches([' ', '│', '├', '└', '─'])
+            .to_string()
+    };
+    named.map(bare).collect()
+}
+
+#[test]
+fn names_of_fields() {
+    let set = "  struct T variable
+    owner v paths m n
+    field v primitive text variable
+    field a at 2 primitive p size 0
+    field \"b c\" at 3 primitive p size 2
+    field late array r variable count 1u8
+      owner late
+      element primitive p size 4
+";
+    // The two values of the first field are added, like the fields.
+    let lines = [
+        "value v.m, path m  [field v at 0]",
+        "value v.n, path n  [field v]",
+        "align up to 1  [padding]",
+        "no bytes  [field a, drawn at 2]",
+        "align up to 1  [padding]",
+        "align up to 1  [field \"b c\", drawn at 3]",
+        "align up to 1  [field late]",
+        "constant 4  [element]",
+    ];
+    assert_eq!(named(set), lines);
+}
+
+#[test]
+fn offsets_of_fields() {
+    let set = "  struct T variable
+    field a at 0 primitive p size 3 align 4
+    field b at 2 primitive p size 1
+    field c primitive p size 1
+    field d at 8 primitive p size 1
+";
+    let lines = [
+        "align up to 4  [field a at 0]",
+        "align up to 1  [field b at 4, drawn at 2]",
+        "align up to 1  [field c at 5]",
+        "align up to 1  [padding at 6]",
+        "align up to 1  [field d at 11, drawn at 8]",
+    ];
+    assert_eq!(named(set), lines);
+}
+
+#[test]
+fn names_of_variants() {
+    let union = "  union T variable
+    owner v paths n
+    field u primitive p size 2
+    field v primitive p variable
+";
+    let lines = [
+        "0: align up to 1  [variant u]",
+        "1 (v.n): align up to 1  [variant v]",
+    ];
+    assert_eq!(named(union), lines);
+    // A payload-size enum is a sum; a union as a field is one too.
+    let sums = "  struct T variable
+    owner e paths x.payload_size
+    owner u paths n
+    field e enum e variable tag k
+      variant a tag 1 primitive p size 1
+    field u union u variable
+      field b primitive p size 1
+";
+    let lines = [
+        "align up to 1  [field e at 0]",
+        "value u.n, path n  [field u]",
+    ];
+    assert_eq!(named(sums), lines);
+}
+
+/// On every stored set: what a node's line says is the same with and without the set, and each field
+/// of a variable struct is named.
+#[test]
+fn names_beside_stored_trees() {
+    let mut work = Work::new();
+    let mut seen = 0;
+    for (set, types) in stored_sets() {
+        let Ok(layout) = work.build_set(&set) else {
+            continue;
+        };
+        let tree =
+            |input: &[u8]| String::from_utf8(commands::tree("t", input).unwrap().output).unwrap();
+        let (named, bare) = (tree(&set), tree(&layout));
+        assert_eq!(named.lines().count(), bare.lines().count());
+        for (named, bare) in named.lines().zip(bare.lines()) {
+            let role = named
+                .strip_prefix(bare)
+                .unwrap_or_else(|| panic!("{named}\n{bare}"));
+            assert!(role.is_empty() || role.starts_with("  [") && role.ends_with(']'));
+        }
+        let fields = |ty: &Type| match (&ty.shape, ty.size) {
+            (Shape::Struct(fields), None) => fields.len(),
+            _ => 0,
+        };
+        let fields: usize = types.iter().map(fields).sum();
+        let shown = named
+            .lines()
+            .filter(|l| l.ends_with(']') && l.contains("  [field "))
+            .count();
+        assert!(shown >= fields, "{named}");
+        seen += fields;
+    }
+    assert!(seen > 100, "{seen}");
 }
 
 /// A set whose types ask for each operation.

@@ -1,7 +1,10 @@
 //! What the tests share. Each test program uses a part of it.
 #![allow(dead_code)]
 
+use ciztarmo::Work;
 use ciztarmo_text::commands;
+use ciztarmo_text::decode::decode;
+use ciztarmo_text::model::{Block, Type};
 use std::path::PathBuf;
 
 /// A file of the repository, by its path from the top.
@@ -69,4 +72,29 @@ pub fn cut(input: &[u8]) -> Option<Vec<&[u8]>> {
         rest = &rest[block.len()..];
     }
     Some(out)
+}
+
+/// The sets of the stored list (judge/vectors/README.md) that are read.
+pub fn stored_sets() -> Vec<(Vec<u8>, Vec<Type>)> {
+    let file = read("judge/vectors/answers.bin");
+    let mut rest = &file[..];
+    let mut work = Work::new();
+    let mut sets = Vec::new();
+    while !rest.is_empty() {
+        let length = u32::from_le_bytes(rest[2..6].try_into().unwrap()) as usize;
+        let (kind, record) = (rest[0], &rest[6..6 + length]);
+        rest = &rest[6 + length..];
+        if kind != 1 {
+            continue;
+        }
+        let length = u32::from_le_bytes(record[8..12].try_into().unwrap()) as usize;
+        let set = &record[12..12 + length];
+        if work.read_set(set).is_ok() {
+            let Ok(Block::Set(types)) = decode(set) else {
+                panic!("a set that is read has its parts");
+            };
+            sets.push((set.to_vec(), types.types));
+        }
+    }
+    sets
 }
