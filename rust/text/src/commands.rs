@@ -1,11 +1,15 @@
 //! The commands, from an input to an output or a message.
 
 use crate::decode::decode;
+use crate::encode::encode;
+use crate::eval;
 use crate::lines::written;
+use crate::map;
 use crate::model::*;
 use crate::parameters;
 use crate::show;
 use crate::source::{Piece, Source};
+use crate::svg;
 use crate::tree;
 use crate::warn;
 use crate::words;
@@ -93,6 +97,24 @@ pub fn layout(file: &str, input: &[u8]) -> Answer {
 /// What a record of a type wants to be told.
 pub fn parameters(file: &str, input: &[u8], name: &str) -> Answer {
     roomy(|| to_parameters(file, input, name))
+}
+
+/// What is asked of a map: the type, and where its values come from.
+#[derive(Debug, Default)]
+pub struct Asked {
+    pub name: String,
+    /// Values by name. Without any, those of a run of the file are taken.
+    pub values: Vec<(String, u64)>,
+    /// Which run of the file, from 0. Without it, the first of the type.
+    pub run: Option<usize>,
+    /// The buffer length, in place of the run's.
+    pub length: Option<u64>,
+    pub svg: bool,
+}
+
+/// What lies where in a record, as text or as SVG.
+pub fn map(file: &str, input: &[u8], asked: &Asked) -> Answer {
+    roomy(|| to_map(file, input, asked))
 }
 
 fn to_blocks(file: &str, input: &[u8], unchecked: bool) -> Answer {
@@ -245,6 +267,171 @@ fn to_parameters(file: &str, input: &[u8], name: &str) -> Answer {
     match types.tree(name) {
         Some(tree) => Ok(Done::only(parameters::describe(tree, types.drawn(name)))),
         None => Err(no_type(file, name, &types.layout.types)),
+    }
+}
+
+fn to_map(file: &str, input: &[u8], asked: &Asked) -> Answer {
+    let source = Source::read(file, input)?;
+    let mut work = Work::new();
+    for piece in &source.pieces {
+        source.accepted(&mut work, piece)?;
+    }
+    let piece = the_types(&source)?;
+    if piece.kind == LAYOUT {
+        let place = source.place(piece);
+        return Err(format!(
+            "{place}: a layout has no fields to draw: a map is drawn of its set"
+        ));
+    }
+    let bytes = source.built(&mut work, piece)?;
+    let types = Types::read(&source, &mut work, piece)?;
+    let name = written(&asked.name);
+    if types.tree(&asked.name).is_none() {
+        return Err(no_type(file, &asked.name, &types.layout.types));
+    }
+    let (run, from) = run_of(&source, asked)?;
+    let mut done = Done::default();
+    for warning in warn::of_run(&types.layout.types, &run) {
+        done.remarks
+            .push(format!("{from}: warning: {}", warning.words));
+    }
+    let counted = count_of(&mut work, &bytes, &types, &run, &from);
+    // A wrong name is the likely reason where a value is missing, so both are told.
+    let (count, small) = counted.map_err(|message| {
+        done.remarks.push(message);
+        done.remarks.join("\n")
+    })?;
+    let mut held: eval::Held = values_of(&run).collect();
+    held.entry("__buffer_size".to_string())
+        .or_insert(run.length);
+    let map = map::draw(&types.set, &types.layout.types, &asked.name, &held);
+    // What is drawn is not proved; that its parts are all that is counted is asked here.
+    let Some(map) = map.filter(|m| m.rows.first().is_some_and(|r| r.count == count)) else {
+        return Err(format!(
+            "{from}: {name}: {count} bytes are counted, and the drawing does not arrive at them"
+        ));
+    };
+    let title = title(&name, count, &run, small);
+    done.output = match asked.svg {
+        false => map::text(&title, &map),
+        true if count > svg::MOST_BYTES => {
+            let most = svg::MOST_BYTES;
+            return Err(format!(
+                "{from}: {name}: {count} bytes, and SVG is drawn of {most} at most; as text it is drawn"
+            ));
+        }
+        true => svg::draw(&title, &map),
+    }
+    .into_bytes();
+    Ok(done)
+}
+
+/// The run that is drawn, and where it comes from.
+fn run_of(source: &Source, asked: &Asked) -> Result<(Run, String), String> {
+    let file = &source.file;
+    let runs = source
+        .pieces
+        .iter()
+        .filter_map(|piece| match piece.block() {
+            Ok(Block::Run(run)) => Some((run, source.place(piece))),
+            _ => None,
+        });
+    let mut runs: Vec<(Run, String)> = runs.collect();
+    let name = written(&asked.name);
+    let there = runs.len();
+    let chosen = match asked.run {
+        _ if !asked.values.is_empty() => None,
+        Some(place) if place >= there => {
+            return Err(format!(
+                "{file}: no run {place}: the file has {there}, counted from 0"
+            ));
+        }
+        Some(place) if runs[place].0.name != asked.name => {
+            let other = written(&runs[place].0.name);
+            return Err(format!(
+                "{}: run {place} is of {other}, not of {name}",
+                runs[place].1
+            ));
+        }
+        Some(place) => Some(place),
+        None => runs.iter().position(|(run, _)| run.name == asked.name),
+    };
+    let (mut run, from) = match chosen {
+        Some(place) => runs.swap_remove(place),
+        None => (run_with(asked), file.clone()),
+    };
+    run.length = asked.length.unwrap_or(run.length);
+    Ok((run, from))
+}
+
+/// A run of the values that were handed over, in the order of blocks. Its buffer is large enough for
+/// any record, unless a length is asked for.
+fn run_with(asked: &Asked) -> Run {
+    let spot = Spot::default();
+    let mut entries: Vec<Value> = Vec::new();
+    for (name, number) in &asked.values {
+        entries.push(Value {
+            spot,
+            name: name.clone(),
+            number: *number,
+        });
+    }
+    entries.sort_by(|a, b| a.name.cmp(&b.name));
+    Run {
+        spot,
+        name: asked.name.clone(),
+        length: u64::MAX,
+        values: Values { spot, entries },
+    }
+}
+
+fn values_of(run: &Run) -> impl Iterator<Item = (String, u64)> + '_ {
+    let entries = run.values.entries.iter();
+    entries.map(|value| (value.name.clone(), value.number))
+}
+
+/// The count of a run by the proved call, and whether the buffer is too small for it.
+fn count_of(
+    work: &mut Work,
+    layout: &[u8],
+    types: &Types,
+    run: &Run,
+    from: &str,
+) -> Result<(u64, bool), String> {
+    let block = Block::Run(run.clone());
+    let written_run = encode(&block).map_err(|p| format!("{from}: {}", p.message))?;
+    let answer = work.validate_run(layout, &written_run.bytes);
+    match answer {
+        Ok(count) => Ok((count, false)),
+        Err(refusal) if refusal.number().code() == 25 => Ok((refusal.value(), true)),
+        Err(refusal) => {
+            let number = refusal.number().code();
+            let said = match number {
+                1..=6 => format!("refused {number}: {}", words::reading(number, VALUES, RUN)),
+                _ => words::answer(Err(refusal), layout, &types.layout.types, run),
+            };
+            let name = written(&run.name);
+            let help = match number {
+                21 => format!("; `text parameters` lists what {name} is told"),
+                _ => String::new(),
+            };
+            Err(format!("{from}: {name}: {said}{help}"))
+        }
+    }
+}
+
+/// What stands above a drawing: the type with its count, and the values.
+fn title(name: &str, count: u64, run: &Run, small: bool) -> map::Title {
+    let bytes = if count == 1 { "byte" } else { "bytes" };
+    let length = match (run.length, small) {
+        (u64::MAX, _) => String::new(),
+        (length, false) => format!(" of {length}"),
+        (length, true) => format!(", and {length} are there (refused with 25)"),
+    };
+    let value = |(name, number): (String, u64)| format!("{} = {number}", written(&name));
+    map::Title {
+        head: format!("{name}: {count} {bytes}{length}"),
+        values: values_of(run).map(value).collect(),
     }
 }
 

@@ -1,6 +1,7 @@
 //! The command line of the text form.
 
-use ciztarmo_text::commands::{self, Done};
+use ciztarmo_text::commands::{self, Asked, Done};
+use ciztarmo_text::lines::whole;
 use std::io::{Read, Write};
 use std::path::{Path, PathBuf};
 use std::process::ExitCode;
@@ -13,6 +14,8 @@ usage: text blocks FILE [-o OUT] [--unchecked]   text to blocks
        text check FILE                           says nothing, or where FILE is wrong, or warns
        text layout FILE [-o OUT]                 the layout of a set, as bytes for a device
        text parameters FILE TYPE                 what a record of a type wants to be told
+       text map FILE TYPE [NAME=NUMBER ..] [--run N] [--length N] [--svg] [-o OUT]
+                                                 what lies where in a record
 FILE - is standard input. --unchecked writes also what the proved reader refuses.
 ";
 
@@ -53,6 +56,19 @@ fn main() -> ExitCode {
     }
 }
 
+/// Whether something must stand behind an option.
+fn wants_more(option: &str) -> bool {
+    matches!(option, "-o" | "--run" | "--length")
+}
+
+/// A number as the text form writes it.
+fn number(digits: &str) -> Result<u64, String> {
+    match digits.is_empty() || !digits.bytes().all(|b| b.is_ascii_digit()) {
+        true => Err(format!("`{digits}` is no number")),
+        false => whole(digits),
+    }
+}
+
 fn told(failure: Failure) -> ExitCode {
     eprintln!("{}", failure.message.trim_end());
     ExitCode::from(failure.status)
@@ -67,21 +83,12 @@ enum Command {
     Check,
     Layout,
     Parameters,
+    Map,
 }
 
-struct Call {
-    command: Command,
-    file: String,
-    /// The type that is asked for, of the commands that take one.
-    asked: String,
-    out: Option<PathBuf>,
-    unchecked: bool,
-}
-
-impl Call {
-    fn read(args: &[String]) -> Result<Call, Failure> {
-        let (name, rest) = args.split_first().ok_or_else(|| usage("no command"))?;
-        let command = match name.as_str() {
+impl Command {
+    fn named(name: &str) -> Option<Command> {
+        Some(match name {
             "blocks" => Command::Blocks,
             "show" => Command::Show,
             "tree" => Command::Tree,
@@ -89,44 +96,134 @@ impl Call {
             "check" => Command::Check,
             "layout" => Command::Layout,
             "parameters" => Command::Parameters,
-            _ => return Err(usage(format!("there is no command {name}"))),
+            "map" => Command::Map,
+            _ => return None,
+        })
+    }
+
+    /// Whether the command takes an option.
+    fn takes(self, option: &str) -> bool {
+        let both_ways = matches!(self, Command::Blocks | Command::Show);
+        match option {
+            "-o" => both_ways || matches!(self, Command::Layout | Command::Map),
+            "--unchecked" => both_ways,
+            "--svg" | "--run" | "--length" => self == Command::Map,
+            _ => false,
+        }
+    }
+
+    fn takes_a_type(self) -> bool {
+        matches!(self, Command::Parameters | Command::Map)
+    }
+}
+
+struct Call {
+    command: Command,
+    file: String,
+    /// The type that is asked for and how, of the commands that take one.
+    asked: Asked,
+    out: Option<PathBuf>,
+    unchecked: bool,
+}
+
+impl Call {
+    fn read(args: &[String]) -> Result<Call, Failure> {
+        let (name, rest) = args.split_first().ok_or_else(|| usage("no command"))?;
+        let command =
+            Command::named(name).ok_or_else(|| usage(format!("there is no command {name}")))?;
+        let mut call = Call {
+            command,
+            file: String::new(),
+            asked: Asked::default(),
+            out: None,
+            unchecked: false,
         };
-        let both_ways = matches!(command, Command::Blocks | Command::Show);
-        let writes = both_ways || command == Command::Layout;
-        let (mut files, mut out, mut unchecked) = (Vec::new(), None, false);
+        let mut operands = Vec::new();
         let mut rest = rest.iter();
         while let Some(arg) = rest.next() {
             match arg.as_str() {
-                "-o" if writes && out.is_none() => {
-                    let path = rest.next().ok_or_else(|| usage("-o needs a file"))?;
-                    out = Some(PathBuf::from(path));
-                }
-                "--unchecked" if both_ways => unchecked = true,
-                option if option.starts_with('-') && option != "-" => {
-                    return Err(usage(format!("{name} does not take {option}")));
-                }
-                file => files.push(file.to_string()),
+                "--" => operands.extend(rest.by_ref().cloned()),
+                "-" => operands.push(arg.clone()),
+                option if option.starts_with('-') => call.option(
+                    name,
+                    option,
+                    wants_more(option).then(|| rest.next()).flatten(),
+                )?,
+                _ => operands.push(arg.clone()),
             }
         }
-        let of_a_type = command == Command::Parameters;
-        match (files.len(), of_a_type) {
-            (0, false) => return Err(usage(format!("{name} needs a file"))),
-            (0 | 1, true) => return Err(usage(format!("{name} needs a file and a type"))),
-            (1, false) | (2, true) => {}
-            (_, false) => return Err(usage(format!("{name} takes one file"))),
-            (_, true) => return Err(usage(format!("{name} takes one file and one type"))),
+        call.operands(name, operands)?;
+        Ok(call)
+    }
+
+    /// Takes an option, and what stands behind it if it needs that.
+    fn option(&mut self, name: &str, option: &str, behind: Option<&String>) -> Result<(), Failure> {
+        let again = match option {
+            "-o" => self.out.is_some(),
+            "--run" => self.asked.run.is_some(),
+            "--length" => self.asked.length.is_some(),
+            _ => false,
+        };
+        if again || !self.command.takes(option) {
+            return Err(usage(format!("{name} does not take {option}")));
         }
-        Ok(Call {
-            command,
-            asked: if of_a_type {
-                files.remove(1)
-            } else {
-                String::new()
-            },
-            file: files.remove(0),
-            out,
-            unchecked,
-        })
+        match option {
+            "--unchecked" => self.unchecked = true,
+            "--svg" => self.asked.svg = true,
+            "-o" => {
+                let path = behind.ok_or_else(|| usage("-o needs a file"))?;
+                self.out = Some(PathBuf::from(path));
+            }
+            _ => {
+                let digits = behind.ok_or_else(|| usage(format!("{option} needs a number")))?;
+                let number = number(digits).map_err(|m| usage(format!("{option}: {m}")))?;
+                match option {
+                    "--run" => self.asked.run = Some(usize::try_from(number).unwrap_or(usize::MAX)),
+                    _ => self.asked.length = Some(number),
+                }
+            }
+        }
+        Ok(())
+    }
+
+    /// A file, a type if the command takes one, and of a map values.
+    fn operands(&mut self, name: &str, operands: Vec<String>) -> Result<(), Failure> {
+        let mut operands = operands.into_iter();
+        let typed = self.command.takes_a_type();
+        let needs = match typed {
+            true => format!("{name} needs a file and a type"),
+            false => format!("{name} needs a file"),
+        };
+        self.file = operands.next().ok_or_else(|| usage(&needs))?;
+        if typed {
+            self.asked.name = operands.next().ok_or_else(|| usage(&needs))?;
+        }
+        for operand in operands {
+            match self.command {
+                Command::Map => self.value(&operand)?,
+                _ if typed => {
+                    return Err(usage(format!("{name} takes one file and one type")));
+                }
+                _ => return Err(usage(format!("{name} takes one file"))),
+            }
+        }
+        match self.asked.run.is_some() && !self.asked.values.is_empty() {
+            true => Err(usage("map takes --run or values, not both")),
+            false => Ok(()),
+        }
+    }
+
+    /// A value of a map: NAME=NUMBER. A name may have an equals sign in it, a number has none.
+    fn value(&mut self, operand: &str) -> Result<(), Failure> {
+        let Some((name, digits)) = operand.rsplit_once('=') else {
+            return Err(usage(format!("{operand} where NAME=NUMBER must stand")));
+        };
+        let number = number(digits).map_err(|m| usage(format!("{operand}: {m}")))?;
+        if self.asked.values.iter().any(|v| v.0 == name) {
+            return Err(usage(format!("{operand}: {name} has a value already")));
+        }
+        self.asked.values.push((name.to_string(), number));
+        Ok(())
     }
 
     fn run(&self) -> Result<(), Failure> {
@@ -138,7 +235,8 @@ impl Call {
             Command::Lengths => commands::lengths(&name, &input),
             Command::Check => commands::check(&name, &input),
             Command::Layout => commands::layout(&name, &input),
-            Command::Parameters => commands::parameters(&name, &input, &self.asked),
+            Command::Parameters => commands::parameters(&name, &input, &self.asked.name),
+            Command::Map => commands::map(&name, &input, &self.asked),
         };
         let Done { output, remarks } = done.map_err(|message| Failure { status: 1, message })?;
         for remark in remarks {

@@ -72,6 +72,44 @@ fn misuse() {
         &["parameters", "trip.txt", "Trip", "Trip"],
         "parameters takes one file and one type",
     );
+    misused(&["map", "trip.txt"], "map needs a file and a type");
+    misused(&["tree", "trip.txt", "--svg"], "tree does not take --svg");
+    misused(
+        &["parameters", "trip.txt", "Trip", "-o", "x"],
+        "parameters does not take -o",
+    );
+    misused(
+        &["map", "trip.txt", "Trip", "--run"],
+        "--run needs a number",
+    );
+    misused(
+        &["map", "trip.txt", "Trip", "--run", "-1"],
+        "--run: `-1` is no number",
+    );
+    misused(
+        &["map", "trip.txt", "Trip", "--length", "1", "--length", "2"],
+        "map does not take --length",
+    );
+    misused(
+        &["map", "trip.txt", "Trip", "legs.n"],
+        "legs.n where NAME=NUMBER must stand",
+    );
+    misused(
+        &["map", "trip.txt", "Trip", "legs.n="],
+        "legs.n=: `` is no number",
+    );
+    misused(
+        &["map", "trip.txt", "Trip", "legs.n=18446744073709551616"],
+        "legs.n=18446744073709551616: the number 18446744073709551616 is not below 2^64",
+    );
+    misused(
+        &["map", "trip.txt", "Trip", "legs.n=1", "legs.n=1"],
+        "legs.n=1: legs.n has a value already",
+    );
+    misused(
+        &["map", "trip.txt", "Trip", "legs.n=1", "--run", "0"],
+        "map takes --run or values, not both",
+    );
     misused(
         &["layout", "--unchecked", "trip.txt"],
         "layout does not take --unchecked",
@@ -159,6 +197,24 @@ fn each_command() {
     assert_eq!(fed(&["blocks", "-"], &shown).stdout, read("examples/trip"));
     let said = String::from_utf8(run(&["parameters", "trip", "Trip"]).stdout).unwrap();
     assert_eq!(said, "Trip, 1 parameter\n  legs.n: count of field legs\n");
+    let drawn = run(&["map", "trip", "Trip", "legs.n=3", "--length", "13"]).stdout;
+    assert_eq!(drawn, read("examples/trip.map"));
+    let drawn = run(&["map", "--svg", "--run", "2", "--", "zones.txt", "FareBlock"]).stdout;
+    assert_eq!(drawn, read("examples/zones.svg"));
+    // Behind --, a name may begin with a dash; a name may have an equals sign in it.
+    let set = b"set\n  array -a variable count n\n";
+    let set = String::from_utf8(set.to_vec())
+        .unwrap()
+        .replace("-a", "\"-a\"");
+    let set = set + "    owner \"a=b\" paths n\n    element primitive p size 2\n";
+    let drawn = fed(&["map", "-", "--", "-a", "a=b.n=2"], set.as_bytes());
+    assert!(
+        drawn
+            .stdout
+            .starts_with(b"\"-a\": 4 bytes\n\"a=b.n\" = 2\n"),
+        "{}",
+        error(&drawn)
+    );
     let said = String::from_utf8(run(&["lengths", "trip"]).stdout).unwrap();
     assert!(
         said.starts_with("trip: byte 205: Trip: 13 bytes of 13\n"),

@@ -139,6 +139,8 @@ fn the_description() {
     };
     let tree = String::from_utf8(read("examples/trip.tree")).unwrap();
     assert!(page.contains(&indented(&tree)));
+    let map = String::from_utf8(read("examples/trip.map")).unwrap();
+    assert!(page.contains(&indented(&map)));
     // The set and the first run.
     let trip = read("examples/trip");
     let pieces = cut(&trip).unwrap();

@@ -2,7 +2,7 @@
 
 mod common;
 
-use ciztarmo_text::commands;
+use ciztarmo_text::commands::{self, Asked};
 use common::{block, wrong};
 
 fn says(text: impl AsRef<[u8]>, message: &str) {
@@ -200,6 +200,70 @@ fn answered(bytes: &[u8]) {
     let _ = commands::tree("t", bytes);
     let _ = commands::lengths("t", bytes);
     let _ = commands::check("t", bytes);
+    let _ = commands::layout("t", bytes);
+    for name in ["Trip", "FareBlock", "Transfer"] {
+        let _ = commands::parameters("t", bytes, name);
+        for svg in [false, true] {
+            let asked = Asked {
+                name: name.to_string(),
+                svg,
+                ..Asked::default()
+            };
+            let _ = commands::map("t", bytes, &asked);
+        }
+    }
+}
+
+/// The largest numbers in every place of a set that has one: what is drawn, warned of or refused is
+/// computed without a fault.
+#[test]
+fn largest_numbers() {
+    let set = |numbers: [u64; 6]| {
+        let [size, align, offset, tag, count, value] = numbers;
+        format!(
+            "set
+  struct T variable align {align}
+    owner f paths n
+    owner l paths n
+    field a at {offset} primitive p size {size} align {align}
+    field b at 1 struct s size {size}
+      field x at {offset} primitive p size {size}
+      field y array y size {size} count {count}u64
+        element primitive p size {size} align {align}
+    field u sized-union u variable align {align}
+      variant v size {tag} struct s size {size}
+        field z at {offset} primitive p size {size}
+    field l array l variable count n * {count}u64
+      element primitive p size {size} align {align}
+    field f struct s variable align {align}
+      field x at {offset} primitive p size {size}
+run T length {value}
+  value f.n {value}
+  value l.n {value}
+  value u.payload_size {tag}
+"
+        )
+    };
+    let mut numbers = Numbers(3);
+    let mut drawn = 0;
+    for _ in 0..2000 {
+        let few = [0, 1, 2, 7, 1 << 32, 1 << 63, u64::MAX - 1, u64::MAX];
+        let text = set([(); 6].map(|_| few[numbers.next(few.len())]));
+        let _ = commands::check("t", text.as_bytes());
+        let _ = commands::tree("t", text.as_bytes());
+        for svg in [false, true] {
+            let asked = Asked {
+                name: "T".to_string(),
+                svg,
+                ..Asked::default()
+            };
+            match commands::map("t", text.as_bytes(), &asked) {
+                Ok(_) => drawn += 1,
+                Err(told) => assert!(!told.contains("does not arrive"), "{told}\n{text}"),
+            }
+        }
+    }
+    assert!(drawn > 50, "{drawn}");
 }
 
 /// Texts and blocks of the examples with a few bytes changed are answered, and what is still
