@@ -43,7 +43,8 @@ fn wide(input: &[u8]) -> Option<u8> {
     match *input.first_chunk::<4>()? {
         [0, 0, 0xfe, 0xff] => Some(32),
         [0xff, 0xfe, ..] | [0xfe, 0xff, ..] => Some(16),
-        [0, a, 0, b] | [a, 0, b, 0] if a != 0 && b != 0 => Some(16),
+        // Two zeros at the end would be a block's length.
+        [0, a, 0, _] | [a, 0, _, 0] if a != 0 => Some(16),
         _ => None,
     }
 }

@@ -68,6 +68,10 @@ fn blocks_are_left_to_their_readers() {
     set.resize(4 + 0xfeff, 0);
     let said = commands::check("t", &set).unwrap_err();
     assert!(said.starts_with("t: byte 0: refused 2: "), "{said}");
+    // Too long, and no text: the reader's number is told.
+    let said = commands::check("t", &[0, 0, 1, 0, 36, 0]).unwrap_err();
+    let long = "t: byte 0: refused 1: this block is longer than 65,536 bytes";
+    assert_eq!(said, long);
     let said = commands::show("t", b"\x1f\x8b\0\0\x24\0", false).unwrap_err();
     assert_eq!(
         said,

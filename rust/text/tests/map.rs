@@ -199,13 +199,19 @@ fn switches() {
     9    11     3    (padding): up to the alignment of T
 ",
     );
-    // A sized variant takes its expected size, and no more of its type than fits.
+    // A sized variant takes its expected size; the parts of its type are drawn if that holds them.
+    let sized = "  sized-union T variable\n    variant u size 2 struct s size 9\n      field x at 1 primitive p size 2\n    variant v size 4 struct s size 2\n      field y at 1 primitive p size 1\n";
     drawn(
-        "  sized-union T variable\n    variant u size 2 struct s size 9\n      field x at 1 primitive p size 2\n    variant v size 4 struct s size 2\n      field y at 1 primitive p size 1\n",
+        sized,
         &[("T.payload_size", 4)],
         "    0     3     4  T: variant v (T.payload_size = 4)
     1     1     1    y
 ",
+    );
+    drawn(
+        sized,
+        &[("T.payload_size", 2)],
+        "    0     1     2  T: variant u (T.payload_size = 2)\n",
     );
     drawn(
         "  struct T variable\n    field e enum e size 2 tag k\n      variant a tag 1 primitive p size 1\n      variant b tag 2 primitive p size 2\n",
@@ -306,6 +312,103 @@ fn refusals() {
         wrong(&svg),
         "t: Trip: 16385 bytes, and SVG is drawn of 16384 at most; as text it is drawn"
     );
+}
+
+/// The buffer length counts where a size asks for it, of a run and of values.
+#[test]
+fn buffer_lengths() {
+    let set = "set\n  array T variable count __buffer_size - 1u8\n    owner array\n    element primitive p size 1\nrun T length 9\n";
+    let count = |asked: &Asked| {
+        let text = answer(set, asked).unwrap();
+        text.lines().next().unwrap().to_string()
+    };
+    assert_eq!(count(&asked("T", &[])), "T: 8 bytes of 9");
+    let length = Asked {
+        length: Some(4),
+        ..asked("T", &[])
+    };
+    assert_eq!(count(&length), "T: 3 bytes of 4");
+    let value = asked("T", &[("__buffer_size", 6)]);
+    assert_eq!(count(&value), "T: 5 bytes");
+}
+
+/// On every stored run (judge/vectors/README.md) of a layout, built or not, the tool's count is the
+/// proved call's: the drawing's parts are counted as the record is.
+#[test]
+fn stored_runs() {
+    let file = read("judge/vectors/answers.bin");
+    let mut rest = &file[..];
+    let mut work = Work::new();
+    let mut numbers: BTreeMap<u8, usize> = BTreeMap::new();
+    while !rest.is_empty() {
+        let length = u32::from_le_bytes(rest[2..6].try_into().unwrap()) as usize;
+        let (kind, record) = (rest[0], &rest[6..6 + length]);
+        rest = &rest[6 + length..];
+        if kind != 4 {
+            continue;
+        }
+        let length = u32::from_le_bytes(record[4..8].try_into().unwrap()) as usize;
+        let (layout, run) = (&record[8..8 + length], &record[12 + length..]);
+        let length = u32::from_le_bytes(record[8 + length..12 + length].try_into().unwrap());
+        let run = &run[..length as usize];
+        if work.read_layout(layout).is_err() || work.read_run(run).is_err() {
+            continue;
+        }
+        let (Ok(Block::Layout(trees)), Ok(Block::Run(asked))) = (decode(layout), decode(run))
+        else {
+            panic!("what is read has its parts");
+        };
+        let answer = match work.validate_run(layout, run) {
+            Ok(count) => Ok(count),
+            Err(refusal) if refusal.number().code() == 25 => Ok(refusal.value()),
+            Err(refusal) => Err(refusal.number().code()),
+        };
+        let Some(tree) = trees.types.iter().find(|t| t.name == asked.name) else {
+            continue;
+        };
+        let values = asked.values.entries.into_iter();
+        let mut held: Held = values.map(|v| (v.name, v.number)).collect();
+        held.entry("__buffer_size".to_string())
+            .or_insert(asked.length);
+        let count = eval::count(&trees.types, &tree.root, &held);
+        assert_eq!(count, answer.ok(), "{tree:?} {held:?}");
+        *numbers.entry(answer.err().unwrap_or(0)).or_default() += 1;
+    }
+    for number in [0, 20, 21, 22, 23, 24, 26, 27] {
+        assert!(numbers.contains_key(&number), "{numbers:?}");
+    }
+}
+
+/// Shifts at their limits, which few runs have.
+#[test]
+fn shifts() {
+    let shift = |kind: u16, left: u64, right: u64| {
+        let constant = |value| {
+            Box::new(Node {
+                spot: Spot::default(),
+                align: 1,
+                text: None,
+                op: Op::Const(value),
+            })
+        };
+        let node = Node {
+            spot: Spot::default(),
+            align: 1,
+            text: None,
+            op: Op::Two(kind, constant(left), constant(right)),
+        };
+        eval::count(&[], &node, &Held::new())
+    };
+    let (left, right) = (142, 143);
+    assert_eq!(shift(left, 1, 63), Some(1 << 63));
+    assert_eq!(shift(left, 1, 64), None);
+    assert_eq!(shift(left, 2, 63), None);
+    assert_eq!(shift(left, 0, 127), Some(0));
+    assert_eq!(shift(left, 0, 128), None);
+    assert_eq!(shift(right, 1 << 63, 63), Some(1));
+    assert_eq!(shift(right, 5, 64), Some(0));
+    assert_eq!(shift(right, 5, 127), Some(0));
+    assert_eq!(shift(right, 5, 128), None);
 }
 
 /// Boxes and names of an SVG. Each part has a group with its bytes as title.
