@@ -265,7 +265,10 @@ fn to_parameters(file: &str, input: &[u8], name: &str) -> Answer {
     }
     let types = Types::read(&source, &mut work, the_types(&source)?)?;
     match types.tree(name) {
-        Some(tree) => Ok(Done::only(parameters::describe(tree, types.drawn(name)))),
+        Some(tree) => {
+            let (all, drawn) = (&types.layout.types, types.drawn(name));
+            Ok(Done::only(parameters::describe(all, tree, drawn)))
+        }
         None => Err(no_type(file, name, &types.layout.types)),
     }
 }

@@ -134,8 +134,9 @@ impl<'a> Pen<'a> {
         held: &Held,
         row: usize,
     ) -> Option<u64> {
-        // A reference by itself is a call, whatever its size.
-        if let Op::CallNested { .. } = bare(part.node).op {
+        // A reference by itself is a call, whatever its size; as a constant field it is a constant.
+        let calls = matches!(bare(part.node).op, Op::CallNested { .. });
+        if calls && matches!(ty.shape, Shape::Reference(_)) {
             return self.called(inside, name, part, held, row);
         }
         if let Some(size) = ty.size {

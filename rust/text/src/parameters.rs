@@ -5,18 +5,26 @@ use crate::lines::written;
 use crate::model::*;
 use crate::parts::{self, Part, Role};
 
+/// The type that is described, among those of its layout.
+struct Of<'a> {
+    types: &'a [TypeTree],
+    tree: &'a TypeTree,
+}
+
 /// One use of a value: its name, and what for.
 struct Use {
     name: String,
     purpose: String,
 }
 
-/// The parameters of a type in the layout's order, a line each, and behind them the values that its
-/// tree asks for without listing them. The type of the set says which fields and variants use them.
-pub fn describe(tree: &TypeTree, ty: Option<&Type>) -> String {
+/// The parameters of a type of a layout in the layout's order, a line each, and behind them the
+/// values that its tree asks for without listing them. The type of the set says which fields and
+/// variants use them.
+pub fn describe(types: &[TypeTree], tree: &TypeTree, ty: Option<&Type>) -> String {
     let mut uses = Vec::new();
     let part = parts::of_tree(&tree.root, ty);
-    collect(&part, &mut Vec::new(), ty, tree, &mut uses);
+    let of = Of { types, tree };
+    collect(&part, &mut Vec::new(), ty, &of, &mut uses);
     let listed = tree.parameters.len();
     let title = match listed {
         0 => "no parameters".to_string(),
@@ -77,13 +85,7 @@ fn unlisted<'u>(tree: &TypeTree, uses: &'u [Use]) -> Vec<&'u str> {
 
 /// Notes what a part and those below it use. `inside` names what they stand in, the outermost
 /// first; `ty` is the type whose switch this may be.
-fn collect(
-    part: &Part,
-    inside: &mut Vec<String>,
-    ty: Option<&Type>,
-    tree: &TypeTree,
-    uses: &mut Vec<Use>,
-) {
+fn collect(part: &Part, inside: &mut Vec<String>, ty: Option<&Type>, of: &Of, uses: &mut Vec<Use>) {
     let named = part.role.and_then(role_words);
     let below = named.is_some();
     inside.extend(named);
@@ -92,7 +94,7 @@ fn collect(
         Some(Role::Variant { ty, .. } | Role::Element(ty)) => Some(ty),
         _ => ty,
     };
-    let place = place(inside, tree);
+    let place = place(inside, of.tree);
     let mut note = |name: &str, purpose: String| {
         uses.push(Use {
             name: name.to_string(),
@@ -114,9 +116,16 @@ fn collect(
             note(tag, format!("tag of {place}{computed}{}", choices(part)));
         }
         Op::CallNested { name, arguments } => {
+            let to = format!("handed on to {} by {place}", written(name));
             for argument in arguments {
-                let to = written(name);
-                note(&argument.value, format!("handed on to {to} by {place}"));
+                note(&argument.value, to.clone());
+            }
+            // A called type is also handed what it lists and no argument names.
+            let called = of.types.iter().find(|t| t.name == *name);
+            for parameter in called.iter().flat_map(|t| &t.parameters) {
+                if arguments.iter().all(|a| a.name != parameter.name) {
+                    note(&parameter.name, to.clone());
+                }
             }
         }
         _ => {}
@@ -125,7 +134,7 @@ fn collect(
         let case = case_words(part, i);
         let cased = case.is_some();
         inside.extend(case);
-        collect(below, inside, ty, tree, uses);
+        collect(below, inside, ty, of, uses);
         if cased {
             inside.pop();
         }

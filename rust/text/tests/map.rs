@@ -234,6 +234,14 @@ fn sums() {
     );
 }
 
+/// The names of a chain of types: T, T1, T2, ..
+fn name_of(i: usize) -> String {
+    match i {
+        0 => "T".to_string(),
+        _ => format!("T{i}"),
+    }
+}
+
 #[test]
 fn calls() {
     drawn(
@@ -255,6 +263,29 @@ fn calls() {
         "  reference T size 9 to W\n  primitive W size 2\n",
         &[],
         "    0     1     2  T: a record of W\n",
+    );
+    // A called type is handed what it lists, though no argument names it.
+    drawn(
+        "  struct T variable\n    field k reference k variable to K\n  union K variable\n    field u primitive p size 1\n    field v primitive p size 2\n",
+        &[("K.variant", 1)],
+        "    0     1     2  T\n    0     1     2    k: a record of K, variant v (K.variant = 1)\n",
+    );
+    // Sixteen calls may be open, and no more.
+    let chain = |calls: usize| {
+        let step = |i: usize| format!("  reference {} variable to T{}\n", name_of(i), i + 1);
+        let steps: String = (0..calls).map(step).collect();
+        format!("{steps}  primitive T{calls} size 1\n")
+    };
+    let sixteen: Vec<String> = (1..=16).map(|i| format!("a record of T{i}")).collect();
+    drawn(
+        &chain(16),
+        &[],
+        &format!("    0     0     1  T: {}\n", sixteen.join(", ")),
+    );
+    let seventeen = answer(format!("set\n{}", chain(17)), &asked("T", &[])).unwrap_err();
+    assert_eq!(
+        seventeen,
+        "t: T: refused 27: the call of T17 would be the 17th open (in T16)"
     );
     // Constant references that go in a circle end.
     let circle = "set\n  struct T size 2\n    field a reference a size 2 to T\n    field b reference b size 2 to R\n  reference R size 2 to R\n";
@@ -332,6 +363,24 @@ fn buffer_lengths() {
     assert_eq!(count(&value), "T: 5 bytes");
 }
 
+/// At the seventeenth open call the tool's count ends, as the proved call does.
+#[test]
+fn open_calls() {
+    let tree = |i: usize| {
+        let text = match i {
+            17 => "layout\n  type T17\n    const 1\n".to_string(),
+            _ => format!("layout\n  type T{i}\n    call-nested T{}\n", i + 1),
+        };
+        match decode(&common::blocks(&text)) {
+            Ok(Block::Layout(mut layout)) => layout.types.remove(0),
+            _ => panic!("{text}"),
+        }
+    };
+    let types: Vec<TypeTree> = (0..=17).map(tree).collect();
+    let count = |i: usize| eval::count(&types, &types[i].root, &Held::new());
+    assert_eq!((count(1), count(0)), (Some(1), None));
+}
+
 /// On every stored run (judge/vectors/README.md) of a layout, built or not, the tool's count is the
 /// proved call's: the drawing's parts are counted as the record is.
 #[test]
@@ -400,6 +449,7 @@ fn shifts() {
         eval::count(&[], &node, &Held::new())
     };
     let (left, right) = (142, 143);
+    assert_eq!(shift(134, u64::MAX, 1), None);
     assert_eq!(shift(left, 1, 63), Some(1 << 63));
     assert_eq!(shift(left, 1, 64), None);
     assert_eq!(shift(left, 2, 63), None);

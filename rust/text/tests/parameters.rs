@@ -108,6 +108,35 @@ T, no parameters
     assert_eq!(told(set, "T"), listed);
 }
 
+/// A made tag of a called type is no argument of the call, and the caller does not list it; its record
+/// needs it all the same.
+#[test]
+fn of_called_types() {
+    let set = "\
+set
+  struct T variable
+    field kind reference kind variable to Kind
+  union Kind variable
+    owner v paths n
+    field u primitive p size 1
+    field v primitive p variable
+run T length 9
+  value Kind.variant 1
+  value v.n 3
+";
+    let listed = "\
+T, 1 parameter
+  v.n: handed on to Kind by field kind
+  Kind.variant, not listed, but asked for: handed on to Kind by field kind
+";
+    assert_eq!(told(set, "T"), listed);
+    let lengths = commands::lengths("t", set.as_bytes()).unwrap().output;
+    assert_eq!(
+        String::from_utf8(lengths).unwrap(),
+        "t:8: T: 3 bytes of 9\n"
+    );
+}
+
 #[test]
 fn sums_and_names_in_quotes() {
     let set = "\
