@@ -476,7 +476,15 @@ fn checked(file: &str, input: &[u8]) -> Answer {
             types = layout_of(file, &layout)?.types;
         }
         let found = match piece.block() {
-            Ok(Block::Set(set)) => warn::of_set(&set),
+            Ok(Block::Set(set)) => {
+                let drawn = |tree: &TypeTree| set.types.iter().find(|t| t.name == tree.name);
+                let spot = |tree: &TypeTree| drawn(tree).map_or(set.spot, |ty| ty.spot);
+                let mut found = warn::of_set(&set);
+                found.extend(warn::of_calls(&types, spot));
+                found.sort_by_key(|w| (w.spot.line, w.spot.column));
+                found
+            }
+            Ok(Block::Layout(layout)) => warn::of_calls(&layout.types, |tree| tree.spot),
             Ok(Block::Run(run)) => warn::of_run(&types, &run),
             _ => Vec::new(),
         };

@@ -4,9 +4,10 @@
 
 use crate::lines::written;
 use crate::model::*;
-use crate::parts::aligned;
+use crate::parts::{aligned, children};
 use crate::registry::canonical_name;
 use crate::stumble::named;
+use std::collections::BTreeSet;
 
 /// Something drawn that is counted otherwise, and where it stands.
 #[derive(Debug)]
@@ -22,7 +23,6 @@ pub fn of_set(set: &Set) -> Vec<Warning> {
         found: Vec::new(),
     };
     set.types.iter().for_each(|ty| watch.root(ty));
-    watch.found.sort_by_key(|w| (w.spot.line, w.spot.column));
     watch.found
 }
 
@@ -503,27 +503,120 @@ fn asked_by<'t>(
     }
     seen.push(&tree.name);
     asked.extend(tree.parameters.iter().map(|p| p.name.as_str()));
-    asked_by_node(types, &tree.root, seen, asked);
+    all_names(&tree.root, asked);
+    for (called, _) in calls(types, &tree.root) {
+        asked_by(types, called, seen, asked);
+    }
 }
 
-fn asked_by_node<'t>(
-    types: &'t [TypeTree],
-    node: &'t Node,
-    seen: &mut Vec<&'t str>,
-    asked: &mut Vec<&'t str>,
-) {
-    match &node.op {
-        Op::FieldRef { path, parameter } => asked.push(parameter.as_ref().unwrap_or(path)),
-        Op::Switch { tag, .. } => asked.push(tag),
-        Op::CallNested { name, arguments } => {
-            asked.extend(arguments.iter().map(|a| a.value.as_str()));
-            if let Some(called) = types.iter().find(|t| t.name == *name) {
-                asked_by(types, called, seen, asked);
+/// Values that never reach a called type. Each type of a layout that calls another is gone over; a
+/// called type sees the call's arguments and, of what its caller sees, what it lists itself.
+pub fn of_calls(types: &[TypeTree], spot_of: impl Fn(&TypeTree) -> Spot) -> Vec<Warning> {
+    let mut found = Vec::new();
+    for tree in types {
+        for (called, arguments) in calls(types, &tree.root) {
+            let names = format!("{} calls {}", written(&tree.name), written(&called.name));
+            for name in lost_in(called, arguments) {
+                found.push(lost(spot_of(tree), &names, called, name));
+            }
+            for (last, name) in lost_below(types, called, arguments) {
+                let names = format!("{names}, which calls {}", written(&last.name));
+                found.push(lost(spot_of(tree), &names, last, name));
             }
         }
+    }
+    found.dedup_by(|a, b| a.spot == b.spot && a.words == b.words);
+    found
+}
+
+fn lost(spot: Spot, calls: &str, called: &TypeTree, name: &str) -> Warning {
+    let (called, name) = (written(&called.name), written(name));
+    Warning {
+        spot,
+        words: words(
+            &format!("{calls}, and {called} asks for {name}, which never reaches it"),
+            "nothing, a record that asks for it is refused with 21",
+            "a called type sees the call's arguments and what it lists itself",
+        ),
+    }
+}
+
+/// The types that a node's calls name, with the arguments, each once: a type may be called often.
+fn calls<'t>(types: &'t [TypeTree], node: &'t Node) -> Vec<(&'t TypeTree, &'t [Argument])> {
+    let mut all = Vec::new();
+    all_calls(types, node, &mut all);
+    let mut seen = BTreeSet::new();
+    all.retain(|(called, arguments)| {
+        let names: Vec<&str> = arguments.iter().map(|a| a.name.as_str()).collect();
+        seen.insert((called.name.as_str(), names))
+    });
+    all
+}
+
+fn all_calls<'t>(
+    types: &'t [TypeTree],
+    node: &'t Node,
+    all: &mut Vec<(&'t TypeTree, &'t [Argument])>,
+) {
+    if let Op::CallNested { name, arguments } = &node.op {
+        let called = types.iter().find(|t| t.name == *name);
+        all.extend(called.map(|t| (t, &arguments[..])));
+    }
+    for below in children(&node.op) {
+        all_calls(types, below, all);
+    }
+}
+
+/// Whether a called type can see a name.
+fn sees(called: &TypeTree, arguments: &[Argument], name: &str) -> bool {
+    let listed = called.parameters.iter().any(|p| p.name == name);
+    listed || arguments.iter().any(|a| a.name == name)
+}
+
+/// What the nodes of a called type ask for and it can't see.
+fn lost_in<'t>(called: &'t TypeTree, arguments: &[Argument]) -> Vec<&'t str> {
+    let mut asked = own_names(&called.root);
+    asked.retain(|name| !sees(called, arguments, name));
+    asked
+}
+
+/// What the types that a called type calls list and ask for, and neither an argument nor what the
+/// called type sees gives them.
+fn lost_below<'t>(
+    types: &'t [TypeTree],
+    called: &'t TypeTree,
+    arguments: &[Argument],
+) -> Vec<(&'t TypeTree, &'t str)> {
+    let mut lost = Vec::new();
+    for (last, handed) in calls(types, &called.root) {
+        for name in own_names(&last.root) {
+            let listed = last.parameters.iter().any(|p| p.name == name);
+            let given = handed.iter().any(|a| a.name == name);
+            if listed && !given && !sees(called, arguments, name) {
+                lost.push((last, name));
+            }
+        }
+    }
+    lost
+}
+
+/// The names that the nodes of one tree ask for, each once.
+fn own_names(node: &Node) -> Vec<&str> {
+    let mut names = Vec::new();
+    all_names(node, &mut names);
+    let mut seen = BTreeSet::new();
+    names.retain(|name| seen.insert(*name));
+    names
+}
+
+fn all_names<'n>(node: &'n Node, names: &mut Vec<&'n str>) {
+    match &node.op {
+        Op::FieldRef { path, parameter } => names.push(parameter.as_ref().unwrap_or(path)),
+        Op::Switch { tag, .. } => names.push(tag),
+        Op::CallNested { arguments, .. } => names.extend(arguments.iter().map(|a| &*a.value)),
         _ => {}
     }
-    for below in crate::parts::children(&node.op) {
-        asked_by_node(types, below, seen, asked);
+    for below in children(&node.op) {
+        all_names(below, names);
     }
 }

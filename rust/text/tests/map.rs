@@ -538,7 +538,11 @@ fn fits(rows: &[Row], ty: &Type) {
         }
         open.push(row);
     }
-    if matches!((&ty.shape, ty.size), (Shape::Struct(_), None)) {
+    if let (Shape::Struct(fields), None) = (&ty.shape, ty.size) {
+        let parts = rows
+            .iter()
+            .filter(|r| r.depth == 1 && r.kind != Kind::Padding);
+        assert_eq!(parts.count(), fields.len(), "{rows:?}");
         let mut at = 0;
         for row in rows.iter().filter(|r| r.depth == 1) {
             assert_eq!(row.at, at, "{rows:?}");

@@ -342,6 +342,12 @@ fn values() {
         "refused 21: the value __buffer_size is missing (in Q)",
         &[
             (
+                2,
+                "T calls Q, and Q asks for __buffer_size, which never reaches it",
+                "nothing, a record that asks for it is refused with 21",
+                "a called type sees the call's arguments and what it lists itself",
+            ),
+            (
                 10,
                 "the value T.n, which no parameter of T has",
                 "nothing",
@@ -369,6 +375,51 @@ fn values() {
     let message =
         format!("b: byte {run}: warning: drawn: {drawn}; counted: nothing; rule: {passed}");
     assert_eq!(done.remarks, [message]);
+}
+
+/// Values that never reach a called type: the buffer length, what is below a jagged array, and a made
+/// tag two calls deep.
+#[test]
+fn calls() {
+    let rule = "a called type sees the call's arguments and what it lists itself";
+    let nothing = "nothing, a record that asks for it is refused with 21";
+    warns(
+        "  reference T variable to Rest\n  array Rest variable count __buffer_size\n    owner array\n    element primitive p size 1\n",
+        "",
+        "refused 21: the value __buffer_size is missing (in Rest)",
+        &[(2, "T calls Rest, and Rest asks for __buffer_size, which never reaches it", nothing, rule)],
+    );
+    let kind = "  union Kind variable\n    field u primitive p size 1\n";
+    warns(
+        &format!("  reference T variable to B\n  reference B variable to Kind\n{kind}"),
+        "  value Kind.variant 0\n",
+        "refused 21: the value Kind.variant is missing (in Kind)",
+        &[(
+            2,
+            "T calls B, which calls Kind, and Kind asks for Kind.variant, which never reaches it",
+            nothing,
+            rule,
+        )],
+    );
+    // One call deep it reaches it.
+    warns(
+        &format!("  reference T variable to Kind\n{kind}"),
+        "  value Kind.variant 0\n",
+        "1 byte of 1000",
+        &[],
+    );
+    // An element's count is handed on as an argument, listed or not.
+    warns(
+        "  reference T variable to J\n  struct J variable\n    owner l paths element.n\n    field l array l variable jagged count element.n\n      element primitive p size 1\n",
+        "  value l.element.n 3\n",
+        "3 bytes of 1000",
+        &[],
+    );
+    // Of a layout by itself.
+    let layout = "layout\n  type A\n    call-nested B\n  type B\n    field-ref n\n";
+    let drawn = "A calls B, and B asks for n, which never reaches it";
+    let told = format!("2: warning: drawn: {drawn}; counted: {nothing}; rule: {rule}");
+    assert_eq!(warnings(layout), [told]);
 }
 
 /// Of blocks, the byte of the part is told.
