@@ -246,7 +246,7 @@ run T length {value}
     };
     let mut numbers = Numbers(3);
     let mut drawn = 0;
-    for _ in 0..2000 {
+    for _ in 0..500 {
         let few = [0, 1, 2, 7, 1 << 32, 1 << 63, u64::MAX - 1, u64::MAX];
         let text = set([(); 6].map(|_| few[numbers.next(few.len())]));
         let _ = commands::check("t", text.as_bytes());
@@ -263,7 +263,7 @@ run T length {value}
             }
         }
     }
-    assert!(drawn > 50, "{drawn}");
+    assert!(drawn > 10, "{drawn}");
 }
 
 /// Texts and blocks of the examples with a few bytes changed are answered, and what is still

@@ -415,6 +415,9 @@ fn calls() {
         "3 bytes of 1000",
         &[],
     );
+    // So is what an argument names otherwise.
+    let renamed = "layout\n  type A\n    call-nested B\n      argument y from m\n    parameter m\n  type B\n    call-nested C\n      argument n from y\n  type C\n    field-ref n\n    parameter n\nrun A length 9\n  value m 3\n";
+    assert_eq!(warnings(renamed), [""; 0]);
     // Of a layout by itself.
     let layout = "layout\n  type A\n    call-nested B\n  type B\n    field-ref n\n";
     let drawn = "A calls B, and B asks for n, which never reaches it";
