@@ -141,6 +141,8 @@ fn the_description() {
     assert!(page.contains(&indented(&tree)));
     let map = String::from_utf8(read("examples/trip.map")).unwrap();
     assert!(page.contains(&indented(&map)));
+    let told = commands::parameters("t", &read("examples/zones.txt"), "FareBlock").unwrap();
+    assert!(page.contains(&indented(&String::from_utf8(told.output).unwrap())));
     // The set and the first run.
     let trip = read("examples/trip");
     let pieces = cut(&trip).unwrap();
@@ -152,4 +154,23 @@ fn the_description() {
     ] {
         assert!(page.contains(line), "{line}");
     }
+}
+
+/// So are the messages that it shows.
+#[test]
+fn the_messages_of_the_description() {
+    let page = String::from_utf8(read("docs/TEXT.md")).unwrap();
+    let shown = |message: &str| {
+        let line = format!("    {message}\n");
+        assert!(page.contains(&line), "{line}");
+    };
+    let refused = |text: &str| {
+        shown(&commands::check("fares.txt", text.as_bytes()).unwrap_err());
+    };
+    refused("set\n\n  struct Trip variable\n    field n at 0 primitive u8 size 1\n    field legs array Trip::legs variable count n\n      element primitive leg size 4\n");
+    refused("set\n  # Names.\n\n  primitive é size 1\n");
+    let overlap = "set\n  struct T variable\n    field a at 0 primitive p size 4\n    field b at 2 primitive p size 4\n";
+    let warned = commands::check("fares.txt", overlap.as_bytes()).unwrap();
+    warned.remarks.iter().for_each(|remark| shown(remark));
+    assert_eq!(warned.remarks.len(), 1);
 }

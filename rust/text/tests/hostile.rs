@@ -188,11 +188,12 @@ fn garbage() {
         let length = numbers.next(200);
         let most = [256, 128, 2][round % 3];
         let bytes: Vec<u8> = (0..length).map(|_| numbers.next(most) as u8).collect();
-        answered(&bytes);
+        answered(&bytes, "");
     }
 }
 
-fn answered(bytes: &[u8]) {
+/// Every command, of a type where one is asked for.
+fn answered(bytes: &[u8], name: &str) {
     for unchecked in [false, true] {
         let _ = commands::blocks("t", bytes, unchecked);
         let _ = commands::show("t", bytes, unchecked);
@@ -201,16 +202,14 @@ fn answered(bytes: &[u8]) {
     let _ = commands::lengths("t", bytes);
     let _ = commands::check("t", bytes);
     let _ = commands::layout("t", bytes);
-    for name in ["Trip", "FareBlock", "Transfer"] {
-        let _ = commands::parameters("t", bytes, name);
-        for svg in [false, true] {
-            let asked = Asked {
-                name: name.to_string(),
-                svg,
-                ..Asked::default()
-            };
-            let _ = commands::map("t", bytes, &asked);
-        }
+    let _ = commands::parameters("t", bytes, name);
+    for svg in [false, true] {
+        let asked = Asked {
+            name: name.to_string(),
+            svg,
+            ..Asked::default()
+        };
+        let _ = commands::map("t", bytes, &asked);
     }
 }
 
@@ -272,7 +271,12 @@ run T length {value}
 fn damaged_examples() {
     let mut numbers = Numbers(11);
     let mut accepted = 0;
-    for file in ["trip.txt", "zones.txt", "transfers.txt", "trip"] {
+    for (file, name) in [
+        ("trip.txt", "Trip"),
+        ("zones.txt", "FareBlock"),
+        ("transfers.txt", "Transfer"),
+        ("trip", "Trip"),
+    ] {
         let whole = common::read(&format!("examples/{file}"));
         for _ in 0..300 {
             let mut bytes = whole.clone();
@@ -284,7 +288,7 @@ fn damaged_examples() {
                     _ => bytes.swap(at, whole.len() - 3 - at.min(whole.len() - 3)),
                 }
             }
-            answered(&bytes);
+            answered(&bytes, name);
             if let Ok(done) = commands::blocks("t", &bytes, false) {
                 let text = common::show(&done.output);
                 assert_eq!(common::blocks(&text), done.output);
