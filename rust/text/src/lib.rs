@@ -2,8 +2,11 @@
 //!
 //! A text is read line by line into values (`parse`), which are written as blocks (`encode`);
 //! blocks are taken apart into the same values (`decode`), which are written as text (`show`).
-//! Whether blocks are accepted is asked of the proved readers (`source`). docs/TEXT.md describes
-//! the form.
+//! Whether blocks are accepted, whether a set is built and what a record counts is asked of the
+//! proved calls (`source`, `commands`). What is told besides is the tool's own: where a build
+//! stumbled (`stumble`), what is drawn and not counted (`warn`), which fields a tree's nodes stand
+//! for (`parts`), what a record is told (`parameters`) and what lies where in it (`map`).
+//! docs/TEXT.md describes the form and the commands.
 
 #![forbid(unsafe_code)]
 

@@ -295,10 +295,17 @@ fn write_whole(path: &Path, output: &[u8]) -> Result<(), Failure> {
     let mut name = target.file_name().unwrap_or_default().to_os_string();
     name.push(format!(".{}.part", std::process::id()));
     let part = target.with_file_name(name);
-    let result = std::fs::write(&part, output).and_then(|()| std::fs::rename(&part, &target));
+    let result = write_through(&part, output).and_then(|()| std::fs::rename(&part, &target));
     if result.is_err() {
         // What could be written is not left behind.
         let _ = std::fs::remove_file(&part);
     }
     written(&shown, result)
+}
+
+/// Writes a file and waits until it is kept, so that what is renamed is whole after a power cut too.
+fn write_through(path: &Path, output: &[u8]) -> std::io::Result<()> {
+    let mut file = std::fs::File::create(path)?;
+    file.write_all(output)?;
+    file.sync_all()
 }

@@ -314,13 +314,13 @@ impl<'a> Watch<'a> {
             Shape::Union(fields) => {
                 self.same_names(ty, "fields", fields.iter().map(|f| (&*f.name, f.spot)));
                 for field in fields {
-                    self.fits(ty, "field", &field.name, field.spot, &field.ty, 0, size);
+                    self.fits(ty, size, &Member::field(field, 0));
                 }
             }
             Shape::Enum(_, variants) | Shape::SizedUnion(variants) => {
                 self.same_tags(ty, variants);
-                for v in variants {
-                    self.fits(ty, "variant", &v.name, v.spot, &v.ty, 0, size);
+                for variant in variants {
+                    self.fits(ty, size, &Member::variant(variant));
                 }
             }
             Shape::Array(array) => self.constant_array(ty, array, size),
@@ -344,34 +344,25 @@ impl<'a> Watch<'a> {
                     CONSTANT,
                 );
             }
-            self.fits(ty, "field", &field.name, field.spot, &field.ty, at, size);
+            self.fits(ty, size, &Member::field(field, at));
             end = at.saturating_add(length);
         }
     }
 
-    /// A part of a type of constant size, from a place on.
-    #[allow(clippy::too_many_arguments)]
-    fn fits(
-        &mut self,
-        ty: &Type,
-        word: &str,
-        name: &str,
-        spot: Spot,
-        part: &'a Type,
-        at: u64,
-        size: u64,
-    ) {
-        let what = format!("{word} {} of {}", written(name), named(ty));
+    /// A part of a type of constant size.
+    fn fits(&mut self, ty: &Type, size: u64, member: &Member<'a>) {
+        let what = format!("{} of {}", member.what, named(ty));
         let counted = format!("{size} for {}", named(ty));
-        match part.size {
+        let spot = member.spot;
+        match member.ty.size {
             None => self.warn(spot, format!("{what} is variable"), counted, CONSTANT),
             Some(length) => {
-                let end = at.saturating_add(length);
+                let end = member.at.saturating_add(length);
                 if end > size {
                     let drawn = format!("{what} ends at {end}, behind the size {size}");
                     self.warn(spot, drawn, counted, CONSTANT);
                 }
-                self.constant(part, length);
+                self.constant(member.ty, length);
             }
         }
     }
@@ -417,6 +408,34 @@ impl<'a> Watch<'a> {
             size.to_string(),
             "a constant reference is not looked up",
         );
+    }
+}
+
+/// A field or variant of a type of constant size, and the place where it is drawn.
+struct Member<'a> {
+    what: String,
+    spot: Spot,
+    ty: &'a Type,
+    at: u64,
+}
+
+impl<'a> Member<'a> {
+    fn field(field: &'a Field, at: u64) -> Member<'a> {
+        Member {
+            what: format!("field {}", written(&field.name)),
+            spot: field.spot,
+            ty: &field.ty,
+            at,
+        }
+    }
+
+    fn variant(variant: &'a Variant) -> Member<'a> {
+        Member {
+            what: format!("variant {}", written(&variant.name)),
+            spot: variant.spot,
+            ty: &variant.ty,
+            at: 0,
+        }
     }
 }
 

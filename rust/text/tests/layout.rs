@@ -81,6 +81,15 @@ fn output_files() {
     assert_eq!(std::fs::read(&out).unwrap(), trip());
     assert_eq!(run(&["layout", "trip.txt"]).stdout, trip());
     assert_eq!(std::fs::read_dir(&folder).unwrap().count(), 2);
+    // What can't be written is told: a folder, and a file in a folder that is not there.
+    for path in [folder.clone(), folder.join("nowhere/out")] {
+        let path = path.to_str().unwrap();
+        let output = run(&["layout", "trip.txt", "-o", path]);
+        assert_eq!(output.status.code(), Some(2), "{path}");
+        let said = String::from_utf8(output.stderr).unwrap();
+        assert!(said.starts_with(&format!("{path}: ")), "{said}");
+    }
+    assert_eq!(std::fs::read_dir(&folder).unwrap().count(), 2);
 }
 
 /// Standard output that is full: told, and a status that is not 0. The layout has no line end, so
