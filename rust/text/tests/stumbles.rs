@@ -4,6 +4,8 @@ mod common;
 
 use ciztarmo::Work;
 use ciztarmo_text::commands;
+use ciztarmo_text::model::{Block, Owner, Shape, Spot, Type};
+use ciztarmo_text::parse::parse;
 use ciztarmo_text::stumble;
 use common::{blocks, stored_sets, unbuilt};
 
@@ -239,6 +241,64 @@ fn in_blocks() {
              say; what would help: `owner v paths size` below struct S (byte {name})"
         )
     );
+}
+
+/// Puts an owner into the type of a set that stands at a spot, or in place of the owner there.
+fn put(ty: &mut Type, spot: Spot, owner: &Owner) -> bool {
+    if let Some(there) = ty.owners.iter_mut().find(|o| o.spot == spot) {
+        *there = owner.clone();
+        return true;
+    }
+    if ty.spot == spot {
+        ty.owners.push(owner.clone());
+        ty.owners.sort_by(|a, b| a.name.cmp(&b.name));
+        return true;
+    }
+    match &mut ty.shape {
+        Shape::Struct(fields) | Shape::Union(fields) => {
+            fields.iter_mut().any(|f| put(&mut f.ty, spot, owner))
+        }
+        Shape::Enum(_, variants) | Shape::SizedUnion(variants) => {
+            variants.iter_mut().any(|v| put(&mut v.ty, spot, owner))
+        }
+        Shape::Array(array) => put(&mut array.element, spot, owner),
+        Shape::Primitive | Shape::Reference(_) => false,
+    }
+}
+
+/// The owner of a line that a message shows.
+fn owner_of(line: &str) -> Owner {
+    let text = format!(
+        "set\n  primitive a size 1\n    {}\n",
+        line.trim_matches('`')
+    );
+    match parse(text.as_bytes()).unwrap().remove(0) {
+        Block::Set(mut set) => set.types.remove(0).owners.remove(0),
+        _ => panic!("{text}"),
+    }
+}
+
+/// On every stored set that is refused for want of an owner: with the line that the message shows,
+/// the build does not stumble there again.
+#[test]
+fn the_lines_that_help() {
+    let mut helped = 0;
+    for (_, mut types) in stored_sets() {
+        let found = (0..types.len()).find_map(|i| Some((i, stumble::walk(&types, &types[i])?)));
+        let Some((place, found)) = found else {
+            continue;
+        };
+        let Some((_, spot)) = found.help.as_ref().and_then(|h| h.place.as_ref()) else {
+            continue;
+        };
+        let owner = owner_of(&found.help.as_ref().unwrap().words);
+        assert!(put(&mut types[place], *spot, &owner), "{found:?}");
+        let again = stumble::walk(&types, &types[place]);
+        let same = again.is_some_and(|a| a.number == found.number && a.spot == found.spot);
+        assert!(!same, "{found:?}\n{types:?}");
+        helped += 1;
+    }
+    assert!(helped > 100, "{helped}");
 }
 
 /// On every stored set the walk stops at the type where the proved build does, with its number.
