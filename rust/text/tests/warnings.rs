@@ -4,7 +4,7 @@
 mod common;
 
 use ciztarmo_text::commands;
-use common::{blocks, read};
+use common::{blocks, read, stored_sets};
 
 /// The warnings for a text, without the file's name.
 fn warnings(text: &str) -> Vec<String> {
@@ -438,4 +438,32 @@ fn in_blocks() {
     let done = commands::check("b", &bytes).unwrap();
     let start = format!("b: byte {field}: warning: drawn: field x of struct T ends at 2, ");
     assert!(done.remarks[0].starts_with(&start), "{:?}", done.remarks);
+}
+
+/// On every stored set that is built: each warning has its place and its three parts, and where a
+/// field is warned of for its offset, the tree has it at another place too.
+#[test]
+fn stored_warnings() {
+    let mut kinds = std::collections::BTreeSet::new();
+    let mut offsets = 0;
+    for (set, _) in stored_sets() {
+        let Ok(done) = commands::check("b", &set) else {
+            continue;
+        };
+        for remark in &done.remarks {
+            let (place, words) = remark.split_once(": warning: drawn: ").unwrap();
+            let byte = place.strip_prefix("b: byte ").unwrap();
+            assert!(byte.parse::<usize>().unwrap() < set.len());
+            let (_, rule) = words.split_once("; rule: ").unwrap();
+            assert!(words.contains("; counted: "), "{remark}");
+            kinds.insert(rule.to_string());
+        }
+        let moved = done.remarks.iter().filter(|r| r.ends_with(ADDED)).count();
+        let tree = commands::tree("b", &set).unwrap().output;
+        let tree = String::from_utf8(tree).unwrap();
+        let drawn = tree.lines().filter(|l| l.contains(", drawn at ")).count();
+        assert_eq!(moved, drawn, "{:?}\n{tree}", done.remarks);
+        offsets += moved;
+    }
+    assert!(kinds.len() >= 8 && offsets > 10, "{offsets} {kinds:?}");
 }
