@@ -26,8 +26,8 @@ use Rattle.lookup.specs.declared.Found.{Found}
 use Rattle.lookup.specs.declared.Found.the-variants.{At as FoundAt, Missing as FoundNone}
 use Rattle.lookup.specs.declared.Place.{Place}
 use Rattle.lookup.specs.declared.Place.the-variants.{At, Missing}
-use Rattle.lookup.specs.Named.{firstNamed, Keyed, Entry}
-use Rattle.lookup.specs.Found.{TypeFound, TreeFound}
+use Rattle.lookup.specs.Named.{firstNamed, blockAt, Keyed, Entry}
+use Rattle.lookup.specs.Found.{typesBefore, TypeFound, TreeFound}
 
 -- ---- the kinds of types and of type trees begin with a name
 
@@ -89,6 +89,19 @@ types-same n i (All.more {a} {b} h g) = rw h (go (same n (text (part 0 (body a))
     go true e = refl
     go false e = e
 
+-- the place of the first block of a name is the number of types before the first of that name
+first-place : (n : Name) (i j : ℕ) {u a : Tree} → All Titled u → firstNamed n i u ≡ some (j, a) → j ≡ i + typesBefore n (entries typeOf u)
+unfolding typesBefore firstNamed entries
+first-place n i j All.none e = let z : _≡_ {A = ℕ} 0 1 = cc in absurd (omega arith)
+first-place n i j {a = x} (All.more {a} {b} h g) e = rw h (go (same n (text (part 0 (body a)))) e (λ f. first-place n (i + 1) j g f))
+  where
+    go : (t : Bool) → cond t (some (i, a)) (firstNamed n (i + 1) b) ≡ some (j, x) → (firstNamed n (i + 1) b ≡ some (j, x) → j ≡ i + 1 + typesBefore n (entries typeOf b)) →
+        j ≡ i + cond t 0 (typesBefore n (entries typeOf b) + 1)
+    go true f r =
+        let y : _≡_ {A = ℕ × Tree} (i, a) (j, x) = cc in
+        omega (arith, ap (λ (z : ℕ × Tree). z .0) y)
+    go false f r = let z = r f in omega arith
+
 abbrev pub looked : Option (ℕ × Tree) → Outcome (ℕ × TypeIr)
 looked none = refused (plain UnknownType)
 looked (some x) = done (x .0, typeIrOf (x .1))
@@ -125,7 +138,10 @@ module _ {s : List ℕ} {n : Name} {r : Place} (f : (l : Keyed s (le2 s 6) 8) �
       subst (λ (ts : List ResolvedType). TypeFound s n ts (found r)) (sym (l .2)) (go (l .0) (l .1) (f (keyed 1 7 (l .0) (l .1) type-keyed)))
     where
       go : {r : Place} (h : 8 ≤ length s) (l : Listed s 1 7 (le2 s 6) 8) → Entry n (keyed 1 7 h l type-keyed) r → TypeFound s n (entries typeOf (l .got .0)) (found r)
-      go h l (Entry.at a p e) = TypeFound.at a (types-same n 0 (all-entries Titled titled l) ∙ ap typed e)
+      go h l (Entry.at {i} a p e) =
+          let t = all-entries Titled titled l in
+          let q : i ≡ typesBefore n (entries typeOf (l .got .0)) = omega (arith, first-place n 0 i t e) in
+          TypeFound.at a (types-same n 0 t ∙ ap typed e) (p .1 ∙ ap (blockAt s 8) q)
       go h l (Entry.missing e) = TypeFound.missing (types-same n 0 (all-entries Titled titled l) ∙ ap typed e)
 
   pub type-there : {i o : ℕ} → r ≡ At i o → (t : Tree) → readSet s ≡ done t → TypeFound s n (typesOf t) (FoundAt o)

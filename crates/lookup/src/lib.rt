@@ -12,7 +12,7 @@ ghost use Rattle.ir.specs.Layout.{layoutOf};
 ghost use Rattle.interpreter.specs.Validate.{valuesOf};
 ghost use Rattle.accepted.specs.Accepted.{Accepted, tree, nameAt};
 ghost use Rattle.lookup.specs.Named.{Keyed, Entry, blockAt, Placed, Among};
-ghost use Rattle.lookup.specs.Found.{TypeFound, TreeFound, ValueFound};
+ghost use Rattle.lookup.specs.Found.{TypeFound, TreeFound, ValueFound, firstValue};
 
 // The offset of a type's block.
 pub enum Found {
@@ -112,9 +112,10 @@ pub fn lookup_near(layout: &[u8], name: &[u8], place: usize, at: usize) -> Place
     }
 }
 
-// The value of a name in an accepted block of values at an offset, as in a run.
+// The first value of a name in an accepted block of values at an offset, as in a run.
 pub fn value_in(s: &[u8], block: usize, name: &[u8]) -> Value
     requires { ⌜ Accepted (now s) 192 192 block ⌝ }
+    ensures { λ r. ⌜ r ≡ firstValue (now (s .entry)) (now (name .entry)) (le2 (now (s .entry)) (block + 6)) (block + 6 + 2) ⌝ }
     ensures { λ r. ⌜ ((a : Accepted (now (s .entry)) 192 192 block) → ValueFound (now (s .entry)) (now (name .entry)) (valuesOf (tree a)) r) ⌝ }
 {
     let mut left = wire::read2(s, block + 6);
