@@ -28,8 +28,10 @@ use Rattle.lookup.proofs.Types.{tree-keyed}
 -- n type trees from an offset on, none with a name of ms, or with one of those before it
 pub data Trees (s : List ℕ) : List Name → ℕ → ℕ → Tree → Type 0 where
   no-more : {ms : List Name} {at : ℕ} → Trees s ms zero at nil
-  more : {ms : List Name} {n at : ℕ} {u : Tree} (a : Accepted s 161 161 at) → among (nameAt s (at + 6)) ms ≡ false → Trees s (nameAt s (at + 6) ∷ ms) n (at + 4 + le4 s at) u → Trees s ms (suc n) at (cons (tree a) u)
+  more : {ms : List Name} {n at : ℕ} {u : Tree} (a : Accepted s 161 161 at) → among (nameAt s (at + 6)) ms ≡ false →
+      Trees s (nameAt s (at + 6) ∷ ms) n (at + 4 + le4 s at) u → Trees s ms (suc n) at (cons (tree a) u)
 
+-- what is not so is false; question 6 asks that a name is not among the earlier ones
 not-true : (b : Bool) → not b ≡ true → b ≡ false
 not-true true e = sym e
 not-true false e = refl
@@ -43,6 +45,7 @@ asked-name {s} {at} a {ms} e =
     let k = key-part (o .parts) in
     (ap nameOf (o .tree) ∙ ap nameOf (k .2 .tree), not-true _ (ap (λ (f : Earlier). inOrder f (nameAt s (at + 6))) (sym (o .earlier ∙ e)) ∙ k .1))
 
+-- the type trees that reading a list accepted, front to back
 trees-read : (room : ℕ) (s : List ℕ) (end : ℕ) → end ≤ length s → (n : ℕ) (ms : List Name) (at : ℕ) {x : Tree × ℕ} →
     readEntries (λ f q. readBlock room s f 161 161 q end) (Earlier.distinct ms) n at ≡ done x → Trees s ms n at (x .0)
 unfolding readEntries
@@ -62,6 +65,7 @@ pub record Whole (s : List ℕ) (t : Tree) : Type 0 where
   pub trees : Trees s [] (le2 s 6) 8 list
   pub is : layoutOf t ≡ entries typeIrOf list
 
+-- an accepted layout's type trees, with the bounds of its count
 pub whole : {s : List ℕ} {t : Tree} → readLayout s ≡ done t → Whole s t
 unfolding layoutOf part partsOf findRow grammar nodeTable
 whole {s} e =
@@ -81,6 +85,7 @@ whole {s} e =
 
 -- ---- the block of a place
 
+-- the blocks behind the first are counted from where the second begins
 behind-first : (s : List ℕ) (at k : ℕ) → blockAt s at (suc k) ≡ blockAt s (at + 4 + le4 s at) k
 unfolding blockAt
 behind-first s at zero = refl
@@ -99,11 +104,14 @@ pub record Sole (s : List ℕ) (m : Name) (ms : List Name) (i j o : ℕ) (u : Tr
   pub child : Accepted s 161 161 o
   pub first : firstNamed m j u ≡ some (i, tree child)
 
+-- of two that are not so together, neither is
 not-either : {a b : Bool} → (a || b) ≡ false → (a ≡ false) × (b ≡ false)
 not-either {a = true} e = false-true (sym e)
 not-either {a = false} e = (refl, e)
 
-pub only : {s : List ℕ} {ms : List Name} {n at : ℕ} {u : Tree} (m : Name) → Trees s ms n at u → (j k i o : ℕ) → i ≡ j + k → o ≡ blockAt s at k → k < n → same m (nameAt s (o + 6)) ≡ true → Sole s m ms i j o u
+-- a block of the name is the first of it, because no earlier one has the same name
+pub only : {s : List ℕ} {ms : List Name} {n at : ℕ} {u : Tree} (m : Name) → Trees s ms n at u → (j k i o : ℕ) →
+    i ≡ j + k → o ≡ blockAt s at k → k < n → same m (nameAt s (o + 6)) ≡ true → Sole s m ms i j o u
 unfolding blockAt among
 only m Trees.no-more j k i o z e h f = absurd (omega arith)
 only {s} {ms} {at} m (Trees.more {u} a q r) j zero i o z e h f = subst (λ (p : ℕ). same m (nameAt s (p + 6)) ≡ true → Sole s m ms i j p (cons (tree a) u)) (sym e) go f

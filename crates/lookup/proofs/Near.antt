@@ -31,30 +31,32 @@ Other s n k = same n (nameAt s (blockAt s 8 k + 6)) ≡ false
 -- Of the blocks of the places from `first` on, those before i have another name; `left` are left, from `at` on.
 pub record Search (s : List ℕ) (n : Name) (first count left at i : ℕ) : Type 0 where
   pub layout : (t : Tree) × (readLayout s ≡ done t)
-  pub few : first + count ≤ le2 s 6
+  pub within : first + count ≤ le2 s 6
   pub sum : i + left ≡ first + count
   pub least : first ≤ i
   pub stands : at ≡ blockAt s 8 i
   pub others : (k : ℕ) → first ≤ k → k < i → Other s n k
 
+-- the loop begins with none passed
 pub begin : {s : List ℕ} {n : Name} {first count from : ℕ} → (t : Tree) × (readLayout s ≡ done t) → from ≡ blockAt s 8 first → first + count ≤ le2 s 6 → Search s n first count count from first
-begin l e h = record { layout = l; few = h; sum = refl; least = omega arith; stands = e; others = λ k a b. absurd (omega arith) }
+begin l e h = record { layout = l; within = h; sum = refl; least = omega arith; stands = e; others = λ k a b. absurd (omega arith) }
 
 module _ {s : List ℕ} {n : Name} {first count left at i : ℕ} where
+  -- the place and what is left stay small: a layout has at most 256 type trees
   pub small : Search s n first count left at i → i + left ≤ 256
-  small c = omega (arith, c .few, c .sum, whole (c .layout .1) .few)
+  small c = omega (arith, c .within, c .sum, whole (c .layout .1) .few)
 
   module _ (h : 0 < left) where
     -- the next block
     pub next-one : Search s n first count left at i → (a : Accepted s 161 161 at) × Headed a
-    next-one c = let a = stands-at (whole (c .layout .1) .trees) i at (c .stands) (omega (arith, h, c .few, c .sum)) in (a, headed a tree-keyed)
+    next-one c = let a = stands-at (whole (c .layout .1) .trees) i at (c .stands) (omega (arith, h, c .within, c .sum)) in (a, headed a tree-keyed)
 
     module _ {r : Bool} (e : r ≡ same n (nameAt s (at + 6))) where
       -- it has another name
       pub go-on : {u : ℕ} → r ≡ false → u ≡ le4 s at → Search s n first count left at i → Search s n first count (left - 1) (at + 4 + u) (i + 1)
       go-on f g c = record {
         layout = c .layout;
-        few = c .few;
+        within = c .within;
         sum = omega (arith, h, c .sum);
         least = omega (arith, c .least);
         stands = ap (λ (k : ℕ). at + 4 + k) g ∙ next-at s 8 i at (c .stands);

@@ -21,11 +21,13 @@ use Rattle.lookup.specs.Named.{firstNamed, blockAt, Keyed, Entry}
 
 -- ---- a block that begins with a name
 
+-- Such a block: its name and the block behind it lie in the bytes, and the tree has the name that stands there.
 pub record Headed {s : List ℕ} {lo hi at : ℕ} (a : Accepted s lo hi at) : Type 0 where
   pub inside : at + 6 + 2 + le2 s (at + 6) ≤ length s
   pub next : at + 4 + le4 s at ≤ length s
   pub named : text (part 0 (body (tree a))) ≡ nameAt s (at + 6)
 
+-- every accepted block of kinds that begin with a name is one
 pub headed : {s : List ℕ} {lo hi at : ℕ} (a : Accepted s lo hi at) → ((k : ℕ) → lo ≤ k → k ≤ hi → (ps : List Part) × (partsOf k ≡ Key ∷ ps)) → Headed a
 unfolding part
 headed {s} {at} a h =
@@ -45,10 +47,12 @@ headed {s} {at} a h =
 abbrev Unmet : Name → ℕ → Tree → Tree → Type 0
 Unmet n i w u = firstNamed n 0 w ≡ firstNamed n i u
 
+-- an entry of another name is passed over
 pub passed : (n m : Name) (i : ℕ) (a u : Tree) → text (part 0 (body a)) ≡ m → same n m ≡ false → firstNamed n i (cons a u) ≡ firstNamed n (i + 1) u
 unfolding firstNamed
 passed n m i a u e h = rw (e, h)
 
+-- an entry of the name is the first of it
 pub met : (n m : Name) (i : ℕ) (a u : Tree) → text (part 0 (body a)) ≡ m → same n m ≡ true → firstNamed n i (cons a u) ≡ some (i, a)
 unfolding firstNamed
 met n m i a u e h = rw (e, h)
@@ -64,6 +68,7 @@ pub record Search (s : List ℕ) (n : Name) (m p left at i : ℕ) : Type 0 where
   pub stands : at ≡ blockAt s p i
   pub on : (l : Keyed s m p) → Left (Unmet n i) s (Item.blocks (l .lo) (l .hi)) m p left at
 
+-- the loop begins with none passed
 pub begin : {s : List ℕ} {n : Name} {m p left : ℕ} → left ≡ m → Search s n m p left p 0
 unfolding blockAt
 begin {s} {n} {m} {p} e = subst (λ (k : ℕ). Search s n m p k p 0) (sym e) (record { sum = omega arith; stands = refl; on = λ l. starts (λ t. refl) (l .list) })
@@ -88,7 +93,9 @@ module _ {s : List ℕ} {n : Name} {m p left at i : ℕ} where
   hit h e f c l =
       let w = c .on l .whole (l .list) in
       let b = block-entry (w .0) h in
-      Entry.at {i = i} {o = at} (b .child) (omega (arith, h, c .sum), c .stands) (w .1 ∙ ap (firstNamed n i) (b .after .tree) ∙ met n (nameAt s (at + 6)) i (b .child .got .0) (b .after .rest .got .0) (headed (b .child) (l .keyed) .named) (sym e ∙ f))
+      Entry.at {i = i} {o = at} (b .child) (omega (arith, h, c .sum), c .stands)
+      (w .1 ∙ ap (firstNamed n i) (b .after .tree)
+      ∙ met n (nameAt s (at + 6)) i (b .child .got .0) (b .after .rest .got .0) (headed (b .child) (l .keyed) .named) (sym e ∙ f))
 
   -- none is left
   pub no-more : left ≤ 0 → Search s n m p left at i → (l : Keyed s m p) → Entry n l Missing

@@ -31,15 +31,17 @@ use Rattle.lookup.specs.Found.{typesBefore, TypeFound, TreeFound}
 
 -- ---- the kinds of types and of type trees begin with a name
 
+-- the kinds of types do
 type-keyed : (k : ℕ) → 1 ≤ k → k ≤ 7 → (ps : List Part) × (partsOf k ≡ Key ∷ ps)
 unfolding partsOf findRow grammar nodeTable
 type-keyed k a b = each (λ k. (ps : List Part) × (partsOf k ≡ Key ∷ ps)) 7 1 ((_, refl), ((_, refl), ((_, refl), ((_, refl), ((_, refl), ((_, refl), ((_, refl), tt))))))) k a (omega arith)
 
--- which is the type's name
+-- the name that a type's block begins with is the type's name
 type-named : (at : ℕ) (t : Tree) (k : ℕ) → 1 ≤ k → k ≤ 7 → head (typeOf (block at k t)) .name ≡ text (part 0 t)
 unfolding typeOf view thingOf makeThing formOf
 type-named at t k a b = each (λ k. head (typeOf (block at k t)) .name ≡ text (part 0 t)) 7 1 (refl, (refl, (refl, (refl, (refl, (refl, (refl, tt))))))) k a (omega arith)
 
+-- and so does the kind of type trees
 pub tree-keyed : (k : ℕ) → 161 ≤ k → k ≤ 161 → (ps : List Part) × (partsOf k ≡ Key ∷ ps)
 unfolding partsOf findRow grammar nodeTable
 tree-keyed k a b = each (λ k. (ps : List Part) × (partsOf k ≡ Key ∷ ps)) 1 161 ((_, refl), tt) k a (omega arith)
@@ -50,7 +52,7 @@ tree-keyed k a b = each (λ k. (ps : List Part) × (partsOf k ≡ Key ∷ ps)) 1
 abbrev keyed : {s : List ℕ} (lo hi : ℕ) → 8 ≤ length s → Listed s lo hi (le2 s 6) 8 → ((k : ℕ) → lo ≤ k → k ≤ hi → (ps : List Part) × (partsOf k ≡ Key ∷ ps)) → Keyed s (le2 s 6) 8
 keyed lo hi h l k = record { lo = lo; hi = hi; inside = h; list = l; keyed = k }
 
--- the types of a set, and the type trees of a layout
+-- the types of a set, as a list of accepted blocks
 pub set-list : {s : List ℕ} {t : Tree} → readSet s ≡ done t → (8 ≤ length s) × (l : Listed s 1 7 (le2 s 6) 8) × (typesOf t ≡ entries typeOf (l .got .0)) × (le2 s 6 ≤ 256)
 unfolding typesOf partsOf findRow grammar nodeTable
 set-list {s} e =
@@ -58,6 +60,7 @@ set-list {s} e =
     let o = sole (a .0) refl Counted.distinct in
     (o .inside, o .list, ap (λ (z : Tree × ℕ). entries typeOf (rest (part 0 (body (z .0))))) (sym (a .1)) ∙ ap (entries typeOf) (o .tree), o .few)
 
+-- the type trees of a layout
 layout-list : {s : List ℕ} {t : Tree} → readLayout s ≡ done t → (8 ≤ length s) × (l : Listed s 161 161 (le2 s 6) 8) × (layoutOf t ≡ entries typeIrOf (l .got .0))
 unfolding layoutOf partsOf findRow grammar nodeTable
 layout-list {s} e =
@@ -67,18 +70,22 @@ layout-list {s} e =
 
 -- ---- the first block of a name is the first type, or type tree, of that name
 
+-- the type that a block stands for has the block's name
 abbrev Titled : Tree → Type 0
 Titled u = head (typeOf u) .name ≡ text (part 0 (body u))
 
+-- which holds of every accepted type
 titled : {s : List ℕ} (at : ℕ) (a : Accepted s 1 7 at) → Titled (a .got .0)
 titled {s} at a =
     let o = opened a refl refl in
     subst Titled (sym (o .tree)) (type-named at (o .parts .got .0) (le2 s (at + 4)) (o .least) (o .most))
 
+-- the type of the block that was found
 abbrev typed : Option (ℕ × Tree) → Option ResolvedType
 typed none = none
 typed (some x) = some (typeOf (x .1))
 
+-- the first type of a name is the one of the first block of it
 types-same : (n : Name) (i : ℕ) {u : Tree} → All Titled u → get-type-info n (entries typeOf u) ≡ typed (firstNamed n i u)
 unfolding get-type-info firstNamed entries
 types-same n i All.none = refl
@@ -102,10 +109,12 @@ first-place n i j {a = x} (All.more {a} {b} h g) e = rw h (go (same n (text (par
         omega (arith, ap (λ (z : ℕ × Tree). z .0) y)
     go false f r = let z = r f in omega arith
 
+-- the type tree of the block that was found, with its place
 abbrev pub looked : Option (ℕ × Tree) → Outcome (ℕ × TypeIr)
 looked none = refused (plain UnknownType)
 looked (some x) = done (x .0, typeIrOf (x .1))
 
+-- the first type tree of a name is the one of the first block of it
 pub trees-same : (n : Name) (i : ℕ) (u : Tree) → lookup-type i n (entries typeIrOf u) ≡ looked (firstNamed n i u)
 unfolding lookup-type firstNamed entries
 trees-same n i (name m) = refl
@@ -121,17 +130,21 @@ trees-same n i (cons a b) = go (same n (text (part 0 (body a)))) (rw add-one at 
 
 -- ---- in the code's form: r is what the search answered
 
+-- the offset alone
 abbrev found : Place → Found
 found (At i o) = FoundAt o
 found Missing = FoundNone
 
+-- the search may be made in an accepted set
 pub set-keyed : {s : List ℕ} {t : Tree} → readSet s ≡ done t → Keyed s (le2 s 6) 8
 set-keyed e = let l = set-list e in keyed 1 7 (l .0) (l .1) type-keyed
 
+-- and in an accepted layout
 pub layout-keyed : {s : List ℕ} {t : Tree} → readLayout s ≡ done t → Keyed s (le2 s 6) 8
 layout-keyed e = let l = layout-list e in keyed 161 161 (l .0) (l .1) tree-keyed
 
 module _ {s : List ℕ} {n : Name} {r : Place} (f : (l : Keyed s (le2 s 6) 8) → Entry n l r) where
+  -- what it answers in a set
   set-found : (t : Tree) → readSet s ≡ done t → TypeFound s n (typesOf t) (found r)
   set-found t e =
       let l = set-list e in
@@ -144,12 +157,15 @@ module _ {s : List ℕ} {n : Name} {r : Place} (f : (l : Keyed s (le2 s 6) 8) �
           TypeFound.at a (types-same n 0 t ∙ ap typed e) (p .1 ∙ ap (blockAt s 8) q)
       go h l (Entry.missing e) = TypeFound.missing (types-same n 0 (all-entries Titled titled l) ∙ ap typed e)
 
+  -- it answered with a place and an offset
   pub type-there : {i o : ℕ} → r ≡ At i o → (t : Tree) → readSet s ≡ done t → TypeFound s n (typesOf t) (FoundAt o)
   type-there h t e = subst (λ (q : Place). TypeFound s n (typesOf t) (found q)) h (set-found t e)
 
+  -- it answered that there is none
   pub type-missing : r ≡ Missing → (t : Tree) → readSet s ≡ done t → TypeFound s n (typesOf t) FoundNone
   type-missing h t e = subst (λ (q : Place). TypeFound s n (typesOf t) (found q)) h (set-found t e)
 
+  -- what it answers in a layout
   pub tree-found : (t : Tree) → readLayout s ≡ done t → TreeFound s n (layoutOf t) r
   tree-found t e =
       let l = layout-list e in

@@ -7,14 +7,12 @@ use Prim.Native.Nat.{ℕ, zero, suc, _+_, _-_, _≤_, _<_}
 use native.Mathlib.Numerals.{sub-one}
 use native.Mathlib.Omega.{arith}
 use lib.ListN.{length}
-use Rattle.errors.specs.Refusal.{done}
 use Rattle.blocks.specs.Bytes.{le2, le8}
 use Rattle.blocks.specs.Name.{Name, same}
 use Rattle.blocks.specs.Grammar.{partsOf, findRow, grammar, nodeTable}
 use Rattle.blocks.specs.Tree.{Tree, name, num, cons, entries}
-use Rattle.blocks.specs.Read.{readValues}
 use Rattle.accepted.specs.Accepted.{Accepted, tree, Item, nameAt, Counted}
-use Rattle.accepted.proofs.Laws.{Sole, sole, value-entry, input}
+use Rattle.accepted.proofs.Laws.{Sole, sole, value-entry}
 use Rattle.accepted.proofs.Lists.{Left, starts, steps, ended}
 use Rattle.interpreter.specs.Eval.{find}
 use Rattle.interpreter.specs.Validate.{bindingOf, valuesOf}
@@ -41,10 +39,12 @@ listed : {s : List ℕ} {b : ℕ} (a : Accepted s 192 192 b) → Sole a Item.val
 unfolding partsOf findRow grammar nodeTable
 listed a = sole a refl Counted.values
 
+-- the values are those of that list
 values-are : {s : List ℕ} {b : ℕ} (a : Accepted s 192 192 b) → valuesOf (tree a) ≡ entries bindingOf (listed a .list .got .0)
 unfolding valuesOf
 values-are a = ap (entries bindingOf) (listed a .tree)
 
+-- the list's count lies in the bytes
 pub inside : {s : List ℕ} {b : ℕ} → Accepted s 192 192 b → b + 6 + 2 ≤ length s
 inside a = listed a .inside
 
@@ -113,13 +113,3 @@ module _ {s : List ℕ} (b : ℕ) {left at : ℕ} {n : Name} (h : 0 < left) wher
 pub no-more : {s : List ℕ} (b : ℕ) {left at : ℕ} {n : Name} → left ≤ 0 → Search s b n left at → Answers s b n Missing
 unfolding find entries
 no-more b {left} {n} h c = (sym (c .first ∙ value-nowhere _ _ _ left h), λ a. ValueFound.missing (ap (find n) (values-are a) ∙ ended h (c .on) (listed a .list) .0 .is))
-
--- ---- an input
-
-pub values-input : {s : List ℕ} {t : Tree} → readValues s ≡ done t → Accepted s 192 192 0
-values-input {s} e = input 2 192 s e .0
-
-pub value-found : {s : List ℕ} {n : Name} {r : Value} → ((a : Accepted s 192 192 0) → ValueFound s n (valuesOf (tree a)) r) → (t : Tree) → readValues s ≡ done t → ValueFound s n (valuesOf t) r
-value-found {s} {n} {r} f t e =
-    let a = input 2 192 s e in
-    subst (λ (z : Tree × ℕ). ValueFound s n (valuesOf (z .0)) r) (a .1) (f (a .0))

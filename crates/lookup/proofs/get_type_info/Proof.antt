@@ -14,7 +14,9 @@ enum-told : tie.Need-enum-told
 enum-told c = search needs
 
 returns : tie.Need-returns
-returns c = type-there (c .before .before .before .entry .ensures) (c .before .at .given .1)
+returns c =
+    let at-entry = c .before .before .before in
+    type-there (at-entry .entry .ensures) (c .before .at .given .1)
 
 returns-2 : tie.Need-returns-2
 returns-2 c = type-missing (c .before .before .entry .ensures) (c .enum-told .given .1)

@@ -27,10 +27,27 @@ unfolding blockAt
 entry-from-requires-2 c κs = search needs
 
 returns : tie.Need-returns
-returns c = found-behind (c .before .before .before .before .read2 .ensures .0) (c .before .before .before .before .before .before .before .pre .1 .0) (c .before .before .before .entry-from .ensures) (c .before .i .given .1)
+returns c =
+    let at-entry-from = c .before .before .before in
+    let at-read2 = at-entry-from .before in
+    let at-start = at-read2 .before .before .before in
+    found-behind
+    (at-read2 .read2 .ensures .0)
+    (at-start .pre .1 .0)
+    (at-entry-from .entry-from .ensures)
+    (c .before .i .given .1)
 
 returns-2 : tie.Need-returns-2
-returns-2 c = found-before (c .before .before .before .before .read2 .ensures .0) (c .before .before .before .before .before .before .before .pre .1 .0) (c .before .before .before .entry-from .ensures) (c .before .enum-told .given .1) (c .entry-from2 .ensures)
+returns-2 c =
+    let at-entry-from = c .before .before .before in
+    let at-read2 = at-entry-from .before in
+    let at-start = at-read2 .before .before .before in
+    found-before
+    (at-read2 .read2 .ensures .0)
+    (at-start .pre .1 .0)
+    (at-entry-from .entry-from .ensures)
+    (c .before .enum-told .given .1)
+    (c .entry-from2 .ensures)
 
 pub lookup-near-spec : {M : Type 1} → statement M
 lookup-near-spec =

@@ -11,6 +11,10 @@ Inv-loop s block name left₀ at₀ left at = Search s block name left at
 abbrev μ-loop : tie.MeasureT-loop
 μ-loop s block name left₀ at₀ left at = left
 
+-- The places, each seen from a later one: what was known there.
+abbrev at-start : tie.After-read2 Inv-loop μ-loop → tie.Start Inv-loop μ-loop
+at-start r = r .before .before .before
+
 add-read2 : tie.Need-add-read2 Inv-loop μ-loop
 add-read2 c = omega (arith, inside (c .before .before .pre))
 
@@ -18,13 +22,13 @@ read2-requires : tie.Need-read2-requires Inv-loop μ-loop
 read2-requires c κs = inside (c .before .before .pre)
 
 add-at : tie.Need-add-at Inv-loop μ-loop
-add-at c = omega (arith, inside (c .before .before .before .pre))
+add-at c = omega (arith, inside (at-start c .pre))
 
 add-at-2 : tie.Need-add-at-2 Inv-loop μ-loop
-add-at-2 c = omega (arith, inside (c .before .before .before .pre))
+add-at-2 c = omega (arith, inside (at-start c .pre))
 
 loop-holds : tie.Need-loop-holds Inv-loop μ-loop
-loop-holds c = begin (c .before .before .before .pre) (c .read2 .ensures .0)
+loop-holds c = begin (at-start c .pre) (c .read2 .ensures .0)
 
 add-next : tie.Need-add-next Inv-loop μ-loop
 add-next c = omega (arith, next-one _ (c .loop-test .taken) (c .before .loop .inv))
@@ -33,16 +37,39 @@ read2-requires-2 : tie.Need-read2-requires-2 Inv-loop μ-loop
 read2-requires-2 c κs = omega (arith, next-one _ (c .loop-test .taken) (c .before .loop .inv))
 
 add-next-2 : tie.Need-add-next-2 Inv-loop μ-loop
-add-next-2 c = omega (arith, next-one _ (c .before .loop-test .taken) (c .before .before .loop .inv))
+add-next-2 c = omega (
+  arith,
+  next-one _ (c .before .loop-test .taken) (c .before .before .loop .inv),
+)
 
 is-named-requires : tie.Need-is-named-requires Inv-loop μ-loop
-is-named-requires c κs = omega (arith, next-one _ (c .before .loop-test .taken) (c .before .before .loop .inv))
+is-named-requires c κs = omega (
+  arith,
+  next-one _ (c .before .loop-test .taken) (c .before .before .loop .inv),
+)
 
 returns : tie.Need-returns Inv-loop μ-loop
-returns c = hit _ (c .before .before .before .loop-test .taken) (c .before .is-named .ensures) (c .before .before .read22 .ensures .0) (c .if1 .taken) (c .before .before .before .before .loop .inv)
+returns c =
+    let at-read22 = c .before .before in
+    let in-loop = at-read22 .before in
+    let at-loop = in-loop .before in
+    hit _
+    (in-loop .loop-test .taken)
+    (c .before .is-named .ensures)
+    (at-read22 .read22 .ensures .0)
+    (c .if1 .taken)
+    (at-loop .loop .inv)
 
 add-at-3 : tie.Need-add-at-3 Inv-loop μ-loop
-add-at-3 c = omega (arith, c .before .before .read22 .ensures .0, next-one _ (c .before .before .before .loop-test .taken) (c .before .before .before .before .loop .inv))
+add-at-3 c =
+    let at-read22 = c .before .before in
+    let in-loop = at-read22 .before in
+    let at-loop = in-loop .before in
+    omega (
+      arith,
+      at-read22 .read22 .ensures .0,
+      next-one _ (in-loop .loop-test .taken) (at-loop .loop .inv),
+    )
 
 sub-left : tie.Need-sub-left Inv-loop μ-loop
 sub-left c = omega arith
@@ -51,7 +78,16 @@ loop-less : tie.Need-loop-less Inv-loop μ-loop
 loop-less c = omega arith
 
 loop-again : tie.Need-loop-again Inv-loop μ-loop
-loop-again c = go-on _ (c .before .before .before .loop-test .taken) (c .before .is-named .ensures) (c .before .before .read22 .ensures .0) (c .if1 .left) (c .before .before .before .before .loop .inv)
+loop-again c =
+    let at-read22 = c .before .before in
+    let in-loop = at-read22 .before in
+    let at-loop = in-loop .before in
+    go-on _
+    (in-loop .loop-test .taken)
+    (c .before .is-named .ensures)
+    (at-read22 .read22 .ensures .0)
+    (c .if1 .left)
+    (at-loop .loop .inv)
 
 returns-2 : tie.Need-returns-2 Inv-loop μ-loop
 returns-2 c = no-more _ (c .loop-test .left) (c .before .loop .inv)
