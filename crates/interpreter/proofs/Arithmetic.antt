@@ -17,6 +17,7 @@ use Rattle.interpreter.specs.Arithmetic.{Result, value, fault, exact, ch
 pub product-in : (m a b : ℕ) → 0 < m → 0 < a → b ≤ (m - 1) / a → b * a < m
 product-in m a b p q h = let g : b * a ≤ m - 1 = le-div-iff-mul-le q .0 h in omega arith
 
+-- and it is not where that factor is above the quotient
 pub product-over : (m a b : ℕ) → 0 < a → (m - 1) / a < b → m ≤ b * a
 product-over m a b q h = let g : m - 1 < b * a = div-lt-iff-lt-mul q .0 h in omega arith
 
@@ -45,9 +46,11 @@ exact-in w n h = simp (lt-ltb n (2 ^ w) h)
 pub exact-over : (w n : ℕ) → 2 ^ w ≤ n → exact w n ≡ fault 26
 exact-over w n h = simp (le-ltb n (2 ^ w) h)
 
+-- a result is one value only
 value-one : {x y : ℕ} → value x ≡ value y → x ≡ y
 value-one e = cc
 
+-- a refusal is no value
 no-value : {q x : ℕ} {X : Type 0} → fault q ≡ value x → X
 no-value e = let z : _≡_ {A = ℕ} 0 1 = cc in absurd (omega arith)
 
@@ -80,6 +83,7 @@ operate-below w BinaryOp.RightShift a b r h g e = chosen-below (leb 128 b) e (λ
 
 -- ---- alignment: the least multiple that is not below
 
+-- a remainder that is not 0 is above it
 positive : (n : ℕ) → (n ≡ 0 → ⊥) → 0 < n
 positive n h = omega arith
 
@@ -90,12 +94,14 @@ next-multiple v a h =
     let f : (v / a + 1) * a ≡ v / a * a + a = simp (add-mul, one-mul) in
     omega arith
 
+-- r is v aligned to a: the least multiple of a that is not below v; an alignment of 0 or 1 leaves v
 pub record Aligned (v a r : ℕ) : Type 0 where
   pub multiple : 1 < a → r % a ≡ 0
   pub not-below : v ≤ r
   pub least : 1 < a → r < v + a
   pub plain : a ≤ 1 → r ≡ v
 
+-- Every value that aligning gives is that.
 pub aligned-value : (w v a r : ℕ) → align-up w v a ≡ value r → Aligned v a r
 unfolding align-up
 aligned-value w v a r = go (leb a 1) refl (eqb (v % a) 0) refl

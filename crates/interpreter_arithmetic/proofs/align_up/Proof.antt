@@ -26,7 +26,12 @@ checked-add-requires c κs = search needs
 
 returns-3 : tie.Need-returns-3
 unfolding align-up checked-add
-returns-3 c = rw (lt-leb _ _ (c .before .before .if1 .left), ne-eqb _ _ (c .before .if2 .left)) (c .checked-add .ensures)
+returns-3 c =
+    rw
+    (lt-leb _ _ (c .before .before .if1 .left), ne-eqb _ _ (c .before .if2 .left))
+    (c .checked-add .ensures)
 
 pub align-up-spec : {M : Type 1} → statement M
-align-up-spec = tie.close (tie.spec returns rem-remainder returns-2 sub-checked-add checked-add-requires returns-3)
+align-up-spec =
+    tie.close
+    (tie.spec returns rem-remainder returns-2 sub-checked-add checked-add-requires returns-3)

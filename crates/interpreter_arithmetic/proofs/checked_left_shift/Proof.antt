@@ -19,7 +19,10 @@ returns-2 c = rw (lt-leb _ _ (c .before .before .if1 .left), c .if3 .taken, zero
 
 returns-3 : tie.Need-returns-3
 unfolding checked-left-shift
-returns-3 c = rw (lt-leb _ _ (c .before .before .if1 .left), exact-over 64 _ (shift-over 64 _ _ (pos-of-ne-zero (c .if3 .left)) (c .before .if2 .taken)))
+returns-3 c = rw (
+  lt-leb _ _ (c .before .before .if1 .left),
+  exact-over 64 _ (shift-over 64 _ _ (pos-of-ne-zero (c .if3 .left)) (c .before .if2 .taken)),
+)
 
 shr-if4 : tie.Need-shr-if4
 shr-if4 c = omega arith
@@ -30,12 +33,25 @@ shl-t7 c = omega arith
 returns-4 : tie.Need-returns-4
 unfolding checked-left-shift
 returns-4 c =
-    let h = product-in (2 ^ 64) _ _ (omega arith) (pow-pos (c .before .before .before .args .right)) (c .if4 .taken) in
-    rw (lt-leb _ _ (c .before .before .if1 .left), mod-eq-of-lt h, exact-in 64 _ h)
+    let at-else1 = c .before .before in
+    let at-start = at-else1 .before in
+    let h = product-in
+    (2 ^ 64) _ _
+    (omega arith)
+    (pow-pos (at-start .args .right))
+    (c .if4 .taken) in
+    rw (lt-leb _ _ (at-else1 .if1 .left), mod-eq-of-lt h, exact-in 64 _ h)
 
 returns-5 : tie.Need-returns-5
 unfolding checked-left-shift
-returns-5 c = rw (lt-leb _ _ (c .before .before .if1 .left), exact-over 64 _ (product-over _ _ _ (pow-pos (c .before .before .before .args .right)) (c .if4 .left)))
+returns-5 c =
+    let at-else1 = c .before .before in
+    let at-start = at-else1 .before in
+    rw (
+      lt-leb _ _ (at-else1 .if1 .left),
+      exact-over 64 _ (product-over _ _ _ (pow-pos (at-start .args .right)) (c .if4 .left)),
+    )
 
 pub checked-left-shift-spec : {M : Type 1} → statement M
-checked-left-shift-spec = tie.close (tie.spec returns returns-2 returns-3 shr-if4 shl-t7 returns-4 returns-5)
+checked-left-shift-spec =
+    tie.close (tie.spec returns returns-2 returns-3 shr-if4 shl-t7 returns-4 returns-5)

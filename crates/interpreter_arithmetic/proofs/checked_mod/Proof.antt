@@ -7,4 +7,9 @@ use Rattle.interpreter_arithmetic.proofs.checked_mod.Tie as tie
 
 pub checked-mod-spec : {M : Type 1} → statement M
 unfolding checked-mod
-checked-mod-spec = tie.close (tie.spec (λ c. search needs) (λ c. rw (eq-eqb _ _ (c .if1 .taken))) (λ c. rw (ne-eqb _ _ (c .if1 .left))))
+checked-mod-spec =
+    tie.close
+    (tie.spec
+    (λ c. search needs)
+    (λ c. rw (eq-eqb _ _ (c .if1 .taken)))
+    (λ c. rw (ne-eqb _ _ (c .if1 .left))))

@@ -15,7 +15,9 @@ div-if2 : tie.Need-div-if2
 div-if2 c = search needs
 
 mul-product : tie.Need-mul-product
-mul-product c = record { fits = product-in _ _ _ (omega arith) (pos-of-ne-zero (c .before .if1 .left)) (c .if2 .taken) }
+mul-product c = record {
+  fits = product-in _ _ _ (omega arith) (pos-of-ne-zero (c .before .if1 .left)) (c .if2 .taken);
+}
 
 returns-2 : tie.Need-returns-2
 unfolding checked-mul
@@ -23,7 +25,8 @@ returns-2 c = rw (exact-in 64 _ (mul-product c .fits))
 
 returns-3 : tie.Need-returns-3
 unfolding checked-mul
-returns-3 c = rw (exact-over 64 _ (product-over _ _ _ (pos-of-ne-zero (c .before .if1 .left)) (c .if2 .left)))
+returns-3 c =
+    rw (exact-over 64 _ (product-over _ _ _ (pos-of-ne-zero (c .before .if1 .left)) (c .if2 .left)))
 
 pub checked-mul-spec : {M : Type 1} → statement M
 checked-mul-spec = tie.close (tie.spec returns div-if2 mul-product returns-2 returns-3)

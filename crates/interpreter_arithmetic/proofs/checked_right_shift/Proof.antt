@@ -15,7 +15,10 @@ returns c = rw (le-leb _ _ (c .if1 .taken))
 
 returns-2 : tie.Need-returns-2
 unfolding checked-right-shift
-returns-2 c = rw (lt-leb _ _ (c .before .if1 .left), shift-out 64 _ _ (c .before .before .fits .left .fits) (c .if2 .taken))
+returns-2 c = rw (
+  lt-leb _ _ (c .before .if1 .left),
+  shift-out 64 _ _ (c .before .before .fits .left .fits) (c .if2 .taken),
+)
 
 returns-3 : tie.Need-returns-3
 unfolding checked-right-shift

@@ -16,7 +16,12 @@ above f t = let h = f (t .0) in let n = t .1 in omega arith
 last : tie.Need-returns-10
 unfolding operations operation
 last c =
-    let e : c .before .before .args .kind ≡ 143 = le-antisymm (c .before .before .pre .1) (above (above (above (above (above (above (above (above (above (λ u. c .before .before .pre .0))))))))) (c .before .match .rest)) in
+    let at-start = c .before .before in
+    let e : at-start .args .kind ≡ 143 = le-antisymm
+    (at-start .pre .1)
+    (above
+    (above (above (above (above (above (above (above (above (λ u. at-start .pre .0)))))))))
+    (c .before .match .rest)) in
     rw e (c .checked-right-shift .ensures)
 
 pub operate-spec : {M : Type 1} → statement M
