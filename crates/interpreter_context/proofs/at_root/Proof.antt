@@ -36,8 +36,19 @@ value-in-requires c κs = search needs
 enum-known-o : tie.Need-enum-known-o
 enum-known-o c = search needs
 
+-- The places, each seen from a later one: what was known there.
+abbrev at-read2 : tie.After-value-in → tie.After-read2
+at-read2 r = r .before .before
+
+abbrev at-start : tie.After-value-in → tie.Start
+at-start r = at-read2 r .before .before .before
+
 read8-requires : tie.Need-read8-requires
-read8-requires c κs = block-at (c .before .o .given .1) (c .before .before .before .value-in .ensures .1 (c .before .before .before .before .before .before .before .before .pre .1)) .0
+read8-requires c κs =
+    let at-value-in = c .before .before .before in
+    block-at
+    (c .before .o .given .1)
+    (at-value-in .value-in .ensures .1 (at-start at-value-in .pre .1)) .0
 
 enum-told : tie.Need-enum-told
 enum-told c = search needs
@@ -58,13 +69,42 @@ same-name-requires : tie.Need-same-name-requires
 same-name-requires c κs = search needs
 
 returns : tie.Need-returns
-returns c = λ a. held-length _ (c .before .before .before .before .before .before .value-in .ensures .1 a) (c .before .before .before .before .enum-told .given .1) (c .before .same-name .ensures) (c .if1 .taken) ∙ ap (λ (n : Name). heldOf (find n (with-buffer-size (c .before .before .before .before .before .before .before .before .before .before .before .args .len) (valuesOf (tree a))))) (slice-is _ _ _ (c .before .before .before .before .before .before .before .before .read2 .ensures .0))
+returns c =
+    let at-enum-told = c .before .before .before .before in
+    let at-value-in = at-enum-told .before .before in
+    λ a. held-length _
+    (at-value-in .value-in .ensures .1 a)
+    (at-enum-told .enum-told .given .1)
+    (c .before .same-name .ensures)
+    (c .if1 .taken)
+    ∙ ap
+    (λ (n : Name). heldOf
+    (find n (with-buffer-size (at-start at-value-in .args .len) (valuesOf (tree a)))))
+    (slice-is _ _ _ (at-read2 at-value-in .read2 .ensures .0))
 
 returns-2 : tie.Need-returns-2
-returns-2 c = λ a. held-value _ (c .before .before .before .before .value-in .ensures .1 a) (c .before .before .o .given .1) (c .read8 .ensures) ∙ ap (λ (n : Name). heldOf (find n (with-buffer-size (c .before .before .before .before .before .before .before .before .before .args .len) (valuesOf (tree a))))) (slice-is _ _ _ (c .before .before .before .before .before .before .read2 .ensures .0))
+returns-2 c =
+    let at-o = c .before .before in
+    let at-value-in = at-o .before .before in
+    λ a. held-value _ (at-value-in .value-in .ensures .1 a) (at-o .o .given .1) (c .read8 .ensures)
+    ∙ ap
+    (λ (n : Name). heldOf
+    (find n (with-buffer-size (at-start at-value-in .args .len) (valuesOf (tree a)))))
+    (slice-is _ _ _ (at-read2 at-value-in .read2 .ensures .0))
 
 returns-3 : tie.Need-returns-3
-returns-3 c = λ a. held-absent _ (c .before .before .before .before .before .before .value-in .ensures .1 a) (c .before .before .before .before .enum-told .given .1) (c .before .same-name .ensures) (c .if1 .left) ∙ ap (λ (n : Name). heldOf (find n (with-buffer-size (c .before .before .before .before .before .before .before .before .before .before .before .args .len) (valuesOf (tree a))))) (slice-is _ _ _ (c .before .before .before .before .before .before .before .before .read2 .ensures .0))
+returns-3 c =
+    let at-enum-told = c .before .before .before .before in
+    let at-value-in = at-enum-told .before .before in
+    λ a. held-absent _
+    (at-value-in .value-in .ensures .1 a)
+    (at-enum-told .enum-told .given .1)
+    (c .before .same-name .ensures)
+    (c .if1 .left)
+    ∙ ap
+    (λ (n : Name). heldOf
+    (find n (with-buffer-size (at-start at-value-in .args .len) (valuesOf (tree a)))))
+    (slice-is _ _ _ (at-read2 at-value-in .read2 .ensures .0))
 
 pub at-root-spec : {M : Type 1} → statement M
 at-root-spec =

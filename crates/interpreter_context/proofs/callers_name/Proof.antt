@@ -16,16 +16,38 @@ enum-told : tie.Need-enum-told
 enum-told c = search needs
 
 is-listed-requires : tie.Need-is-listed-requires
-is-listed-requires c κs = (c .before .before .before .before .pre .0 .type, c .before .before .before .before .pre .1)
+is-listed-requires c κs =
+    let at-start = c .before .before .before .before in
+    (at-start .pre .0 .type, at-start .pre .1)
 
 returns : tie.Need-returns
-returns c = λ p. from-parameter _ _ _ (c .before .before .before .before .last-argument .ensures (p .call)) (c .before .before .enum-told .given .1) (c .before .is-listed .ensures (p .type)) (c .if1 .taken) (c .before .before .before .before .before .before .pre .1) refl
+returns c =
+    let at-enum-told = c .before .before in
+    let at-last-argument = at-enum-told .before .before in
+    let at-start = at-last-argument .before .before in
+    λ p. from-parameter _ _ _
+    (at-last-argument .last-argument .ensures (p .call))
+    (at-enum-told .enum-told .given .1)
+    (c .before .is-listed .ensures (p .type))
+    (c .if1 .taken)
+    (at-start .pre .1) refl
 
 returns-2 : tie.Need-returns-2
-returns-2 c = λ p. from-argument _ _ _ (c .before .before .before .last-argument .ensures (p .call)) (c .before .q .given .1)
+returns-2 c =
+    let at-last-argument = c .before .before .before in
+    λ p. from-argument _ _ _
+    (at-last-argument .last-argument .ensures (p .call))
+    (c .before .q .given .1)
 
 returns-3 : tie.Need-returns-3
-returns-3 c = λ p. from-nothing _ _ _ (c .before .before .before .before .last-argument .ensures (p .call)) (c .before .before .enum-told .given .1) (c .before .is-listed .ensures (p .type)) (c .if1 .left)
+returns-3 c =
+    let at-enum-told = c .before .before in
+    let at-last-argument = at-enum-told .before .before in
+    λ p. from-nothing _ _ _
+    (at-last-argument .last-argument .ensures (p .call))
+    (at-enum-told .enum-told .given .1)
+    (c .before .is-listed .ensures (p .type))
+    (c .if1 .left)
 
 pub callers-name-spec : {M : Type 1} → statement M
 callers-name-spec =

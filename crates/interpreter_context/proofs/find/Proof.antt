@@ -7,25 +7,44 @@ use Rattle.interpreter_context.proofs.find.Statement.{statement}
 use Rattle.interpreter_context.proofs.find.Tie as tie
 
 abbrev Inv-loop : tie.InvT-loop
-Inv-loop s name values block len words depth d₀ wanted₀ d wanted = Wanted s values block len words name depth wanted d
+Inv-loop s name values block len words depth d₀ wanted₀ d wanted =
+    Wanted s values block len words name depth wanted d
 
 abbrev μ-loop : tie.MeasureT-loop
 μ-loop s name values block len words depth d₀ wanted₀ d wanted = d
 
+-- The places, each seen from a later one: what was known there.
+abbrev at-start : tie.After-shared-slice-known3 Inv-loop μ-loop → tie.Start Inv-loop μ-loop
+at-start r = r .before .before .before
+
 loop-holds : tie.Need-loop-holds Inv-loop μ-loop
-loop-holds c = asked (c .before .before .before .pre .0)
+loop-holds c = asked (at-start c .pre .0)
 
 sub-d : tie.Need-sub-d Inv-loop μ-loop
 sub-d c = omega arith
 
 mul-word : tie.Need-mul-word Inv-loop μ-loop
-mul-word c = omega (arith, the-call (c .loop-test .taken) (c .before .loop .inv) (c .before .before .before .before .before .pre .1) .0)
+mul-word c = omega (
+  arith,
+  the-call (c .loop-test .taken) (c .before .loop .inv) (at-start (c .before .before) .pre .1) .0,
+)
 
 shared-slice-read-word : tie.Need-shared-slice-read-word Inv-loop μ-loop
-shared-slice-read-word c = the-call (c .before .loop-test .taken) (c .before .before .loop .inv) (c .before .before .before .before .before .before .pre .1) .0
+shared-slice-read-word c =
+    the-call
+    (c .before .loop-test .taken)
+    (c .before .before .loop .inv)
+    (at-start (c .before .before .before) .pre .1) .0
 
 callers-name-requires : tie.Need-callers-name-requires Inv-loop μ-loop
-callers-name-requires c κs = (the-call (c .before .loop-test .taken) (c .before .before .loop .inv) (c .before .before .before .before .before .before .pre .1) .1, c .before .before .loop .inv .inside)
+callers-name-requires c κs =
+    let at-loop = c .before .before in (
+      the-call
+          (c .before .loop-test .taken)
+          (at-loop .loop .inv)
+          (at-start (at-loop .before) .pre .1) .1,
+      at-loop .loop .inv .inside,
+    )
 
 enum-known-q : tie.Need-enum-known-q Inv-loop μ-loop
 enum-known-q c = search needs
@@ -34,19 +53,40 @@ loop-less : tie.Need-loop-less Inv-loop μ-loop
 loop-less c = omega arith
 
 loop-again : tie.Need-loop-again Inv-loop μ-loop
-loop-again c = caller-has (c .before .before .before .before .before .loop-test .taken) (c .before .before .before .before .before .before .loop .inv) (c .before .before .before .callers-name .ensures) (c .before .before .before .before .before .before .before .before .before .before .pre .1) (c .before .q .given .1)
+loop-again c =
+    let at-callers-name = c .before .before .before in
+    let in-loop = at-callers-name .before .before in
+    let at-loop = in-loop .before in
+    caller-has
+    (in-loop .loop-test .taken)
+    (at-loop .loop .inv)
+    (at-callers-name .callers-name .ensures)
+    (at-start (at-loop .before) .pre .1)
+    (c .before .q .given .1)
 
 enum-told : tie.Need-enum-told Inv-loop μ-loop
 enum-told c = search needs
 
 returns : tie.Need-returns Inv-loop μ-loop
-returns c = caller-lacks (c .before .before .before .before .loop-test .taken) (c .before .before .before .before .before .loop .inv) (c .before .before .callers-name .ensures) (c .enum-told .given .1)
+returns c =
+    let at-callers-name = c .before .before in
+    let in-loop = at-callers-name .before .before in
+    let at-loop = in-loop .before in
+    caller-lacks
+    (in-loop .loop-test .taken)
+    (at-loop .loop .inv)
+    (at-callers-name .callers-name .ensures)
+    (c .enum-told .given .1)
 
 at-root-requires : tie.Need-at-root-requires Inv-loop μ-loop
-at-root-requires c κs = (c .before .loop .inv .inside, bottom (c .before .before .before .before .before .pre .1 .1))
+at-root-requires c κs = (
+  c .before .loop .inv .inside,
+  bottom (at-start (c .before .before) .pre .1 .1),
+)
 
 returns-2 : tie.Need-returns-2 Inv-loop μ-loop
-returns-2 c = at-the-root (c .before .loop-test .left) (c .before .before .loop .inv) (c .at-root .ensures)
+returns-2 c =
+    at-the-root (c .before .loop-test .left) (c .before .before .loop .inv) (c .at-root .ensures)
 
 pub find-spec : {M : Type 1} → statement M
 find-spec =

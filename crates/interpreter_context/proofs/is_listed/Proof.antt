@@ -10,7 +10,8 @@ use Rattle.interpreter_context.proofs.is_listed.Statement.{statement}
 use Rattle.interpreter_context.proofs.is_listed.Tie as tie
 
 abbrev Inv-loop : tie.InvT-loop
-Inv-loop s callee name root list left₀ at₀ left at = Unlisted s (nameAt s name) (le2 s list) (list + 2) left at
+Inv-loop s callee name root list left₀ at₀ left at =
+    Unlisted s (nameAt s name) (le2 s list) (list + 2) left at
 
 abbrev μ-loop : tie.MeasureT-loop
 μ-loop s callee name root list left₀ at₀ left at = left
@@ -34,34 +35,139 @@ read4-requires : tie.Need-read4-requires Inv-loop μ-loop
 read4-requires c κs = omega (arith, tree-of (c .before .before .pre .0) (c .read2 .ensures .0) .low)
 
 add-list-2 : tie.Need-add-list-2 Inv-loop μ-loop
-add-list-2 c = omega (arith, parameters-at (c .before .before .before .pre .0) (c .before .read2 .ensures .0) (c .read4 .ensures .0) .inside)
+add-list-2 c =
+    let at-start = c .before .before .before in
+    omega (
+      arith,
+      parameters-at
+          (at-start .pre .0)
+          (c .before .read2 .ensures .0)
+          (c .read4 .ensures .0) .inside,
+    )
 
 read2-requires-2 : tie.Need-read2-requires-2 Inv-loop μ-loop
-read2-requires-2 c κs = parameters-at (c .before .before .before .pre .0) (c .before .read2 .ensures .0) (c .read4 .ensures .0) .inside
+read2-requires-2 c κs =
+    let at-start = c .before .before .before in
+    parameters-at (at-start .pre .0) (c .before .read2 .ensures .0) (c .read4 .ensures .0) .inside
 
 add-at : tie.Need-add-at Inv-loop μ-loop
-add-at c = omega (arith, parameters-at (c .before .before .before .before .pre .0) (c .before .before .read2 .ensures .0) (c .before .read4 .ensures .0) .inside)
+add-at c =
+    let at-read2 = c .before .before in
+    let at-start = at-read2 .before .before in
+    omega (
+      arith,
+      parameters-at
+          (at-start .pre .0)
+          (at-read2 .read2 .ensures .0)
+          (c .before .read4 .ensures .0) .inside,
+    )
 
 loop-holds : tie.Need-loop-holds Inv-loop μ-loop
 loop-holds c = start (c .read22 .ensures .0)
 
 add-same-at : tie.Need-add-same-at Inv-loop μ-loop
-add-same-at c = omega (arith, ends (next-parameter (c .loop-test .taken) (c .before .loop .inv) (parameters-at (c .before .before .before .before .before .before .pre .0) (c .before .before .before .before .read2 .ensures .0) (c .before .before .before .read4 .ensures .0) .list)) .0)
+add-same-at c =
+    let at-read4 = c .before .before .before in
+    let at-read2 = at-read4 .before in
+    let at-start = at-read2 .before .before in
+    omega (
+      arith,
+      ends
+          (next-parameter
+          (c .loop-test .taken)
+          (c .before .loop .inv)
+          (parameters-at
+          (at-start .pre .0)
+          (at-read2 .read2 .ensures .0)
+          (at-read4 .read4 .ensures .0) .list)) .0,
+    )
 
 same-at-requires : tie.Need-same-at-requires Inv-loop μ-loop
-same-at-requires c κs = (c .before .before .before .before .before .before .pre .1, parameter (next-parameter (c .loop-test .taken) (c .before .loop .inv) (parameters-at (c .before .before .before .before .before .before .pre .0) (c .before .before .before .before .read2 .ensures .0) (c .before .before .before .read4 .ensures .0) .list)) .name)
+same-at-requires c κs =
+    let at-read4 = c .before .before .before in
+    let at-read2 = at-read4 .before in
+    let at-start = at-read2 .before .before in (
+      at-start .pre .1,
+      parameter
+          (next-parameter
+          (c .loop-test .taken)
+          (c .before .loop .inv)
+          (parameters-at
+          (at-start .pre .0)
+          (at-read2 .read2 .ensures .0)
+          (at-read4 .read4 .ensures .0) .list)) .name,
+    )
 
 returns : tie.Need-returns Inv-loop μ-loop
-returns c = λ t. listed-of _ t (parameters-at t (c .before .before .before .before .before .before .read2 .ensures .0) (c .before .before .before .before .before .read4 .ensures .0)) (c .before .before .loop-test .taken) (c .before .same-at .ensures) (c .if1 .taken) (c .before .before .before .loop .inv)
+returns c =
+    let in-loop = c .before .before in
+    let at-loop = in-loop .before in
+    let at-read4 = at-loop .before .before in
+    let at-read2 = at-read4 .before in
+    λ t. listed-of _ t
+    (parameters-at t (at-read2 .read2 .ensures .0) (at-read4 .read4 .ensures .0))
+    (in-loop .loop-test .taken)
+    (c .before .same-at .ensures)
+    (c .if1 .taken)
+    (at-loop .loop .inv)
 
 add-at-2 : tie.Need-add-at-2 Inv-loop μ-loop
-add-at-2 c = omega (arith, ends (next-parameter (c .before .before .loop-test .taken) (c .before .before .before .loop .inv) (parameters-at (c .before .before .before .before .before .before .before .before .pre .0) (c .before .before .before .before .before .before .read2 .ensures .0) (c .before .before .before .before .before .read4 .ensures .0) .list)) .0)
+add-at-2 c =
+    let in-loop = c .before .before in
+    let at-loop = in-loop .before in
+    let at-read4 = at-loop .before .before in
+    let at-read2 = at-read4 .before in
+    let at-start = at-read2 .before .before in
+    omega (
+      arith,
+      ends
+          (next-parameter
+          (in-loop .loop-test .taken)
+          (at-loop .loop .inv)
+          (parameters-at
+          (at-start .pre .0)
+          (at-read2 .read2 .ensures .0)
+          (at-read4 .read4 .ensures .0) .list)) .0,
+    )
 
 read4-requires-2 : tie.Need-read4-requires-2 Inv-loop μ-loop
-read4-requires-2 c κs = omega (arith, ends (next-parameter (c .before .before .loop-test .taken) (c .before .before .before .loop .inv) (parameters-at (c .before .before .before .before .before .before .before .before .pre .0) (c .before .before .before .before .before .before .read2 .ensures .0) (c .before .before .before .before .before .read4 .ensures .0) .list)) .0)
+read4-requires-2 c κs =
+    let in-loop = c .before .before in
+    let at-loop = in-loop .before in
+    let at-read4 = at-loop .before .before in
+    let at-read2 = at-read4 .before in
+    let at-start = at-read2 .before .before in
+    omega (
+      arith,
+      ends
+          (next-parameter
+          (in-loop .loop-test .taken)
+          (at-loop .loop .inv)
+          (parameters-at
+          (at-start .pre .0)
+          (at-read2 .read2 .ensures .0)
+          (at-read4 .read4 .ensures .0) .list)) .0,
+    )
 
 add-at-3 : tie.Need-add-at-3 Inv-loop μ-loop
-add-at-3 c = omega (arith, ends (next-parameter (c .before .before .before .loop-test .taken) (c .before .before .before .before .loop .inv) (parameters-at (c .before .before .before .before .before .before .before .before .before .pre .0) (c .before .before .before .before .before .before .before .read2 .ensures .0) (c .before .before .before .before .before .before .read4 .ensures .0) .list)) .1, c .read42 .ensures .0)
+add-at-3 c =
+    let in-loop = c .before .before .before in
+    let at-loop = in-loop .before in
+    let at-read4 = at-loop .before .before in
+    let at-read2 = at-read4 .before in
+    let at-start = at-read2 .before .before in
+    omega (
+      arith,
+      ends
+          (next-parameter
+          (in-loop .loop-test .taken)
+          (at-loop .loop .inv)
+          (parameters-at
+          (at-start .pre .0)
+          (at-read2 .read2 .ensures .0)
+          (at-read4 .read4 .ensures .0) .list)) .1,
+      c .read42 .ensures .0,
+    )
 
 sub-left : tie.Need-sub-left Inv-loop μ-loop
 sub-left c = omega arith
@@ -70,10 +176,25 @@ loop-less : tie.Need-loop-less Inv-loop μ-loop
 loop-less c = omega arith
 
 loop-again : tie.Need-loop-again Inv-loop μ-loop
-loop-again c = another (c .before .before .before .loop-test .taken) (c .before .before .same-at .ensures) (c .before .if1 .left) (c .read42 .ensures .0) (c .before .before .before .before .loop .inv)
+loop-again c =
+    let at-same-at = c .before .before in
+    let in-loop = at-same-at .before in
+    let at-loop = in-loop .before in
+    another
+    (in-loop .loop-test .taken)
+    (at-same-at .same-at .ensures)
+    (c .before .if1 .left)
+    (c .read42 .ensures .0)
+    (at-loop .loop .inv)
 
 returns-2 : tie.Need-returns-2 Inv-loop μ-loop
-returns-2 c = λ t. unlisted-of _ t (parameters-at t (c .before .before .before .before .read2 .ensures .0) (c .before .before .before .read4 .ensures .0)) (c .loop-test .left) (c .before .loop .inv)
+returns-2 c =
+    let at-read4 = c .before .before .before in
+    let at-read2 = at-read4 .before in
+    λ t. unlisted-of _ t
+    (parameters-at t (at-read2 .read2 .ensures .0) (at-read4 .read4 .ensures .0))
+    (c .loop-test .left)
+    (c .before .loop .inv)
 
 pub is-listed-spec : {M : Type 1} → statement M
 is-listed-spec =

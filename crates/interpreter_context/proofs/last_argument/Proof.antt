@@ -8,7 +8,8 @@ use Rattle.interpreter_context.proofs.last_argument.Statement.{statemen
 use Rattle.interpreter_context.proofs.last_argument.Tie as tie
 
 abbrev Inv-loop : tie.InvT-loop
-Inv-loop s call name list left₀ at₀ last₀ left at last = Passed s (nameAt s name) (le2 s list) (list + 2) left at last
+Inv-loop s call name list left₀ at₀ last₀ left at last =
+    Passed s (nameAt s name) (le2 s list) (list + 2) left at last
 
 abbrev μ-loop : tie.MeasureT-loop
 μ-loop s call name list left₀ at₀ last₀ left at last = left
@@ -17,25 +18,87 @@ second-part-requires : tie.Need-second-part-requires Inv-loop μ-loop
 second-part-requires c κs = (c .before .pre .0, has-three _ (c .before .pre .1))
 
 read2-requires : tie.Need-read2-requires Inv-loop μ-loop
-read2-requires c κs = arguments-at (c .second-part .ensures) (c .before .before .pre .0) (c .before .before .pre .1) .inside
+read2-requires c κs =
+    let at-start = c .before .before in
+    arguments-at (c .second-part .ensures) (at-start .pre .0) (at-start .pre .1) .inside
 
 add-at : tie.Need-add-at Inv-loop μ-loop
-add-at c = omega (arith, arguments-at (c .before .second-part .ensures) (c .before .before .before .pre .0) (c .before .before .before .pre .1) .inside)
+add-at c =
+    let at-start = c .before .before .before in
+    omega (
+      arith,
+      arguments-at (c .before .second-part .ensures) (at-start .pre .0) (at-start .pre .1) .inside,
+    )
 
 loop-holds : tie.Need-loop-holds Inv-loop μ-loop
 loop-holds c = begin (c .read2 .ensures .0)
 
 later-requires : tie.Need-later-requires Inv-loop μ-loop
-later-requires c κs = (next-one (c .loop-test .taken) (c .before .loop .inv) (arguments-at (c .before .before .before .second-part .ensures) (c .before .before .before .before .before .pre .0) (c .before .before .before .before .before .pre .1) .list), c .before .before .before .before .before .pre .2)
+later-requires c κs =
+    let at-second-part = c .before .before .before in
+    let at-start = at-second-part .before .before in (
+      next-one
+          (c .loop-test .taken)
+          (c .before .loop .inv)
+          (arguments-at
+          (at-second-part .second-part .ensures)
+          (at-start .pre .0)
+          (at-start .pre .1) .list),
+      at-start .pre .2,
+    )
 
 add-at-2 : tie.Need-add-at-2 Inv-loop μ-loop
-add-at-2 c = omega (arith, ends (next-one (c .before .loop-test .taken) (c .before .before .loop .inv) (arguments-at (c .before .before .before .before .second-part .ensures) (c .before .before .before .before .before .before .pre .0) (c .before .before .before .before .before .before .pre .1) .list)) .0)
+add-at-2 c =
+    let at-loop = c .before .before in
+    let at-second-part = at-loop .before .before in
+    let at-start = at-second-part .before .before in
+    omega (
+      arith,
+      ends
+          (next-one
+          (c .before .loop-test .taken)
+          (at-loop .loop .inv)
+          (arguments-at
+          (at-second-part .second-part .ensures)
+          (at-start .pre .0)
+          (at-start .pre .1) .list)) .0,
+    )
 
 read4-requires : tie.Need-read4-requires Inv-loop μ-loop
-read4-requires c κs = omega (arith, ends (next-one (c .before .loop-test .taken) (c .before .before .loop .inv) (arguments-at (c .before .before .before .before .second-part .ensures) (c .before .before .before .before .before .before .pre .0) (c .before .before .before .before .before .before .pre .1) .list)) .0)
+read4-requires c κs =
+    let at-loop = c .before .before in
+    let at-second-part = at-loop .before .before in
+    let at-start = at-second-part .before .before in
+    omega (
+      arith,
+      ends
+          (next-one
+          (c .before .loop-test .taken)
+          (at-loop .loop .inv)
+          (arguments-at
+          (at-second-part .second-part .ensures)
+          (at-start .pre .0)
+          (at-start .pre .1) .list)) .0,
+    )
 
 add-at-3 : tie.Need-add-at-3 Inv-loop μ-loop
-add-at-3 c = omega (arith, ends (next-one (c .before .before .loop-test .taken) (c .before .before .before .loop .inv) (arguments-at (c .before .before .before .before .before .second-part .ensures) (c .before .before .before .before .before .before .before .pre .0) (c .before .before .before .before .before .before .before .pre .1) .list)) .1, c .read4 .ensures .0)
+add-at-3 c =
+    let in-loop = c .before .before in
+    let at-loop = in-loop .before in
+    let at-second-part = at-loop .before .before in
+    let at-start = at-second-part .before .before in
+    omega (
+      arith,
+      ends
+          (next-one
+          (in-loop .loop-test .taken)
+          (at-loop .loop .inv)
+          (arguments-at
+          (at-second-part .second-part .ensures)
+          (at-start .pre .0)
+          (at-start .pre .1) .list)) .1,
+      c .read4 .ensures .0,
+    )
 
 sub-left : tie.Need-sub-left Inv-loop μ-loop
 sub-left c = omega arith
@@ -44,10 +107,24 @@ loop-less : tie.Need-loop-less Inv-loop μ-loop
 loop-less c = omega arith
 
 loop-again : tie.Need-loop-again Inv-loop μ-loop
-loop-again c = go-on (c .before .before .loop-test .taken) (c .before .later .ensures) (c .read4 .ensures .0) (c .before .before .before .loop .inv)
+loop-again c =
+    let in-loop = c .before .before in
+    let at-loop = in-loop .before in
+    go-on
+    (in-loop .loop-test .taken)
+    (c .before .later .ensures)
+    (c .read4 .ensures .0)
+    (at-loop .loop .inv)
 
 returns : tie.Need-returns Inv-loop μ-loop
-returns c = last-of (c .loop-test .left) (c .before .before .before .second-part .ensures) (c .before .before .before .before .before .pre .1) (c .before .loop .inv)
+returns c =
+    let at-second-part = c .before .before .before in
+    let at-start = at-second-part .before .before in
+    last-of
+    (c .loop-test .left)
+    (at-second-part .second-part .ensures)
+    (at-start .pre .1)
+    (c .before .loop .inv)
 
 pub last-argument-spec : {M : Type 1} → statement M
 last-argument-spec =

@@ -15,13 +15,37 @@ first-part-requires : tie.Need-first-part-requires
 first-part-requires c κs = search needs
 
 node-part-requires : tie.Need-node-part-requires
-node-part-requires c κs = (omega (arith, c .before .read2 .ensures .0, kinds (c .before .before .before .pre .0) .0), omega (arith, c .before .read2 .ensures .0, kinds (c .before .before .before .pre .0) .1), omega arith)
+node-part-requires c κs =
+    let at-start = c .before .before .before in (
+      omega (arith, c .before .read2 .ensures .0, kinds (at-start .pre .0) .0),
+      omega (arith, c .before .read2 .ensures .0, kinds (at-start .pre .0) .1),
+      omega arith,
+    )
 
 behind-requires : tie.Need-behind-requires
-behind-requires c κs = stands (c .before .before .before .before .pre .0) (c .before .before .read2 .ensures .0) (c .node-part .ensures) (omega arith) (omega (arith, c .before .before .before .before .pre .1)) (c .before .first-part .ensures)
+behind-requires c κs =
+    let at-read2 = c .before .before in
+    let at-start = at-read2 .before .before in
+    stands
+    (at-start .pre .0)
+    (at-read2 .read2 .ensures .0)
+    (c .node-part .ensures)
+    (omega arith)
+    (omega (arith, at-start .pre .1))
+    (c .before .first-part .ensures)
 
 returns : tie.Need-returns
-returns c = stands-next (c .before .before .before .read2 .ensures .0) (c .before .node-part .ensures) (omega arith) (omega (arith, c .before .before .before .before .before .pre .1)) (c .before .before .first-part .ensures) (c .behind .ensures)
+returns c =
+    let at-first-part = c .before .before in
+    let at-read2 = at-first-part .before in
+    let at-start = at-read2 .before .before in
+    stands-next
+    (at-read2 .read2 .ensures .0)
+    (c .before .node-part .ensures)
+    (omega arith)
+    (omega (arith, at-start .pre .1))
+    (at-first-part .first-part .ensures)
+    (c .behind .ensures)
 
 pub second-part-spec : {M : Type 1} → statement M
 second-part-spec =
