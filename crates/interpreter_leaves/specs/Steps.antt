@@ -1,10 +1,10 @@
--- What a switch selects, what a call's arguments come to, and where a type's root stands.
+-- What a switch selects, what a call's arguments come to, where a type's root stands, and a node without what changes nothing.
 use Prim.Native.Nat.{ℕ, _+_, _≤_, _<_}
 use mathlib.Core.Path.{_≡_}
 use mathlib.Core.Bool.{cond}
 use mathlib.Core.List.{List, []}
 use mathlib.Core.Option.{Option, some, none}
-use lib.Dec.{eqb}
+use lib.Dec.{leb, eqb}
 use lib.ListN.{length}
 use Rattle.errors.specs.Refusal.{done, refused, MissingIrParameter}
 use Rattle.blocks.specs.Bytes.{le2, le4}
@@ -12,7 +12,7 @@ use Rattle.blocks.specs.Tree.{Tree, first, rest, body, part, number, text, opti
 use Rattle.ir.specs.Ir.{IrArgument, IrNode, SwitchCases, DefaultNode}
 use Rattle.ir.specs.Layout.{nodeOf, typeIrOf, casesIn, thingOf}
 use Rattle.accepted.specs.Accepted.{Accepted, tree, nameAt}
-use Rattle.interpreter.specs.Eval.{Handlers, ParamMap, refusalAt, chosen, collect-arguments, eval-node}
+use Rattle.interpreter.specs.Eval.{ParamMap, refusalAt, chosen, collect-arguments}
 use Rattle.interpreter_leaves.specs.declared.Choice.{Choice}
 use Rattle.interpreter_leaves.specs.declared.Choice.the-variants.{Node, Nothing}
 use Rattle.interpreter_leaves.specs.declared.Arguments.{Arguments}
@@ -51,8 +51,19 @@ pub data Bound (p : ℕ) (γ : ParamMap) (xs : List IrArgument) : Arguments → 
   all : (δ : ParamMap) → collect-arguments p γ xs [] ≡ done δ → Bound p γ xs All
   lacking : {q : ℕ} → collect-arguments p γ xs [] ≡ refused (refusalAt p q MissingIrParameter 0) → Bound p γ xs (Lacking q)
 
--- the node at r evaluates to what the one around it does, whatever the context; it is no longer
+-- a node without the AlignUp nodes around it whose alignment is 0 or 1
+unfoldable pub unwrap : IrNode → IrNode
+unwrap (IrNode.ZeroSize a m) = IrNode.ZeroSize a m
+unwrap (IrNode.Const a m v) = IrNode.Const a m v
+unwrap (IrNode.FieldRef a m path parameter) = IrNode.FieldRef a m path parameter
+unwrap (IrNode.AlignUp a m alignment n) = cond (leb alignment 1) (unwrap n) (IrNode.AlignUp a m alignment n)
+unwrap (IrNode.Switch a m tag cases d) = IrNode.Switch a m tag cases d
+unwrap (IrNode.CallNested a m type xs) = IrNode.CallNested a m type xs
+unwrap (IrNode.Binary a m op l r) = IrNode.Binary a m op l r
+unwrap (IrNode.SumOverArray a m c type field) = IrNode.SumOverArray a m c type field
+
+-- the node at r is that; its block is no longer than the other's
 pub record Unwrapped {s : List ℕ} {at : ℕ} (a : Accepted s 128 144 at) (r : ℕ) : Type 0 where
   pub node : Accepted s 128 144 r
   pub short : le4 s r ≤ le4 s at
-  pub same : (handle : Handlers) (p : ℕ) (γ : ParamMap) → eval-node handle p γ (nodeOf (tree a)) ≡ eval-node handle p γ (nodeOf (tree node))
+  pub is : nodeOf (tree node) ≡ unwrap (nodeOf (tree a))

@@ -1,17 +1,17 @@
--- `interpreter_leaves::unwrapped` meets its contract. The loop's invariant: the node at p is what the first comes to. Assumes nothing.
+-- `unwrapped` meets its contract. The invariant: without the nodes that hand the count on, the node at p is what the first is
+-- without them. The measure is the length of the node's block.
 use mathlib.Core.Path.{sym, _∙_}
 use native.Mathlib.Omega.{arith}
 use Rattle.blocks.specs.Bytes.{le4}
 use Rattle.accepted.specs.Accepted.{Accepted}
 use Rattle.interpreter_context.proofs.Laws.{kinds}
-use Rattle.interpreter_leaves.specs.Steps.{Unwrapped}
 use Rattle.interpreter_leaves.proofs.Nodes.{enough}
-use Rattle.interpreter_leaves.proofs.Align.{align-number, align-child, whole, inner}
+use Rattle.interpreter_leaves.proofs.Align.{align-number, align-child, Within, whole, ends-plain, ends-aligned, inner}
 use Rattle.interpreter_leaves.proofs.unwrapped.Statement.{statement}
 use Rattle.interpreter_leaves.proofs.unwrapped.Tie as tie
 
 abbrev Inv-loop : tie.InvT-loop
-Inv-loop s at p₀ p = (a : Accepted s 128 144 at) → Unwrapped a p
+Inv-loop s at p₀ p = (a : Accepted s 128 144 at) → Within a p
 
 abbrev μ-loop : tie.MeasureT-loop
 μ-loop s at p₀ p = le4 s p
@@ -32,7 +32,7 @@ read8-requires : tie.Need-read8-requires Inv-loop μ-loop
 read8-requires c κs = align-number (c .first-part .ensures) (c .before .before .before .loop .inv (c .before .before .before .before .before .pre) .node) (sym (c .before .before .read2 .ensures .0) ∙ c .before .if1 .taken) .0
 
 returns : tie.Need-returns Inv-loop μ-loop
-returns c = c .before .before .before .before .before .loop .inv
+returns c = λ a. ends-aligned (c .before .before .first-part .ensures) (sym (c .before .before .before .before .read2 .ensures .0) ∙ c .before .before .before .if1 .taken) (c .before .read8 .ensures) (c .before .before .before .before .before .loop .inv a) (c .if2 .taken)
 
 second-part-requires : tie.Need-second-part-requires Inv-loop μ-loop
 second-part-requires c κs = (c .before .before .before .before .before .loop .inv (c .before .before .before .before .before .before .before .pre) .node, enough _ _ (omega (arith, (sym (c .before .before .before .before .read2 .ensures .0) ∙ c .before .before .before .if1 .taken))) (omega (arith, (sym (c .before .before .before .before .read2 .ensures .0) ∙ c .before .before .before .if1 .taken))) (omega arith))
@@ -41,10 +41,10 @@ loop-less : tie.Need-loop-less Inv-loop μ-loop
 loop-less c = align-child (c .second-part .ensures) (c .before .before .before .before .before .before .loop .inv (c .before .before .before .before .before .before .before .before .pre) .node) (sym (c .before .before .before .before .before .read2 .ensures .0) ∙ c .before .before .before .before .if1 .taken) .2
 
 loop-again : tie.Need-loop-again Inv-loop μ-loop
-loop-again c = λ a. inner (c .before .before .before .first-part .ensures) (c .second-part .ensures) (sym (c .before .before .before .before .before .read2 .ensures .0) ∙ c .before .before .before .before .if1 .taken) (c .before .before .read8 .ensures) (omega (arith, c .before .if2 .left)) (c .before .before .before .before .before .before .loop .inv a)
+loop-again c = λ a. inner (c .before .before .before .first-part .ensures) (sym (c .before .before .before .before .before .read2 .ensures .0) ∙ c .before .before .before .before .if1 .taken) (c .before .before .read8 .ensures) (c .before .before .before .before .before .before .loop .inv a) (c .second-part .ensures) (omega (arith, c .before .if2 .left))
 
 returns-2 : tie.Need-returns-2 Inv-loop μ-loop
-returns-2 c = c .before .before .loop .inv
+returns-2 c = λ a. ends-plain (c .before .read2 .ensures .0) (c .if1 .left) (c .before .before .loop .inv a)
 
 pub unwrapped-spec : {M : Type 1} → statement M
 unwrapped-spec =
