@@ -36,15 +36,17 @@ use Rattle.interpreter_context.specs.declared.Held.the-variants.{Value, Absent}
 use Rattle.interpreter_context.specs.Names.{heldOf}
 use Rattle.interpreter_context.specs.Context.{Context, Pair, Open, callAt, treeAt, argumentsOf, parametersOf, Same}
 use Rattle.interpreter_context.proofs.Calls.{context-same}
+use Rattle.interpreter_context.proofs.Lists.{ends}
 use Rattle.interpreter_leaves.specs.declared.Choice.{Choice}
 use Rattle.interpreter_leaves.specs.declared.Choice.the-variants.{Node, Nothing}
 use Rattle.interpreter_leaves.specs.declared.Arguments.{Arguments}
 use Rattle.interpreter_leaves.specs.declared.Arguments.the-variants.{All, Lacking}
+use Rattle.interpreter_leaves.specs.declared.Frame.{Frame}
 use Rattle.interpreter_leaves.specs.Outcome.{Tells}
 use Rattle.interpreter_leaves.specs.Steps.{Rooted, pick, casesOf, defaultOf, Picked, Bound, Unwrapped}
-use Rattle.interpreter_leaves.proofs.Align.{align-child, align-node}
-use Rattle.interpreter_leaves.proofs.Told.{told-as, then-stops, then-goes}
-use Rattle.interpreter_leaves.proofs.Nodes.{held-is, absent-is}
+use Rattle.interpreter_leaves.proofs.Align.{align-child, align-node, unwrap-same}
+use Rattle.interpreter_leaves.proofs.Tells.{tells-as, then-stops, then-goes}
+use Rattle.interpreter_leaves.proofs.Nodes.{held-value, absent-none}
 use Rattle.interpreter_eval.specs.Evaluates.{Ready, Evaluates}
 
 -- ---- the allowance of open calls
@@ -73,7 +75,9 @@ pub unwrapped-is : {s : List ℕ} {at q : ℕ} → ((a : Accepted s 128 144 at) 
     → (a : Accepted s 128 144 at) → Tells r ws us (eval-within left types pl γ (nodeOf (tree a)))
 unwrapped-is f left types pl γ e a =
     let u = f a in
-    told-as (e (u .node)) (within-is left types pl γ (nodeOf (tree (u .node))) ∙ sym (u .same (handlersAt left types) pl γ) ∙ sym (within-is left types pl γ (nodeOf (tree a))))
+    let h = handlersAt left types in
+    tells-as (e (u .node))
+    (within-is left types pl γ (nodeOf (tree (u .node))) ∙ ap (eval-node h pl γ) (u .is) ∙ unwrap-same h pl γ (nodeOf (tree a)) ∙ sym (within-is left types pl γ (nodeOf (tree a))))
 
 module _ {s : List ℕ} {at p q : ℕ} (st : Standing s at 2 p) (su : Standing s at 3 q) (k : le2 s (at + 4) ≡ 131) (left : ℕ) (types : List TypeIr) (pl : ℕ) (γ : ParamMap) (a : Accepted s 128 144 at) where
   align-is : eval-within left types pl γ (nodeOf (tree a)) ≡ (eval-within left types pl γ (nodeOf (tree (align-child su a k .0))) >>= (λ v. lift pl at (align-up bits v (le8 s p))))
@@ -83,10 +87,10 @@ module _ {s : List ℕ} {at p q : ℕ} (st : Standing s at 2 p) (su : Standing s
 
   module _ {r : Bool} {ws us : List ℕ} (e : (c : Accepted s 128 144 q) → Tells r ws us (eval-within left types pl γ (nodeOf (tree c)))) where
     pub align-stops : not r ≡ true → Tells false ws us (eval-within left types pl γ (nodeOf (tree a)))
-    align-stops f = told-as (then-stops _ _ (e (align-child su a k .0)) f) (sym align-is)
+    align-stops f = tells-as (then-stops _ _ (e (align-child su a k .0)) f) (sym align-is)
 
     pub align-goes : {m : ℕ} {z : Num} {b : Bool} {vs : List ℕ} → not r ≡ false → m ≡ le8 s p → z ≡ numOf (align-up bits (getD us 0 0) m) → ((x : Result) → z ≡ numOf x → Tells b us vs (lift pl at x)) → Tells b ws vs (eval-within left types pl γ (nodeOf (tree a)))
-    align-goes f em ez eo = told-as (then-goes _ _ (e (align-child su a k .0)) f (eo (align-up bits (getD us 0 0) (le8 s p)) (ez ∙ ap (λ (m : ℕ). numOf (align-up bits (getD us 0 0) m)) em))) (sym align-is)
+    align-goes f em ez eo = tells-as (then-goes _ _ (e (align-child su a k .0)) f (eo (align-up bits (getD us 0 0) (le8 s p)) (ez ∙ ap (λ (m : ℕ). numOf (align-up bits (getD us 0 0) m)) em))) (sym align-is)
 
 -- ---- two operands
 
@@ -135,16 +139,16 @@ module _ {s : List ℕ} {at : ℕ} (a : Accepted s 128 144 at) (lo : 134 ≤ le2
 
     module _ {r : Bool} {ws us : List ℕ} (e : (c : Accepted s 128 144 p) → Tells r ws us (run c)) where
       pub left-stops : not r ≡ true → Tells false ws us (run a)
-      left-stops f = told-as (then-stops _ _ (e (left-child st .0)) f) (sym binary-is)
+      left-stops f = tells-as (then-stops _ _ (e (left-child st .0)) f) (sym binary-is)
 
       module _ {b : Bool} {vs : List ℕ} (g : (c : Accepted s 128 144 q) → Tells b us vs (run c)) (f : not r ≡ false) where
         pub right-stops : not b ≡ true → Tells false ws vs (run a)
-        right-stops h = told-as (then-goes _ _ (e (left-child st .0)) f (then-stops _ _ (g (right-child su .0)) h)) (sym binary-is)
+        right-stops h = tells-as (then-goes _ _ (e (left-child st .0)) f (then-stops _ _ (g (right-child su .0)) h)) (sym binary-is)
 
         pub both-go : {k : ℕ} {z : Num} {d : Bool} {xs : List ℕ} → not b ≡ false → k ≡ le2 s (at + 4) → z ≡ numOf (operate bits (opOf k) (getD us 0 0) (getD vs 0 0)) → ((x : Result) → z ≡ numOf x → Tells d vs xs (lift pl at x)) → Tells d ws xs (run a)
         both-go h ek ez eo =
             let x = eo (operate bits (opOf (le2 s (at + 4))) (getD us 0 0) (getD vs 0 0)) (ez ∙ ap (λ (k : ℕ). numOf (operate bits (opOf k) (getD us 0 0) (getD vs 0 0))) ek) in
-            told-as (then-goes _ _ (e (left-child st .0)) f (then-goes _ _ (g (right-child su .0)) h x)) (sym binary-is)
+            tells-as (then-goes _ _ (e (left-child st .0)) f (then-goes _ _ (g (right-child su .0)) h x)) (sym binary-is)
 
 -- ---- Switch
 
@@ -187,12 +191,12 @@ module _ {s : List ℕ} {at : ℕ} (k : le2 s (at + 4) ≡ 132) (left : ℕ) (ty
   module _ {r : Held} (er : r ≡ heldOf (find (text (part 2 (bodyOf a))) γ)) where
     pub switch-misses : r ≡ Absent → refused (refusal pl at 21 0) ≡ eval-within left types pl γ (nodeOf (tree a))
     unfolding valueOr _>>=_ missed
-    switch-misses f = sym (switch-is ∙ ap (λ (o : Option ℕ). valueOr missed o >>= (λ v. picking (handlersAt left types) pl γ at v (pick v (casesOf (bodyOf a)) (defaultOf (bodyOf a))))) (absent-is {o = find (text (part 2 (bodyOf a))) γ} er f))
+    switch-misses f = sym (switch-is ∙ ap (λ (o : Option ℕ). valueOr missed o >>= (λ v. picking (handlersAt left types) pl γ at v (pick v (casesOf (bodyOf a)) (defaultOf (bodyOf a))))) (absent-none (find (text (part 2 (bodyOf a))) γ) r er f))
 
     module _ {v : ℕ} (f : r ≡ Value v) where
       switch-picks : eval-within left types pl γ (nodeOf (tree a)) ≡ picking (handlersAt left types) pl γ at v (pick v (casesOf (bodyOf a)) (defaultOf (bodyOf a)))
       unfolding valueOr _>>=_
-      switch-picks = switch-is ∙ ap (λ (o : Option ℕ). valueOr missed o >>= (λ v. picking (handlersAt left types) pl γ at v (pick v (casesOf (bodyOf a)) (defaultOf (bodyOf a))))) (held-is {o = find (text (part 2 (bodyOf a))) γ} er f)
+      switch-picks = switch-is ∙ ap (λ (o : Option ℕ). valueOr missed o >>= (λ v. picking (handlersAt left types) pl γ at v (pick v (casesOf (bodyOf a)) (defaultOf (bodyOf a))))) (held-value (find (text (part 2 (bodyOf a))) γ) r v er f)
 
       pub switch-ends : {c : Choice} → c ≡ Nothing → Picked a v c → refused (refusal pl at 22 v) ≡ eval-within left types pl γ (nodeOf (tree a))
       unfolding picking
@@ -200,7 +204,7 @@ module _ {s : List ℕ} {at : ℕ} (k : le2 s (at + 4) ≡ 132) (left : ℕ) (ty
 
       pub switch-goes : {c : Choice} {q : ℕ} {b : Bool} {ws us : List ℕ} → c ≡ Node q → Picked a v c → ((x : Accepted s 128 144 q) → Tells b ws us (eval-within left types pl γ (nodeOf (tree x)))) → Tells b ws us (eval-within left types pl γ (nodeOf (tree a)))
       unfolding picking
-      switch-goes g p e = let x = picked-node g p in told-as (e (x .0)) (within-is left types pl γ (nodeOf (tree (x .0))) ∙ sym (switch-picks ∙ ap (picking (handlersAt left types) pl γ at v) (x .2)))
+      switch-goes g p e = let x = picked-node g p in tells-as (e (x .0)) (within-is left types pl γ (nodeOf (tree (x .0))) ∙ sym (switch-picks ∙ ap (picking (handlersAt left types) pl γ at v) (x .2)))
 
 -- ---- CallNested
 
@@ -259,17 +263,18 @@ module _ {s : List ℕ} {at : ℕ} (k : le2 s (at + 4) ≡ 133) (left : ℕ) (ty
 -- ---- words
 
 -- what is ready stays ready where the words of the open calls are kept
-pub still-ready : {s values : List ℕ} {block len : ℕ} {ws us : List ℕ} {left depth place at q : ℕ} → Ready s values block len ws left depth place at → Accepted s 128 144 q → length us ≡ length ws → Same depth ws us → Ready s values block len us left depth place q
-still-ready {s} {us = us} {depth = depth} {place = place} r c l e = record {
+pub still-ready : {s values ws us : List ℕ} {f : Frame} {at q : ℕ} → Ready s values ws f at → Accepted s 128 144 q → length us ≡ length ws → Same (f .depth) ws us → Ready s values us f q
+still-ready {s} {f = f} r c l e = record {
   node = c;
   layout = r .layout;
-  context = (r .context .0, context-same depth (omega arith) l e (r .context .1));
-  here = λ d f. let w = r .here d f in (omega (arith, w .0), subst (λ (v : ℕ). Placed s place (treeAt v)) (sym (e d (omega arith))) (w .1));
+  context = (r .context .0, context-same (f .depth) (omega arith) l e (r .context .1));
+  here = λ d g. let w = r .here d g in (omega (arith, w .0), subst (λ (v : ℕ). Placed s (f .place) (treeAt v)) (sym (e d (omega arith))) (w .1));
   room = omega (arith, r .room);
   small = r .small;
 }
 
-pub child-ready : {s values : List ℕ} {block len : ℕ} {ws : List ℕ} {left depth place at q : ℕ} → Ready s values block len ws left depth place at → Accepted s 128 144 q → Ready s values block len ws left depth place q
+-- what is ready for a node is ready for another of the same tree
+pub child-ready : {s values ws : List ℕ} {f : Frame} {at q : ℕ} → Ready s values ws f at → Accepted s 128 144 q → Ready s values ws f q
 child-ready r c = record { node = c; layout = r .layout; context = r .context; here = r .here; room = r .room; small = r .small }
 
 -- the word of a call
@@ -301,39 +306,66 @@ opened-call {s} {values} {block} {len} {ws} {depth} {at} {callee} {w} {γ} {δ} 
     let n : depth < length (set ws depth w) = subst (λ (z : ℕ). depth < z) (sym (length-set ws depth w)) h in
     subst (λ (z : ℕ). Context s values block len (set ws depth w) z ε) (sym (add-one depth)) (Context.call m n u)
 
-module _ {s values : List ℕ} {block len : ℕ} {ws : List ℕ} {left depth at callee w q : ℕ} (h : depth < length ws) (l : at < 4294967296) (ew : w ≡ at + callee * 4294967296) (k : le2 s (at + 4) ≡ 133) {r : Arguments} {f : Place} {i : ℕ} (er : r ≡ All) (ef : f ≡ PlaceAt i callee)
-    (b : (p : ℕ) (γ : ParamMap) → Context s values block len ws depth γ → (a : Accepted s 128 144 at) → Bound p γ (argumentsOf (tree a)) r)
-    (d : (t : Tree) → readLayout s ≡ done t → (a : Accepted s 128 144 at) → TreeFound s (text (part 2 (body (tree a)))) (layoutOf t) f)
-    (e : (t : Accepted s 161 161 callee) → Rooted t q) (n : left ≡ 0 → ⊥) where
-  pub call-ready : {pl : ℕ} → Ready s values block len ws left depth pl at → Ready s values block len (set ws depth w) (left - 1) (depth + 1) i q
-  call-ready {pl} x =
-      let t = found-at ef (d (x .layout .0) (x .layout .1) (x .node)) in
+-- what opening a call needs: its word is below 2^64, and there is room for it
+pub record Opening (s ws : List ℕ) (f : Frame) (at callee : ℕ) : Type 0 where
+  pub call : at < 65536
+  pub type : callee < 65536
+  pub word : f .depth < length ws
+  pub more : 0 < f .left
+
+-- a call may open where calls are left and its type was found
+pub call-opens : {s values ws : List ℕ} {f : Frame} {at callee i : ℕ} {p : Place} → Ready s values ws f at → p ≡ PlaceAt i callee →
+    ((t : Tree) → readLayout s ≡ done t → (a : Accepted s 128 144 at) → TreeFound s (text (part 2 (body (tree a)))) (layoutOf t) p) → (f .left ≡ 0 → ⊥) → Opening s ws f at callee
+call-opens x e d n =
+    let a = ends (x .node) in
+    let c = ends (found-at e (d (x .layout .0) (x .layout .1) (x .node)) .0) in
+    record {
+      call = omega (arith, a .1, x .small);
+      type = omega (arith, c .1, x .small);
+      word = omega (arith, x .room, n);
+      more = omega (arith, n);
+    }
+
+-- the frame of a call that opens
+abbrev inCall : Frame → ℕ → Frame
+inCall f i = record { block = f .block; len = f .len; depth = f .depth + 1; left = f .left - 1; place = i }
+
+module _ {s values ws : List ℕ} (f : Frame) {at callee w q : ℕ} (h : f .depth < length ws) (l : at < 4294967296) (ew : w ≡ at + callee * 4294967296) (k : le2 s (at + 4) ≡ 133) {r : Arguments} {p : Place} {i : ℕ}
+    (er : r ≡ All) (ep : p ≡ PlaceAt i callee)
+    (b : (p : ℕ) (γ : ParamMap) → Context s values (f .block) (f .len) ws (f .depth) γ → (a : Accepted s 128 144 at) → Bound p γ (argumentsOf (tree a)) r)
+    (d : (t : Tree) → readLayout s ≡ done t → (a : Accepted s 128 144 at) → TreeFound s (text (part 2 (body (tree a)))) (layoutOf t) p)
+    (e : (t : Accepted s 161 161 callee) → Rooted t q) (n : f .left ≡ 0 → ⊥) where
+  -- the root of the called type is ready
+  pub call-ready : Ready s values ws f at → Ready s values (set ws (f .depth) w) (inCall f i) q
+  call-ready x =
+      let t = found-at ep (d (x .layout .0) (x .layout .1) (x .node)) in
       let y = bound-all er (b 0 (x .context .0) (x .context .1) (x .node)) in
       record {
         node = e (t .0) .root;
         layout = x .layout;
         context = (_, opened-call 0 h l ew (x .context .1) (x .node) k (t .0) (y .1));
-        here = λ d f. here (t .2) d (omega arith);
-        room = subst (λ (z : ℕ). depth + 1 + (left - 1) ≤ z) (sym (length-set ws depth w)) (room x);
+        here = λ d g. here (t .2) d (omega arith);
+        room = subst (λ (z : ℕ). f .depth + 1 + (f .left - 1) ≤ z) (sym (length-set ws (f .depth) w)) (room x);
         small = x .small;
       }
     where
-      room : Ready s values block len ws left depth pl at → depth + 1 + (left - 1) ≤ length ws
+      room : Ready s values ws f at → f .depth + 1 + (f .left - 1) ≤ length ws
       room x = omega (arith, x .room)
 
-      here : Placed s i callee → (d : ℕ) → d ≡ depth → (d < length (set ws depth w)) × Placed s i (treeAt (getD (set ws depth w) d 0))
-      here p d f =
-          let v : getD (set ws depth w) d 0 ≡ w = ap (λ (d : ℕ). getD (set ws depth w) d 0) f ∙ getD-set-same ws depth w 0 h in
-          let t : treeAt (getD (set ws depth w) d 0) ≡ callee = ap treeAt (v ∙ ew) ∙ packed at callee l .1 in
-          (omega (arith, length-set ws depth w), subst (λ (o : ℕ). Placed s i o) (sym t) p)
+      here : Placed s i callee → (d : ℕ) → d ≡ f .depth → (d < length (set ws (f .depth) w)) × Placed s i (treeAt (getD (set ws (f .depth) w) d 0))
+      here p d g =
+          let v : getD (set ws (f .depth) w) d 0 ≡ w = ap (λ (d : ℕ). getD (set ws (f .depth) w) d 0) g ∙ getD-set-same ws (f .depth) w 0 h in
+          let t : treeAt (getD (set ws (f .depth) w) d 0) ≡ callee = ap treeAt (v ∙ ew) ∙ packed at callee l .1 in
+          (omega (arith, length-set ws (f .depth) w), subst (λ (o : ℕ). Placed s i o) (sym t) p)
 
-  pub call-answers : {o : Bool} {us vs : List ℕ} (pl : ℕ) → Evaluates s values block len (set ws depth w) (left - 1) (depth + 1) i q o us vs → Evaluates s values block len ws left depth pl at o us vs
-  call-answers pl ev γ x t rd a =
-      let c = found-at ef (d t rd a) in
-      let y = bound-all er (b pl γ x a) in
+  -- what it comes to is what the call comes to
+  pub call-answers : {o : Bool} {us vs : List ℕ} → Evaluates s values (set ws (f .depth) w) (inCall f i) q o us vs → Evaluates s values ws f at o us vs
+  call-answers ev γ x t rd a =
+      let c = found-at ep (d t rd a) in
+      let y = bound-all er (b (f .place) γ x a) in
       let z = e (c .0) in
-      told-as (ev (y .0 ++ inherited γ (parametersOf (tree (c .0)))) (opened-call pl h l ew x a k (c .0) (y .1)) t rd (z .root))
-      (ap (eval-within (left - 1) (layoutOf t) i (y .0 ++ inherited γ (parametersOf (tree (c .0))))) (sym (z .is)) ∙ call-goes k left (layoutOf t) pl γ a (y .1) (c .1) n)
+      tells-as (ev (y .0 ++ inherited γ (parametersOf (tree (c .0)))) (opened-call (f .place) h l ew x a k (c .0) (y .1)) t rd (z .root))
+      (ap (eval-within (f .left - 1) (layoutOf t) i (y .0 ++ inherited γ (parametersOf (tree (c .0))))) (sym (z .is)) ∙ call-goes k (f .left) (layoutOf t) (f .place) γ a (y .1) (c .1) n)
 
 -- "`SumOverArray` gives 24 always."
 pub sum-is : {s : List ℕ} {at k : ℕ} → k ≡ le2 s (at + 4) → k ≡ 144 → (left : ℕ) (types : List TypeIr) (pl : ℕ) (γ : ParamMap) (a : Accepted s 128 144 at) → refused (refusal pl at 24 0) ≡ eval-within left types pl γ (nodeOf (tree a))
@@ -342,4 +374,4 @@ sum-is ek k left types pl γ a = sym (within-is left types pl γ (nodeOf (tree a
 
 -- a node that holds none
 pub leaf-answers : {b : Bool} {ws us : List ℕ} {s : List ℕ} {at : ℕ} (left : ℕ) (types : List TypeIr) (pl : ℕ) (γ : ParamMap) (a : Accepted s 128 144 at) → ((handle : Handlers) → Tells b ws us (eval-node handle pl γ (nodeOf (tree a)))) → Tells b ws us (eval-within left types pl γ (nodeOf (tree a)))
-leaf-answers left types pl γ a e = told-as (e (handlersAt left types)) (sym (within-is left types pl γ (nodeOf (tree a))))
+leaf-answers left types pl γ a e = tells-as (e (handlersAt left types)) (sym (within-is left types pl γ (nodeOf (tree a))))

@@ -3,6 +3,7 @@
 use interpreter_context::Held;
 use interpreter_leaves::Arguments;
 use interpreter_leaves::Choice;
+use interpreter_leaves::Frame;
 use lookup::Place;
 ghost use mathlib.Core.Path.{_≡_};
 ghost use Prim.Native.Nat.{_+_, _≤_};
@@ -10,55 +11,47 @@ ghost use Rattle.blocks.specs.Bytes.{le2};
 ghost use Rattle.interpreter_context.specs.Context.{Same};
 ghost use Rattle.interpreter_eval.specs.Evaluates.{Ready, Evaluates};
 
-// What the node at an offset evaluates to, left in out; `place` is the place of the type whose tree holds it. Of the words from
-// `depth` on nothing is said: there the calls stand that were open.
+// What the node at an offset evaluates to, left in out. Of the words from the frame's depth on nothing is said: there the calls
+// stand that were open.
 pub fn eval_node(
     s: &[u8],
     at: usize,
-    left: usize,
     values: &[u8],
-    block: usize,
-    len: u64,
     words: &mut [u64],
-    depth: usize,
-    place: usize,
+    f: Frame,
     out: &mut [u64; 4],
 ) -> bool
-    requires { ⌜ Ready (now s) (now values) block len (now words) left depth place at ⌝ }
-    ensures { λ r. ⌜ Same depth (now (words .entry)) (now (words .exit)) ⌝ }
-    ensures { λ r. ⌜ Evaluates (now (s .entry)) (now (values .entry)) block len (now (words .entry)) left depth place at r (now (out .entry)) (now (out .exit)) ⌝ }
+    requires { ⌜ Ready (now s) (now values) (now words) f at ⌝ }
+    ensures { λ r. ⌜ Same (f .depth) (now (words .entry)) (now (words .exit)) ⌝ }
+    ensures { λ r. ⌜ Evaluates (now (s .entry)) (now (values .entry)) (now (words .entry)) f at r (now (out .entry)) (now (out .exit)) ⌝ }
 {
     let inner = interpreter_leaves::unwrapped(s, at);
-    eval_kind(s, inner, left, values, block, len, words, depth, place, out)
+    eval_kind(s, inner, values, words, f, out)
 }
 
 // The same, by the node's kind.
 fn eval_kind(
     s: &[u8],
     at: usize,
-    left: usize,
     values: &[u8],
-    block: usize,
-    len: u64,
     words: &mut [u64],
-    depth: usize,
-    place: usize,
+    f: Frame,
     out: &mut [u64; 4],
 ) -> bool
-    requires { ⌜ Ready (now s) (now values) block len (now words) left depth place at ⌝ }
-    ensures { λ r. ⌜ Same depth (now (words .entry)) (now (words .exit)) ⌝ }
-    ensures { λ r. ⌜ Evaluates (now (s .entry)) (now (values .entry)) block len (now (words .entry)) left depth place at r (now (out .entry)) (now (out .exit)) ⌝ }
+    requires { ⌜ Ready (now s) (now values) (now words) f at ⌝ }
+    ensures { λ r. ⌜ Same (f .depth) (now (words .entry)) (now (words .exit)) ⌝ }
+    ensures { λ r. ⌜ Evaluates (now (s .entry)) (now (values .entry)) (now (words .entry)) f at r (now (out .entry)) (now (out .exit)) ⌝ }
 {
     let kind = wire::read2(s, at + 4);
     match kind {
         128 => interpreter_leaves::counted(0, out),
         129 => interpreter_leaves::constant(s, at, out),
-        130 => interpreter_leaves::field(s, values, block, len, words, depth, place, at, out),
-        131 => eval_align(s, at, left, values, block, len, words, depth, place, out),
-        132 => eval_switch(s, at, left, values, block, len, words, depth, place, out),
-        133 => eval_call(s, at, left, values, block, len, words, depth, place, out),
-        144 => interpreter_leaves::refused(24, place, at, 0, out),
-        _ => eval_binary(s, at, left, values, block, len, words, depth, place, out),
+        130 => interpreter_leaves::field(s, values, words, f, at, out),
+        131 => eval_align(s, at, values, words, f, out),
+        132 => eval_switch(s, at, values, words, f, out),
+        133 => eval_call(s, at, values, words, f, out),
+        144 => interpreter_leaves::refused(24, f.place, at, 0, out),
+        _ => eval_binary(s, at, values, words, f, out),
     }
 }
 
@@ -66,27 +59,23 @@ fn eval_kind(
 fn eval_align(
     s: &[u8],
     at: usize,
-    left: usize,
     values: &[u8],
-    block: usize,
-    len: u64,
     words: &mut [u64],
-    depth: usize,
-    place: usize,
+    f: Frame,
     out: &mut [u64; 4],
 ) -> bool
-    requires { ⌜ Ready (now s) (now values) block len (now words) left depth place at × (le2 (now s) (at + 4) ≡ 131) ⌝ }
-    ensures { λ r. ⌜ Same depth (now (words .entry)) (now (words .exit)) ⌝ }
-    ensures { λ r. ⌜ Evaluates (now (s .entry)) (now (values .entry)) block len (now (words .entry)) left depth place at r (now (out .entry)) (now (out .exit)) ⌝ }
+    requires { ⌜ Ready (now s) (now values) (now words) f at × (le2 (now s) (at + 4) ≡ 131) ⌝ }
+    ensures { λ r. ⌜ Same (f .depth) (now (words .entry)) (now (words .exit)) ⌝ }
+    ensures { λ r. ⌜ Evaluates (now (s .entry)) (now (values .entry)) (now (words .entry)) f at r (now (out .entry)) (now (out .exit)) ⌝ }
 {
     let p = interpreter_context::first_part(s, at);
     let q = interpreter_context::second_part(s, at);
-    if !eval_node(s, q, left, values, block, len, words, depth, place, out) {
+    if !eval_node(s, q, values, words, f, out) {
         return false;
     }
     let x = out[0];
     interpreter_leaves::lifted(
-        place,
+        f.place,
         at,
         interpreter_arithmetic::align_up(x, wire::read8(s, p) as u64),
         out,
@@ -97,79 +86,72 @@ fn eval_align(
 fn eval_operand(
     s: &[u8],
     at: usize,
-    left: usize,
     values: &[u8],
-    block: usize,
-    len: u64,
     words: &mut [u64],
-    depth: usize,
-    place: usize,
+    f: Frame,
     out: &mut [u64; 4],
 ) -> bool
-    requires { ⌜ Ready (now s) (now values) block len (now words) left depth place at ⌝ }
-    ensures { λ r. ⌜ Same depth (now (words .entry)) (now (words .exit)) ⌝ }
-    ensures { λ r. ⌜ Evaluates (now (s .entry)) (now (values .entry)) block len (now (words .entry)) left depth place at r (now (out .entry)) (now (out .exit)) ⌝ }
+    requires { ⌜ Ready (now s) (now values) (now words) f at ⌝ }
+    ensures { λ r. ⌜ Same (f .depth) (now (words .entry)) (now (words .exit)) ⌝ }
+    ensures { λ r. ⌜ Evaluates (now (s .entry)) (now (values .entry)) (now (words .entry)) f at r (now (out .entry)) (now (out .exit)) ⌝ }
 {
     let inner = interpreter_leaves::unwrapped(s, at);
     if wire::read2(s, inner + 4) == 129 {
         return interpreter_leaves::constant(s, inner, out);
     }
-    eval_node(s, inner, left, values, block, len, words, depth, place, out)
+    eval_node(s, inner, values, words, f, out)
 }
 
 // A node of two operands, left before right.
 fn eval_binary(
     s: &[u8],
     at: usize,
-    left: usize,
     values: &[u8],
-    block: usize,
-    len: u64,
     words: &mut [u64],
-    depth: usize,
-    place: usize,
+    f: Frame,
     out: &mut [u64; 4],
 ) -> bool
-    requires { ⌜ Ready (now s) (now values) block len (now words) left depth place at × ((134 ≤ le2 (now s) (at + 4)) × (le2 (now s) (at + 4) ≤ 143)) ⌝ }
-    ensures { λ r. ⌜ Same depth (now (words .entry)) (now (words .exit)) ⌝ }
-    ensures { λ r. ⌜ Evaluates (now (s .entry)) (now (values .entry)) block len (now (words .entry)) left depth place at r (now (out .entry)) (now (out .exit)) ⌝ }
+    requires { ⌜ Ready (now s) (now values) (now words) f at × ((134 ≤ le2 (now s) (at + 4)) × (le2 (now s) (at + 4) ≤ 143)) ⌝ }
+    ensures { λ r. ⌜ Same (f .depth) (now (words .entry)) (now (words .exit)) ⌝ }
+    ensures { λ r. ⌜ Evaluates (now (s .entry)) (now (values .entry)) (now (words .entry)) f at r (now (out .entry)) (now (out .exit)) ⌝ }
 {
     let kind = wire::read2(s, at + 4);
     let p = interpreter_context::first_part(s, at);
     let q = interpreter_context::second_part(s, at);
-    if !eval_operand(s, p, left, values, block, len, words, depth, place, out) {
+    if !eval_operand(s, p, values, words, f, out) {
         return false;
     }
     let x = out[0];
-    if !eval_node(s, q, left, values, block, len, words, depth, place, out) {
+    if !eval_node(s, q, values, words, f, out) {
         return false;
     }
     let y = out[0];
-    interpreter_leaves::lifted(place, at, interpreter_arithmetic::operate(kind, x, y), out)
+    interpreter_leaves::lifted(
+        f.place,
+        at,
+        interpreter_arithmetic::operate(kind, x, y),
+        out,
+    )
 }
 
 // A Switch node.
 fn eval_switch(
     s: &[u8],
     at: usize,
-    left: usize,
     values: &[u8],
-    block: usize,
-    len: u64,
     words: &mut [u64],
-    depth: usize,
-    place: usize,
+    f: Frame,
     out: &mut [u64; 4],
 ) -> bool
-    requires { ⌜ Ready (now s) (now values) block len (now words) left depth place at × (le2 (now s) (at + 4) ≡ 132) ⌝ }
-    ensures { λ r. ⌜ Same depth (now (words .entry)) (now (words .exit)) ⌝ }
-    ensures { λ r. ⌜ Evaluates (now (s .entry)) (now (values .entry)) block len (now (words .entry)) left depth place at r (now (out .entry)) (now (out .exit)) ⌝ }
+    requires { ⌜ Ready (now s) (now values) (now words) f at × (le2 (now s) (at + 4) ≡ 132) ⌝ }
+    ensures { λ r. ⌜ Same (f .depth) (now (words .entry)) (now (words .exit)) ⌝ }
+    ensures { λ r. ⌜ Evaluates (now (s .entry)) (now (values .entry)) (now (words .entry)) f at r (now (out .entry)) (now (out .exit)) ⌝ }
 {
-    match interpreter_leaves::tag(s, values, block, len, words, depth, at) {
-        Held::Absent => interpreter_leaves::refused(21, place, at, 0, out),
+    match interpreter_leaves::tag(s, values, words, f, at) {
+        Held::Absent => interpreter_leaves::refused(21, f.place, at, 0, out),
         Held::Value(v) => match interpreter_leaves::selected(s, at, v) {
-            Choice::Node(q) => eval_node(s, q, left, values, block, len, words, depth, place, out),
-            Choice::Nothing => interpreter_leaves::refused(22, place, at, v, out),
+            Choice::Node(q) => eval_node(s, q, values, words, f, out),
+            Choice::Nothing => interpreter_leaves::refused(22, f.place, at, v, out),
         },
     }
 }
@@ -178,41 +160,35 @@ fn eval_switch(
 fn eval_call(
     s: &[u8],
     at: usize,
-    left: usize,
     values: &[u8],
-    block: usize,
-    len: u64,
     words: &mut [u64],
-    depth: usize,
-    place: usize,
+    f: Frame,
     out: &mut [u64; 4],
 ) -> bool
-    requires { ⌜ Ready (now s) (now values) block len (now words) left depth place at × (le2 (now s) (at + 4) ≡ 133) ⌝ }
-    ensures { λ r. ⌜ Same depth (now (words .entry)) (now (words .exit)) ⌝ }
-    ensures { λ r. ⌜ Evaluates (now (s .entry)) (now (values .entry)) block len (now (words .entry)) left depth place at r (now (out .entry)) (now (out .exit)) ⌝ }
+    requires { ⌜ Ready (now s) (now values) (now words) f at × (le2 (now s) (at + 4) ≡ 133) ⌝ }
+    ensures { λ r. ⌜ Same (f .depth) (now (words .entry)) (now (words .exit)) ⌝ }
+    ensures { λ r. ⌜ Evaluates (now (s .entry)) (now (values .entry)) (now (words .entry)) f at r (now (out .entry)) (now (out .exit)) ⌝ }
 {
-    match interpreter_leaves::collect_arguments(s, values, block, len, words, depth, at) {
-        Arguments::Lacking(q) => interpreter_leaves::refused(21, place, q, 0, out),
-        Arguments::All => match interpreter_leaves::called(s, words, depth, place, at) {
+    match interpreter_leaves::collect_arguments(s, values, words, f, at) {
+        Arguments::Lacking(q) => interpreter_leaves::refused(21, f.place, q, 0, out),
+        Arguments::All => match interpreter_leaves::called(s, words, f, at) {
             Place::Missing => interpreter_leaves::refused(20, 65535, 0, 0, out),
             Place::At(i, callee) => {
+                let left = f.left;
                 if left == 0 {
-                    return interpreter_leaves::refused(27, place, at, 0, out);
+                    return interpreter_leaves::refused(27, f.place, at, 0, out);
                 }
                 let root = interpreter_leaves::root(s, callee);
+                let depth = f.depth;
                 words[depth] = at as u64 + callee as u64 * 4294967296;
-                eval_node(
-                    s,
-                    root,
-                    left - 1,
-                    values,
-                    block,
-                    len,
-                    words,
-                    depth + 1,
-                    i,
-                    out,
-                )
+                let inner = Frame {
+                    block: f.block,
+                    len: f.len,
+                    depth: depth + 1,
+                    left: left - 1,
+                    place: i,
+                };
+                eval_node(s, root, values, words, inner, out)
             }
         },
     }

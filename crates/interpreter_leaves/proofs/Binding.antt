@@ -21,7 +21,7 @@ use Rattle.interpreter_context.specs.Context.{Context, argumentsOf}
 use Rattle.interpreter_leaves.specs.declared.Arguments.{Arguments}
 use Rattle.interpreter_leaves.specs.declared.Arguments.the-variants.{All, Lacking}
 use Rattle.interpreter_leaves.specs.Steps.{Bound}
-use Rattle.interpreter_leaves.proofs.Nodes.{held-is, absent-is}
+use Rattle.interpreter_leaves.proofs.Nodes.{held-value, absent-none}
 
 -- of m arguments from `from` on, left are left, from p on
 pub record Collecting (s values : List ℕ) (block len : ℕ) (words : List ℕ) (depth m from left p : ℕ) : Type 0 where
@@ -58,7 +58,7 @@ module _ {s values : List ℕ} {block len : ℕ} {words : List ℕ} {depth m fro
             b .after .rest,
             record { name = argumentOf (tree (b .child)) .name; value = v } ∷ x .1,
             x .2 ∙ ap (λ (z : Tree). collect-arguments pl γ (entries argumentOf z) (x .1)) (b .after .tree)
-                ∙ one-more pl γ (argumentOf (tree (b .child))) (entries argumentOf (b .after .rest .got .0)) (x .1) v (ap (λ (y : IrArgument). find (y .value) γ) (i .is) ∙ held-is (e γ c) f),
+                ∙ one-more pl γ (argumentOf (tree (b .child))) (entries argumentOf (b .after .rest .got .0)) (x .1) v (ap (λ (y : IrArgument). find (y .value) γ) (i .is) ∙ held-value (find (nameAt s (p + 8 + u)) γ) r v (e γ c) f),
           );
     })
 
@@ -69,7 +69,7 @@ module _ {s values : List ℕ} {block len : ℕ} {words : List ℕ} {depth m fro
         let b = block-entry (x .0) h in
         let i = value-at eu (b .child) in
         Bound.lacking (x .2 ∙ ap (λ (z : Tree). collect-arguments pl γ (entries argumentOf z) (x .1)) (b .after .tree)
-        ∙ one-missing pl γ (argumentOf (tree (b .child))) (entries argumentOf (b .after .rest .got .0)) (x .1) (ap (λ (y : IrArgument). find (y .value) γ) (i .is) ∙ absent-is (e γ c) f)
+        ∙ one-missing pl γ (argumentOf (tree (b .child))) (entries argumentOf (b .after .rest .got .0)) (x .1) (ap (λ (y : IrArgument). find (y .value) γ) (i .is) ∙ absent-none (find (nameAt s (p + 8 + u)) γ) r (e γ c) f)
         ∙ ap (λ (y : IrArgument). refused (refusalAt pl (y .at) MissingIrParameter 0)) (i .is))
 
 pub no-more : {s values : List ℕ} {block len : ℕ} {words : List ℕ} {depth m from left p : ℕ} → left ≤ 0 → Collecting s values block len words depth m from left p →

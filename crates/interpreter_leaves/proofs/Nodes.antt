@@ -78,19 +78,15 @@ module _ {s : List ℕ} {at p q : ℕ} (st : Standing s at 2 p) (su : Standing s
     is = λ b. ap (chosen (text (part 2 (bodyOf b)))) (ref-three su b k .plain h) ∙ ref-two st b k .1;
   }
 
-held-value : (o : Option ℕ) (r : Held) (v : ℕ) → r ≡ heldOf o → r ≡ Value v → o ≡ some v
+-- the context has the value that was found
+pub held-value : (o : Option ℕ) (r : Held) (v : ℕ) → r ≡ heldOf o → r ≡ Value v → o ≡ some v
 held-value none r v e f = let z : _≡_ {A = ℕ} 0 1 = cc in absurd (omega arith)
 held-value (some w) r v e f = let h : w ≡ v = cc in ap some h
 
-pub held-is : {o : Option ℕ} {r : Held} {v : ℕ} → r ≡ heldOf o → r ≡ Value v → o ≡ some v
-held-is {o} {r} {v} e f = held-value o r v e f
-
-absent-none : (o : Option ℕ) (r : Held) → r ≡ heldOf o → r ≡ Absent → o ≡ none
+-- and none where none was found
+pub absent-none : (o : Option ℕ) (r : Held) → r ≡ heldOf o → r ≡ Absent → o ≡ none
 absent-none none r e f = refl
 absent-none (some w) r e f = let z : _≡_ {A = ℕ} 0 1 = cc in absurd (omega arith)
-
-pub absent-is : {o : Option ℕ} {r : Held} → r ≡ heldOf o → r ≡ Absent → o ≡ none
-absent-is {o} {r} e f = absent-none o r e f
 
 ref-is : {s : List ℕ} {at q : ℕ} → FieldName s at q → le2 s (at + 4) ≡ 130 → (handle : Handlers) (pl : ℕ) (γ : ParamMap) (a : Accepted s 128 144 at) → eval-node handle pl γ (nodeOf (tree a)) ≡ valueOr (refusal pl at MissingIrParameter 0) (find (nameAt s q) γ)
 unfolding formOf makeThing eval-node

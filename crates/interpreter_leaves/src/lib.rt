@@ -43,6 +43,16 @@ pub enum Arguments {
     Lacking(usize),
 }
 
+// What evaluating a node hands on to the nodes inside: the offset of the block of values, the buffer length, how many calls are
+// open and how many may still open, and the place of the type whose tree holds the node.
+pub struct Frame {
+    pub block: usize,
+    pub len: u64,
+    pub depth: usize,
+    pub left: usize,
+    pub place: usize,
+}
+
 // A count, left in the caller's words. They are written as a whole, so that the proof needs no length; one store is compiled.
 pub fn counted(n: u64, out: &mut [u64; 4]) -> bool
     ensures { λ r. ⌜ Tells r (now (out .entry)) (now (out .exit)) (done n) ⌝ }
@@ -96,38 +106,27 @@ fn field_name(s: &[u8], at: usize) -> usize
 pub fn field(
     s: &[u8],
     values: &[u8],
-    block: usize,
-    len: u64,
     words: &[u64],
-    depth: usize,
-    place: usize,
+    f: Frame,
     at: usize,
     out: &mut [u64; 4],
 ) -> bool
-    requires { ⌜ Accepted (now s) 128 144 at × (le2 (now s) (at + 4) ≡ 130) × ((γ : ParamMap) × Context (now s) (now values) block len (now words) depth γ) ⌝ }
-    ensures { λ r. ⌜ ((handle : Handlers) (γ : ParamMap) → Context (now (s .entry)) (now (values .entry)) block len (now (words .entry)) depth γ → (a : Accepted (now (s .entry)) 128 144 at) → Tells r (now (out .entry)) (now (out .exit)) (eval-node handle place γ (nodeOf (tree a)))) ⌝ }
+    requires { ⌜ Accepted (now s) 128 144 at × (le2 (now s) (at + 4) ≡ 130) × ((γ : ParamMap) × Context (now s) (now values) (f .block) (f .len) (now words) (f .depth) γ) ⌝ }
+    ensures { λ r. ⌜ ((handle : Handlers) (γ : ParamMap) → Context (now (s .entry)) (now (values .entry)) (f .block) (f .len) (now (words .entry)) (f .depth) γ → (a : Accepted (now (s .entry)) 128 144 at) → Tells r (now (out .entry)) (now (out .exit)) (eval-node handle (f .place) γ (nodeOf (tree a)))) ⌝ }
 {
-    match interpreter_context::find(s, field_name(s, at), values, block, len, words, depth) {
+    match interpreter_context::find(s, field_name(s, at), values, f.block, f.len, words, f.depth) {
         Held::Value(v) => counted(v, out),
-        Held::Absent => refused(21, place, at, 0, out),
+        Held::Absent => refused(21, f.place, at, 0, out),
     }
 }
 
 // The tag of a Switch node.
-pub fn tag(
-    s: &[u8],
-    values: &[u8],
-    block: usize,
-    len: u64,
-    words: &[u64],
-    depth: usize,
-    at: usize,
-) -> Held
-    requires { ⌜ Accepted (now s) 128 144 at × (le2 (now s) (at + 4) ≡ 132) × ((γ : ParamMap) × Context (now s) (now values) block len (now words) depth γ) ⌝ }
-    ensures { λ r. ⌜ ((γ : ParamMap) → Context (now (s .entry)) (now (values .entry)) block len (now (words .entry)) depth γ → (a : Accepted (now (s .entry)) 128 144 at) → r ≡ heldOf (find (text (part 2 (body (tree a)))) γ)) ⌝ }
+pub fn tag(s: &[u8], values: &[u8], words: &[u64], f: Frame, at: usize) -> Held
+    requires { ⌜ Accepted (now s) 128 144 at × (le2 (now s) (at + 4) ≡ 132) × ((γ : ParamMap) × Context (now s) (now values) (f .block) (f .len) (now words) (f .depth) γ) ⌝ }
+    ensures { λ r. ⌜ ((γ : ParamMap) → Context (now (s .entry)) (now (values .entry)) (f .block) (f .len) (now (words .entry)) (f .depth) γ → (a : Accepted (now (s .entry)) 128 144 at) → r ≡ heldOf (find (text (part 2 (body (tree a)))) γ)) ⌝ }
 {
     let p = interpreter_context::first_part(s, at);
-    interpreter_context::find(s, p, values, block, len, words, depth)
+    interpreter_context::find(s, p, values, f.block, f.len, words, f.depth)
 }
 
 // The node of the first case of the tag's value, or else the default node.
@@ -153,24 +152,16 @@ pub fn selected(s: &[u8], at: usize, tag: u64) -> Choice
 }
 
 // Whether each argument's value is in the caller's context.
-pub fn collect_arguments(
-    s: &[u8],
-    values: &[u8],
-    block: usize,
-    len: u64,
-    words: &[u64],
-    depth: usize,
-    at: usize,
-) -> Arguments
-    requires { ⌜ Accepted (now s) 128 144 at × (le2 (now s) (at + 4) ≡ 133) × ((γ : ParamMap) × Context (now s) (now values) block len (now words) depth γ) ⌝ }
-    ensures { λ r. ⌜ ((p : ℕ) (γ : ParamMap) → Context (now (s .entry)) (now (values .entry)) block len (now (words .entry)) depth γ → (a : Accepted (now (s .entry)) 128 144 at) → Bound p γ (argumentsOf (tree a)) r) ⌝ }
+pub fn collect_arguments(s: &[u8], values: &[u8], words: &[u64], f: Frame, at: usize) -> Arguments
+    requires { ⌜ Accepted (now s) 128 144 at × (le2 (now s) (at + 4) ≡ 133) × ((γ : ParamMap) × Context (now s) (now values) (f .block) (f .len) (now words) (f .depth) γ) ⌝ }
+    ensures { λ r. ⌜ ((p : ℕ) (γ : ParamMap) → Context (now (s .entry)) (now (values .entry)) (f .block) (f .len) (now (words .entry)) (f .depth) γ → (a : Accepted (now (s .entry)) 128 144 at) → Bound p γ (argumentsOf (tree a)) r) ⌝ }
 {
     let list = interpreter_context::second_part(s, at);
     let mut left = wire::read2(s, list);
     let mut p = list + 2;
     while 0 < left {
         let value = p + 8 + wire::read2(s, p + 6);
-        match interpreter_context::find(s, value, values, block, len, words, depth) {
+        match interpreter_context::find(s, value, values, f.block, f.len, words, f.depth) {
             Held::Value(v) => {
                 p = p + 4 + wire::read4(s, p);
                 left -= 1;
@@ -184,19 +175,20 @@ pub fn collect_arguments(
 }
 
 // The tree of the type that a CallNested node calls. Where a call has opened the type that holds the node, the search begins there.
-pub fn called(s: &[u8], words: &[u64], depth: usize, place: usize, at: usize) -> Place
-    requires { ⌜ Accepted (now s) 128 144 at × (le2 (now s) (at + 4) ≡ 133) × ((t : Tree) × (readLayout (now s) ≡ done t)) × Here (now s) (now words) depth place ⌝ }
+pub fn called(s: &[u8], words: &[u64], f: Frame, at: usize) -> Place
+    requires { ⌜ Accepted (now s) 128 144 at × (le2 (now s) (at + 4) ≡ 133) × ((t : Tree) × (readLayout (now s) ≡ done t)) × Here (now s) (now words) (f .depth) (f .place) ⌝ }
     ensures { λ r. ⌜ ((t : Tree) → readLayout (now (s .entry)) ≡ done t → (a : Accepted (now (s .entry)) 128 144 at) → TreeFound (now (s .entry)) (text (part 2 (body (tree a)))) (layoutOf t) r) ⌝ }
 {
     let p = interpreter_context::first_part(s, at);
     let from = p + 2;
     let to = from + wire::read2(s, p);
+    let depth = f.depth;
     if depth == 0 {
         return lookup::lookup_type(s, &s[from..to]);
     }
     let d = depth - 1;
     let here = (words[d] / 4294967296) as usize;
-    lookup::lookup_near(s, &s[from..to], place, here)
+    lookup::lookup_near(s, &s[from..to], f.place, here)
 }
 
 // The root of a type tree.

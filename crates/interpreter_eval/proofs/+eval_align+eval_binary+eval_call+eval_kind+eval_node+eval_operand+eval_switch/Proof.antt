@@ -7,10 +7,10 @@ use Rattle.ir.specs.Layout.{layoutOf}
 use Rattle.interpreter_context.proofs.Lists.{ends}
 use Rattle.interpreter_context.proofs.Calls.{context-same}
 use Rattle.interpreter_context.proofs.Laws.{kinds}
-use Rattle.interpreter_leaves.proofs.Told.{told-as}
+use Rattle.interpreter_leaves.proofs.Tells.{tells-as}
 use Rattle.interpreter_leaves.proofs.Nodes.{enough, zero-is}
 use Rattle.interpreter_leaves.proofs.Align.{align-number, align-child}
-use Rattle.interpreter_eval.proofs.Laws.{sum-is, unwrapped-is, align-stops, align-goes, left-child, right-child, left-stops, right-stops, both-go, picked-node, switch-misses, switch-ends, switch-goes, found-at, bound-all, call-lacks, call-unknown, call-stops, call-ready, call-answers, still-ready, child-ready, leaf-answers}
+use Rattle.interpreter_eval.proofs.Laws.{sum-is, unwrapped-is, align-stops, align-goes, left-child, right-child, left-stops, right-stops, both-go, picked-node, switch-misses, switch-ends, switch-goes, found-at, bound-all, call-lacks, call-unknown, call-stops, call-opens, call-ready, call-answers, still-ready, child-ready, leaf-answers}
 use borrow.Author.Needs.{needs}
 use native.Mathlib.Omega.{arith}
 use Prim.Native.Nat.{ℕ, _<_, _+_, _*_}
@@ -62,25 +62,25 @@ use Rattle.interpreter_eval.proofs.+eval_align+eval_binary+eval_call+ev
 }
 
 abbrev μ-eval-align : Measures 4 eval-align-kinds.ps ℕ
-μ-eval-align κs a = a .1 .1 .0 * 1048576 + 4 * le4 (a .0 .now) (a .1 .0) + 0
+μ-eval-align κs a = a .1 .1 .1 .1 .0 .left * 1048576 + 4 * le4 (a .0 .now) (a .1 .0) + 0
 
 abbrev μ-eval-binary : Measures 4 eval-binary-kinds.ps ℕ
-μ-eval-binary κs a = a .1 .1 .0 * 1048576 + 4 * le4 (a .0 .now) (a .1 .0) + 0
+μ-eval-binary κs a = a .1 .1 .1 .1 .0 .left * 1048576 + 4 * le4 (a .0 .now) (a .1 .0) + 0
 
 abbrev μ-eval-call : Measures 4 eval-call-kinds.ps ℕ
-μ-eval-call κs a = a .1 .1 .0 * 1048576 + 4 * le4 (a .0 .now) (a .1 .0) + 0
+μ-eval-call κs a = a .1 .1 .1 .1 .0 .left * 1048576 + 4 * le4 (a .0 .now) (a .1 .0) + 0
 
 abbrev μ-eval-kind : Measures 4 eval-kind-kinds.ps ℕ
-μ-eval-kind κs a = a .1 .1 .0 * 1048576 + 4 * le4 (a .0 .now) (a .1 .0) + 1
+μ-eval-kind κs a = a .1 .1 .1 .1 .0 .left * 1048576 + 4 * le4 (a .0 .now) (a .1 .0) + 1
 
 abbrev μ-eval-node : Measures 4 eval-node-kinds.ps ℕ
-μ-eval-node κs a = a .1 .1 .0 * 1048576 + 4 * le4 (a .0 .now) (a .1 .0) + 2
+μ-eval-node κs a = a .1 .1 .1 .1 .0 .left * 1048576 + 4 * le4 (a .0 .now) (a .1 .0) + 2
 
 abbrev μ-eval-operand : Measures 4 eval-operand-kinds.ps ℕ
-μ-eval-operand κs a = a .1 .1 .0 * 1048576 + 4 * le4 (a .0 .now) (a .1 .0) + 3
+μ-eval-operand κs a = a .1 .1 .1 .1 .0 .left * 1048576 + 4 * le4 (a .0 .now) (a .1 .0) + 3
 
 abbrev μ-eval-switch : Measures 4 eval-switch-kinds.ps ℕ
-μ-eval-switch κs a = a .1 .1 .0 * 1048576 + 4 * le4 (a .0 .now) (a .1 .0) + 0
+μ-eval-switch κs a = a .1 .1 .1 .1 .0 .left * 1048576 + 4 * le4 (a .0 .now) (a .1 .0) + 0
 
 abbrev eval-align-at : ℕ → In 4 eval-align-kinds.ps
 eval-align-at t =
@@ -272,49 +272,96 @@ eval-call-same-length : (t : ℕ) → eval-call-lts.Need-same-length (eval-call-
 eval-call-same-length t c = search needs
 
 eval-call-returns : (t : ℕ) → eval-call-lts.Need-returns (eval-call-with t) (eval-call-at t) eval-call.Post
-eval-call-returns t c = ((λ i h. refl), λ γ x t rd a. told-as (c .refused3 .ensures) (call-stops (c .before .before .before .before .before .before .before .before .before .before .before .before .before .before .before .pre .1 .1) _ (layoutOf t) _ γ a (bound-all (c .before .before .before .before .before .before .before .before .enum-told .given .1) (c .before .before .before .before .before .before .before .before .before .before .collect-arguments .ensures _ γ x a) .1) (found-at (c .before .before .before .before .i .given .1) (c .before .before .before .before .before .before .called .ensures t rd a) .1) (c .before .before .if1 .taken)))
+eval-call-returns t c = ((λ i h. refl), λ γ x t rd a. tells-as (c .refused3 .ensures) (call-stops (c .before .before .before .before .before .before .before .before .before .before .before .before .before .before .before .pre .1 .1) _ (layoutOf t) _ γ a (bound-all (c .before .before .before .before .before .before .before .before .enum-told .given .1) (c .before .before .before .before .before .before .before .before .before .before .collect-arguments .ensures _ γ x a) .1) (found-at (c .before .before .before .before .i .given .1) (c .before .before .before .before .before .before .called .ensures t rd a) .1) (c .before .before .if1 .taken)))
 
 eval-call-root-requires : (t : ℕ) → eval-call-lts.Need-root-requires (eval-call-with t) (eval-call-at t) eval-call.Post
 eval-call-root-requires t c κs = found-at (c .before .before .i .given .1) (c .before .before .before .before .called .ensures (c .before .before .before .before .before .before .before .before .before .before .before .before .before .pre .1 .0 .layout .0) (c .before .before .before .before .before .before .before .before .before .before .before .before .before .pre .1 .0 .layout .1) (c .before .before .before .before .before .before .before .before .before .before .before .before .before .pre .1 .0 .node)) .0
 
 eval-call-mul-words : (t : ℕ) → eval-call-lts.Need-mul-words (eval-call-with t) (eval-call-at t) eval-call.Post
-eval-call-mul-words t c = omega (arith, ends (c .before .before .before .before .before .before .before .before .before .before .before .before .before .before .pre .1 .0 .node) .1, ends (found-at (c .before .before .before .i .given .1) (c .before .before .before .before .before .called .ensures (c .before .before .before .before .before .before .before .before .before .before .before .before .before .before .pre .1 .0 .layout .0) (c .before .before .before .before .before .before .before .before .before .before .before .before .before .before .pre .1 .0 .layout .1) (c .before .before .before .before .before .before .before .before .before .before .before .before .before .before .pre .1 .0 .node)) .0) .1, c .before .before .before .before .before .before .before .before .before .before .before .before .before .before .pre .1 .0 .small, c .before .before .before .before .before .before .before .before .before .before .before .before .before .before .pre .1 .0 .room, c .before .if1 .left)
+eval-call-mul-words t c =
+    let at-start = c .before .before .before .before .before .before .before .before .before .before .before .before .before .before in
+    let o = call-opens (at-start .pre .1 .0) (c .before .before .before .i .given .1) (c .before .before .before .before .before .called .ensures) (c .before .if1 .left) in
+    omega arith
 
 eval-call-add-words : (t : ℕ) → eval-call-lts.Need-add-words (eval-call-with t) (eval-call-at t) eval-call.Post
-eval-call-add-words t c = omega (arith, ends (c .before .before .before .before .before .before .before .before .before .before .before .before .before .before .pre .1 .0 .node) .1, ends (found-at (c .before .before .before .i .given .1) (c .before .before .before .before .before .called .ensures (c .before .before .before .before .before .before .before .before .before .before .before .before .before .before .pre .1 .0 .layout .0) (c .before .before .before .before .before .before .before .before .before .before .before .before .before .before .pre .1 .0 .layout .1) (c .before .before .before .before .before .before .before .before .before .before .before .before .before .before .pre .1 .0 .node)) .0) .1, c .before .before .before .before .before .before .before .before .before .before .before .before .before .before .pre .1 .0 .small, c .before .before .before .before .before .before .before .before .before .before .before .before .before .before .pre .1 .0 .room, c .before .if1 .left)
+eval-call-add-words t c =
+    let at-start = c .before .before .before .before .before .before .before .before .before .before .before .before .before .before in
+    let o = call-opens (at-start .pre .1 .0) (c .before .before .before .i .given .1) (c .before .before .before .before .before .called .ensures) (c .before .if1 .left) in
+    omega arith
 
 eval-call-mul-words-2 : (t : ℕ) → eval-call-lts.Need-mul-words-2 (eval-call-with t) (eval-call-at t) eval-call.Post
-eval-call-mul-words-2 t c = omega (arith, ends (c .before .before .before .before .before .before .before .before .before .before .before .before .before .before .pre .1 .0 .node) .1, ends (found-at (c .before .before .before .i .given .1) (c .before .before .before .before .before .called .ensures (c .before .before .before .before .before .before .before .before .before .before .before .before .before .before .pre .1 .0 .layout .0) (c .before .before .before .before .before .before .before .before .before .before .before .before .before .before .pre .1 .0 .layout .1) (c .before .before .before .before .before .before .before .before .before .before .before .before .before .before .pre .1 .0 .node)) .0) .1, c .before .before .before .before .before .before .before .before .before .before .before .before .before .before .pre .1 .0 .small, c .before .before .before .before .before .before .before .before .before .before .before .before .before .before .pre .1 .0 .room, c .before .if1 .left)
+eval-call-mul-words-2 t c =
+    let at-start = c .before .before .before .before .before .before .before .before .before .before .before .before .before .before in
+    let o = call-opens (at-start .pre .1 .0) (c .before .before .before .i .given .1) (c .before .before .before .before .before .called .ensures) (c .before .if1 .left) in
+    omega arith
 
 eval-call-slice-write-words : (t : ℕ) → eval-call-lts.Need-slice-write-words (eval-call-with t) (eval-call-at t) eval-call.Post
-eval-call-slice-write-words t c = omega (arith, ends (c .before .before .before .before .before .before .before .before .before .before .before .before .before .before .pre .1 .0 .node) .1, ends (found-at (c .before .before .before .i .given .1) (c .before .before .before .before .before .called .ensures (c .before .before .before .before .before .before .before .before .before .before .before .before .before .before .pre .1 .0 .layout .0) (c .before .before .before .before .before .before .before .before .before .before .before .before .before .before .pre .1 .0 .layout .1) (c .before .before .before .before .before .before .before .before .before .before .before .before .before .before .pre .1 .0 .node)) .0) .1, c .before .before .before .before .before .before .before .before .before .before .before .before .before .before .pre .1 .0 .small, c .before .before .before .before .before .before .before .before .before .before .before .before .before .before .pre .1 .0 .room, c .before .if1 .left)
+eval-call-slice-write-words t c =
+    let at-start = c .before .before .before .before .before .before .before .before .before .before .before .before .before .before in
+    let o = call-opens (at-start .pre .1 .0) (c .before .before .before .i .given .1) (c .before .before .before .before .before .called .ensures) (c .before .if1 .left) in
+    omega arith
 
-eval-call-sub-eval-node : (t : ℕ) → eval-call-lts.Need-sub-eval-node (eval-call-with t) (eval-call-at t) eval-call.Post
-eval-call-sub-eval-node t c = omega (arith, ends (c .before .before .before .before .before .before .before .before .before .before .before .before .before .before .pre .1 .0 .node) .1, ends (found-at (c .before .before .before .i .given .1) (c .before .before .before .before .before .called .ensures (c .before .before .before .before .before .before .before .before .before .before .before .before .before .before .pre .1 .0 .layout .0) (c .before .before .before .before .before .before .before .before .before .before .before .before .before .before .pre .1 .0 .layout .1) (c .before .before .before .before .before .before .before .before .before .before .before .before .before .before .pre .1 .0 .node)) .0) .1, c .before .before .before .before .before .before .before .before .before .before .before .before .before .before .pre .1 .0 .small, c .before .before .before .before .before .before .before .before .before .before .before .before .before .before .pre .1 .0 .room, c .before .if1 .left)
+eval-call-add-t30 : (t : ℕ) → eval-call-lts.Need-add-t30 (eval-call-with t) (eval-call-at t) eval-call.Post
+eval-call-add-t30 t c =
+    let at-start = c .before .before .before .before .before .before .before .before .before .before .before .before .before .before in
+    let o = call-opens (at-start .pre .1 .0) (c .before .before .before .i .given .1) (c .before .before .before .before .before .called .ensures) (c .before .if1 .left) in
+    omega arith
 
-eval-call-add-eval-node : (t : ℕ) → eval-call-lts.Need-add-eval-node (eval-call-with t) (eval-call-at t) eval-call.Post
-eval-call-add-eval-node t c = omega (arith, ends (c .before .before .before .before .before .before .before .before .before .before .before .before .before .before .before .pre .1 .0 .node) .1, ends (found-at (c .before .before .before .before .i .given .1) (c .before .before .before .before .before .before .called .ensures (c .before .before .before .before .before .before .before .before .before .before .before .before .before .before .before .pre .1 .0 .layout .0) (c .before .before .before .before .before .before .before .before .before .before .before .before .before .before .before .pre .1 .0 .layout .1) (c .before .before .before .before .before .before .before .before .before .before .before .before .before .before .before .pre .1 .0 .node)) .0) .1, c .before .before .before .before .before .before .before .before .before .before .before .before .before .before .before .pre .1 .0 .small, c .before .before .before .before .before .before .before .before .before .before .before .before .before .before .before .pre .1 .0 .room, c .before .before .if1 .left)
+eval-call-sub-t32 : (t : ℕ) → eval-call-lts.Need-sub-t32 (eval-call-with t) (eval-call-at t) eval-call.Post
+eval-call-sub-t32 t c =
+    let at-start = c .before .before .before .before .before .before .before .before .before .before .before .before .before .before in
+    let o = call-opens (at-start .pre .1 .0) (c .before .before .before .i .given .1) (c .before .before .before .before .before .called .ensures) (c .before .if1 .left) in
+    omega arith
 
 eval-call-eval-node-requires : (t : ℕ) → eval-call-lts.Need-eval-node-requires (eval-call-with t) (eval-call-at t) eval-call.Post
-eval-call-eval-node-requires t c κs = (omega (arith, c .before .before .before .before .before .before .before .before .before .before .before .before .before .before .before .before .pre .0, ends (c .before .before .before .before .before .before .before .before .before .before .before .before .before .before .before .before .pre .1 .0 .node) .1, ends (found-at (c .before .before .before .before .before .i .given .1) (c .before .before .before .before .before .before .before .called .ensures (c .before .before .before .before .before .before .before .before .before .before .before .before .before .before .before .before .pre .1 .0 .layout .0) (c .before .before .before .before .before .before .before .before .before .before .before .before .before .before .before .before .pre .1 .0 .layout .1) (c .before .before .before .before .before .before .before .before .before .before .before .before .before .before .before .before .pre .1 .0 .node)) .0) .1, c .before .before .before .before .before .before .before .before .before .before .before .before .before .before .before .before .pre .1 .0 .small, c .before .before .before .before .before .before .before .before .before .before .before .before .before .before .before .before .pre .1 .0 .room, c .before .before .before .if1 .left, ends (c .before .before .root .ensures (found-at (c .before .before .before .before .before .i .given .1) (c .before .before .before .before .before .before .before .called .ensures (c .before .before .before .before .before .before .before .before .before .before .before .before .before .before .before .before .pre .1 .0 .layout .0) (c .before .before .before .before .before .before .before .before .before .before .before .before .before .before .before .before .pre .1 .0 .layout .1) (c .before .before .before .before .before .before .before .before .before .before .before .before .before .before .before .before .pre .1 .0 .node)) .0) .root) .1), call-ready (omega (arith, ends (c .before .before .before .before .before .before .before .before .before .before .before .before .before .before .before .before .pre .1 .0 .node) .1, ends (found-at (c .before .before .before .before .before .i .given .1) (c .before .before .before .before .before .before .before .called .ensures (c .before .before .before .before .before .before .before .before .before .before .before .before .before .before .before .before .pre .1 .0 .layout .0) (c .before .before .before .before .before .before .before .before .before .before .before .before .before .before .before .before .pre .1 .0 .layout .1) (c .before .before .before .before .before .before .before .before .before .before .before .before .before .before .before .before .pre .1 .0 .node)) .0) .1, c .before .before .before .before .before .before .before .before .before .before .before .before .before .before .before .before .pre .1 .0 .small, c .before .before .before .before .before .before .before .before .before .before .before .before .before .before .before .before .pre .1 .0 .room, c .before .before .before .if1 .left)) (omega (arith, ends (c .before .before .before .before .before .before .before .before .before .before .before .before .before .before .before .before .pre .1 .0 .node) .1, ends (found-at (c .before .before .before .before .before .i .given .1) (c .before .before .before .before .before .before .before .called .ensures (c .before .before .before .before .before .before .before .before .before .before .before .before .before .before .before .before .pre .1 .0 .layout .0) (c .before .before .before .before .before .before .before .before .before .before .before .before .before .before .before .before .pre .1 .0 .layout .1) (c .before .before .before .before .before .before .before .before .before .before .before .before .before .before .before .before .pre .1 .0 .node)) .0) .1, c .before .before .before .before .before .before .before .before .before .before .before .before .before .before .before .before .pre .1 .0 .small, c .before .before .before .before .before .before .before .before .before .before .before .before .before .before .before .before .pre .1 .0 .room, c .before .before .before .if1 .left)) refl (c .before .before .before .before .before .before .before .before .before .before .before .before .before .before .before .before .pre .1 .1) (c .before .before .before .before .before .before .before .before .before .enum-told .given .1) (c .before .before .before .before .before .i .given .1) (c .before .before .before .before .before .before .before .before .before .before .before .collect-arguments .ensures) (c .before .before .before .before .before .before .before .called .ensures) (c .before .before .root .ensures) (c .before .before .before .if1 .left) (c .before .before .before .before .before .before .before .before .before .before .before .before .before .before .before .before .pre .1 .0))
+eval-call-eval-node-requires t c κs =
+    let at-root = c .before .before in
+    let at-i = at-root .before .before .before in
+    let at-called = at-i .before .before in
+    let at-arguments = at-called .before .before in
+    let at-collected = at-arguments .before .before in
+    let at-start = at-collected .before .before .before .before .before in
+    let ready = at-start .pre .1 .0 in
+    let o = call-opens ready (at-i .i .given .1) (at-called .called .ensures) (at-root .before .if1 .left) in
+    let type = found-at (at-i .i .given .1) (at-called .called .ensures (ready .layout .0) (ready .layout .1) (ready .node)) .0 in (
+      omega (arith, at-start .pre .0, ready .small, ends (at-root .root .ensures type .root) .1),
+      call-ready _ (o .word) (omega arith) refl (at-start .pre .1 .1) (at-arguments .enum-told .given .1) (at-i .i .given .1)
+          (at-collected .collect-arguments .ensures) (at-called .called .ensures) (at-root .root .ensures) (at-root .before .if1 .left) ready,
+    )
 
 eval-call-same-length-2 : (t : ℕ) → eval-call-lts.Need-same-length-2 (eval-call-with t) (eval-call-at t) eval-call.Post
 eval-call-same-length-2 t c = search needs
 
 eval-call-returns-2 : (t : ℕ) → eval-call-lts.Need-returns-2 (eval-call-with t) (eval-call-at t) eval-call.Post
-eval-call-returns-2 t c = ((λ i h. refl), λ γ x t rd a. told-as (c .refused .ensures) (call-lacks (c .before .before .before .before .before .before .before .before .before .before .pre .1 .1) _ (layoutOf t) _ γ a (c .before .before .before .q .given .1) (c .before .before .before .before .before .collect-arguments .ensures _ γ x a)))
+eval-call-returns-2 t c = ((λ i h. refl), λ γ x t rd a. tells-as (c .refused .ensures) (call-lacks (c .before .before .before .before .before .before .before .before .before .before .pre .1 .1) _ (layoutOf t) _ γ a (c .before .before .before .q .given .1) (c .before .before .before .before .before .collect-arguments .ensures _ γ x a)))
 
 eval-call-same-length-3 : (t : ℕ) → eval-call-lts.Need-same-length-3 (eval-call-with t) (eval-call-at t) eval-call.Post
 eval-call-same-length-3 t c = search needs
 
 eval-call-returns-3 : (t : ℕ) → eval-call-lts.Need-returns-3 (eval-call-with t) (eval-call-at t) eval-call.Post
-eval-call-returns-3 t c = ((λ i h. refl), λ γ x t rd a. told-as (c .refused2 .ensures) (call-unknown (c .before .before .before .before .before .before .before .before .before .before .before .before .before .pre .1 .1) _ (layoutOf t) _ γ a (bound-all (c .before .before .before .before .before .before .enum-told .given .1) (c .before .before .before .before .before .before .before .before .collect-arguments .ensures _ γ x a) .1) (c .before .before .enum-told2 .given .1) (c .before .before .before .before .called .ensures t rd a)))
+eval-call-returns-3 t c = ((λ i h. refl), λ γ x t rd a. tells-as (c .refused2 .ensures) (call-unknown (c .before .before .before .before .before .before .before .before .before .before .before .before .before .pre .1 .1) _ (layoutOf t) _ γ a (bound-all (c .before .before .before .before .before .before .enum-told .given .1) (c .before .before .before .before .before .before .before .before .collect-arguments .ensures _ γ x a) .1) (c .before .before .enum-told2 .given .1) (c .before .before .before .before .called .ensures t rd a)))
 
 eval-call-same-length-4 : (t : ℕ) → eval-call-lts.Need-same-length-4 (eval-call-with t) (eval-call-at t) eval-call.Post
-eval-call-same-length-4 t c = c .before .words .given ∙ length-set (c .before .before .before .before .before .before .before .before .before .before .before .before .before .before .before .before .before .before .before .args .words .now) (c .before .before .before .before .before .before .before .before .before .before .before .before .before .before .before .before .before .before .before .args .depth) _
+eval-call-same-length-4 t c =
+    let at-start = c .before .before .before .before .before .before .before .before .before .before .before .before .before .before .before .before .before .before .before in
+    c .before .words .given ∙ length-set (at-start .args .words .now) (at-start .args .f .depth) _
 
 eval-call-returns-4 : (t : ℕ) → eval-call-lts.Need-returns-4 (eval-call-with t) (eval-call-at t) eval-call.Post
-eval-call-returns-4 t c = ((λ i h. c .before .before .eval-node .ensures .0 i (omega arith) ∙ getD-set-other (c .before .before .before .before .before .before .before .before .before .before .before .before .before .before .before .before .before .before .before .args .words .now) (c .before .before .before .before .before .before .before .before .before .before .before .before .before .before .before .before .before .before .before .args .depth) i _ 0 (λ f. absurd (omega arith))), call-answers (omega (arith, ends (c .before .before .before .before .before .before .before .before .before .before .before .before .before .before .before .before .before .before .before .pre .1 .0 .node) .1, ends (found-at (c .before .before .before .before .before .before .before .before .i .given .1) (c .before .before .before .before .before .before .before .before .before .before .called .ensures (c .before .before .before .before .before .before .before .before .before .before .before .before .before .before .before .before .before .before .before .pre .1 .0 .layout .0) (c .before .before .before .before .before .before .before .before .before .before .before .before .before .before .before .before .before .before .before .pre .1 .0 .layout .1) (c .before .before .before .before .before .before .before .before .before .before .before .before .before .before .before .before .before .before .before .pre .1 .0 .node)) .0) .1, c .before .before .before .before .before .before .before .before .before .before .before .before .before .before .before .before .before .before .before .pre .1 .0 .small, c .before .before .before .before .before .before .before .before .before .before .before .before .before .before .before .before .before .before .before .pre .1 .0 .room, c .before .before .before .before .before .before .if1 .left)) (omega (arith, ends (c .before .before .before .before .before .before .before .before .before .before .before .before .before .before .before .before .before .before .before .pre .1 .0 .node) .1, ends (found-at (c .before .before .before .before .before .before .before .before .i .given .1) (c .before .before .before .before .before .before .before .before .before .before .called .ensures (c .before .before .before .before .before .before .before .before .before .before .before .before .before .before .before .before .before .before .before .pre .1 .0 .layout .0) (c .before .before .before .before .before .before .before .before .before .before .before .before .before .before .before .before .before .before .before .pre .1 .0 .layout .1) (c .before .before .before .before .before .before .before .before .before .before .before .before .before .before .before .before .before .before .before .pre .1 .0 .node)) .0) .1, c .before .before .before .before .before .before .before .before .before .before .before .before .before .before .before .before .before .before .before .pre .1 .0 .small, c .before .before .before .before .before .before .before .before .before .before .before .before .before .before .before .before .before .before .before .pre .1 .0 .room, c .before .before .before .before .before .before .if1 .left)) refl (c .before .before .before .before .before .before .before .before .before .before .before .before .before .before .before .before .before .before .before .pre .1 .1) (c .before .before .before .before .before .before .before .before .before .before .before .before .enum-told .given .1) (c .before .before .before .before .before .before .before .before .i .given .1) (c .before .before .before .before .before .before .before .before .before .before .before .before .before .before .collect-arguments .ensures) (c .before .before .before .before .before .before .before .before .before .before .called .ensures) (c .before .before .before .before .before .root .ensures) (c .before .before .before .before .before .before .if1 .left) _ (c .before .before .eval-node .ensures .1))
+eval-call-returns-4 t c =
+    let at-root = c .before .before .before .before .before in
+    let at-i = at-root .before .before .before in
+    let at-called = at-i .before .before in
+    let at-arguments = at-called .before .before in
+    let at-collected = at-arguments .before .before in
+    let at-start = at-collected .before .before .before .before .before in
+    let ready = at-start .pre .1 .0 in
+    let o = call-opens ready (at-i .i .given .1) (at-called .called .ensures) (at-root .before .if1 .left) in (
+      λ i h. c .before .before .eval-node .ensures .0 i (omega arith)
+          ∙ getD-set-other (at-start .args .words .now) (at-start .args .f .depth) i _ 0 (λ f. absurd (omega arith)),
+      call-answers _ (o .word) (omega arith) refl (at-start .pre .1 .1) (at-arguments .enum-told .given .1) (at-i .i .given .1)
+          (at-collected .collect-arguments .ensures) (at-called .called .ensures) (at-root .root .ensures) (at-root .before .if1 .left)
+          (c .before .before .eval-node .ensures .1),
+    )
 
 eval-kind-add-read2 : (t : ℕ) → eval-kind-lts.Need-add-read2 (eval-kind-with t) (eval-kind-at t) eval-kind.Post
 eval-kind-add-read2 t c = omega (arith, kinds (c .before .before .before .pre .1 .node) .2, kinds (c .before .before .before .pre .1 .node) .3)
@@ -347,7 +394,7 @@ eval-kind-eval-binary-requires : (t : ℕ) → eval-kind-lts.Need-eval-binary-re
 eval-kind-eval-binary-requires t c κs = (omega (arith, c .before .before .before .before .before .before .before .pre .0), (c .before .before .before .before .before .before .before .pre .1, (omega (arith, kinds (c .before .before .before .before .before .before .before .pre .1 .node) .0, c .before .before .before .read2 .ensures .0, c .before .before .match .rest .0 .0 .0 .0 .0 .0 .1, c .before .before .match .rest .0 .0 .0 .0 .0 .1, c .before .before .match .rest .0 .0 .0 .0 .1, c .before .before .match .rest .0 .0 .0 .1, c .before .before .match .rest .0 .0 .1, c .before .before .match .rest .0 .1), omega (arith, kinds (c .before .before .before .before .before .before .before .pre .1 .node) .1, c .before .before .before .read2 .ensures .0, c .before .before .match .rest .1))))
 
 eval-kind-returns : (t : ℕ) → eval-kind-lts.Need-returns (eval-kind-with t) (eval-kind-at t) eval-kind.Post
-eval-kind-returns t c = ((λ i h. refl), λ γ x t rd a. leaf-answers _ (layoutOf t) _ γ a (λ k. told-as (c .counted .ensures) (zero-is (c .before .before .before .read2 .ensures .0) (c .before .before .match .keys1) k _ γ a)))
+eval-kind-returns t c = ((λ i h. refl), λ γ x t rd a. leaf-answers _ (layoutOf t) _ γ a (λ k. tells-as (c .counted .ensures) (zero-is (c .before .before .before .read2 .ensures .0) (c .before .before .match .keys1) k _ γ a)))
 
 eval-kind-returns-2 : (t : ℕ) → eval-kind-lts.Need-returns-2 (eval-kind-with t) (eval-kind-at t) eval-kind.Post
 eval-kind-returns-2 t c = ((λ i h. refl), λ γ x t rd a. leaf-answers _ (layoutOf t) _ γ a (λ k. c .constant .ensures k _ γ a))
@@ -377,7 +424,7 @@ eval-kind-returns-6 : (t : ℕ) → eval-kind-lts.Need-returns-6 (eval-kind-with
 eval-kind-returns-6 t c = (c .before .before .eval-call .ensures .0, c .before .before .eval-call .ensures .1)
 
 eval-kind-returns-7 : (t : ℕ) → eval-kind-lts.Need-returns-7 (eval-kind-with t) (eval-kind-at t) eval-kind.Post
-eval-kind-returns-7 t c = ((λ i h. refl), λ γ x t rd a. told-as (c .refused .ensures) (sum-is (c .before .before .before .read2 .ensures .0) (c .before .before .match .keys7) _ (layoutOf t) _ γ a))
+eval-kind-returns-7 t c = ((λ i h. refl), λ γ x t rd a. tells-as (c .refused .ensures) (sum-is (c .before .before .before .read2 .ensures .0) (c .before .before .match .keys7) _ (layoutOf t) _ γ a))
 
 eval-kind-same-length-5 : (t : ℕ) → eval-kind-lts.Need-same-length-5 (eval-kind-with t) (eval-kind-at t) eval-kind.Post
 eval-kind-same-length-5 t c = search needs
@@ -452,7 +499,7 @@ eval-switch-same-length : (t : ℕ) → eval-switch-lts.Need-same-length (eval-s
 eval-switch-same-length t c = search needs
 
 eval-switch-returns : (t : ℕ) → eval-switch-lts.Need-returns (eval-switch-with t) (eval-switch-at t) eval-switch.Post
-eval-switch-returns t c = ((λ i h. refl), λ γ x t rd a. told-as (c .refused .ensures) (switch-misses (c .before .before .before .before .before .before .before .before .before .pre .1 .1) _ (layoutOf t) _ γ a (c .before .before .before .before .tag .ensures γ x a) (c .before .before .enum-told .given .1)))
+eval-switch-returns t c = ((λ i h. refl), λ γ x t rd a. tells-as (c .refused .ensures) (switch-misses (c .before .before .before .before .before .before .before .before .before .pre .1 .1) _ (layoutOf t) _ γ a (c .before .before .before .before .tag .ensures γ x a) (c .before .before .enum-told .given .1)))
 
 eval-switch-same-length-2 : (t : ℕ) → eval-switch-lts.Need-same-length-2 (eval-switch-with t) (eval-switch-at t) eval-switch.Post
 eval-switch-same-length-2 t c = search needs
@@ -464,14 +511,14 @@ eval-switch-same-length-3 : (t : ℕ) → eval-switch-lts.Need-same-length-3 (ev
 eval-switch-same-length-3 t c = search needs
 
 eval-switch-returns-3 : (t : ℕ) → eval-switch-lts.Need-returns-3 (eval-switch-with t) (eval-switch-at t) eval-switch.Post
-eval-switch-returns-3 t c = ((λ i h. refl), λ γ x t rd a. told-as (c .refused2 .ensures) (switch-ends (c .before .before .before .before .before .before .before .before .before .before .before .before .before .pre .1 .1) _ (layoutOf t) _ γ a (c .before .before .before .before .before .before .before .before .tag .ensures γ x a) (c .before .before .before .before .before .before .v .given .1) (c .before .before .enum-told2 .given .1) (c .before .before .before .before .selected .ensures a)))
+eval-switch-returns-3 t c = ((λ i h. refl), λ γ x t rd a. tells-as (c .refused2 .ensures) (switch-ends (c .before .before .before .before .before .before .before .before .before .before .before .before .before .pre .1 .1) _ (layoutOf t) _ γ a (c .before .before .before .before .before .before .before .before .tag .ensures γ x a) (c .before .before .before .before .before .before .v .given .1) (c .before .before .enum-told2 .given .1) (c .before .before .before .before .selected .ensures a)))
 
 pub +eval-align+eval-binary+eval-call+eval-kind+eval-node+eval-operand+eval-switch-spec : {M : Type 1} → statement M
 +eval-align+eval-binary+eval-call+eval-kind+eval-node+eval-operand+eval-switch-spec =
     close μ-eval-align μ-eval-binary μ-eval-call μ-eval-kind μ-eval-node μ-eval-operand μ-eval-switch
     (λ t. eval-align-lts.spec (eval-align-with t) (eval-align-at t) eval-align.Post (eval-align-first-part-requires t) (eval-align-second-part-requires t) (eval-align-eval-node-requires t) (eval-align-same-length t) (eval-align-returns t) (eval-align-element-copy-out-x t) (eval-align-read8-requires t) (eval-align-align-up-requires t) (eval-align-lifted-requires t) (eval-align-same-length-2 t) (eval-align-returns-2 t))
     (λ t. eval-binary-lts.spec (eval-binary-with t) (eval-binary-at t) eval-binary.Post (eval-binary-add-read2 t) (eval-binary-read2-requires t) (eval-binary-first-part-requires t) (eval-binary-second-part-requires t) (eval-binary-eval-operand-requires t) (eval-binary-same-length t) (eval-binary-returns t) (eval-binary-element-copy-out-x t) (eval-binary-eval-node-requires t) (eval-binary-same-length-2 t) (eval-binary-returns-2 t) (eval-binary-element-copy-out-y t) (eval-binary-operate-requires t) (eval-binary-lifted-requires t) (eval-binary-same-length-3 t) (eval-binary-returns-3 t))
-    (λ t. eval-call-lts.spec (eval-call-with t) (eval-call-at t) eval-call.Post (eval-call-collect-arguments-requires t) (eval-call-enum-known-q t) (eval-call-refused-requires t) (eval-call-enum-told t) (eval-call-called-requires t) (eval-call-enum-told-2 t) (eval-call-refused-requires-2 t) (eval-call-enum-known-i t) (eval-call-refused-requires-3 t) (eval-call-same-length t) (eval-call-returns t) (eval-call-root-requires t) (eval-call-mul-words t) (eval-call-add-words t) (eval-call-mul-words-2 t) (eval-call-slice-write-words t) (eval-call-sub-eval-node t) (eval-call-add-eval-node t) (eval-call-eval-node-requires t) (eval-call-same-length-2 t) (eval-call-returns-2 t) (eval-call-same-length-3 t) (eval-call-returns-3 t) (eval-call-same-length-4 t) (eval-call-returns-4 t))
+    (λ t. eval-call-lts.spec (eval-call-with t) (eval-call-at t) eval-call.Post (eval-call-collect-arguments-requires t) (eval-call-enum-known-q t) (eval-call-refused-requires t) (eval-call-enum-told t) (eval-call-called-requires t) (eval-call-enum-told-2 t) (eval-call-refused-requires-2 t) (eval-call-enum-known-i t) (eval-call-refused-requires-3 t) (eval-call-same-length t) (eval-call-returns t) (eval-call-root-requires t) (eval-call-mul-words t) (eval-call-add-words t) (eval-call-mul-words-2 t) (eval-call-slice-write-words t) (eval-call-add-t30 t) (eval-call-sub-t32 t) (eval-call-eval-node-requires t) (eval-call-same-length-2 t) (eval-call-returns-2 t) (eval-call-same-length-3 t) (eval-call-returns-3 t) (eval-call-same-length-4 t) (eval-call-returns-4 t))
     (λ t. eval-kind-lts.spec (eval-kind-with t) (eval-kind-at t) eval-kind.Post (eval-kind-add-read2 t) (eval-kind-read2-requires t) (eval-kind-counted-requires t) (eval-kind-constant-requires t) (eval-kind-field-requires t) (eval-kind-eval-align-requires t) (eval-kind-eval-switch-requires t) (eval-kind-eval-call-requires t) (eval-kind-refused-requires t) (eval-kind-eval-binary-requires t) (eval-kind-returns t) (eval-kind-returns-2 t) (eval-kind-same-length t) (eval-kind-returns-3 t) (eval-kind-same-length-2 t) (eval-kind-returns-4 t) (eval-kind-same-length-3 t) (eval-kind-returns-5 t) (eval-kind-same-length-4 t) (eval-kind-returns-6 t) (eval-kind-returns-7 t) (eval-kind-same-length-5 t) (eval-kind-returns-8 t))
     (λ t. eval-node-lts.spec (eval-node-with t) (eval-node-at t) eval-node.Post (eval-node-unwrapped-requires t) (eval-node-eval-kind-requires t) (eval-node-same-length t) (eval-node-returns t))
     (λ t. eval-operand-lts.spec (eval-operand-with t) (eval-operand-at t) eval-operand.Post (eval-operand-unwrapped-requires t) (eval-operand-add-read2 t) (eval-operand-read2-requires t) (eval-operand-constant-requires t) (eval-operand-returns t) (eval-operand-eval-node-requires t) (eval-operand-same-length t) (eval-operand-returns-2 t))

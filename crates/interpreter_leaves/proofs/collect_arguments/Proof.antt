@@ -11,10 +11,10 @@ use Rattle.interpreter_leaves.proofs.collect_arguments.Statement.{state
 use Rattle.interpreter_leaves.proofs.collect_arguments.Tie as tie
 
 abbrev Inv-loop : tie.InvT-loop
-Inv-loop s values block len words depth at list left₀ p₀ left p = Collecting s values block len words depth (le2 s list) (list + 2) left p
+Inv-loop s values words f at list left₀ p₀ left p = Collecting s values (f .block) (f .len) words (f .depth) (le2 s list) (list + 2) left p
 
 abbrev μ-loop : tie.MeasureT-loop
-μ-loop s values block len words depth at list left₀ p₀ left p = left
+μ-loop s values words f at list left₀ p₀ left p = left
 
 second-part-requires : tie.Need-second-part-requires Inv-loop μ-loop
 second-part-requires c κs = (c .before .before .before .pre .0, enough _ _ (omega (arith, c .before .before .before .pre .1)) (omega (arith, c .before .before .before .pre .1)) (omega arith))

@@ -1,6 +1,6 @@
 -- `interpreter_leaves::field` meets its contract. Assumes nothing.
 use Prim.Native.Nat.{_-_}
-use Rattle.interpreter_leaves.proofs.Told.{told-as}
+use Rattle.interpreter_leaves.proofs.Tells.{tells-as}
 use Rattle.interpreter_leaves.proofs.Nodes.{ref-found, ref-absent}
 use borrow.Author.Needs.{needs}
 use Rattle.interpreter_leaves.proofs.field.Statement.{statement}
@@ -25,10 +25,10 @@ refused-requires : tie.Need-refused-requires
 refused-requires c κs = search needs
 
 returns : tie.Need-returns
-returns c = λ k γ x a. told-as (c .counted .ensures) (ref-found _ (c .before .before .before .before .before .before .field-name .ensures) (c .before .before .before .before .before .before .before .before .before .before .pre .1) (c .before .before .before .before .before .find .ensures) k γ x a (c .before .before .before .v .given .1))
+returns c = λ k γ x a. tells-as (c .counted .ensures) (ref-found _ (c .before .before .before .before .before .before .field-name .ensures) (c .before .before .before .before .before .before .before .before .before .before .pre .1) (c .before .before .before .before .before .find .ensures) k γ x a (c .before .before .before .v .given .1))
 
 returns-2 : tie.Need-returns-2
-returns-2 c = λ k γ x a. told-as (c .refused .ensures) (ref-absent _ (c .before .before .before .before .before .field-name .ensures) (c .before .before .before .before .before .before .before .before .before .pre .1) (c .before .before .before .before .find .ensures) k γ x a (c .before .before .enum-told .given .1))
+returns-2 c = λ k γ x a. tells-as (c .refused .ensures) (ref-absent _ (c .before .before .before .before .before .field-name .ensures) (c .before .before .before .before .before .before .before .before .before .pre .1) (c .before .before .before .before .find .ensures) k γ x a (c .before .before .enum-told .given .1))
 
 pub field-spec : {M : Type 1} → statement M
 field-spec =

@@ -1,5 +1,5 @@
 -- `interpreter_leaves::lifted` meets its contract. Assumes nothing.
-use Rattle.interpreter_leaves.proofs.Told.{told-as}
+use Rattle.interpreter_leaves.proofs.Tells.{tells-as}
 use Rattle.interpreter_leaves.proofs.Nodes.{lifted-value, lifted-fault}
 use borrow.Author.Needs.{needs}
 use Rattle.interpreter_leaves.proofs.lifted.Statement.{statement}
@@ -18,10 +18,10 @@ refused-requires : tie.Need-refused-requires
 refused-requires c κs = search needs
 
 returns : tie.Need-returns
-returns c = λ x e. told-as (c .counted .ensures) (lifted-value _ _ _ _ (c .before .before .before .n .given .1) x e)
+returns c = λ x e. tells-as (c .counted .ensures) (lifted-value _ _ _ _ (c .before .before .before .n .given .1) x e)
 
 returns-2 : tie.Need-returns-2
-returns-2 c = λ x e. told-as (c .refused .ensures) (lifted-fault _ _ _ _ (c .before .before .before .n2 .given .1) x e)
+returns-2 c = λ x e. tells-as (c .refused .ensures) (lifted-fault _ _ _ _ (c .before .before .before .n2 .given .1) x e)
 
 pub lifted-spec : {M : Type 1} → statement M
 lifted-spec =

@@ -1,4 +1,4 @@
--- What a bool and four words tell of an outcome, one step after another.
+-- What a bool and four words say of an outcome, one step after another.
 use mathlib.Core.Path.{_≡_, refl, _∙_, subst}
 use mathlib.Core.Bool.{Bool, true, false, not}
 use mathlib.Core.List.{List}
@@ -8,8 +8,9 @@ use lib.ListN.{getD}
 use Rattle.errors.specs.Refusal.{Outcome, done, refused, _>>=_}
 use Rattle.interpreter_leaves.specs.Outcome.{leftIn, Tells}
 
-pub told-as : {ok : Bool} {ws us : List ℕ} {o u : Outcome ℕ} → Tells ok ws us o → o ≡ u → Tells ok ws us u
-told-as {ok} {ws} {us} t e = subst (Tells ok ws us) e t
+-- they say the same of an outcome that is equal
+pub tells-as : {ok : Bool} {ws us : List ℕ} {o u : Outcome ℕ} → Tells ok ws us o → o ≡ u → Tells ok ws us u
+tells-as {ok} {ws} {us} t e = subst (Tells ok ws us) e t
 
 -- behind a count the words are left as if it had not been
 again : (ws : List ℕ) (n : ℕ) (o : Outcome ℕ) → leftIn (leftIn ws (done n)) o ≡ leftIn ws o
