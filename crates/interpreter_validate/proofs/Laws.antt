@@ -34,6 +34,7 @@ use Rattle.interpreter_leaves.specs.declared.Answer.{Answer}
 use Rattle.interpreter_leaves.specs.declared.Answer.the-variants as answer
 use Rattle.interpreter_leaves.specs.Outcome.{outcomeOf, Tells}
 use Rattle.interpreter_leaves.specs.Steps.{Rooted}
+use Rattle.interpreter_leaves.specs.declared.Frame.{Frame}
 use Rattle.interpreter_eval.specs.Evaluates.{Ready, Evaluates}
 use Rattle.interpreter_eval.proofs.Laws.{found-at, found-none}
 use Rattle.interpreter_validate.specs.declared.Judgement.the-variants as judgement
@@ -206,6 +207,10 @@ tells-one : {ok : Bool} {ws us : List ℕ} (o : Outcome ℕ) → Tells ok ws us 
 tells-one (done n) t = rw (t .which, t .left)
 tells-one (refused r) t = rw (t .which, t .left)
 
+-- the frame of a type that was asked for
+abbrev atRoot : (block len left place : ℕ) → Frame
+atRoot b len left place = record { block = b; len = len; depth = 0; left = left; place = place }
+
 module _ {s : List ℕ} {name : Name} {r : Place} (f : (t : Tree) → readLayout s ≡ done t → TreeFound s name (layoutOf t) r) where
   pub type-unknown : r ≡ PlaceNone → (t : Tree) → readLayout s ≡ done t → (len : ℕ) (γ : ParamMap) → outcomeOf (answer.Refused 20 65535 0 0) ≡ validate-type (layoutOf t) name len γ
   unfolding validate-type _>>=_
@@ -216,10 +221,20 @@ module _ {s : List ℕ} {name : Name} {r : Place} (f : (t : Tree) → readLayout
     type-tree g = found-at e (f (g .layout .0) (g .layout .1)) .0
 
     module _ {q : ℕ} (rooted : (c : Accepted s 161 161 o) → Rooted c q) where
-      pub root-ready : {v ws : List ℕ} {block left : ℕ} (len : ℕ) → Given s v block ws → left ≤ 16 → Ready s v block len ws left 0 i q
-      root-ready len g few = record { node = rooted (type-tree g) .root; layout = g .layout; context = (_, Context.root (g .values-read)); here = λ d e. absurd (omega arith); room = omega (arith, g .room, few); small = g .small }
+      -- the root is ready to be evaluated
+      pub root-ready : {v ws : List ℕ} {block left : ℕ} (len : ℕ) → Given s v block ws → left ≤ 16 → Ready s v ws (atRoot block len left i) q
+      root-ready len g h = record {
+        node = rooted (type-tree g) .root;
+        layout = g .layout;
+        context = (_, Context.root (g .values-read));
+        here = λ d e. absurd (omega arith);
+        room = omega (arith, g .room, h);
+        small = g .small;
+      }
 
-      pub type-goes : {v ws : List ℕ} {block len : ℕ} {ok : Bool} {before out : List ℕ} (w z : Answer) → Evaluates s v block len ws 16 0 i q ok before out → outcomeOf w ≡ outcomeIn ok out → outcomeOf z ≡ fitted i len (outcomeOf w) →
+      -- what it comes to, held against the buffer length, is the answer
+      pub type-goes : {v ws : List ℕ} {block len : ℕ} {ok : Bool} {before out : List ℕ} (w z : Answer) →
+          Evaluates s v ws (atRoot block len 16 i) q ok before out → outcomeOf w ≡ outcomeIn ok out → outcomeOf z ≡ fitted i len (outcomeOf w) →
           (t : Tree) → readLayout s ≡ done t → (a : Accepted v 192 192 block) → outcomeOf z ≡ validate-type (layoutOf t) name len (valuesOf (tree a))
       unfolding validate-type fitted
       type-goes {len} w z ev is fit t rd a =

@@ -1,6 +1,7 @@
 // From the bytes of a layout, a type's name, the bytes of values and a buffer length to a byte count. Whatever `validate` and
 // `validate_run` answer, the working words are zero after.
 use interpreter_leaves::Answer;
+use interpreter_leaves::Frame;
 use lookup::Place;
 use reader_leaf::Read;
 ghost use mathlib.Core.Path.{_≡_};
@@ -111,18 +112,14 @@ fn evaluated(
         Place::At(i, at) => {
             let root = interpreter_leaves::root(layout, at);
             let mut out = [0u64; 4];
-            let ok = interpreter_eval::eval_node(
-                layout,
-                root,
-                16,
-                values,
+            let f = Frame {
                 block,
                 len,
-                words,
-                0,
-                i,
-                &mut out,
-            );
+                depth: 0,
+                left: 16,
+                place: i,
+            };
+            let ok = interpreter_eval::eval_node(layout, root, values, words, f, &mut out);
             fitting(answered(ok, &out), i, len)
         }
     }
