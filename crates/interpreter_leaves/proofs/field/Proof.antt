@@ -6,11 +6,15 @@ use borrow.Author.Needs.{needs}
 use Rattle.interpreter_leaves.proofs.field.Statement.{statement}
 use Rattle.interpreter_leaves.proofs.field.Tie as tie
 
+-- The places, each seen from a later one: what was known there.
+abbrev at-start : tie.After-shared-slice-known3 → tie.Start
+at-start r = r .before .before .before
+
 field-name-requires : tie.Need-field-name-requires
-field-name-requires c κs = (c .before .before .before .pre .0, c .before .before .before .pre .1)
+field-name-requires c κs = (at-start c .pre .0, at-start c .pre .1)
 
 find-requires : tie.Need-find-requires
-find-requires c κs = (c .field-name .ensures .inside, c .before .before .before .before .pre .2)
+find-requires c κs = (c .field-name .ensures .inside, at-start (c .before) .pre .2)
 
 enum-known-v : tie.Need-enum-known-v
 enum-known-v c = search needs
@@ -25,11 +29,33 @@ refused-requires : tie.Need-refused-requires
 refused-requires c κs = search needs
 
 returns : tie.Need-returns
-returns c = λ k γ x a. tells-as (c .counted .ensures) (ref-found _ (c .before .before .before .before .before .before .field-name .ensures) (c .before .before .before .before .before .before .before .before .before .before .pre .1) (c .before .before .before .before .before .find .ensures) k γ x a (c .before .before .before .v .given .1))
+returns c =
+    let at-v = c .before .before .before in
+    let at-find = at-v .before .before in
+    let at-field-name = at-find .before in
+    λ k γ x a. tells-as
+    (c .counted .ensures)
+    (ref-found _
+    (at-field-name .field-name .ensures)
+    (at-start (at-field-name .before) .pre .1)
+    (at-find .find .ensures) k γ x a
+    (at-v .v .given .1))
 
 returns-2 : tie.Need-returns-2
-returns-2 c = λ k γ x a. tells-as (c .refused .ensures) (ref-absent _ (c .before .before .before .before .before .field-name .ensures) (c .before .before .before .before .before .before .before .before .before .pre .1) (c .before .before .before .before .find .ensures) k γ x a (c .before .before .enum-told .given .1))
+returns-2 c =
+    let at-enum-told = c .before .before in
+    let at-find = at-enum-told .before .before in
+    let at-field-name = at-find .before in
+    λ k γ x a. tells-as
+    (c .refused .ensures)
+    (ref-absent _
+    (at-field-name .field-name .ensures)
+    (at-start (at-field-name .before) .pre .1)
+    (at-find .find .ensures) k γ x a
+    (at-enum-told .enum-told .given .1))
 
 pub field-spec : {M : Type 1} → statement M
 field-spec =
-    tie.close (tie.spec field-name-requires find-requires enum-known-v counted-requires enum-told refused-requires returns returns-2)
+    tie.close
+    (tie.spec field-name-requires find-requires enum-known-v counted-requires enum-told
+    refused-requires returns returns-2)

@@ -18,11 +18,16 @@ refused-requires : tie.Need-refused-requires
 refused-requires c κs = search needs
 
 returns : tie.Need-returns
-returns c = λ x e. tells-as (c .counted .ensures) (lifted-value _ _ _ _ (c .before .before .before .n .given .1) x e)
+returns c =
+    let at-n = c .before .before .before in
+    λ x e. tells-as (c .counted .ensures) (lifted-value _ _ _ _ (at-n .n .given .1) x e)
 
 returns-2 : tie.Need-returns-2
-returns-2 c = λ x e. tells-as (c .refused .ensures) (lifted-fault _ _ _ _ (c .before .before .before .n2 .given .1) x e)
+returns-2 c =
+    let at-n2 = c .before .before .before in
+    λ x e. tells-as (c .refused .ensures) (lifted-fault _ _ _ _ (at-n2 .n2 .given .1) x e)
 
 pub lifted-spec : {M : Type 1} → statement M
 lifted-spec =
-    tie.close (tie.spec enum-known-n counted-requires enum-known-n-2 refused-requires returns returns-2)
+    tie.close
+    (tie.spec enum-known-n counted-requires enum-known-n-2 refused-requires returns returns-2)

@@ -19,32 +19,92 @@ abbrev μ-loop : tie.MeasureT-loop
 loop-holds : tie.Need-loop-holds Inv-loop μ-loop
 loop-holds c = whole
 
+-- The places, each seen from a later one: what was known there.
+abbrev at-start : tie.At-loop Inv-loop μ-loop → tie.Start Inv-loop μ-loop
+at-start r = r .before .before
+
 add-read2 : tie.Need-add-read2 Inv-loop μ-loop
-add-read2 c = omega (arith, kinds (c .loop .inv (c .before .before .pre) .node) .2, kinds (c .loop .inv (c .before .before .pre) .node) .3)
+add-read2 c = omega (
+  arith,
+  kinds (c .loop .inv (at-start c .pre) .node) .2,
+  kinds (c .loop .inv (at-start c .pre) .node) .3,
+)
 
 read2-requires : tie.Need-read2-requires Inv-loop μ-loop
-read2-requires c κs = omega (arith, kinds (c .loop .inv (c .before .before .pre) .node) .2, kinds (c .loop .inv (c .before .before .pre) .node) .3)
+read2-requires c κs = omega (
+  arith,
+  kinds (c .loop .inv (at-start c .pre) .node) .2,
+  kinds (c .loop .inv (at-start c .pre) .node) .3,
+)
 
 first-part-requires : tie.Need-first-part-requires Inv-loop μ-loop
-first-part-requires c κs = c .before .before .loop .inv (c .before .before .before .before .pre) .node
+first-part-requires c κs =
+    let at-loop = c .before .before in
+    at-loop .loop .inv (at-start at-loop .pre) .node
 
 read8-requires : tie.Need-read8-requires Inv-loop μ-loop
-read8-requires c κs = align-number (c .first-part .ensures) (c .before .before .before .loop .inv (c .before .before .before .before .before .pre) .node) (sym (c .before .before .read2 .ensures .0) ∙ c .before .if1 .taken) .0
+read8-requires c κs =
+    let at-read2 = c .before .before in
+    let at-loop = at-read2 .before in
+    align-number
+    (c .first-part .ensures)
+    (at-loop .loop .inv (at-start at-loop .pre) .node)
+    (sym (at-read2 .read2 .ensures .0) ∙ c .before .if1 .taken) .0
 
 returns : tie.Need-returns Inv-loop μ-loop
-returns c = λ a. ends-aligned (c .before .before .first-part .ensures) (sym (c .before .before .before .before .read2 .ensures .0) ∙ c .before .before .before .if1 .taken) (c .before .read8 .ensures) (c .before .before .before .before .before .loop .inv a) (c .if2 .taken)
+returns c =
+    let at-first-part = c .before .before in
+    let at-then1 = at-first-part .before in
+    let at-read2 = at-then1 .before in
+    let at-loop = at-read2 .before in
+    λ a. ends-aligned
+    (at-first-part .first-part .ensures)
+    (sym (at-read2 .read2 .ensures .0) ∙ at-then1 .if1 .taken)
+    (c .before .read8 .ensures)
+    (at-loop .loop .inv a)
+    (c .if2 .taken)
 
 second-part-requires : tie.Need-second-part-requires Inv-loop μ-loop
-second-part-requires c κs = (c .before .before .before .before .before .loop .inv (c .before .before .before .before .before .before .before .pre) .node, enough _ _ (omega (arith, (sym (c .before .before .before .before .read2 .ensures .0) ∙ c .before .before .before .if1 .taken))) (omega (arith, (sym (c .before .before .before .before .read2 .ensures .0) ∙ c .before .before .before .if1 .taken))) (omega arith))
+second-part-requires c κs =
+    let at-then1 = c .before .before .before in
+    let at-read2 = at-then1 .before in
+    let at-loop = at-read2 .before in
+    let at-start = at-loop .before .before in (
+      at-loop .loop .inv (at-start .pre) .node,
+      enough _ _
+          (omega (arith, (sym (at-read2 .read2 .ensures .0) ∙ at-then1 .if1 .taken)))
+          (omega (arith, (sym (at-read2 .read2 .ensures .0) ∙ at-then1 .if1 .taken)))
+          (omega arith),
+    )
 
 loop-less : tie.Need-loop-less Inv-loop μ-loop
-loop-less c = align-child (c .second-part .ensures) (c .before .before .before .before .before .before .loop .inv (c .before .before .before .before .before .before .before .before .pre) .node) (sym (c .before .before .before .before .before .read2 .ensures .0) ∙ c .before .before .before .before .if1 .taken) .2
+loop-less c =
+    let at-then1 = c .before .before .before .before in
+    let at-read2 = at-then1 .before in
+    let at-loop = at-read2 .before in
+    align-child
+    (c .second-part .ensures)
+    (at-loop .loop .inv (at-start at-loop .pre) .node)
+    (sym (at-read2 .read2 .ensures .0) ∙ at-then1 .if1 .taken) .2
 
 loop-again : tie.Need-loop-again Inv-loop μ-loop
-loop-again c = λ a. inner (c .before .before .before .first-part .ensures) (sym (c .before .before .before .before .before .read2 .ensures .0) ∙ c .before .before .before .before .if1 .taken) (c .before .before .read8 .ensures) (c .before .before .before .before .before .before .loop .inv a) (c .second-part .ensures) (omega (arith, c .before .if2 .left))
+loop-again c =
+    let at-read8 = c .before .before in
+    let at-first-part = at-read8 .before in
+    let at-then1 = at-first-part .before in
+    let at-read2 = at-then1 .before in
+    let at-loop = at-read2 .before in
+    λ a. inner
+    (at-first-part .first-part .ensures)
+    (sym (at-read2 .read2 .ensures .0) ∙ at-then1 .if1 .taken)
+    (at-read8 .read8 .ensures)
+    (at-loop .loop .inv a)
+    (c .second-part .ensures)
+    (omega (arith, c .before .if2 .left))
 
 returns-2 : tie.Need-returns-2 Inv-loop μ-loop
-returns-2 c = λ a. ends-plain (c .before .read2 .ensures .0) (c .if1 .left) (c .before .before .loop .inv a)
+returns-2 c =
+    λ a. ends-plain (c .before .read2 .ensures .0) (c .if1 .left) (c .before .before .loop .inv a)
 
 pub unwrapped-spec : {M : Type 1} → statement M
 unwrapped-spec =
