@@ -1,4 +1,7 @@
--- The evaluator meets its contract. The measure: the calls that may still open, then the block's length. Assumes nothing.
+-- The evaluator meets its contract: each member answers with what the node evaluates to, and keeps the words of the calls that are
+-- open. Each need follows from what the leaves and the other members ensure, by a law of Laws.antt. The measure: the calls that may
+-- still open, then the length of the node's block, then the member's rank, since a node is handed on unchanged only from
+-- eval_operand to eval_node, to eval_kind and to the member of its kind.
 use mathlib.Core.Path.{refl, sym, _∙_}
 use lib.ListN.{length-set}
 use lib.Seq.{getD-set-other}
@@ -6,11 +9,37 @@ use Rattle.blocks.specs.Bytes.{le4}
 use Rattle.ir.specs.Layout.{layoutOf}
 use Rattle.interpreter_context.proofs.Lists.{ends}
 use Rattle.interpreter_context.proofs.Calls.{context-same}
-use Rattle.interpreter_context.proofs.Laws.{kinds}
+use Rattle.interpreter_context.proofs.Laws.{kinds, within}
 use Rattle.interpreter_leaves.proofs.Tells.{tells-as}
 use Rattle.interpreter_leaves.proofs.Nodes.{enough, zero-is}
 use Rattle.interpreter_leaves.proofs.Align.{align-number, align-child}
-use Rattle.interpreter_eval.proofs.Laws.{sum-is, unwrapped-is, align-stops, align-goes, left-child, right-child, left-stops, right-stops, both-go, picked-node, switch-misses, switch-ends, switch-goes, found-at, bound-all, call-lacks, call-unknown, call-stops, call-opens, call-ready, call-answers, still-ready, child-ready, leaf-answers}
+use Rattle.interpreter_eval.proofs.Laws.{
+  sum-is,
+  unwrapped-is,
+  align-stops,
+  align-goes,
+  left-child,
+  right-child,
+  left-stops,
+  right-stops,
+  both-go,
+  picked-node,
+  switch-misses,
+  switch-ends,
+  switch-goes,
+  found-at,
+  bound-all,
+  call-lacks,
+  call-unknown,
+  call-stops,
+  Opening,
+  call-opens,
+  call-ready,
+  call-answers,
+  still-ready,
+  child-ready,
+  leaf-answers,
+}
 use borrow.Author.Needs.{needs}
 use native.Mathlib.Omega.{arith}
 use Prim.Native.Nat.{ℕ, _<_, _+_, _*_}
@@ -61,26 +90,30 @@ use Rattle.interpreter_eval.proofs.+eval_align+eval_binary+eval_call+ev
   close,
 }
 
+-- The members have the same parameters: the layout, the node's offset, the values, the words, the frame, the answer's words.
+abbrev μ : ℕ → Measures 4 eval-node-kinds.ps ℕ
+μ rank κs (s, (at, (values, (words, (f, out))))) = f .left * 1048576 + 4 * le4 (s .now) at + rank
+
 abbrev μ-eval-align : Measures 4 eval-align-kinds.ps ℕ
-μ-eval-align κs a = a .1 .1 .1 .1 .0 .left * 1048576 + 4 * le4 (a .0 .now) (a .1 .0) + 0
+μ-eval-align = μ 0
 
 abbrev μ-eval-binary : Measures 4 eval-binary-kinds.ps ℕ
-μ-eval-binary κs a = a .1 .1 .1 .1 .0 .left * 1048576 + 4 * le4 (a .0 .now) (a .1 .0) + 0
+μ-eval-binary = μ 0
 
 abbrev μ-eval-call : Measures 4 eval-call-kinds.ps ℕ
-μ-eval-call κs a = a .1 .1 .1 .1 .0 .left * 1048576 + 4 * le4 (a .0 .now) (a .1 .0) + 0
+μ-eval-call = μ 0
 
 abbrev μ-eval-kind : Measures 4 eval-kind-kinds.ps ℕ
-μ-eval-kind κs a = a .1 .1 .1 .1 .0 .left * 1048576 + 4 * le4 (a .0 .now) (a .1 .0) + 1
+μ-eval-kind = μ 1
 
 abbrev μ-eval-node : Measures 4 eval-node-kinds.ps ℕ
-μ-eval-node κs a = a .1 .1 .1 .1 .0 .left * 1048576 + 4 * le4 (a .0 .now) (a .1 .0) + 2
+μ-eval-node = μ 2
 
 abbrev μ-eval-operand : Measures 4 eval-operand-kinds.ps ℕ
-μ-eval-operand κs a = a .1 .1 .1 .1 .0 .left * 1048576 + 4 * le4 (a .0 .now) (a .1 .0) + 3
+μ-eval-operand = μ 3
 
 abbrev μ-eval-switch : Measures 4 eval-switch-kinds.ps ℕ
-μ-eval-switch κs a = a .1 .1 .1 .1 .0 .left * 1048576 + 4 * le4 (a .0 .now) (a .1 .0) + 0
+μ-eval-switch = μ 0
 
 abbrev eval-align-at : ℕ → In 4 eval-align-kinds.ps
 eval-align-at t =
@@ -140,46 +173,172 @@ eval-switch-below t =
     and 4 eval-switch-kinds.ps (falls 4 eval-switch-kinds.ps _<_ μ-eval-switch t) eval-switch.Pre
 
 abbrev eval-align-with : ℕ → eval-align-lts.Claims
-eval-align-with t = (first-part-reads.Asked, first-part-reads.Learnt, second-part-reads.Asked, second-part-reads.Learnt, eval-node-below t, eval-node.Post, read8-reads.Asked, read8-reads.Learnt, align-up-reads.Asked, align-up-reads.Learnt, lifted-reads.Asked, lifted-reads.Learnt)
+eval-align-with t = (
+  first-part-reads.Asked,
+  first-part-reads.Learnt,
+  second-part-reads.Asked,
+  second-part-reads.Learnt,
+  eval-node-below t,
+  eval-node.Post,
+  read8-reads.Asked,
+  read8-reads.Learnt,
+  align-up-reads.Asked,
+  align-up-reads.Learnt,
+  lifted-reads.Asked,
+  lifted-reads.Learnt,
+)
 
 abbrev eval-binary-with : ℕ → eval-binary-lts.Claims
-eval-binary-with t = (read2-reads.Asked, read2-reads.Learnt, first-part-reads.Asked, first-part-reads.Learnt, second-part-reads.Asked, second-part-reads.Learnt, eval-operand-below t, eval-operand.Post, eval-node-below t, eval-node.Post, operate-reads.Asked, operate-reads.Learnt, lifted-reads.Asked, lifted-reads.Learnt)
+eval-binary-with t = (
+  read2-reads.Asked,
+  read2-reads.Learnt,
+  first-part-reads.Asked,
+  first-part-reads.Learnt,
+  second-part-reads.Asked,
+  second-part-reads.Learnt,
+  eval-operand-below t,
+  eval-operand.Post,
+  eval-node-below t,
+  eval-node.Post,
+  operate-reads.Asked,
+  operate-reads.Learnt,
+  lifted-reads.Asked,
+  lifted-reads.Learnt,
+)
 
 abbrev eval-call-with : ℕ → eval-call-lts.Claims
-eval-call-with t = (collect-arguments-reads.Asked, collect-arguments-reads.Learnt, refused-reads.Asked, refused-reads.Learnt, called-reads.Asked, called-reads.Learnt, root-reads.Asked, root-reads.Learnt, eval-node-below t, eval-node.Post)
+eval-call-with t = (
+  collect-arguments-reads.Asked,
+  collect-arguments-reads.Learnt,
+  refused-reads.Asked,
+  refused-reads.Learnt,
+  called-reads.Asked,
+  called-reads.Learnt,
+  root-reads.Asked,
+  root-reads.Learnt,
+  eval-node-below t,
+  eval-node.Post,
+)
 
 abbrev eval-kind-with : ℕ → eval-kind-lts.Claims
-eval-kind-with t = (read2-reads.Asked, read2-reads.Learnt, counted-reads.Asked, counted-reads.Learnt, constant-reads.Asked, constant-reads.Learnt, field-reads.Asked, field-reads.Learnt, eval-align-below t, eval-align.Post, eval-switch-below t, eval-switch.Post, eval-call-below t, eval-call.Post, refused-reads.Asked, refused-reads.Learnt, eval-binary-below t, eval-binary.Post)
+eval-kind-with t = (
+  read2-reads.Asked,
+  read2-reads.Learnt,
+  counted-reads.Asked,
+  counted-reads.Learnt,
+  constant-reads.Asked,
+  constant-reads.Learnt,
+  field-reads.Asked,
+  field-reads.Learnt,
+  eval-align-below t,
+  eval-align.Post,
+  eval-switch-below t,
+  eval-switch.Post,
+  eval-call-below t,
+  eval-call.Post,
+  refused-reads.Asked,
+  refused-reads.Learnt,
+  eval-binary-below t,
+  eval-binary.Post,
+)
 
 abbrev eval-node-with : ℕ → eval-node-lts.Claims
-eval-node-with t = (unwrapped-reads.Asked, unwrapped-reads.Learnt, eval-kind-below t, eval-kind.Post)
+eval-node-with t = (
+  unwrapped-reads.Asked,
+  unwrapped-reads.Learnt,
+  eval-kind-below t,
+  eval-kind.Post,
+)
 
 abbrev eval-operand-with : ℕ → eval-operand-lts.Claims
-eval-operand-with t = (unwrapped-reads.Asked, unwrapped-reads.Learnt, read2-reads.Asked, read2-reads.Learnt, constant-reads.Asked, constant-reads.Learnt, eval-node-below t, eval-node.Post)
+eval-operand-with t = (
+  unwrapped-reads.Asked,
+  unwrapped-reads.Learnt,
+  read2-reads.Asked,
+  read2-reads.Learnt,
+  constant-reads.Asked,
+  constant-reads.Learnt,
+  eval-node-below t,
+  eval-node.Post,
+)
 
 abbrev eval-switch-with : ℕ → eval-switch-lts.Claims
-eval-switch-with t = (tag-reads.Asked, tag-reads.Learnt, refused-reads.Asked, refused-reads.Learnt, selected-reads.Asked, selected-reads.Learnt, eval-node-below t, eval-node.Post)
+eval-switch-with t = (
+  tag-reads.Asked,
+  tag-reads.Learnt,
+  refused-reads.Asked,
+  refused-reads.Learnt,
+  selected-reads.Asked,
+  selected-reads.Learnt,
+  eval-node-below t,
+  eval-node.Post,
+)
 
 eval-align-first-part-requires : (t : ℕ) → eval-align-lts.Need-first-part-requires (eval-align-with t) (eval-align-at t) eval-align.Post
-eval-align-first-part-requires t c κs = c .before .before .before .pre .1 .0 .node
+eval-align-first-part-requires t c κs =
+    let at-start = c .before .before .before in
+    at-start .pre .1 .0 .node
 
 eval-align-second-part-requires : (t : ℕ) → eval-align-lts.Need-second-part-requires (eval-align-with t) (eval-align-at t) eval-align.Post
-eval-align-second-part-requires t c κs = (c .before .before .before .before .pre .1 .0 .node, enough _ _ (omega (arith, (c .before .before .before .before .pre .1 .1))) (omega (arith, (c .before .before .before .before .pre .1 .1))) (omega arith))
+eval-align-second-part-requires t c κs =
+    let at-start = c .before .before .before .before in (
+      at-start .pre .1 .0 .node,
+      enough _ _
+          (omega (arith, (at-start .pre .1 .1)))
+          (omega (arith, (at-start .pre .1 .1)))
+          (omega arith),
+    )
 
 eval-align-eval-node-requires : (t : ℕ) → eval-align-lts.Need-eval-node-requires (eval-align-with t) (eval-align-at t) eval-align.Post
-eval-align-eval-node-requires t c κs = (omega (arith, c .before .before .before .before .before .before .before .pre .0, align-child (c .before .before .second-part .ensures) (c .before .before .before .before .before .before .before .pre .1 .0 .node) (c .before .before .before .before .before .before .before .pre .1 .1) .2), child-ready (c .before .before .before .before .before .before .before .pre .1 .0) (align-child (c .before .before .second-part .ensures) (c .before .before .before .before .before .before .before .pre .1 .0 .node) (c .before .before .before .before .before .before .before .pre .1 .1) .0))
+eval-align-eval-node-requires t c κs =
+    let at-second-part = c .before .before in
+    let at-start = at-second-part .before .before .before .before .before in (
+      omega (
+        arith,
+        at-start .pre .0,
+        align-child
+            (at-second-part .second-part .ensures)
+            (at-start .pre .1 .0 .node)
+            (at-start .pre .1 .1) .2,
+      ),
+      child-ready
+          (at-start .pre .1 .0)
+          (align-child
+          (at-second-part .second-part .ensures)
+          (at-start .pre .1 .0 .node)
+          (at-start .pre .1 .1) .0),
+    )
 
 eval-align-same-length : (t : ℕ) → eval-align-lts.Need-same-length (eval-align-with t) (eval-align-at t) eval-align.Post
 eval-align-same-length t c = search needs
 
 eval-align-returns : (t : ℕ) → eval-align-lts.Need-returns (eval-align-with t) (eval-align-at t) eval-align.Post
-eval-align-returns t c = (c .before .before .before .eval-node .ensures .0, λ γ x t rd a. align-stops (c .before .before .before .before .before .before .before .first-part .ensures) (c .before .before .before .before .before .before .second-part .ensures) (c .before .before .before .before .before .before .before .before .before .before .before .pre .1 .1) _ (layoutOf t) _ γ a (c .before .before .before .eval-node .ensures .1 γ x t rd) (c .if1 .taken))
+eval-align-returns t c =
+    let at-eval-node = c .before .before .before in
+    let at-second-part = at-eval-node .before .before .before in
+    let at-first-part = at-second-part .before in
+    let at-start = at-first-part .before .before .before .before in (
+      at-eval-node .eval-node .ensures .0,
+      λ γ x t rd a. align-stops
+          (at-first-part .first-part .ensures)
+          (at-second-part .second-part .ensures)
+          (at-start .pre .1 .1) _
+          (layoutOf t) _ γ a
+          (at-eval-node .eval-node .ensures .1 γ x t rd)
+          (c .if1 .taken),
+    )
 
 eval-align-element-copy-out-x : (t : ℕ) → eval-align-lts.Need-element-copy-out-x (eval-align-with t) (eval-align-at t) eval-align.Post
 eval-align-element-copy-out-x t c = search needs
 
 eval-align-read8-requires : (t : ℕ) → eval-align-lts.Need-read8-requires (eval-align-with t) (eval-align-at t) eval-align.Post
-eval-align-read8-requires t c κs = align-number (c .before .before .before .before .before .before .before .before .first-part .ensures) (c .before .before .before .before .before .before .before .before .before .before .before .before .pre .1 .0 .node) (c .before .before .before .before .before .before .before .before .before .before .before .before .pre .1 .1) .0
+eval-align-read8-requires t c κs =
+    let at-first-part = c .before .before .before .before .before .before .before .before in
+    let at-start = at-first-part .before .before .before .before in
+    align-number
+    (at-first-part .first-part .ensures)
+    (at-start .pre .1 .0 .node)
+    (at-start .pre .1 .1) .0
 
 eval-align-align-up-requires : (t : ℕ) → eval-align-lts.Need-align-up-requires (eval-align-with t) (eval-align-at t) eval-align.Post
 eval-align-align-up-requires t c κs = search needs
@@ -191,46 +350,159 @@ eval-align-same-length-2 : (t : ℕ) → eval-align-lts.Need-same-length-2 (eval
 eval-align-same-length-2 t c = search needs
 
 eval-align-returns-2 : (t : ℕ) → eval-align-lts.Need-returns-2 (eval-align-with t) (eval-align-at t) eval-align.Post
-eval-align-returns-2 t c = (c .before .before .before .before .before .before .before .before .eval-node .ensures .0, λ γ x t rd a. align-goes (c .before .before .before .before .before .before .before .before .before .before .before .before .first-part .ensures) (c .before .before .before .before .before .before .before .before .before .before .before .second-part .ensures) (c .before .before .before .before .before .before .before .before .before .before .before .before .before .before .before .before .pre .1 .1) _ (layoutOf t) _ γ a (c .before .before .before .before .before .before .before .before .eval-node .ensures .1 γ x t rd) (c .before .before .before .before .before .if1 .left) (c .before .before .before .read8 .ensures) (c .before .before .align-up .ensures) (c .lifted .ensures))
+eval-align-returns-2 t c =
+    let at-align-up = c .before .before in
+    let at-read8 = at-align-up .before in
+    let at-else1 = at-read8 .before .before in
+    let at-eval-node = at-else1 .before .before .before in
+    let at-second-part = at-eval-node .before .before .before in
+    let at-first-part = at-second-part .before in
+    let at-start = at-first-part .before .before .before .before in (
+      at-eval-node .eval-node .ensures .0,
+      λ γ x t rd a. align-goes
+          (at-first-part .first-part .ensures)
+          (at-second-part .second-part .ensures)
+          (at-start .pre .1 .1) _
+          (layoutOf t) _ γ a
+          (at-eval-node .eval-node .ensures .1 γ x t rd)
+          (at-else1 .if1 .left)
+          (at-read8 .read8 .ensures)
+          (at-align-up .align-up .ensures)
+          (c .lifted .ensures),
+    )
 
 eval-binary-add-read2 : (t : ℕ) → eval-binary-lts.Need-add-read2 (eval-binary-with t) (eval-binary-at t) eval-binary.Post
-eval-binary-add-read2 t c = omega (arith, kinds (c .before .before .before .pre .1 .0 .node) .2, kinds (c .before .before .before .pre .1 .0 .node) .3)
+eval-binary-add-read2 t c =
+    let at-start = c .before .before .before in
+    omega (arith, within (at-start .pre .1 .0 .node))
 
 eval-binary-read2-requires : (t : ℕ) → eval-binary-lts.Need-read2-requires (eval-binary-with t) (eval-binary-at t) eval-binary.Post
-eval-binary-read2-requires t c κs = omega (arith, kinds (c .before .before .before .pre .1 .0 .node) .2, kinds (c .before .before .before .pre .1 .0 .node) .3)
+eval-binary-read2-requires t c κs =
+    let at-start = c .before .before .before in
+    omega (arith, within (at-start .pre .1 .0 .node))
 
 eval-binary-first-part-requires : (t : ℕ) → eval-binary-lts.Need-first-part-requires (eval-binary-with t) (eval-binary-at t) eval-binary.Post
-eval-binary-first-part-requires t c κs = c .before .before .before .before .pre .1 .0 .node
+eval-binary-first-part-requires t c κs =
+    let at-start = c .before .before .before .before in
+    at-start .pre .1 .0 .node
 
 eval-binary-second-part-requires : (t : ℕ) → eval-binary-lts.Need-second-part-requires (eval-binary-with t) (eval-binary-at t) eval-binary.Post
-eval-binary-second-part-requires t c κs = (c .before .before .before .before .before .pre .1 .0 .node, enough _ _ (omega (arith, (c .before .before .before .before .before .pre .1 .1 .0))) (omega (arith, (c .before .before .before .before .before .pre .1 .1 .1))) (omega arith))
+eval-binary-second-part-requires t c κs =
+    let at-start = c .before .before .before .before .before in (
+      at-start .pre .1 .0 .node,
+      enough _ _
+          (omega (arith, (at-start .pre .1 .1 .0)))
+          (omega (arith, (at-start .pre .1 .1 .1)))
+          (omega arith),
+    )
 
 eval-binary-eval-operand-requires : (t : ℕ) → eval-binary-lts.Need-eval-operand-requires (eval-binary-with t) (eval-binary-at t) eval-binary.Post
-eval-binary-eval-operand-requires t c κs = (omega (arith, c .before .before .before .before .before .before .before .before .pre .0, left-child (c .before .before .before .before .before .before .before .before .pre .1 .0 .node) (c .before .before .before .before .before .before .before .before .pre .1 .1 .0) (c .before .before .before .before .before .before .before .before .pre .1 .1 .1) (c .before .before .before .first-part .ensures) .2), child-ready (c .before .before .before .before .before .before .before .before .pre .1 .0) (left-child (c .before .before .before .before .before .before .before .before .pre .1 .0 .node) (c .before .before .before .before .before .before .before .before .pre .1 .1 .0) (c .before .before .before .before .before .before .before .before .pre .1 .1 .1) (c .before .before .before .first-part .ensures) .0))
+eval-binary-eval-operand-requires t c κs =
+    let at-first-part = c .before .before .before in
+    let at-start = at-first-part .before .before .before .before .before in (
+      omega (
+        arith,
+        at-start .pre .0,
+        left-child
+            (at-start .pre .1 .0 .node)
+            (at-start .pre .1 .1 .0)
+            (at-start .pre .1 .1 .1)
+            (at-first-part .first-part .ensures) .2,
+      ),
+      child-ready
+          (at-start .pre .1 .0)
+          (left-child
+          (at-start .pre .1 .0 .node)
+          (at-start .pre .1 .1 .0)
+          (at-start .pre .1 .1 .1)
+          (at-first-part .first-part .ensures) .0),
+    )
 
 eval-binary-same-length : (t : ℕ) → eval-binary-lts.Need-same-length (eval-binary-with t) (eval-binary-at t) eval-binary.Post
 eval-binary-same-length t c = search needs
 
 eval-binary-returns : (t : ℕ) → eval-binary-lts.Need-returns (eval-binary-with t) (eval-binary-at t) eval-binary.Post
-eval-binary-returns t c = (c .before .before .before .eval-operand .ensures .0, λ γ x t rd a. left-stops a (c .before .before .before .before .before .before .before .before .before .before .before .before .pre .1 .1 .0) (c .before .before .before .before .before .before .before .before .before .before .before .before .pre .1 .1 .1) (c .before .before .before .before .before .before .before .first-part .ensures) (c .before .before .before .before .before .before .second-part .ensures) _ (layoutOf t) _ γ (c .before .before .before .eval-operand .ensures .1 γ x t rd) (c .if1 .taken))
+eval-binary-returns t c =
+    let at-eval-operand = c .before .before .before in
+    let at-second-part = at-eval-operand .before .before .before in
+    let at-first-part = at-second-part .before in
+    let at-start = at-first-part .before .before .before .before .before in (
+      at-eval-operand .eval-operand .ensures .0,
+      λ γ x t rd a. left-stops a
+          (at-start .pre .1 .1 .0)
+          (at-start .pre .1 .1 .1)
+          (at-first-part .first-part .ensures)
+          (at-second-part .second-part .ensures) _
+          (layoutOf t) _ γ
+          (at-eval-operand .eval-operand .ensures .1 γ x t rd)
+          (c .if1 .taken),
+    )
 
 eval-binary-element-copy-out-x : (t : ℕ) → eval-binary-lts.Need-element-copy-out-x (eval-binary-with t) (eval-binary-at t) eval-binary.Post
 eval-binary-element-copy-out-x t c = search needs
 
 eval-binary-eval-node-requires : (t : ℕ) → eval-binary-lts.Need-eval-node-requires (eval-binary-with t) (eval-binary-at t) eval-binary.Post
-eval-binary-eval-node-requires t c κs = (omega (arith, c .before .before .before .before .before .before .before .before .before .before .before .before .before .before .before .pre .0, right-child (c .before .before .before .before .before .before .before .before .before .before .before .before .before .before .before .pre .1 .0 .node) (c .before .before .before .before .before .before .before .before .before .before .before .before .before .before .before .pre .1 .1 .0) (c .before .before .before .before .before .before .before .before .before .before .before .before .before .before .before .pre .1 .1 .1) (c .before .before .before .before .before .before .before .before .before .second-part .ensures) .2), still-ready (c .before .before .before .before .before .before .before .before .before .before .before .before .before .before .before .pre .1 .0) (right-child (c .before .before .before .before .before .before .before .before .before .before .before .before .before .before .before .pre .1 .0 .node) (c .before .before .before .before .before .before .before .before .before .before .before .before .before .before .before .pre .1 .1 .0) (c .before .before .before .before .before .before .before .before .before .before .before .before .before .before .before .pre .1 .1 .1) (c .before .before .before .before .before .before .before .before .before .second-part .ensures) .0) (omega arith) (c .before .before .before .before .before .before .eval-operand .ensures .0))
+eval-binary-eval-node-requires t c κs =
+    let at-eval-operand = c .before .before .before .before .before .before in
+    let at-second-part = at-eval-operand .before .before .before in
+    let at-start = at-second-part .before .before .before .before .before .before in (
+      omega (
+        arith,
+        at-start .pre .0,
+        right-child
+            (at-start .pre .1 .0 .node)
+            (at-start .pre .1 .1 .0)
+            (at-start .pre .1 .1 .1)
+            (at-second-part .second-part .ensures) .2,
+      ),
+      still-ready
+          (at-start .pre .1 .0)
+          (right-child
+          (at-start .pre .1 .0 .node)
+          (at-start .pre .1 .1 .0)
+          (at-start .pre .1 .1 .1)
+          (at-second-part .second-part .ensures) .0)
+          (omega arith)
+          (at-eval-operand .eval-operand .ensures .0),
+    )
 
 eval-binary-same-length-2 : (t : ℕ) → eval-binary-lts.Need-same-length-2 (eval-binary-with t) (eval-binary-at t) eval-binary.Post
 eval-binary-same-length-2 t c = search needs
 
 eval-binary-returns-2 : (t : ℕ) → eval-binary-lts.Need-returns-2 (eval-binary-with t) (eval-binary-at t) eval-binary.Post
-eval-binary-returns-2 t c = ((λ i h. c .before .before .before .eval-node .ensures .0 i h ∙ c .before .before .before .before .before .before .before .before .before .before .eval-operand .ensures .0 i h), λ γ x t rd a. right-stops a (c .before .before .before .before .before .before .before .before .before .before .before .before .before .before .before .before .before .before .before .pre .1 .1 .0) (c .before .before .before .before .before .before .before .before .before .before .before .before .before .before .before .before .before .before .before .pre .1 .1 .1) (c .before .before .before .before .before .before .before .before .before .before .before .before .before .before .first-part .ensures) (c .before .before .before .before .before .before .before .before .before .before .before .before .before .second-part .ensures) _ (layoutOf t) _ γ (c .before .before .before .before .before .before .before .before .before .before .eval-operand .ensures .1 γ x t rd) (c .before .before .before .eval-node .ensures .1 γ (context-same _ (omega arith) (omega arith) (c .before .before .before .before .before .before .before .before .before .before .eval-operand .ensures .0) x) t rd) (c .before .before .before .before .before .before .before .if1 .left) (c .if2 .taken))
+eval-binary-returns-2 t c =
+    let at-eval-node = c .before .before .before in
+    let at-else1 = at-eval-node .before .before .before .before in
+    let at-eval-operand = at-else1 .before .before .before in
+    let at-second-part = at-eval-operand .before .before .before in
+    let at-first-part = at-second-part .before in
+    let at-start = at-first-part .before .before .before .before .before in (
+      (λ i h. at-eval-node .eval-node .ensures .0 i h
+          ∙ at-eval-operand .eval-operand .ensures .0 i h),
+      λ γ x t rd a. right-stops a
+          (at-start .pre .1 .1 .0)
+          (at-start .pre .1 .1 .1)
+          (at-first-part .first-part .ensures)
+          (at-second-part .second-part .ensures) _
+          (layoutOf t) _ γ
+          (at-eval-operand .eval-operand .ensures .1 γ x t rd)
+          (at-eval-node .eval-node .ensures .1 γ
+          (context-same _ (omega arith) (omega arith) (at-eval-operand .eval-operand .ensures .0) x)
+          t rd)
+          (at-else1 .if1 .left)
+          (c .if2 .taken),
+    )
 
 eval-binary-element-copy-out-y : (t : ℕ) → eval-binary-lts.Need-element-copy-out-y (eval-binary-with t) (eval-binary-at t) eval-binary.Post
 eval-binary-element-copy-out-y t c = search needs
 
 eval-binary-operate-requires : (t : ℕ) → eval-binary-lts.Need-operate-requires (eval-binary-with t) (eval-binary-at t) eval-binary.Post
-eval-binary-operate-requires t c κs = (omega (arith, c .before .before .before .before .before .before .before .before .before .before .before .before .before .before .before .before .read2 .ensures .0, (c .before .before .before .before .before .before .before .before .before .before .before .before .before .before .before .before .before .before .before .before .pre .1 .1 .0)), omega (arith, c .before .before .before .before .before .before .before .before .before .before .before .before .before .before .before .before .read2 .ensures .0, (c .before .before .before .before .before .before .before .before .before .before .before .before .before .before .before .before .before .before .before .before .pre .1 .1 .1)))
+eval-binary-operate-requires t c κs =
+    let at-read2 = c .before .before .before .before .before .before .before .before .before .before .before .before .before .before .before .before in
+    let at-start = at-read2 .before .before .before .before in (
+      omega (arith, at-read2 .read2 .ensures .0, (at-start .pre .1 .1 .0)),
+      omega (arith, at-read2 .read2 .ensures .0, (at-start .pre .1 .1 .1)),
+    )
 
 eval-binary-lifted-requires : (t : ℕ) → eval-binary-lts.Need-lifted-requires (eval-binary-with t) (eval-binary-at t) eval-binary.Post
 eval-binary-lifted-requires t c κs = search needs
@@ -239,10 +511,39 @@ eval-binary-same-length-3 : (t : ℕ) → eval-binary-lts.Need-same-length-3 (ev
 eval-binary-same-length-3 t c = search needs
 
 eval-binary-returns-3 : (t : ℕ) → eval-binary-lts.Need-returns-3 (eval-binary-with t) (eval-binary-at t) eval-binary.Post
-eval-binary-returns-3 t c = ((λ i h. c .before .before .before .before .before .before .before .eval-node .ensures .0 i h ∙ c .before .before .before .before .before .before .before .before .before .before .before .before .before .before .eval-operand .ensures .0 i h), λ γ x t rd a. both-go a (c .before .before .before .before .before .before .before .before .before .before .before .before .before .before .before .before .before .before .before .before .before .before .before .pre .1 .1 .0) (c .before .before .before .before .before .before .before .before .before .before .before .before .before .before .before .before .before .before .before .before .before .before .before .pre .1 .1 .1) (c .before .before .before .before .before .before .before .before .before .before .before .before .before .before .before .before .before .before .first-part .ensures) (c .before .before .before .before .before .before .before .before .before .before .before .before .before .before .before .before .before .second-part .ensures) _ (layoutOf t) _ γ (c .before .before .before .before .before .before .before .before .before .before .before .before .before .before .eval-operand .ensures .1 γ x t rd) (c .before .before .before .before .before .before .before .eval-node .ensures .1 γ (context-same _ (omega arith) (omega arith) (c .before .before .before .before .before .before .before .before .before .before .before .before .before .before .eval-operand .ensures .0) x) t rd) (c .before .before .before .before .before .before .before .before .before .before .before .if1 .left) (c .before .before .before .before .if2 .left) (c .before .before .before .before .before .before .before .before .before .before .before .before .before .before .before .before .before .before .before .read2 .ensures .0) (c .before .before .operate .ensures) (c .lifted .ensures))
+eval-binary-returns-3 t c =
+    let at-operate = c .before .before in
+    let at-else2 = at-operate .before .before in
+    let at-eval-node = at-else2 .before .before .before in
+    let at-else1 = at-eval-node .before .before .before .before in
+    let at-eval-operand = at-else1 .before .before .before in
+    let at-second-part = at-eval-operand .before .before .before in
+    let at-first-part = at-second-part .before in
+    let at-read2 = at-first-part .before in
+    let at-start = at-read2 .before .before .before .before in (
+      (λ i h. at-eval-node .eval-node .ensures .0 i h
+          ∙ at-eval-operand .eval-operand .ensures .0 i h),
+      λ γ x t rd a. both-go a
+          (at-start .pre .1 .1 .0)
+          (at-start .pre .1 .1 .1)
+          (at-first-part .first-part .ensures)
+          (at-second-part .second-part .ensures) _
+          (layoutOf t) _ γ
+          (at-eval-operand .eval-operand .ensures .1 γ x t rd)
+          (at-eval-node .eval-node .ensures .1 γ
+          (context-same _ (omega arith) (omega arith) (at-eval-operand .eval-operand .ensures .0) x)
+          t rd)
+          (at-else1 .if1 .left)
+          (at-else2 .if2 .left)
+          (at-read2 .read2 .ensures .0)
+          (at-operate .operate .ensures)
+          (c .lifted .ensures),
+    )
 
 eval-call-collect-arguments-requires : (t : ℕ) → eval-call-lts.Need-collect-arguments-requires (eval-call-with t) (eval-call-at t) eval-call.Post
-eval-call-collect-arguments-requires t c κs = (c .before .before .before .before .pre .1 .0 .node, (c .before .before .before .before .pre .1 .1), c .before .before .before .before .pre .1 .0 .context)
+eval-call-collect-arguments-requires t c κs =
+    let at-start = c .before .before .before .before in
+    (at-start .pre .1 .0 .node, (at-start .pre .1 .1), at-start .pre .1 .0 .context)
 
 eval-call-enum-known-q : (t : ℕ) → eval-call-lts.Need-enum-known-q (eval-call-with t) (eval-call-at t) eval-call.Post
 eval-call-enum-known-q t c = search needs
@@ -254,7 +555,13 @@ eval-call-enum-told : (t : ℕ) → eval-call-lts.Need-enum-told (eval-call-with
 eval-call-enum-told t c = search needs
 
 eval-call-called-requires : (t : ℕ) → eval-call-lts.Need-called-requires (eval-call-with t) (eval-call-at t) eval-call.Post
-eval-call-called-requires t c κs = (c .before .before .before .before .before .before .before .before .pre .1 .0 .node, (c .before .before .before .before .before .before .before .before .pre .1 .1), c .before .before .before .before .before .before .before .before .pre .1 .0 .layout, c .before .before .before .before .before .before .before .before .pre .1 .0 .here)
+eval-call-called-requires t c κs =
+    let at-start = c .before .before .before .before .before .before .before .before in (
+      at-start .pre .1 .0 .node,
+      (at-start .pre .1 .1),
+      at-start .pre .1 .0 .layout,
+      at-start .pre .1 .0 .here,
+    )
 
 eval-call-enum-told-2 : (t : ℕ) → eval-call-lts.Need-enum-told-2 (eval-call-with t) (eval-call-at t) eval-call.Post
 eval-call-enum-told-2 t c = search needs
@@ -272,204 +579,414 @@ eval-call-same-length : (t : ℕ) → eval-call-lts.Need-same-length (eval-call-
 eval-call-same-length t c = search needs
 
 eval-call-returns : (t : ℕ) → eval-call-lts.Need-returns (eval-call-with t) (eval-call-at t) eval-call.Post
-eval-call-returns t c = ((λ i h. refl), λ γ x t rd a. tells-as (c .refused3 .ensures) (call-stops (c .before .before .before .before .before .before .before .before .before .before .before .before .before .before .before .pre .1 .1) _ (layoutOf t) _ γ a (bound-all (c .before .before .before .before .before .before .before .before .enum-told .given .1) (c .before .before .before .before .before .before .before .before .before .before .collect-arguments .ensures _ γ x a) .1) (found-at (c .before .before .before .before .i .given .1) (c .before .before .before .before .before .before .called .ensures t rd a) .1) (c .before .before .if1 .taken)))
+eval-call-returns t c =
+    let at-then1 = c .before .before in
+    let at-i = at-then1 .before .before in
+    let at-called = at-i .before .before in
+    let at-enum-told = at-called .before .before in
+    let at-collect-arguments = at-enum-told .before .before in
+    let at-start = at-collect-arguments .before .before .before .before .before in (
+      (λ i h. refl),
+      λ γ x t rd a. tells-as
+          (c .refused3 .ensures)
+          (call-stops
+          (at-start .pre .1 .1) _
+          (layoutOf t) _ γ a
+          (bound-all
+          (at-enum-told .enum-told .given .1)
+          (at-collect-arguments .collect-arguments .ensures _ γ x a) .1)
+          (found-at (at-i .i .given .1) (at-called .called .ensures t rd a) .1)
+          (at-then1 .if1 .taken)),
+    )
 
 eval-call-root-requires : (t : ℕ) → eval-call-lts.Need-root-requires (eval-call-with t) (eval-call-at t) eval-call.Post
-eval-call-root-requires t c κs = found-at (c .before .before .i .given .1) (c .before .before .before .before .called .ensures (c .before .before .before .before .before .before .before .before .before .before .before .before .before .pre .1 .0 .layout .0) (c .before .before .before .before .before .before .before .before .before .before .before .before .before .pre .1 .0 .layout .1) (c .before .before .before .before .before .before .before .before .before .before .before .before .before .pre .1 .0 .node)) .0
+eval-call-root-requires t c κs =
+    let at-i = c .before .before in
+    let at-called = at-i .before .before in
+    let at-start = at-called .before .before .before .before .before .before .before .before .before in
+    found-at
+    (at-i .i .given .1)
+    (at-called .called .ensures
+    (at-start .pre .1 .0 .layout .0)
+    (at-start .pre .1 .0 .layout .1)
+    (at-start .pre .1 .0 .node)) .0
+
+-- eval_call, where the root of the called type was found: the places before it.
+abbrev AtRoot : ℕ → Type 0
+AtRoot t = eval-call-lts.After-root (eval-call-with t) (eval-call-at t) eval-call.Post
+
+abbrev at-else1 : (t : ℕ) → AtRoot t → eval-call-lts.Else1 (eval-call-with t) (eval-call-at t) eval-call.Post
+at-else1 t r = r .before
+
+abbrev at-i : (t : ℕ) → AtRoot t → eval-call-lts.After-i (eval-call-with t) (eval-call-at t) eval-call.Post
+at-i t r = at-else1 t r .before .before
+
+abbrev at-called : (t : ℕ) → AtRoot t → eval-call-lts.After-called (eval-call-with t) (eval-call-at t) eval-call.Post
+at-called t r = at-i t r .before .before
+
+abbrev at-enum-told : (t : ℕ) → AtRoot t → eval-call-lts.After-enum-told (eval-call-with t) (eval-call-at t) eval-call.Post
+at-enum-told t r = at-called t r .before .before
+
+abbrev at-collect-arguments : (t : ℕ) → AtRoot t → eval-call-lts.After-collect-arguments (eval-call-with t) (eval-call-at t) eval-call.Post
+at-collect-arguments t r = at-enum-told t r .before .before
+
+abbrev at-start : (t : ℕ) → AtRoot t → eval-call-lts.Start (eval-call-with t) (eval-call-at t) eval-call.Post
+at-start t r = at-collect-arguments t r .before .before .before .before .before
+
+-- the call may open
+opening : (t : ℕ) (r : AtRoot t) →
+    Opening (at-start t r .args .s .now) (at-start t r .args .words .now) (at-start t r .args .f) (at-start t r .args .at) (at-i t r .i .given .0 .1 .0)
+opening t r = call-opens (at-start t r .pre .1 .0) (at-i t r .i .given .1) (at-called t r .called .ensures) (at-else1 t r .if1 .left)
 
 eval-call-mul-words : (t : ℕ) → eval-call-lts.Need-mul-words (eval-call-with t) (eval-call-at t) eval-call.Post
-eval-call-mul-words t c =
-    let at-start = c .before .before .before .before .before .before .before .before .before .before .before .before .before .before in
-    let o = call-opens (at-start .pre .1 .0) (c .before .before .before .i .given .1) (c .before .before .before .before .before .called .ensures) (c .before .if1 .left) in
-    omega arith
+eval-call-mul-words t c = let o = opening t c in omega arith
 
 eval-call-add-words : (t : ℕ) → eval-call-lts.Need-add-words (eval-call-with t) (eval-call-at t) eval-call.Post
-eval-call-add-words t c =
-    let at-start = c .before .before .before .before .before .before .before .before .before .before .before .before .before .before in
-    let o = call-opens (at-start .pre .1 .0) (c .before .before .before .i .given .1) (c .before .before .before .before .before .called .ensures) (c .before .if1 .left) in
-    omega arith
+eval-call-add-words t c = let o = opening t c in omega arith
 
 eval-call-mul-words-2 : (t : ℕ) → eval-call-lts.Need-mul-words-2 (eval-call-with t) (eval-call-at t) eval-call.Post
-eval-call-mul-words-2 t c =
-    let at-start = c .before .before .before .before .before .before .before .before .before .before .before .before .before .before in
-    let o = call-opens (at-start .pre .1 .0) (c .before .before .before .i .given .1) (c .before .before .before .before .before .called .ensures) (c .before .if1 .left) in
-    omega arith
+eval-call-mul-words-2 t c = let o = opening t c in omega arith
 
 eval-call-slice-write-words : (t : ℕ) → eval-call-lts.Need-slice-write-words (eval-call-with t) (eval-call-at t) eval-call.Post
-eval-call-slice-write-words t c =
-    let at-start = c .before .before .before .before .before .before .before .before .before .before .before .before .before .before in
-    let o = call-opens (at-start .pre .1 .0) (c .before .before .before .i .given .1) (c .before .before .before .before .before .called .ensures) (c .before .if1 .left) in
-    omega arith
+eval-call-slice-write-words t c = let o = opening t c in omega arith
 
 eval-call-add-t30 : (t : ℕ) → eval-call-lts.Need-add-t30 (eval-call-with t) (eval-call-at t) eval-call.Post
-eval-call-add-t30 t c =
-    let at-start = c .before .before .before .before .before .before .before .before .before .before .before .before .before .before in
-    let o = call-opens (at-start .pre .1 .0) (c .before .before .before .i .given .1) (c .before .before .before .before .before .called .ensures) (c .before .if1 .left) in
-    omega arith
+eval-call-add-t30 t c = let o = opening t c in omega arith
 
 eval-call-sub-t32 : (t : ℕ) → eval-call-lts.Need-sub-t32 (eval-call-with t) (eval-call-at t) eval-call.Post
-eval-call-sub-t32 t c =
-    let at-start = c .before .before .before .before .before .before .before .before .before .before .before .before .before .before in
-    let o = call-opens (at-start .pre .1 .0) (c .before .before .before .i .given .1) (c .before .before .before .before .before .called .ensures) (c .before .if1 .left) in
-    omega arith
+eval-call-sub-t32 t c = let o = opening t c in omega arith
 
 eval-call-eval-node-requires : (t : ℕ) → eval-call-lts.Need-eval-node-requires (eval-call-with t) (eval-call-at t) eval-call.Post
 eval-call-eval-node-requires t c κs =
-    let at-root = c .before .before in
-    let at-i = at-root .before .before .before in
-    let at-called = at-i .before .before in
-    let at-arguments = at-called .before .before in
-    let at-collected = at-arguments .before .before in
-    let at-start = at-collected .before .before .before .before .before in
-    let ready = at-start .pre .1 .0 in
-    let o = call-opens ready (at-i .i .given .1) (at-called .called .ensures) (at-root .before .if1 .left) in
-    let type = found-at (at-i .i .given .1) (at-called .called .ensures (ready .layout .0) (ready .layout .1) (ready .node)) .0 in (
-      omega (arith, at-start .pre .0, ready .small, ends (at-root .root .ensures type .root) .1),
-      call-ready _ (o .word) (omega arith) refl (at-start .pre .1 .1) (at-arguments .enum-told .given .1) (at-i .i .given .1)
-          (at-collected .collect-arguments .ensures) (at-called .called .ensures) (at-root .root .ensures) (at-root .before .if1 .left) ready,
+    let r = c .before .before in
+    let o = opening t r in
+    let ready = at-start t r .pre .1 .0 in
+    let type = found-at (at-i t r .i .given .1) (at-called t r .called .ensures (ready .layout .0) (ready .layout .1) (ready .node)) .0 in (
+      omega (arith, at-start t r .pre .0, ready .small, ends (r .root .ensures type .root) .1),
+      call-ready _
+          (o .word)
+          (omega arith) refl
+          (at-start t r .pre .1 .1)
+          (at-enum-told t r .enum-told .given .1)
+          (at-i t r .i .given .1)
+          (at-collect-arguments t r .collect-arguments .ensures)
+          (at-called t r .called .ensures)
+          (r .root .ensures)
+          (at-else1 t r .if1 .left) ready,
     )
 
 eval-call-same-length-2 : (t : ℕ) → eval-call-lts.Need-same-length-2 (eval-call-with t) (eval-call-at t) eval-call.Post
 eval-call-same-length-2 t c = search needs
 
 eval-call-returns-2 : (t : ℕ) → eval-call-lts.Need-returns-2 (eval-call-with t) (eval-call-at t) eval-call.Post
-eval-call-returns-2 t c = ((λ i h. refl), λ γ x t rd a. tells-as (c .refused .ensures) (call-lacks (c .before .before .before .before .before .before .before .before .before .before .pre .1 .1) _ (layoutOf t) _ γ a (c .before .before .before .q .given .1) (c .before .before .before .before .before .collect-arguments .ensures _ γ x a)))
+eval-call-returns-2 t c =
+    let at-q = c .before .before .before in
+    let at-collect-arguments = at-q .before .before in
+    let at-start = at-collect-arguments .before .before .before .before .before in (
+      (λ i h. refl),
+      λ γ x t rd a. tells-as
+          (c .refused .ensures)
+          (call-lacks
+          (at-start .pre .1 .1) _
+          (layoutOf t) _ γ a
+          (at-q .q .given .1)
+          (at-collect-arguments .collect-arguments .ensures _ γ x a)),
+    )
 
 eval-call-same-length-3 : (t : ℕ) → eval-call-lts.Need-same-length-3 (eval-call-with t) (eval-call-at t) eval-call.Post
 eval-call-same-length-3 t c = search needs
 
 eval-call-returns-3 : (t : ℕ) → eval-call-lts.Need-returns-3 (eval-call-with t) (eval-call-at t) eval-call.Post
-eval-call-returns-3 t c = ((λ i h. refl), λ γ x t rd a. tells-as (c .refused2 .ensures) (call-unknown (c .before .before .before .before .before .before .before .before .before .before .before .before .before .pre .1 .1) _ (layoutOf t) _ γ a (bound-all (c .before .before .before .before .before .before .enum-told .given .1) (c .before .before .before .before .before .before .before .before .collect-arguments .ensures _ γ x a) .1) (c .before .before .enum-told2 .given .1) (c .before .before .before .before .called .ensures t rd a)))
+eval-call-returns-3 t c =
+    let at-enum-told2 = c .before .before in
+    let at-called = at-enum-told2 .before .before in
+    let at-enum-told = at-called .before .before in
+    let at-collect-arguments = at-enum-told .before .before in
+    let at-start = at-collect-arguments .before .before .before .before .before in (
+      (λ i h. refl),
+      λ γ x t rd a. tells-as
+          (c .refused2 .ensures)
+          (call-unknown
+          (at-start .pre .1 .1) _
+          (layoutOf t) _ γ a
+          (bound-all
+          (at-enum-told .enum-told .given .1)
+          (at-collect-arguments .collect-arguments .ensures _ γ x a) .1)
+          (at-enum-told2 .enum-told2 .given .1)
+          (at-called .called .ensures t rd a)),
+    )
 
 eval-call-same-length-4 : (t : ℕ) → eval-call-lts.Need-same-length-4 (eval-call-with t) (eval-call-at t) eval-call.Post
 eval-call-same-length-4 t c =
-    let at-start = c .before .before .before .before .before .before .before .before .before .before .before .before .before .before .before .before .before .before .before in
-    c .before .words .given ∙ length-set (at-start .args .words .now) (at-start .args .f .depth) _
+    let r = c .before .before .before .before .before in
+    c .before .words .given ∙ length-set (at-start t r .args .words .now) (at-start t r .args .f .depth) _
 
 eval-call-returns-4 : (t : ℕ) → eval-call-lts.Need-returns-4 (eval-call-with t) (eval-call-at t) eval-call.Post
 eval-call-returns-4 t c =
-    let at-root = c .before .before .before .before .before in
-    let at-i = at-root .before .before .before in
-    let at-called = at-i .before .before in
-    let at-arguments = at-called .before .before in
-    let at-collected = at-arguments .before .before in
-    let at-start = at-collected .before .before .before .before .before in
-    let ready = at-start .pre .1 .0 in
-    let o = call-opens ready (at-i .i .given .1) (at-called .called .ensures) (at-root .before .if1 .left) in (
-      λ i h. c .before .before .eval-node .ensures .0 i (omega arith)
-          ∙ getD-set-other (at-start .args .words .now) (at-start .args .f .depth) i _ 0 (λ f. absurd (omega arith)),
-      call-answers _ (o .word) (omega arith) refl (at-start .pre .1 .1) (at-arguments .enum-told .given .1) (at-i .i .given .1)
-          (at-collected .collect-arguments .ensures) (at-called .called .ensures) (at-root .root .ensures) (at-root .before .if1 .left)
-          (c .before .before .eval-node .ensures .1),
+    let at-eval-node = c .before .before in
+    let r = at-eval-node .before .before .before in
+    let o = opening t r in (
+      λ i h. at-eval-node .eval-node .ensures .0 i (omega arith)
+          ∙ getD-set-other (at-start t r .args .words .now) (at-start t r .args .f .depth) i _ 0 (λ f. absurd (omega arith)),
+      call-answers _
+          (o .word)
+          (omega arith) refl
+          (at-start t r .pre .1 .1)
+          (at-enum-told t r .enum-told .given .1)
+          (at-i t r .i .given .1)
+          (at-collect-arguments t r .collect-arguments .ensures)
+          (at-called t r .called .ensures)
+          (r .root .ensures)
+          (at-else1 t r .if1 .left)
+          (at-eval-node .eval-node .ensures .1),
     )
 
 eval-kind-add-read2 : (t : ℕ) → eval-kind-lts.Need-add-read2 (eval-kind-with t) (eval-kind-at t) eval-kind.Post
-eval-kind-add-read2 t c = omega (arith, kinds (c .before .before .before .pre .1 .node) .2, kinds (c .before .before .before .pre .1 .node) .3)
+eval-kind-add-read2 t c =
+    let at-start = c .before .before .before in
+    omega (arith, within (at-start .pre .1 .node))
 
 eval-kind-read2-requires : (t : ℕ) → eval-kind-lts.Need-read2-requires (eval-kind-with t) (eval-kind-at t) eval-kind.Post
-eval-kind-read2-requires t c κs = omega (arith, kinds (c .before .before .before .pre .1 .node) .2, kinds (c .before .before .before .pre .1 .node) .3)
+eval-kind-read2-requires t c κs =
+    let at-start = c .before .before .before in
+    omega (arith, within (at-start .pre .1 .node))
 
 eval-kind-counted-requires : (t : ℕ) → eval-kind-lts.Need-counted-requires (eval-kind-with t) (eval-kind-at t) eval-kind.Post
 eval-kind-counted-requires t c κs = search needs
 
 eval-kind-constant-requires : (t : ℕ) → eval-kind-lts.Need-constant-requires (eval-kind-with t) (eval-kind-at t) eval-kind.Post
-eval-kind-constant-requires t c κs = (c .before .before .before .before .before .before .pre .1 .node, sym (c .before .before .read2 .ensures .0) ∙ c .before .match .keys2)
+eval-kind-constant-requires t c κs =
+    let at-read2 = c .before .before in
+    let at-start = at-read2 .before .before .before .before in
+    (at-start .pre .1 .node, sym (at-read2 .read2 .ensures .0) ∙ c .before .match .keys2)
 
 eval-kind-field-requires : (t : ℕ) → eval-kind-lts.Need-field-requires (eval-kind-with t) (eval-kind-at t) eval-kind.Post
-eval-kind-field-requires t c κs = (c .before .before .before .before .before .before .before .pre .1 .node, sym (c .before .before .before .read2 .ensures .0) ∙ c .before .before .match .keys3, c .before .before .before .before .before .before .before .pre .1 .context)
+eval-kind-field-requires t c κs =
+    let at-match-keys3 = c .before .before in
+    let at-read2 = at-match-keys3 .before in
+    let at-start = at-read2 .before .before .before .before in (
+      at-start .pre .1 .node,
+      sym (at-read2 .read2 .ensures .0) ∙ at-match-keys3 .match .keys3,
+      at-start .pre .1 .context,
+    )
 
 eval-kind-eval-align-requires : (t : ℕ) → eval-kind-lts.Need-eval-align-requires (eval-kind-with t) (eval-kind-at t) eval-kind.Post
-eval-kind-eval-align-requires t c κs = (omega (arith, c .before .before .before .before .before .before .before .pre .0), (c .before .before .before .before .before .before .before .pre .1, sym (c .before .before .before .read2 .ensures .0) ∙ c .before .before .match .keys4))
+eval-kind-eval-align-requires t c κs =
+    let at-match-keys4 = c .before .before in
+    let at-read2 = at-match-keys4 .before in
+    let at-start = at-read2 .before .before .before .before in (
+      omega (arith, at-start .pre .0),
+      (at-start .pre .1, sym (at-read2 .read2 .ensures .0) ∙ at-match-keys4 .match .keys4),
+    )
 
 eval-kind-eval-switch-requires : (t : ℕ) → eval-kind-lts.Need-eval-switch-requires (eval-kind-with t) (eval-kind-at t) eval-kind.Post
-eval-kind-eval-switch-requires t c κs = (omega (arith, c .before .before .before .before .before .before .before .pre .0), (c .before .before .before .before .before .before .before .pre .1, sym (c .before .before .before .read2 .ensures .0) ∙ c .before .before .match .keys5))
+eval-kind-eval-switch-requires t c κs =
+    let at-match-keys5 = c .before .before in
+    let at-read2 = at-match-keys5 .before in
+    let at-start = at-read2 .before .before .before .before in (
+      omega (arith, at-start .pre .0),
+      (at-start .pre .1, sym (at-read2 .read2 .ensures .0) ∙ at-match-keys5 .match .keys5),
+    )
 
 eval-kind-eval-call-requires : (t : ℕ) → eval-kind-lts.Need-eval-call-requires (eval-kind-with t) (eval-kind-at t) eval-kind.Post
-eval-kind-eval-call-requires t c κs = (omega (arith, c .before .before .before .before .before .before .before .pre .0), (c .before .before .before .before .before .before .before .pre .1, sym (c .before .before .before .read2 .ensures .0) ∙ c .before .before .match .keys6))
+eval-kind-eval-call-requires t c κs =
+    let at-match-keys6 = c .before .before in
+    let at-read2 = at-match-keys6 .before in
+    let at-start = at-read2 .before .before .before .before in (
+      omega (arith, at-start .pre .0),
+      (at-start .pre .1, sym (at-read2 .read2 .ensures .0) ∙ at-match-keys6 .match .keys6),
+    )
 
 eval-kind-refused-requires : (t : ℕ) → eval-kind-lts.Need-refused-requires (eval-kind-with t) (eval-kind-at t) eval-kind.Post
 eval-kind-refused-requires t c κs = search needs
 
 eval-kind-eval-binary-requires : (t : ℕ) → eval-kind-lts.Need-eval-binary-requires (eval-kind-with t) (eval-kind-at t) eval-kind.Post
-eval-kind-eval-binary-requires t c κs = (omega (arith, c .before .before .before .before .before .before .before .pre .0), (c .before .before .before .before .before .before .before .pre .1, (omega (arith, kinds (c .before .before .before .before .before .before .before .pre .1 .node) .0, c .before .before .before .read2 .ensures .0, c .before .before .match .rest .0 .0 .0 .0 .0 .0 .1, c .before .before .match .rest .0 .0 .0 .0 .0 .1, c .before .before .match .rest .0 .0 .0 .0 .1, c .before .before .match .rest .0 .0 .0 .1, c .before .before .match .rest .0 .0 .1, c .before .before .match .rest .0 .1), omega (arith, kinds (c .before .before .before .before .before .before .before .pre .1 .node) .1, c .before .before .before .read2 .ensures .0, c .before .before .match .rest .1))))
+eval-kind-eval-binary-requires t c κs =
+    let at-match-rest = c .before .before in
+    let at-read2 = at-match-rest .before in
+    let at-start = at-read2 .before .before .before .before in (
+      omega (arith, at-start .pre .0),
+      (
+        at-start .pre .1,
+        (
+          omega (
+            arith,
+            kinds (at-start .pre .1 .node) .0,
+            at-read2 .read2 .ensures .0,
+            at-match-rest .match .rest .0 .0 .0 .0 .0 .0 .1,
+            at-match-rest .match .rest .0 .0 .0 .0 .0 .1,
+            at-match-rest .match .rest .0 .0 .0 .0 .1,
+            at-match-rest .match .rest .0 .0 .0 .1,
+            at-match-rest .match .rest .0 .0 .1,
+            at-match-rest .match .rest .0 .1,
+          ),
+          omega (
+            arith,
+            kinds (at-start .pre .1 .node) .1,
+            at-read2 .read2 .ensures .0,
+            at-match-rest .match .rest .1,
+          ),
+        ),
+      ),
+    )
 
 eval-kind-returns : (t : ℕ) → eval-kind-lts.Need-returns (eval-kind-with t) (eval-kind-at t) eval-kind.Post
-eval-kind-returns t c = ((λ i h. refl), λ γ x t rd a. leaf-answers _ (layoutOf t) _ γ a (λ k. tells-as (c .counted .ensures) (zero-is (c .before .before .before .read2 .ensures .0) (c .before .before .match .keys1) k _ γ a)))
+eval-kind-returns t c =
+    let at-match-keys1 = c .before .before in
+    let at-read2 = at-match-keys1 .before in (
+      (λ i h. refl),
+      λ γ x t rd a. leaf-answers _
+          (layoutOf t) _ γ a
+          (λ k. tells-as
+          (c .counted .ensures)
+          (zero-is (at-read2 .read2 .ensures .0) (at-match-keys1 .match .keys1) k _ γ a)),
+    )
 
 eval-kind-returns-2 : (t : ℕ) → eval-kind-lts.Need-returns-2 (eval-kind-with t) (eval-kind-at t) eval-kind.Post
-eval-kind-returns-2 t c = ((λ i h. refl), λ γ x t rd a. leaf-answers _ (layoutOf t) _ γ a (λ k. c .constant .ensures k _ γ a))
+eval-kind-returns-2 t c = (
+  (λ i h. refl),
+  λ γ x t rd a. leaf-answers _ (layoutOf t) _ γ a (λ k. c .constant .ensures k _ γ a),
+)
 
 eval-kind-same-length : (t : ℕ) → eval-kind-lts.Need-same-length (eval-kind-with t) (eval-kind-at t) eval-kind.Post
 eval-kind-same-length t c = search needs
 
 eval-kind-returns-3 : (t : ℕ) → eval-kind-lts.Need-returns-3 (eval-kind-with t) (eval-kind-at t) eval-kind.Post
-eval-kind-returns-3 t c = ((λ i h. refl), λ γ x t rd a. leaf-answers _ (layoutOf t) _ γ a (λ k. c .field .ensures k γ x a))
+eval-kind-returns-3 t c = (
+  (λ i h. refl),
+  λ γ x t rd a. leaf-answers _ (layoutOf t) _ γ a (λ k. c .field .ensures k γ x a),
+)
 
 eval-kind-same-length-2 : (t : ℕ) → eval-kind-lts.Need-same-length-2 (eval-kind-with t) (eval-kind-at t) eval-kind.Post
 eval-kind-same-length-2 t c = search needs
 
 eval-kind-returns-4 : (t : ℕ) → eval-kind-lts.Need-returns-4 (eval-kind-with t) (eval-kind-at t) eval-kind.Post
-eval-kind-returns-4 t c = (c .before .before .eval-align .ensures .0, c .before .before .eval-align .ensures .1)
+eval-kind-returns-4 t c =
+    let at-eval-align = c .before .before in
+    (at-eval-align .eval-align .ensures .0, at-eval-align .eval-align .ensures .1)
 
 eval-kind-same-length-3 : (t : ℕ) → eval-kind-lts.Need-same-length-3 (eval-kind-with t) (eval-kind-at t) eval-kind.Post
 eval-kind-same-length-3 t c = search needs
 
 eval-kind-returns-5 : (t : ℕ) → eval-kind-lts.Need-returns-5 (eval-kind-with t) (eval-kind-at t) eval-kind.Post
-eval-kind-returns-5 t c = (c .before .before .eval-switch .ensures .0, c .before .before .eval-switch .ensures .1)
+eval-kind-returns-5 t c =
+    let at-eval-switch = c .before .before in
+    (at-eval-switch .eval-switch .ensures .0, at-eval-switch .eval-switch .ensures .1)
 
 eval-kind-same-length-4 : (t : ℕ) → eval-kind-lts.Need-same-length-4 (eval-kind-with t) (eval-kind-at t) eval-kind.Post
 eval-kind-same-length-4 t c = search needs
 
 eval-kind-returns-6 : (t : ℕ) → eval-kind-lts.Need-returns-6 (eval-kind-with t) (eval-kind-at t) eval-kind.Post
-eval-kind-returns-6 t c = (c .before .before .eval-call .ensures .0, c .before .before .eval-call .ensures .1)
+eval-kind-returns-6 t c =
+    let at-eval-call = c .before .before in
+    (at-eval-call .eval-call .ensures .0, at-eval-call .eval-call .ensures .1)
 
 eval-kind-returns-7 : (t : ℕ) → eval-kind-lts.Need-returns-7 (eval-kind-with t) (eval-kind-at t) eval-kind.Post
-eval-kind-returns-7 t c = ((λ i h. refl), λ γ x t rd a. tells-as (c .refused .ensures) (sum-is (c .before .before .before .read2 .ensures .0) (c .before .before .match .keys7) _ (layoutOf t) _ γ a))
+eval-kind-returns-7 t c =
+    let at-match-keys7 = c .before .before in
+    let at-read2 = at-match-keys7 .before in (
+      (λ i h. refl),
+      λ γ x t rd a. tells-as
+          (c .refused .ensures)
+          (sum-is
+          (at-read2 .read2 .ensures .0)
+          (at-match-keys7 .match .keys7) _
+          (layoutOf t) _ γ a),
+    )
 
 eval-kind-same-length-5 : (t : ℕ) → eval-kind-lts.Need-same-length-5 (eval-kind-with t) (eval-kind-at t) eval-kind.Post
 eval-kind-same-length-5 t c = search needs
 
 eval-kind-returns-8 : (t : ℕ) → eval-kind-lts.Need-returns-8 (eval-kind-with t) (eval-kind-at t) eval-kind.Post
-eval-kind-returns-8 t c = (c .before .before .eval-binary .ensures .0, c .before .before .eval-binary .ensures .1)
+eval-kind-returns-8 t c =
+    let at-eval-binary = c .before .before in
+    (at-eval-binary .eval-binary .ensures .0, at-eval-binary .eval-binary .ensures .1)
 
 eval-node-unwrapped-requires : (t : ℕ) → eval-node-lts.Need-unwrapped-requires (eval-node-with t) (eval-node-at t) eval-node.Post
-eval-node-unwrapped-requires t c κs = c .before .before .before .pre .1 .node
+eval-node-unwrapped-requires t c κs =
+    let at-start = c .before .before .before in
+    at-start .pre .1 .node
 
 eval-node-eval-kind-requires : (t : ℕ) → eval-node-lts.Need-eval-kind-requires (eval-node-with t) (eval-node-at t) eval-node.Post
-eval-node-eval-kind-requires t c κs = let u = c .before .before .unwrapped .ensures (c .before .before .before .before .before .before .pre .1 .node) in (omega (arith, c .before .before .before .before .before .before .pre .0, u .short), child-ready (c .before .before .before .before .before .before .pre .1) (u .node))
+eval-node-eval-kind-requires t c κs =
+    let at-unwrapped = c .before .before in
+    let at-start = at-unwrapped .before .before .before .before in
+    let u = at-unwrapped .unwrapped .ensures (at-start .pre .1 .node) in
+    (omega (arith, at-start .pre .0, u .short), child-ready (at-start .pre .1) (u .node))
 
 eval-node-same-length : (t : ℕ) → eval-node-lts.Need-same-length (eval-node-with t) (eval-node-at t) eval-node.Post
 eval-node-same-length t c = search needs
 
 eval-node-returns : (t : ℕ) → eval-node-lts.Need-returns (eval-node-with t) (eval-node-at t) eval-node.Post
-eval-node-returns t c = (c .before .before .eval-kind .ensures .0, λ γ x t rd a. unwrapped-is (c .before .before .before .before .before .unwrapped .ensures) _ (layoutOf t) _ γ (c .before .before .eval-kind .ensures .1 γ x t rd) a)
+eval-node-returns t c =
+    let at-eval-kind = c .before .before in
+    let at-unwrapped = at-eval-kind .before .before .before in (
+      at-eval-kind .eval-kind .ensures .0,
+      λ γ x t rd a. unwrapped-is
+          (at-unwrapped .unwrapped .ensures) _
+          (layoutOf t) _ γ
+          (at-eval-kind .eval-kind .ensures .1 γ x t rd) a,
+    )
 
 eval-operand-unwrapped-requires : (t : ℕ) → eval-operand-lts.Need-unwrapped-requires (eval-operand-with t) (eval-operand-at t) eval-operand.Post
-eval-operand-unwrapped-requires t c κs = c .before .before .before .pre .1 .node
+eval-operand-unwrapped-requires t c κs =
+    let at-start = c .before .before .before in
+    at-start .pre .1 .node
 
 eval-operand-add-read2 : (t : ℕ) → eval-operand-lts.Need-add-read2 (eval-operand-with t) (eval-operand-at t) eval-operand.Post
-eval-operand-add-read2 t c = omega (arith, kinds (c .unwrapped .ensures (c .before .before .before .before .pre .1 .node) .node) .2, kinds (c .unwrapped .ensures (c .before .before .before .before .pre .1 .node) .node) .3)
+eval-operand-add-read2 t c =
+    let at-start = c .before .before .before .before in
+    omega (arith, within (c .unwrapped .ensures (at-start .pre .1 .node) .node))
 
 eval-operand-read2-requires : (t : ℕ) → eval-operand-lts.Need-read2-requires (eval-operand-with t) (eval-operand-at t) eval-operand.Post
-eval-operand-read2-requires t c κs = omega (arith, kinds (c .unwrapped .ensures (c .before .before .before .before .pre .1 .node) .node) .2, kinds (c .unwrapped .ensures (c .before .before .before .before .pre .1 .node) .node) .3)
+eval-operand-read2-requires t c κs =
+    let at-start = c .before .before .before .before in
+    omega (arith, within (c .unwrapped .ensures (at-start .pre .1 .node) .node))
 
 eval-operand-constant-requires : (t : ℕ) → eval-operand-lts.Need-constant-requires (eval-operand-with t) (eval-operand-at t) eval-operand.Post
-eval-operand-constant-requires t c κs = (c .before .before .before .unwrapped .ensures (c .before .before .before .before .before .before .before .pre .1 .node) .node, sym (c .before .before .read2 .ensures .0) ∙ c .before .if1 .taken)
+eval-operand-constant-requires t c κs =
+    let at-read2 = c .before .before in
+    let at-unwrapped = at-read2 .before in
+    let at-start = at-unwrapped .before .before .before .before in (
+      at-unwrapped .unwrapped .ensures (at-start .pre .1 .node) .node,
+      sym (at-read2 .read2 .ensures .0) ∙ c .before .if1 .taken,
+    )
 
 eval-operand-returns : (t : ℕ) → eval-operand-lts.Need-returns (eval-operand-with t) (eval-operand-at t) eval-operand.Post
-eval-operand-returns t c = ((λ i h. refl), λ γ x t rd a. unwrapped-is (c .before .before .before .before .unwrapped .ensures) _ (layoutOf t) _ γ (λ b. leaf-answers _ (layoutOf t) _ γ b (λ k. c .constant .ensures k _ γ b)) a)
+eval-operand-returns t c =
+    let at-unwrapped = c .before .before .before .before in (
+      (λ i h. refl),
+      λ γ x t rd a. unwrapped-is
+          (at-unwrapped .unwrapped .ensures) _
+          (layoutOf t) _ γ
+          (λ b. leaf-answers _ (layoutOf t) _ γ b (λ k. c .constant .ensures k _ γ b)) a,
+    )
 
 eval-operand-eval-node-requires : (t : ℕ) → eval-operand-lts.Need-eval-node-requires (eval-operand-with t) (eval-operand-at t) eval-operand.Post
-eval-operand-eval-node-requires t c κs = let u = c .before .before .before .before .unwrapped .ensures (c .before .before .before .before .before .before .before .before .pre .1 .node) in (omega (arith, c .before .before .before .before .before .before .before .before .pre .0, u .short), child-ready (c .before .before .before .before .before .before .before .before .pre .1) (u .node))
+eval-operand-eval-node-requires t c κs =
+    let at-unwrapped = c .before .before .before .before in
+    let at-start = at-unwrapped .before .before .before .before in
+    let u = at-unwrapped .unwrapped .ensures (at-start .pre .1 .node) in
+    (omega (arith, at-start .pre .0, u .short), child-ready (at-start .pre .1) (u .node))
 
 eval-operand-same-length : (t : ℕ) → eval-operand-lts.Need-same-length (eval-operand-with t) (eval-operand-at t) eval-operand.Post
 eval-operand-same-length t c = search needs
 
 eval-operand-returns-2 : (t : ℕ) → eval-operand-lts.Need-returns-2 (eval-operand-with t) (eval-operand-at t) eval-operand.Post
-eval-operand-returns-2 t c = (c .before .before .eval-node .ensures .0, λ γ x t rd a. unwrapped-is (c .before .before .before .before .before .before .before .unwrapped .ensures) _ (layoutOf t) _ γ (c .before .before .eval-node .ensures .1 γ x t rd) a)
+eval-operand-returns-2 t c =
+    let at-eval-node = c .before .before in
+    let at-unwrapped = at-eval-node .before .before .before .before .before in (
+      at-eval-node .eval-node .ensures .0,
+      λ γ x t rd a. unwrapped-is
+          (at-unwrapped .unwrapped .ensures) _
+          (layoutOf t) _ γ
+          (at-eval-node .eval-node .ensures .1 γ x t rd) a,
+    )
 
 eval-switch-tag-requires : (t : ℕ) → eval-switch-lts.Need-tag-requires (eval-switch-with t) (eval-switch-at t) eval-switch.Post
-eval-switch-tag-requires t c κs = (c .before .before .before .before .pre .1 .0 .node, (c .before .before .before .before .pre .1 .1), c .before .before .before .before .pre .1 .0 .context)
+eval-switch-tag-requires t c κs =
+    let at-start = c .before .before .before .before in
+    (at-start .pre .1 .0 .node, (at-start .pre .1 .1), at-start .pre .1 .0 .context)
 
 eval-switch-enum-told : (t : ℕ) → eval-switch-lts.Need-enum-told (eval-switch-with t) (eval-switch-at t) eval-switch.Post
 eval-switch-enum-told t c = search needs
@@ -481,13 +998,31 @@ eval-switch-enum-known-v : (t : ℕ) → eval-switch-lts.Need-enum-known-v (eval
 eval-switch-enum-known-v t c = search needs
 
 eval-switch-selected-requires : (t : ℕ) → eval-switch-lts.Need-selected-requires (eval-switch-with t) (eval-switch-at t) eval-switch.Post
-eval-switch-selected-requires t c κs = (c .before .before .before .before .before .before .before .before .pre .1 .0 .node, (c .before .before .before .before .before .before .before .before .pre .1 .1))
+eval-switch-selected-requires t c κs =
+    let at-start = c .before .before .before .before .before .before .before .before in
+    (at-start .pre .1 .0 .node, (at-start .pre .1 .1))
 
 eval-switch-enum-known-q : (t : ℕ) → eval-switch-lts.Need-enum-known-q (eval-switch-with t) (eval-switch-at t) eval-switch.Post
 eval-switch-enum-known-q t c = search needs
 
 eval-switch-eval-node-requires : (t : ℕ) → eval-switch-lts.Need-eval-node-requires (eval-switch-with t) (eval-switch-at t) eval-switch.Post
-eval-switch-eval-node-requires t c κs = (omega (arith, c .before .before .before .before .before .before .before .before .before .before .before .before .before .before .pre .0, picked-node (c .before .before .before .q .given .1) (c .before .before .before .before .before .selected .ensures (c .before .before .before .before .before .before .before .before .before .before .before .before .before .before .pre .1 .0 .node)) .1), child-ready (c .before .before .before .before .before .before .before .before .before .before .before .before .before .before .pre .1 .0) (picked-node (c .before .before .before .q .given .1) (c .before .before .before .before .before .selected .ensures (c .before .before .before .before .before .before .before .before .before .before .before .before .before .before .pre .1 .0 .node)) .0))
+eval-switch-eval-node-requires t c κs =
+    let at-q = c .before .before .before in
+    let at-selected = at-q .before .before in
+    let at-start = at-selected .before .before .before .before .before .before .before .before .before in (
+      omega (
+        arith,
+        at-start .pre .0,
+        picked-node
+            (at-q .q .given .1)
+            (at-selected .selected .ensures (at-start .pre .1 .0 .node)) .1,
+      ),
+      child-ready
+          (at-start .pre .1 .0)
+          (picked-node
+          (at-q .q .given .1)
+          (at-selected .selected .ensures (at-start .pre .1 .0 .node)) .0),
+    )
 
 eval-switch-enum-told-2 : (t : ℕ) → eval-switch-lts.Need-enum-told-2 (eval-switch-with t) (eval-switch-at t) eval-switch.Post
 eval-switch-enum-told-2 t c = search needs
@@ -499,27 +1034,121 @@ eval-switch-same-length : (t : ℕ) → eval-switch-lts.Need-same-length (eval-s
 eval-switch-same-length t c = search needs
 
 eval-switch-returns : (t : ℕ) → eval-switch-lts.Need-returns (eval-switch-with t) (eval-switch-at t) eval-switch.Post
-eval-switch-returns t c = ((λ i h. refl), λ γ x t rd a. tells-as (c .refused .ensures) (switch-misses (c .before .before .before .before .before .before .before .before .before .pre .1 .1) _ (layoutOf t) _ γ a (c .before .before .before .before .tag .ensures γ x a) (c .before .before .enum-told .given .1)))
+eval-switch-returns t c =
+    let at-enum-told = c .before .before in
+    let at-tag = at-enum-told .before .before in
+    let at-start = at-tag .before .before .before .before .before in (
+      (λ i h. refl),
+      λ γ x t rd a. tells-as
+          (c .refused .ensures)
+          (switch-misses
+          (at-start .pre .1 .1) _
+          (layoutOf t) _ γ a
+          (at-tag .tag .ensures γ x a)
+          (at-enum-told .enum-told .given .1)),
+    )
 
 eval-switch-same-length-2 : (t : ℕ) → eval-switch-lts.Need-same-length-2 (eval-switch-with t) (eval-switch-at t) eval-switch.Post
 eval-switch-same-length-2 t c = search needs
 
 eval-switch-returns-2 : (t : ℕ) → eval-switch-lts.Need-returns-2 (eval-switch-with t) (eval-switch-at t) eval-switch.Post
-eval-switch-returns-2 t c = (c .before .before .eval-node .ensures .0, λ γ x t rd a. switch-goes (c .before .before .before .before .before .before .before .before .before .before .before .before .before .before .before .before .before .pre .1 .1) _ (layoutOf t) _ γ a (c .before .before .before .before .before .before .before .before .before .before .before .before .tag .ensures γ x a) (c .before .before .before .before .before .before .before .before .before .before .v .given .1) (c .before .before .before .before .before .before .q .given .1) (c .before .before .before .before .before .before .before .before .selected .ensures a) (c .before .before .eval-node .ensures .1 γ x t rd))
+eval-switch-returns-2 t c =
+    let at-eval-node = c .before .before in
+    let at-q = at-eval-node .before .before .before .before in
+    let at-selected = at-q .before .before in
+    let at-v = at-selected .before .before in
+    let at-tag = at-v .before .before in
+    let at-start = at-tag .before .before .before .before .before in (
+      at-eval-node .eval-node .ensures .0,
+      λ γ x t rd a. switch-goes
+          (at-start .pre .1 .1) _
+          (layoutOf t) _ γ a
+          (at-tag .tag .ensures γ x a)
+          (at-v .v .given .1)
+          (at-q .q .given .1)
+          (at-selected .selected .ensures a)
+          (at-eval-node .eval-node .ensures .1 γ x t rd),
+    )
 
 eval-switch-same-length-3 : (t : ℕ) → eval-switch-lts.Need-same-length-3 (eval-switch-with t) (eval-switch-at t) eval-switch.Post
 eval-switch-same-length-3 t c = search needs
 
 eval-switch-returns-3 : (t : ℕ) → eval-switch-lts.Need-returns-3 (eval-switch-with t) (eval-switch-at t) eval-switch.Post
-eval-switch-returns-3 t c = ((λ i h. refl), λ γ x t rd a. tells-as (c .refused2 .ensures) (switch-ends (c .before .before .before .before .before .before .before .before .before .before .before .before .before .pre .1 .1) _ (layoutOf t) _ γ a (c .before .before .before .before .before .before .before .before .tag .ensures γ x a) (c .before .before .before .before .before .before .v .given .1) (c .before .before .enum-told2 .given .1) (c .before .before .before .before .selected .ensures a)))
+eval-switch-returns-3 t c =
+    let at-enum-told2 = c .before .before in
+    let at-selected = at-enum-told2 .before .before in
+    let at-v = at-selected .before .before in
+    let at-tag = at-v .before .before in
+    let at-start = at-tag .before .before .before .before .before in (
+      (λ i h. refl),
+      λ γ x t rd a. tells-as
+          (c .refused2 .ensures)
+          (switch-ends
+          (at-start .pre .1 .1) _
+          (layoutOf t) _ γ a
+          (at-tag .tag .ensures γ x a)
+          (at-v .v .given .1)
+          (at-enum-told2 .enum-told2 .given .1)
+          (at-selected .selected .ensures a)),
+    )
 
 pub +eval-align+eval-binary+eval-call+eval-kind+eval-node+eval-operand+eval-switch-spec : {M : Type 1} → statement M
 +eval-align+eval-binary+eval-call+eval-kind+eval-node+eval-operand+eval-switch-spec =
-    close μ-eval-align μ-eval-binary μ-eval-call μ-eval-kind μ-eval-node μ-eval-operand μ-eval-switch
-    (λ t. eval-align-lts.spec (eval-align-with t) (eval-align-at t) eval-align.Post (eval-align-first-part-requires t) (eval-align-second-part-requires t) (eval-align-eval-node-requires t) (eval-align-same-length t) (eval-align-returns t) (eval-align-element-copy-out-x t) (eval-align-read8-requires t) (eval-align-align-up-requires t) (eval-align-lifted-requires t) (eval-align-same-length-2 t) (eval-align-returns-2 t))
-    (λ t. eval-binary-lts.spec (eval-binary-with t) (eval-binary-at t) eval-binary.Post (eval-binary-add-read2 t) (eval-binary-read2-requires t) (eval-binary-first-part-requires t) (eval-binary-second-part-requires t) (eval-binary-eval-operand-requires t) (eval-binary-same-length t) (eval-binary-returns t) (eval-binary-element-copy-out-x t) (eval-binary-eval-node-requires t) (eval-binary-same-length-2 t) (eval-binary-returns-2 t) (eval-binary-element-copy-out-y t) (eval-binary-operate-requires t) (eval-binary-lifted-requires t) (eval-binary-same-length-3 t) (eval-binary-returns-3 t))
-    (λ t. eval-call-lts.spec (eval-call-with t) (eval-call-at t) eval-call.Post (eval-call-collect-arguments-requires t) (eval-call-enum-known-q t) (eval-call-refused-requires t) (eval-call-enum-told t) (eval-call-called-requires t) (eval-call-enum-told-2 t) (eval-call-refused-requires-2 t) (eval-call-enum-known-i t) (eval-call-refused-requires-3 t) (eval-call-same-length t) (eval-call-returns t) (eval-call-root-requires t) (eval-call-mul-words t) (eval-call-add-words t) (eval-call-mul-words-2 t) (eval-call-slice-write-words t) (eval-call-add-t30 t) (eval-call-sub-t32 t) (eval-call-eval-node-requires t) (eval-call-same-length-2 t) (eval-call-returns-2 t) (eval-call-same-length-3 t) (eval-call-returns-3 t) (eval-call-same-length-4 t) (eval-call-returns-4 t))
-    (λ t. eval-kind-lts.spec (eval-kind-with t) (eval-kind-at t) eval-kind.Post (eval-kind-add-read2 t) (eval-kind-read2-requires t) (eval-kind-counted-requires t) (eval-kind-constant-requires t) (eval-kind-field-requires t) (eval-kind-eval-align-requires t) (eval-kind-eval-switch-requires t) (eval-kind-eval-call-requires t) (eval-kind-refused-requires t) (eval-kind-eval-binary-requires t) (eval-kind-returns t) (eval-kind-returns-2 t) (eval-kind-same-length t) (eval-kind-returns-3 t) (eval-kind-same-length-2 t) (eval-kind-returns-4 t) (eval-kind-same-length-3 t) (eval-kind-returns-5 t) (eval-kind-same-length-4 t) (eval-kind-returns-6 t) (eval-kind-returns-7 t) (eval-kind-same-length-5 t) (eval-kind-returns-8 t))
-    (λ t. eval-node-lts.spec (eval-node-with t) (eval-node-at t) eval-node.Post (eval-node-unwrapped-requires t) (eval-node-eval-kind-requires t) (eval-node-same-length t) (eval-node-returns t))
-    (λ t. eval-operand-lts.spec (eval-operand-with t) (eval-operand-at t) eval-operand.Post (eval-operand-unwrapped-requires t) (eval-operand-add-read2 t) (eval-operand-read2-requires t) (eval-operand-constant-requires t) (eval-operand-returns t) (eval-operand-eval-node-requires t) (eval-operand-same-length t) (eval-operand-returns-2 t))
-    (λ t. eval-switch-lts.spec (eval-switch-with t) (eval-switch-at t) eval-switch.Post (eval-switch-tag-requires t) (eval-switch-enum-told t) (eval-switch-refused-requires t) (eval-switch-enum-known-v t) (eval-switch-selected-requires t) (eval-switch-enum-known-q t) (eval-switch-eval-node-requires t) (eval-switch-enum-told-2 t) (eval-switch-refused-requires-2 t) (eval-switch-same-length t) (eval-switch-returns t) (eval-switch-same-length-2 t) (eval-switch-returns-2 t) (eval-switch-same-length-3 t) (eval-switch-returns-3 t))
+    close μ-eval-align μ-eval-binary μ-eval-call μ-eval-kind μ-eval-node μ-eval-operand
+    μ-eval-switch
+    (λ t. eval-align-lts.spec (eval-align-with t) (eval-align-at t) eval-align.Post
+    (eval-align-first-part-requires t) (eval-align-second-part-requires t)
+    (eval-align-eval-node-requires t) (eval-align-same-length t) (eval-align-returns t)
+    (eval-align-element-copy-out-x t) (eval-align-read8-requires t) (eval-align-align-up-requires t)
+    (eval-align-lifted-requires t) (eval-align-same-length-2 t) (eval-align-returns-2 t))
+    (λ t. eval-binary-lts.spec (eval-binary-with t) (eval-binary-at t) eval-binary.Post
+    (eval-binary-add-read2 t) (eval-binary-read2-requires t) (eval-binary-first-part-requires t)
+    (eval-binary-second-part-requires t) (eval-binary-eval-operand-requires t)
+    (eval-binary-same-length t) (eval-binary-returns t) (eval-binary-element-copy-out-x t)
+    (eval-binary-eval-node-requires t) (eval-binary-same-length-2 t) (eval-binary-returns-2 t)
+    (eval-binary-element-copy-out-y t) (eval-binary-operate-requires t)
+    (eval-binary-lifted-requires t) (eval-binary-same-length-3 t) (eval-binary-returns-3 t))
+    (λ t. eval-call-lts.spec (eval-call-with t) (eval-call-at t) eval-call.Post
+    (eval-call-collect-arguments-requires t) (eval-call-enum-known-q t)
+    (eval-call-refused-requires t) (eval-call-enum-told t) (eval-call-called-requires t)
+    (eval-call-enum-told-2 t) (eval-call-refused-requires-2 t) (eval-call-enum-known-i t)
+    (eval-call-refused-requires-3 t) (eval-call-same-length t) (eval-call-returns t)
+    (eval-call-root-requires t) (eval-call-mul-words t) (eval-call-add-words t)
+    (eval-call-mul-words-2 t) (eval-call-slice-write-words t) (eval-call-add-t30 t)
+    (eval-call-sub-t32 t) (eval-call-eval-node-requires t) (eval-call-same-length-2 t)
+    (eval-call-returns-2 t) (eval-call-same-length-3 t) (eval-call-returns-3 t)
+    (eval-call-same-length-4 t) (eval-call-returns-4 t))
+    (λ t. eval-kind-lts.spec (eval-kind-with t) (eval-kind-at t) eval-kind.Post
+    (eval-kind-add-read2 t) (eval-kind-read2-requires t) (eval-kind-counted-requires t)
+    (eval-kind-constant-requires t) (eval-kind-field-requires t) (eval-kind-eval-align-requires t)
+    (eval-kind-eval-switch-requires t) (eval-kind-eval-call-requires t)
+    (eval-kind-refused-requires t) (eval-kind-eval-binary-requires t) (eval-kind-returns t)
+    (eval-kind-returns-2 t) (eval-kind-same-length t) (eval-kind-returns-3 t)
+    (eval-kind-same-length-2 t) (eval-kind-returns-4 t) (eval-kind-same-length-3 t)
+    (eval-kind-returns-5 t) (eval-kind-same-length-4 t) (eval-kind-returns-6 t)
+    (eval-kind-returns-7 t) (eval-kind-same-length-5 t) (eval-kind-returns-8 t))
+    (λ t. eval-node-lts.spec
+    (eval-node-with t)
+    (eval-node-at t) eval-node.Post
+    (eval-node-unwrapped-requires t)
+    (eval-node-eval-kind-requires t)
+    (eval-node-same-length t)
+    (eval-node-returns t))
+    (λ t. eval-operand-lts.spec
+    (eval-operand-with t)
+    (eval-operand-at t) eval-operand.Post
+    (eval-operand-unwrapped-requires t)
+    (eval-operand-add-read2 t)
+    (eval-operand-read2-requires t)
+    (eval-operand-constant-requires t)
+    (eval-operand-returns t)
+    (eval-operand-eval-node-requires t)
+    (eval-operand-same-length t)
+    (eval-operand-returns-2 t))
+    (λ t. eval-switch-lts.spec (eval-switch-with t) (eval-switch-at t) eval-switch.Post
+    (eval-switch-tag-requires t) (eval-switch-enum-told t) (eval-switch-refused-requires t)
+    (eval-switch-enum-known-v t) (eval-switch-selected-requires t) (eval-switch-enum-known-q t)
+    (eval-switch-eval-node-requires t) (eval-switch-enum-told-2 t)
+    (eval-switch-refused-requires-2 t) (eval-switch-same-length t) (eval-switch-returns t)
+    (eval-switch-same-length-2 t) (eval-switch-returns-2 t) (eval-switch-same-length-3 t)
+    (eval-switch-returns-3 t))
