@@ -10,7 +10,8 @@ element-copy-out-t6 : tie.Need-element-copy-out-t6
 element-copy-out-t6 c = search needs
 
 returns : tie.Need-returns
-returns c = ap (λ (b : Bool). outcomeIn b (c .before .before .args .out .now)) (sym (c .before .if1 .taken))
+returns c =
+    ap (λ (b : Bool). outcomeIn b (c .before .before .args .out .now)) (sym (c .before .if1 .taken))
 
 element-copy-out-t9 : tie.Need-element-copy-out-t9
 element-copy-out-t9 c = search needs
@@ -25,7 +26,10 @@ element-copy-out-t20 : tie.Need-element-copy-out-t20
 element-copy-out-t20 c = search needs
 
 returns-2 : tie.Need-returns-2
-returns-2 c = ap (λ (b : Bool). outcomeIn b (c .before .before .before .before .before .args .out .now)) (sym (c .before .before .before .before .if1 .left))
+returns-2 c =
+    let at-else1 = c .before .before .before .before in
+    let at-start = at-else1 .before in
+    ap (λ (b : Bool). outcomeIn b (at-start .args .out .now)) (sym (at-else1 .if1 .left))
 
 pub answered-spec : {M : Type 1} → statement M
 answered-spec =

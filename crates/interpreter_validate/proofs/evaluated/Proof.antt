@@ -15,10 +15,23 @@ enum-known-i : tie.Need-enum-known-i
 enum-known-i c = search needs
 
 root-requires : tie.Need-root-requires
-root-requires c κs = type-tree (c .before .before .before .lookup-type .ensures) (c .before .i .given .1) (c .before .before .before .before .before .before .before .before .pre)
+root-requires c κs =
+    let at-lookup-type = c .before .before .before in
+    let at-start = at-lookup-type .before .before .before .before .before in
+    type-tree (at-lookup-type .lookup-type .ensures) (c .before .i .given .1) (at-start .pre)
 
 eval-node-requires : tie.Need-eval-node-requires
-eval-node-requires c κs = root-ready (c .before .before .before .before .before .before .lookup-type .ensures) (c .before .before .before .before .i .given .1) (c .before .before .root .ensures) _ (c .before .before .before .before .before .before .before .before .before .before .before .pre) (omega arith)
+eval-node-requires c κs =
+    let at-root = c .before .before in
+    let at-i = at-root .before .before in
+    let at-lookup-type = at-i .before .before in
+    let at-start = at-lookup-type .before .before .before .before .before in
+    root-ready
+    (at-lookup-type .lookup-type .ensures)
+    (at-i .i .given .1)
+    (at-root .root .ensures) _
+    (at-start .pre)
+    (omega arith)
 
 answered-requires : tie.Need-answered-requires
 answered-requires c κs = search needs
@@ -27,13 +40,33 @@ fitting-requires : tie.Need-fitting-requires
 fitting-requires c κs = search needs
 
 returns : tie.Need-returns
-returns c = (omega arith, λ t rd a. type-unknown (c .before .before .lookup-type .ensures) (c .enum-told .given .1) t rd _ _)
+returns c = (
+  omega arith,
+  λ t rd a. type-unknown
+      (c .before .before .lookup-type .ensures)
+      (c .enum-told .given .1) t rd _ _,
+)
 
 same-length : tie.Need-same-length
 same-length c = search needs
 
 returns-2 : tie.Need-returns-2
-returns-2 c = (omega arith, type-goes (c .before .before .before .before .before .before .before .before .before .before .before .before .lookup-type .ensures) (c .before .before .before .before .before .before .before .before .before .before .i .given .1) (c .before .before .before .before .before .before .before .before .root .ensures) (c .before .answered .result) (c .fitting .result) (c .before .before .before .before .before .eval-node .ensures .1) (c .before .answered .ensures) (c .fitting .ensures))
+returns-2 c =
+    let at-eval-node = c .before .before .before .before .before in
+    let at-root = at-eval-node .before .before .before in
+    let at-i = at-root .before .before in
+    let at-lookup-type = at-i .before .before in (
+      omega arith,
+      type-goes
+          (at-lookup-type .lookup-type .ensures)
+          (at-i .i .given .1)
+          (at-root .root .ensures)
+          (c .before .answered .result)
+          (c .fitting .result)
+          (at-eval-node .eval-node .ensures .1)
+          (c .before .answered .ensures)
+          (c .fitting .ensures),
+    )
 
 pub evaluated-spec : {M : Type 1} → statement M
 evaluated-spec =

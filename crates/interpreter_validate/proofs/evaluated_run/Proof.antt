@@ -5,14 +5,22 @@ use borrow.Author.Needs.{needs}
 use Rattle.interpreter_validate.proofs.evaluated_run.Statement.{statement}
 use Rattle.interpreter_validate.proofs.evaluated_run.Tie as tie
 
+-- The places, each seen from a later one: what was known there.
+abbrev at-start : tie.After-slice-known → tie.Start
+at-start r = r .before .before .before
+
 read2-requires : tie.Need-read2-requires
-read2-requires c κs = run-six (c .before .before .before .pre)
+read2-requires c κs = run-six (at-start c .pre)
 
 add-to : tie.Need-add-to
-add-to c = omega (arith, run-inside (c .before .before .before .before .pre) (c .read2 .ensures .0))
+add-to c =
+    let at-start = c .before .before .before .before in
+    omega (arith, run-inside (at-start .pre) (c .read2 .ensures .0))
 
 read8-requires : tie.Need-read8-requires
-read8-requires c κs = omega (arith, run-inside (c .before .before .before .before .pre) (c .read2 .ensures .0))
+read8-requires c κs =
+    let at-start = c .before .before .before .before in
+    omega (arith, run-inside (at-start .pre) (c .read2 .ensures .0))
 
 sub-evaluated : tie.Need-sub-evaluated
 sub-evaluated c = omega arith
@@ -21,19 +29,37 @@ part-evaluated-start : tie.Need-part-evaluated-start
 part-evaluated-start c = omega arith
 
 part-evaluated-end : tie.Need-part-evaluated-end
-part-evaluated-end c = omega (arith, run-inside (c .before .before .before .before .before .pre) (c .before .read2 .ensures .0))
+part-evaluated-end c =
+    let at-start = c .before .before .before .before .before in
+    omega (arith, run-inside (at-start .pre) (c .before .read2 .ensures .0))
 
 add-evaluated : tie.Need-add-evaluated
-add-evaluated c = omega (arith, run-inside (c .before .before .before .before .before .before .pre) (c .before .before .read2 .ensures .0))
+add-evaluated c =
+    let at-read2 = c .before .before in
+    let at-start = at-read2 .before .before .before .before in
+    omega (arith, run-inside (at-start .pre) (at-read2 .read2 .ensures .0))
 
 evaluated-requires : tie.Need-evaluated-requires
-evaluated-requires c κs = run-given (c .before .before .before .before .before .before .before .pre) (c .before .before .before .read2 .ensures .0)
+evaluated-requires c κs =
+    let at-read2 = c .before .before .before in
+    run-given (at-start (at-read2 .before) .pre) (at-read2 .read2 .ensures .0)
 
 same-length : tie.Need-same-length
 same-length c = search needs
 
 returns : tie.Need-returns
-returns c = (c .before .before .evaluated .ensures .0, run-answers (c .before .before .before .before .before .before .before .before .before .before .pre) (c .before .before .before .before .before .before .read2 .ensures .0) (c .before .before .evaluated .result) _ (c .before .before .before .before .before .read8 .ensures) (c .before .before .evaluated .ensures .1))
+returns c =
+    let at-evaluated = c .before .before in
+    let at-read8 = at-evaluated .before .before .before in
+    let at-read2 = at-read8 .before in (
+      at-evaluated .evaluated .ensures .0,
+      run-answers
+          (at-start (at-read2 .before) .pre)
+          (at-read2 .read2 .ensures .0)
+          (at-evaluated .evaluated .result) _
+          (at-read8 .read8 .ensures)
+          (at-evaluated .evaluated .ensures .1),
+    )
 
 pub evaluated-run-spec : {M : Type 1} → statement M
 evaluated-run-spec =

@@ -19,13 +19,26 @@ slice-aggregate-evaluated : tie.Need-slice-aggregate-evaluated
 slice-aggregate-evaluated c = search needs
 
 evaluated-requires : tie.Need-evaluated-requires
-evaluated-requires c κs = given _ _ _ (omega arith) (sym (c .before .enum-told .given .1) ∙ c .before .before .before .judged .ensures)
+evaluated-requires c κs =
+    let at-judged = c .before .before .before in
+    given _ _ _ (omega arith) (sym (c .before .enum-told .given .1) ∙ at-judged .judged .ensures)
 
 returns : tie.Need-returns
-returns c = stops _ _ _ _ _ (sym (c .before .q .given .1) ∙ c .before .before .before .judged .ensures)
+returns c =
+    let at-judged = c .before .before .before in
+    stops _ _ _ _ _ (sym (c .before .q .given .1) ∙ at-judged .judged .ensures)
 
 returns-2 : tie.Need-returns-2
-returns-2 c = goes _ _ _ _ _ (c .before .evaluated .result) (sym (c .before .before .before .enum-told .given .1) ∙ c .before .before .before .before .before .judged .ensures) (c .before .evaluated .ensures .1)
+returns-2 c =
+    let at-enum-told = c .before .before .before in
+    let at-judged = at-enum-told .before .before in
+    goes _ _ _ _ _
+    (c .before .evaluated .result)
+    (sym (at-enum-told .enum-told .given .1) ∙ at-judged .judged .ensures)
+    (c .before .evaluated .ensures .1)
 
 pub length-of-spec : {M : Type 1} → statement M
-length-of-spec = tie.close (tie.spec judged-requires enum-known-q enum-told slice-aggregate-evaluated evaluated-requires returns returns-2)
+length-of-spec =
+    tie.close
+    (tie.spec judged-requires enum-known-q enum-told slice-aggregate-evaluated evaluated-requires
+    returns returns-2)

@@ -21,14 +21,39 @@ enum-known-q c = search needs
 enum-told : tie.Need-enum-told
 enum-told c = search needs
 
+-- The places, each seen from a later one: what was known there.
+abbrev at-clear-words : tie.After-judged → tie.After-clear-words
+at-clear-words r = r .before .before .before
+
+abbrev at-start : tie.After-judged → tie.Start
+at-start r = at-clear-words r .before .before .before .before .before
+
 slice-relend-prefix-calls : tie.Need-slice-relend-prefix-calls
-slice-relend-prefix-calls c = roomy _ _ _ _ (c .before .before .before .before .before .clear-words .ensures) (sym (c .enum-told .given .1) ∙ c .before .before .judged .ensures)
+slice-relend-prefix-calls c =
+    let at-judged = c .before .before in
+    roomy _ _ _ _
+    (at-clear-words at-judged .clear-words .ensures)
+    (sym (c .enum-told .given .1) ∙ at-judged .judged .ensures)
 
 slice-aggregate-calls : tie.Need-slice-aggregate-calls
-slice-aggregate-calls c = sym (length-take-le 16 (c .before .before .before .before .before .before .clear-words .last .0) (roomy _ _ _ _ (c .before .before .before .before .before .before .clear-words .ensures) (sym (c .before .enum-told .given .1) ∙ c .before .before .before .judged .ensures)))
+slice-aggregate-calls c =
+    let at-judged = c .before .before .before in
+    sym
+    (length-take-le 16
+    (at-clear-words at-judged .clear-words .last .0)
+    (roomy _ _ _ _
+    (at-clear-words at-judged .clear-words .ensures)
+    (sym (c .before .enum-told .given .1) ∙ at-judged .judged .ensures)))
 
 evaluated-run-requires : tie.Need-evaluated-run-requires
-evaluated-run-requires c κs = given-run _ _ _ (lent _ _ _ _ (c .before .before .before .before .before .before .before .clear-words .ensures) (sym (c .before .before .enum-told .given .1) ∙ c .before .before .before .before .judged .ensures)) (sym (c .before .before .enum-told .given .1) ∙ c .before .before .before .before .judged .ensures)
+evaluated-run-requires c κs =
+    let at-enum-told = c .before .before in
+    let at-judged = at-enum-told .before .before in
+    given-run _ _ _
+    (lent _ _ _ _
+    (at-clear-words at-judged .clear-words .ensures)
+    (sym (at-enum-told .enum-told .given .1) ∙ at-judged .judged .ensures))
+    (sym (at-enum-told .enum-told .given .1) ∙ at-judged .judged .ensures)
 
 clear-words-requires-2 : tie.Need-clear-words-requires-2
 clear-words-requires-2 c κs = search needs
@@ -37,13 +62,35 @@ same-length : tie.Need-same-length
 same-length c = search needs
 
 returns : tie.Need-returns
-returns c = (run-stops _ _ _ (sym (c .before .q .given .1) ∙ c .before .before .before .judged .ensures), c .before .before .before .before .before .before .clear-words .ensures)
+returns c =
+    let at-judged = c .before .before .before in (
+      run-stops _ _ _ (sym (c .before .q .given .1) ∙ at-judged .judged .ensures),
+      at-clear-words at-judged .clear-words .ensures,
+    )
 
 same-length-2 : tie.Need-same-length-2
 same-length-2 c = search needs
 
 returns-2 : tie.Need-returns-2
-returns-2 c = (run-goes _ _ _ (c .before .before .before .before .before .evaluated-run .result) (sym (c .before .before .before .before .before .before .before .before .enum-told .given .1) ∙ c .before .before .before .before .before .before .before .before .before .before .judged .ensures) (c .before .before .before .before .before .evaluated-run .ensures .1), part-cleared (length (c .before .before .before .before .before .before .before .before .before .before .before .before .before .before .before .before .before .before .args .words .now)) 16 (c .before .before .before .before .before .before .before .before .before .before .before .before .before .clear-words .last .0) _ (c .before .before .before .before .before .before .before .before .before .before .before .before .before .clear-words .ensures) (roomy _ _ _ _ (c .before .before .before .before .before .before .before .before .before .before .before .before .before .clear-words .ensures) (sym (c .before .before .before .before .before .before .before .before .enum-told .given .1) ∙ c .before .before .before .before .before .before .before .before .before .before .judged .ensures)) (c .before .before .clear-words2 .ensures ∙ ap (λ (n : ℕ). replicate n 0) (c .before .before .before .before .before .evaluated-run .ensures .0)))
+returns-2 c =
+    let at-clear-words2 = c .before .before in
+    let at-evaluated-run = at-clear-words2 .before .before .before in
+    let at-enum-told = at-evaluated-run .before .before .before in
+    let at-judged = at-enum-told .before .before in (
+      run-goes _ _ _
+          (at-evaluated-run .evaluated-run .result)
+          (sym (at-enum-told .enum-told .given .1) ∙ at-judged .judged .ensures)
+          (at-evaluated-run .evaluated-run .ensures .1),
+      part-cleared
+          (length (at-start at-judged .args .words .now)) 16
+          (at-clear-words at-judged .clear-words .last .0) _
+          (at-clear-words at-judged .clear-words .ensures)
+          (roomy _ _ _ _
+          (at-clear-words at-judged .clear-words .ensures)
+          (sym (at-enum-told .enum-told .given .1) ∙ at-judged .judged .ensures))
+          (at-clear-words2 .clear-words2 .ensures
+          ∙ ap (λ (n : ℕ). replicate n 0) (at-evaluated-run .evaluated-run .ensures .0)),
+    )
 
 pub validate-run-spec : {M : Type 1} → statement M
 validate-run-spec =
