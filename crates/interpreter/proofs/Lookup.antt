@@ -23,7 +23,7 @@ type-named i n (t ∷ ts) x e = go (same n (t .type-name)) refl e (type-named (s
     go false h f ih = ih f
 
 -- the first of two that is there
-abbrev pub first-of : Option ℕ → Option ℕ → Option ℕ
+abbrev pub first-of : {A : Type 0} → Option A → Option A → Option A
 first-of none o = o
 first-of (some v) o = some v
 

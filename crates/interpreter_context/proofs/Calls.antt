@@ -22,24 +22,21 @@ use Rattle.interpreter_context.specs.declared.Held.{Held}
 use Rattle.interpreter_context.specs.declared.Held.the-variants.{Value, Absent}
 use Rattle.interpreter_context.specs.Names.{chosen, lastArgument, lists, callersName, Named, heldOf}
 use Rattle.interpreter_context.specs.Context.{Pair, Open, Context, callAt, treeAt, argumentsOf, parametersOf, Same}
-use Rattle.interpreter_context.proofs.Names.{via, through-call, orLength, find-behind}
+use Rattle.interpreter.proofs.Lookup.{first-of}
+use Rattle.interpreter_context.proofs.Names.{via, through-call, find-behind}
 
 -- ---- the caller's name
 
-abbrev orElse : Option Name → Option Name → Option Name
-orElse none o = o
-orElse (some m) o = some m
-
-last-else : (n : Name) (xs : List IrArgument) (a o : Option Name) → lastArgument n xs (orElse a o) ≡ orElse (lastArgument n xs a) o
+last-else : (n : Name) (xs : List IrArgument) (a o : Option Name) → lastArgument n xs (first-of a o) ≡ first-of (lastArgument n xs a) o
 unfolding lastArgument
 last-else n [] a o = refl
 last-else n (x ∷ xs) a o = ap (lastArgument n xs) (one (same n (x .name))) ∙ last-else n xs (chosen n x a) o
   where
-    one : (b : Bool) → cond b (some (x .value)) (orElse a o) ≡ orElse (cond b (some (x .value)) a) o
+    one : (b : Bool) → cond b (some (x .value)) (first-of a o) ≡ first-of (cond b (some (x .value)) a) o
     one true = refl
     one false = refl
 
-callers-is : (n : Name) (xs : List IrArgument) (ps : List IrParameter) → callersName n xs ps ≡ orElse (lastArgument n xs none) (cond (lists n ps) (some n) none)
+callers-is : (n : Name) (xs : List IrArgument) (ps : List IrParameter) → callersName n xs ps ≡ first-of (lastArgument n xs none) (cond (lists n ps) (some n) none)
 callers-is n xs ps = last-else n xs none (cond (lists n ps) (some n) none)
 
 pub named-at : {s : List ℕ} {o : Option Name} {f : Found} {q : ℕ} → f ≡ At q → Named s o f → (q + 2 + le2 s q ≤ length s) × (o ≡ some (nameAt s q))
@@ -52,10 +49,10 @@ named-none e (Named.missing g) = g
 
 module _ {s : List ℕ} {f : Found} (n : Name) (xs : List IrArgument) (ps : List IrParameter) (c : Named s (lastArgument n xs none) f) where
   pub from-argument : {q : ℕ} → f ≡ At q → Named s (callersName n xs ps) (At q)
-  from-argument e = let x = named-at e c in Named.at (x .0) (callers-is n xs ps ∙ ap (λ (o : Option Name). orElse o (cond (lists n ps) (some n) none)) (x .1))
+  from-argument e = let x = named-at e c in Named.at (x .0) (callers-is n xs ps ∙ ap (λ (o : Option Name). first-of o (cond (lists n ps) (some n) none)) (x .1))
 
   from-list : {b : Bool} → f ≡ Missing → b ≡ lists n ps → callersName n xs ps ≡ cond b (some n) none
-  from-list e h = callers-is n xs ps ∙ ap (λ (o : Option Name). orElse o (cond (lists n ps) (some n) none)) (named-none e c) ∙ ap (λ (b : Bool). cond b (some n) none) (sym h)
+  from-list e h = callers-is n xs ps ∙ ap (λ (o : Option Name). first-of o (cond (lists n ps) (some n) none)) (named-none e c) ∙ ap (λ (b : Bool). cond b (some n) none) (sym h)
 
   pub from-parameter : {b : Bool} {q : ℕ} → f ≡ Missing → b ≡ lists n ps → b ≡ true → q + 2 + le2 s q ≤ length s → n ≡ nameAt s q → Named s (callersName n xs ps) (At q)
   from-parameter {b} e h t l m = Named.at l (from-list e h ∙ ap (λ (b : Bool). cond b (some n) none) t ∙ ap some m)
@@ -65,7 +62,7 @@ module _ {s : List ℕ} {f : Found} (n : Name) (xs : List IrArgument) (ps : List
 
 -- ---- the root
 
-root-is : (n : Name) (γ : ParamMap) (len : ℕ) → find n (with-buffer-size len γ) ≡ orLength (find n γ) (cond (same n (ascii "__buffer_size")) (some len) none)
+root-is : (n : Name) (γ : ParamMap) (len : ℕ) → find n (with-buffer-size len γ) ≡ first-of (find n γ) (cond (same n (ascii "__buffer_size")) (some len) none)
 root-is n γ len = find-behind n γ (record { name = ascii "__buffer_size"; value = len })
 
 pub block-at : {values : List ℕ} {n : Name} {γ : ParamMap} {b : InBlock} {o : ℕ} → b ≡ BlockAt o → ValueFound values n γ b → (o + 8 ≤ length values) × (find n γ ≡ some (le8 values o))
@@ -78,10 +75,10 @@ block-none e (ValueFound.missing g) = g
 
 module _ {values : List ℕ} {n : Name} {γ : ParamMap} {b : InBlock} (len : ℕ) (f : ValueFound values n γ b) where
   pub held-value : {o v : ℕ} → b ≡ BlockAt o → v ≡ le8 values o → Value v ≡ heldOf (find n (with-buffer-size len γ))
-  held-value e ev = ap Value ev ∙ sym (ap heldOf (root-is n γ len ∙ ap (λ (o : Option ℕ). orLength o (cond (same n (ascii "__buffer_size")) (some len) none)) (block-at e f .1)))
+  held-value e ev = ap Value ev ∙ sym (ap heldOf (root-is n γ len ∙ ap (λ (o : Option ℕ). first-of o (cond (same n (ascii "__buffer_size")) (some len) none)) (block-at e f .1)))
 
   no-value : {t : Bool} → b ≡ BlockNone → t ≡ same n (ascii "__buffer_size") → find n (with-buffer-size len γ) ≡ cond t (some len) none
-  no-value e h = root-is n γ len ∙ ap (λ (o : Option ℕ). orLength o (cond (same n (ascii "__buffer_size")) (some len) none)) (block-none e f) ∙ ap (λ (t : Bool). cond t (some len) none) (sym h)
+  no-value e h = root-is n γ len ∙ ap (λ (o : Option ℕ). first-of o (cond (same n (ascii "__buffer_size")) (some len) none)) (block-none e f) ∙ ap (λ (t : Bool). cond t (some len) none) (sym h)
 
   pub held-length : {t : Bool} → b ≡ BlockNone → t ≡ same n (ascii "__buffer_size") → t ≡ true → Value len ≡ heldOf (find n (with-buffer-size len γ))
   held-length e h t = sym (ap heldOf (no-value e h ∙ ap (λ (t : Bool). cond t (some len) none) t))

@@ -4,7 +4,6 @@ use mathlib.Core.Bool.{Bool, true, false, _||_, cond}
 use mathlib.Core.List.{List, [], _∷_, _++_}
 use mathlib.Core.Option.{Option, some, none}
 use Prim.Native.Nat.{ℕ, _+_, _-_}
-use native.Mathlib.Omega.{arith}
 use Rattle.errors.specs.Refusal.{done, Refusal, MissingIrParameter}
 use Rattle.errors.proofs.Laws.{done-one, not-done, bound}
 use lib.ListN.{take, drop}
@@ -14,6 +13,8 @@ use Rattle.accepted.specs.Accepted.{nameAt}
 use Rattle.blocks.proofs.Name.{same-eq}
 use Rattle.ir.specs.Ir.{IrArgument, IrParameter}
 use Rattle.interpreter.specs.Eval.{Binding, ParamMap, find, refusalAt, valueOr, collect-arguments, bindFound, inherited}
+use Rattle.lookup.proofs.Slices.{slice-is}
+use Rattle.interpreter.proofs.Lookup.{first-of, find-append}
 use Rattle.interpreter_context.specs.Names.{chosen, lastArgument, lists, callersName}
 
 -- what the caller has
@@ -66,28 +67,17 @@ through-call p γ δ n xs ps e = collected p γ (inherited γ ps) n xs [] δ (co
 
 -- ---- the root: behind the values the buffer length
 
-abbrev pub orLength : Option ℕ → Option ℕ → Option ℕ
-orLength none o = o
-orLength (some v) o = some v
-
-one-more : (b : Bool) (v : ℕ) (x y : Option ℕ) → elim b [ true ↦ some v | false ↦ orLength x y ] ≡ orLength (elim b [ true ↦ some v | false ↦ x ]) y
-one-more true v x y = refl
-one-more false v x y = refl
-
-pub find-behind : (n : Name) (γ : ParamMap) (b : Binding) → find n (γ ++ (b ∷ [])) ≡ orLength (find n γ) (cond (same n (b .name)) (some (b .value)) none)
+-- one binding behind others is found only if they do not have the name
+pub find-behind : (n : Name) (γ : ParamMap) (b : Binding) → find n (γ ++ (b ∷ [])) ≡ first-of (find n γ) (cond (same n (b .name)) (some (b .value)) none)
 unfolding find
-find-behind n [] b = last (same n (b .name)) (b .value)
+find-behind n γ b = find-append n γ (b ∷ []) ∙ ap (first-of (find n γ)) (last (same n (b .name)) (b .value))
   where
-    last : (t : Bool) (v : ℕ) → elim t [ true ↦ some v | false ↦ none ] ≡ cond t (some v) none
+    last : (t : Bool) (v : ℕ) → _≡_ {A = Option ℕ} (elim t [ true ↦ some v | false ↦ none ]) (cond t (some v) none)
     last true v = refl
     last false v = refl
-find-behind n (x ∷ γ) b = ap (λ (o : Option ℕ). elim (same n (x .name)) [ true ↦ some (x .value) | false ↦ o ]) (find-behind n γ b) ∙ one-more (same n (x .name)) (x .value) (find n γ) (cond (same n (b .name)) (some (b .value)) none)
 
 -- ---- bytes
 
--- the part of a slice that holds a name
-pub slice-is : (s : List ℕ) (at u : ℕ) → u ≡ le2 s at → take (at + 2 + u - (at + 2)) (drop (at + 2) s) ≡ nameAt s at
-slice-is s at u e = let f : at + 2 + u - (at + 2) ≡ le2 s at = omega arith in ap (λ (k : ℕ). take k (drop (at + 2) s)) f
-
+-- a comparison with the part of a slice that holds a name is one with the name
 pub same-slice : (s : List ℕ) (at u : ℕ) (m : Name) {r : Bool} → u ≡ le2 s at → r ≡ same (take (at + 2 + u - (at + 2)) (drop (at + 2) s)) m → r ≡ same (nameAt s at) m
 same-slice s at u m e h = h ∙ ap (λ (n : Name). same n m) (slice-is s at u e)

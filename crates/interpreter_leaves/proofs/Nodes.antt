@@ -30,7 +30,7 @@ use Rattle.interpreter_context.specs.declared.Held.{Held}
 use Rattle.interpreter_context.specs.declared.Held.the-variants.{Value, Absent}
 use Rattle.interpreter_context.specs.Names.{heldOf}
 use Rattle.interpreter_context.specs.Context.{Context, Here, treeAt}
-use Rattle.interpreter_context.proofs.Names.{slice-is}
+use Rattle.lookup.proofs.Slices.{slice-is}
 use Rattle.interpreter_leaves.specs.Steps.{FieldName}
 
 -- ---- arithmetic

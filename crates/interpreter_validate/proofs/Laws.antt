@@ -29,7 +29,7 @@ use Rattle.lookup.specs.Found.{TreeFound}
 use Rattle.interpreter.specs.Eval.{ParamMap, eval-within}
 use Rattle.interpreter.specs.Validate.{with-buffer-size, valuesOf, validate-type, validate, validate-run, runOf}
 use Rattle.interpreter_context.specs.Context.{Context}
-use Rattle.interpreter_context.proofs.Names.{slice-is}
+use Rattle.lookup.proofs.Slices.{slice-is}
 use Rattle.interpreter_leaves.specs.declared.Answer.{Answer}
 use Rattle.interpreter_leaves.specs.declared.Answer.the-variants as answer
 use Rattle.interpreter_leaves.specs.Outcome.{outcomeOf, Tells}

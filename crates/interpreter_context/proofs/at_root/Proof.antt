@@ -2,7 +2,7 @@
 use mathlib.Core.Path.{_∙_, ap}
 use Prim.Native.Nat.{_-_}
 use Rattle.blocks.specs.Name.{Name}
-use Rattle.interpreter_context.proofs.Names.{slice-is}
+use Rattle.lookup.proofs.Slices.{slice-is}
 use Rattle.interpreter.specs.Eval.{find}
 use Rattle.interpreter.specs.Validate.{with-buffer-size, valuesOf}
 use Rattle.accepted.specs.Accepted.{tree}

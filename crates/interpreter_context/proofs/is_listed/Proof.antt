@@ -1,9 +1,10 @@
--- `interpreter_context::is_listed` meets its contract. Assumes nothing.
+-- `is_listed` meets its contract. The invariant: none of the parameters that were passed has the name. The measure is the parameters
+-- that are left.
 use mathlib.Core.Path.{refl}
 use Prim.Native.Nat.{_+_, _-_}
 use native.Mathlib.Omega.{arith}
 use Rattle.blocks.specs.Bytes.{le2}
-use Rattle.accepted.specs.Accepted.{nameAt}
+use Rattle.accepted.specs.Accepted.{Accepted, nameAt}
 use Rattle.interpreter_context.proofs.Blocks.{parameter}
 use Rattle.interpreter_context.proofs.Lists.{Unlisted, start, next-parameter, another, ends, tree-of, parameters-at, listed-of, unlisted-of}
 use Rattle.interpreter_context.proofs.is_listed.Statement.{statement}
@@ -15,6 +16,22 @@ Inv-loop s callee name root list left₀ at₀ left at =
 
 abbrev μ-loop : tie.MeasureT-loop
 μ-loop s callee name root list left₀ at₀ left at = left
+
+-- The places, each seen from inside the loop.
+abbrev at-read4 : tie.In-loop Inv-loop μ-loop → tie.After-read4 Inv-loop μ-loop
+at-read4 r = r .before .before .before
+
+abbrev at-read2 : tie.In-loop Inv-loop μ-loop → tie.After-read2 Inv-loop μ-loop
+at-read2 r = at-read4 r .before
+
+abbrev at-start : tie.In-loop Inv-loop μ-loop → tie.Start Inv-loop μ-loop
+at-start r = at-read2 r .before .before
+
+-- the next parameter
+next : (r : tie.In-loop Inv-loop μ-loop) → Accepted (at-start r .args .s .now) 162 162 (r .before .loop .at)
+next r =
+    next-parameter (r .loop-test .taken) (r .before .loop .inv)
+    (parameters-at (at-start r .pre .0) (at-read2 r .read2 .ensures .0) (at-read4 r .read4 .ensures .0) .list)
 
 add-root : tie.Need-add-root Inv-loop μ-loop
 add-root c = omega (arith, tree-of (c .before .pre .0) refl .low)
@@ -66,108 +83,29 @@ loop-holds : tie.Need-loop-holds Inv-loop μ-loop
 loop-holds c = start (c .read22 .ensures .0)
 
 add-same-at : tie.Need-add-same-at Inv-loop μ-loop
-add-same-at c =
-    let at-read4 = c .before .before .before in
-    let at-read2 = at-read4 .before in
-    let at-start = at-read2 .before .before in
-    omega (
-      arith,
-      ends
-          (next-parameter
-          (c .loop-test .taken)
-          (c .before .loop .inv)
-          (parameters-at
-          (at-start .pre .0)
-          (at-read2 .read2 .ensures .0)
-          (at-read4 .read4 .ensures .0) .list)) .0,
-    )
+add-same-at c = omega (arith, ends (next c) .0)
 
 same-at-requires : tie.Need-same-at-requires Inv-loop μ-loop
-same-at-requires c κs =
-    let at-read4 = c .before .before .before in
-    let at-read2 = at-read4 .before in
-    let at-start = at-read2 .before .before in (
-      at-start .pre .1,
-      parameter
-          (next-parameter
-          (c .loop-test .taken)
-          (c .before .loop .inv)
-          (parameters-at
-          (at-start .pre .0)
-          (at-read2 .read2 .ensures .0)
-          (at-read4 .read4 .ensures .0) .list)) .name,
-    )
+same-at-requires c κs = (at-start c .pre .1, parameter (next c) .name)
 
 returns : tie.Need-returns Inv-loop μ-loop
 returns c =
     let in-loop = c .before .before in
-    let at-loop = in-loop .before in
-    let at-read4 = at-loop .before .before in
-    let at-read2 = at-read4 .before in
     λ t. listed-of _ t
-    (parameters-at t (at-read2 .read2 .ensures .0) (at-read4 .read4 .ensures .0))
+    (parameters-at t (at-read2 in-loop .read2 .ensures .0) (at-read4 in-loop .read4 .ensures .0))
     (in-loop .loop-test .taken)
     (c .before .same-at .ensures)
     (c .if1 .taken)
-    (at-loop .loop .inv)
+    (in-loop .before .loop .inv)
 
 add-at-2 : tie.Need-add-at-2 Inv-loop μ-loop
-add-at-2 c =
-    let in-loop = c .before .before in
-    let at-loop = in-loop .before in
-    let at-read4 = at-loop .before .before in
-    let at-read2 = at-read4 .before in
-    let at-start = at-read2 .before .before in
-    omega (
-      arith,
-      ends
-          (next-parameter
-          (in-loop .loop-test .taken)
-          (at-loop .loop .inv)
-          (parameters-at
-          (at-start .pre .0)
-          (at-read2 .read2 .ensures .0)
-          (at-read4 .read4 .ensures .0) .list)) .0,
-    )
+add-at-2 c = omega (arith, ends (next (c .before .before)) .0)
 
 read4-requires-2 : tie.Need-read4-requires-2 Inv-loop μ-loop
-read4-requires-2 c κs =
-    let in-loop = c .before .before in
-    let at-loop = in-loop .before in
-    let at-read4 = at-loop .before .before in
-    let at-read2 = at-read4 .before in
-    let at-start = at-read2 .before .before in
-    omega (
-      arith,
-      ends
-          (next-parameter
-          (in-loop .loop-test .taken)
-          (at-loop .loop .inv)
-          (parameters-at
-          (at-start .pre .0)
-          (at-read2 .read2 .ensures .0)
-          (at-read4 .read4 .ensures .0) .list)) .0,
-    )
+read4-requires-2 c κs = omega (arith, ends (next (c .before .before)) .0)
 
 add-at-3 : tie.Need-add-at-3 Inv-loop μ-loop
-add-at-3 c =
-    let in-loop = c .before .before .before in
-    let at-loop = in-loop .before in
-    let at-read4 = at-loop .before .before in
-    let at-read2 = at-read4 .before in
-    let at-start = at-read2 .before .before in
-    omega (
-      arith,
-      ends
-          (next-parameter
-          (in-loop .loop-test .taken)
-          (at-loop .loop .inv)
-          (parameters-at
-          (at-start .pre .0)
-          (at-read2 .read2 .ensures .0)
-          (at-read4 .read4 .ensures .0) .list)) .1,
-      c .read42 .ensures .0,
-    )
+add-at-3 c = omega (arith, ends (next (c .before .before .before)) .1, c .read42 .ensures .0)
 
 sub-left : tie.Need-sub-left Inv-loop μ-loop
 sub-left c = omega arith

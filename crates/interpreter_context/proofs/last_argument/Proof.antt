@@ -1,8 +1,9 @@
--- `interpreter_context::last_argument` meets its contract. Assumes nothing.
+-- `last_argument` meets its contract. The invariant: what was found is the last of the name among the arguments that were passed. The
+-- measure is the arguments that are left.
 use Prim.Native.Nat.{_+_}
 use native.Mathlib.Omega.{arith}
 use Rattle.blocks.specs.Bytes.{le2}
-use Rattle.accepted.specs.Accepted.{nameAt}
+use Rattle.accepted.specs.Accepted.{Accepted, nameAt}
 use Rattle.interpreter_context.proofs.Lists.{Passed, begin, next-one, go-on, arguments-at, has-three, last-of, ends}
 use Rattle.interpreter_context.proofs.last_argument.Statement.{statement}
 use Rattle.interpreter_context.proofs.last_argument.Tie as tie
@@ -13,6 +14,19 @@ Inv-loop s call name list left₀ at₀ last₀ left at last =
 
 abbrev μ-loop : tie.MeasureT-loop
 μ-loop s call name list left₀ at₀ last₀ left at last = left
+
+-- The places, each seen from inside the loop.
+abbrev at-second-part : tie.In-loop Inv-loop μ-loop → tie.After-second-part Inv-loop μ-loop
+at-second-part r = r .before .before .before
+
+abbrev at-start : tie.In-loop Inv-loop μ-loop → tie.Start Inv-loop μ-loop
+at-start r = at-second-part r .before .before
+
+-- the next argument
+next : (r : tie.In-loop Inv-loop μ-loop) → Accepted (at-start r .args .s .now) 164 164 (r .before .loop .at)
+next r =
+    next-one (r .loop-test .taken) (r .before .loop .inv)
+    (arguments-at (at-second-part r .second-part .ensures) (at-start r .pre .0) (at-start r .pre .1) .list)
 
 second-part-requires : tie.Need-second-part-requires Inv-loop μ-loop
 second-part-requires c κs = (c .before .pre .0, has-three _ (c .before .pre .1))
@@ -34,71 +48,16 @@ loop-holds : tie.Need-loop-holds Inv-loop μ-loop
 loop-holds c = begin (c .read2 .ensures .0)
 
 later-requires : tie.Need-later-requires Inv-loop μ-loop
-later-requires c κs =
-    let at-second-part = c .before .before .before in
-    let at-start = at-second-part .before .before in (
-      next-one
-          (c .loop-test .taken)
-          (c .before .loop .inv)
-          (arguments-at
-          (at-second-part .second-part .ensures)
-          (at-start .pre .0)
-          (at-start .pre .1) .list),
-      at-start .pre .2,
-    )
+later-requires c κs = (next c, at-start c .pre .2)
 
 add-at-2 : tie.Need-add-at-2 Inv-loop μ-loop
-add-at-2 c =
-    let at-loop = c .before .before in
-    let at-second-part = at-loop .before .before in
-    let at-start = at-second-part .before .before in
-    omega (
-      arith,
-      ends
-          (next-one
-          (c .before .loop-test .taken)
-          (at-loop .loop .inv)
-          (arguments-at
-          (at-second-part .second-part .ensures)
-          (at-start .pre .0)
-          (at-start .pre .1) .list)) .0,
-    )
+add-at-2 c = omega (arith, ends (next (c .before)) .0)
 
 read4-requires : tie.Need-read4-requires Inv-loop μ-loop
-read4-requires c κs =
-    let at-loop = c .before .before in
-    let at-second-part = at-loop .before .before in
-    let at-start = at-second-part .before .before in
-    omega (
-      arith,
-      ends
-          (next-one
-          (c .before .loop-test .taken)
-          (at-loop .loop .inv)
-          (arguments-at
-          (at-second-part .second-part .ensures)
-          (at-start .pre .0)
-          (at-start .pre .1) .list)) .0,
-    )
+read4-requires c κs = omega (arith, ends (next (c .before)) .0)
 
 add-at-3 : tie.Need-add-at-3 Inv-loop μ-loop
-add-at-3 c =
-    let in-loop = c .before .before in
-    let at-loop = in-loop .before in
-    let at-second-part = at-loop .before .before in
-    let at-start = at-second-part .before .before in
-    omega (
-      arith,
-      ends
-          (next-one
-          (in-loop .loop-test .taken)
-          (at-loop .loop .inv)
-          (arguments-at
-          (at-second-part .second-part .ensures)
-          (at-start .pre .0)
-          (at-start .pre .1) .list)) .1,
-      c .read4 .ensures .0,
-    )
+add-at-3 c = omega (arith, ends (next (c .before .before)) .1, c .read4 .ensures .0)
 
 sub-left : tie.Need-sub-left Inv-loop μ-loop
 sub-left c = omega arith

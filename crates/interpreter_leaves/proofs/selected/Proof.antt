@@ -1,4 +1,5 @@
--- `interpreter_leaves::selected` meets its contract. Assumes nothing.
+-- `selected` meets its contract. The invariant: none of the cases that were passed has the tag's value. The measure is the cases that are
+-- left.
 use mathlib.Core.Path.{refl}
 use Prim.Native.Nat.{_+_}
 use native.Mathlib.Omega.{arith}
@@ -14,9 +15,16 @@ Inv-loop s at tag list left₀ p₀ left p = Tried s tag (le2 s list) (list + 2)
 abbrev μ-loop : tie.MeasureT-loop
 μ-loop s at tag list left₀ p₀ left p = left
 
--- The places, each seen from a later one: what was known there.
-abbrev at-start : tie.After-second-part Inv-loop μ-loop → tie.Start Inv-loop μ-loop
-at-start r = r .before .before
+-- The places before the loop, seen from it.
+abbrev at-second-part : tie.At-loop Inv-loop μ-loop → tie.After-second-part Inv-loop μ-loop
+at-second-part r = r .before .before
+
+abbrev at-start : tie.At-loop Inv-loop μ-loop → tie.Start Inv-loop μ-loop
+at-start r = at-second-part r .before .before
+
+-- the list of cases
+cases : (r : tie.At-loop Inv-loop μ-loop) (a : Accepted (at-start r .args .s .now) 128 144 (at-start r .args .at)) → SwitchAt a (r .before .before .second-part .result)
+cases r a = switch-at (at-second-part r .second-part .ensures) a (at-start r .pre .1)
 
 second-part-requires : tie.Need-second-part-requires Inv-loop μ-loop
 second-part-requires c κs = (
