@@ -1,9 +1,12 @@
--- `interpreter_leaves::collect_arguments` meets its contract. Assumes nothing.
+-- `collect_arguments` meets its contract. The invariant: the arguments that were passed were found in the caller's context. The measure is
+-- the arguments that are left.
 use mathlib.Core.Path.{refl}
 use Prim.Native.Nat.{_+_}
 use native.Mathlib.Omega.{arith}
 use Rattle.blocks.specs.Bytes.{le2}
 use Rattle.interpreter_leaves.proofs.Nodes.{enough}
+use Rattle.accepted.specs.Accepted.{Accepted}
+use Rattle.interpreter_context.proofs.Shape.{ListAt}
 use Rattle.interpreter_context.proofs.Lists.{arguments-at, ends}
 use Rattle.interpreter_leaves.proofs.Binding.{Collecting, begin, value-at, next-one, found-one, lacking-one, no-more, of-call}
 use borrow.Author.Needs.{needs}
@@ -17,9 +20,23 @@ Inv-loop s values words f at list left₀ p₀ left p =
 abbrev μ-loop : tie.MeasureT-loop
 μ-loop s values words f at list left₀ p₀ left p = left
 
--- The places, each seen from a later one: what was known there.
-abbrev at-start : tie.After-second-part Inv-loop μ-loop → tie.Start Inv-loop μ-loop
-at-start r = r .before .before .before .before
+-- The places before the loop, seen from it.
+abbrev at-second-part : tie.At-loop Inv-loop μ-loop → tie.After-second-part Inv-loop μ-loop
+at-second-part r = r .before .before
+
+abbrev at-start : tie.At-loop Inv-loop μ-loop → tie.Start Inv-loop μ-loop
+at-start r = at-second-part r .before .before .before .before
+
+-- the arguments of the node, whatever accepted it
+arguments : (r : tie.At-loop Inv-loop μ-loop) (a : Accepted (at-start r .args .s .now) 128 144 (at-start r .args .at)) →
+    ListAt a 164 164 3 (at-second-part r .second-part .result)
+arguments r a = arguments-at (at-second-part r .second-part .ensures) a (at-start r .pre .1)
+
+-- inside the loop, the next argument
+next : (r : tie.In-loop Inv-loop μ-loop) → Accepted (at-start (r .before) .args .s .now) 164 164 (r .before .loop .p)
+next r =
+    let at-loop = r .before in
+    next-one (r .loop-test .taken) (at-loop .loop .inv) (at-start at-loop .pre .2) (arguments at-loop (at-start at-loop .pre .0) .list)
 
 second-part-requires : tie.Need-second-part-requires Inv-loop μ-loop
 second-part-requires c κs =
@@ -29,8 +46,8 @@ second-part-requires c κs =
     )
 
 read2-requires : tie.Need-read2-requires Inv-loop μ-loop
-read2-requires c κs =
-    arguments-at (c .second-part .ensures) (at-start c .pre .0) (at-start c .pre .1) .inside
+read2-requires c κs = let at-start = c .before .before .before .before in
+    arguments-at (c .second-part .ensures) (at-start .pre .0) (at-start .pre .1) .inside
 
 add-p : tie.Need-add-p Inv-loop μ-loop
 add-p c =
@@ -44,152 +61,31 @@ loop-holds : tie.Need-loop-holds Inv-loop μ-loop
 loop-holds c = begin (c .read2 .ensures .0)
 
 add-value : tie.Need-add-value Inv-loop μ-loop
-add-value c =
-    let at-second-part = c .before .before .before in
-    let at-start = at-second-part .before .before .before .before in
-    omega (
-      arith,
-      value-at refl
-          (next-one
-          (c .loop-test .taken)
-          (c .before .loop .inv)
-          (at-start .pre .2)
-          (arguments-at
-          (at-second-part .second-part .ensures)
-          (at-start .pre .0)
-          (at-start .pre .1) .list)) .value,
-    )
+add-value c = omega (arith, value-at refl (next c) .value)
 
 add-read2 : tie.Need-add-read2 Inv-loop μ-loop
-add-read2 c =
-    let at-second-part = c .before .before .before in
-    let at-start = at-second-part .before .before .before .before in
-    omega (
-      arith,
-      value-at refl
-          (next-one
-          (c .loop-test .taken)
-          (c .before .loop .inv)
-          (at-start .pre .2)
-          (arguments-at
-          (at-second-part .second-part .ensures)
-          (at-start .pre .0)
-          (at-start .pre .1) .list)) .value,
-    )
+add-read2 c = omega (arith, value-at refl (next c) .value)
 
 read2-requires-2 : tie.Need-read2-requires-2 Inv-loop μ-loop
-read2-requires-2 c κs =
-    let at-second-part = c .before .before .before in
-    let at-start = at-second-part .before .before .before .before in
-    omega (
-      arith,
-      value-at refl
-          (next-one
-          (c .loop-test .taken)
-          (c .before .loop .inv)
-          (at-start .pre .2)
-          (arguments-at
-          (at-second-part .second-part .ensures)
-          (at-start .pre .0)
-          (at-start .pre .1) .list)) .value,
-    )
+read2-requires-2 c κs = omega (arith, value-at refl (next c) .value)
 
 add-value-2 : tie.Need-add-value-2 Inv-loop μ-loop
-add-value-2 c =
-    let at-loop = c .before .before in
-    let at-second-part = at-loop .before .before in
-    let at-start = at-second-part .before .before .before .before in
-    omega (
-      arith,
-      value-at
-          (c .read22 .ensures .0)
-          (next-one
-          (c .before .loop-test .taken)
-          (at-loop .loop .inv)
-          (at-start .pre .2)
-          (arguments-at
-          (at-second-part .second-part .ensures)
-          (at-start .pre .0)
-          (at-start .pre .1) .list)) .value,
-    )
+add-value-2 c = omega (arith, value-at (c .read22 .ensures .0) (next (c .before)) .value)
 
 find-requires : tie.Need-find-requires Inv-loop μ-loop
-find-requires c κs =
-    let at-loop = c .before .before in
-    let at-second-part = at-loop .before .before in (
-      value-at
-          (c .read22 .ensures .0)
-          (next-one
-          (c .before .loop-test .taken)
-          (at-loop .loop .inv)
-          (at-start at-second-part .pre .2)
-          (arguments-at
-          (at-second-part .second-part .ensures)
-          (at-start at-second-part .pre .0)
-          (at-start at-second-part .pre .1) .list)) .value,
-      at-start at-second-part .pre .2,
-    )
+find-requires c κs = (value-at (c .read22 .ensures .0) (next (c .before)) .value, at-start (c .before .before) .pre .2)
 
 enum-known-v : tie.Need-enum-known-v Inv-loop μ-loop
 enum-known-v c = search needs
 
 add-p-2 : tie.Need-add-p-2 Inv-loop μ-loop
-add-p-2 c =
-    let in-loop = c .before .before .before .before .before in
-    let at-loop = in-loop .before in
-    let at-second-part = at-loop .before .before in
-    let at-start = at-second-part .before .before .before .before in
-    omega (
-      arith,
-      ends
-          (next-one
-          (in-loop .loop-test .taken)
-          (at-loop .loop .inv)
-          (at-start .pre .2)
-          (arguments-at
-          (at-second-part .second-part .ensures)
-          (at-start .pre .0)
-          (at-start .pre .1) .list)) .0,
-    )
+add-p-2 c = omega (arith, ends (next (c .before .before .before .before .before)) .0)
 
 read4-requires : tie.Need-read4-requires Inv-loop μ-loop
-read4-requires c κs =
-    let in-loop = c .before .before .before .before .before in
-    let at-loop = in-loop .before in
-    let at-second-part = at-loop .before .before in
-    let at-start = at-second-part .before .before .before .before in
-    omega (
-      arith,
-      ends
-          (next-one
-          (in-loop .loop-test .taken)
-          (at-loop .loop .inv)
-          (at-start .pre .2)
-          (arguments-at
-          (at-second-part .second-part .ensures)
-          (at-start .pre .0)
-          (at-start .pre .1) .list)) .0,
-    )
+read4-requires c κs = omega (arith, ends (next (c .before .before .before .before .before)) .0)
 
 add-p-3 : tie.Need-add-p-3 Inv-loop μ-loop
-add-p-3 c =
-    let in-loop = c .before .before .before .before .before .before in
-    let at-loop = in-loop .before in
-    let at-second-part = at-loop .before .before in
-    let at-start = at-second-part .before .before .before .before in
-    omega (
-      arith,
-      ends
-          (next-one
-          (in-loop .loop-test .taken)
-          (at-loop .loop .inv)
-          (at-start .pre .2)
-          (arguments-at
-          (at-second-part .second-part .ensures)
-          (at-start .pre .0)
-          (at-start .pre .1) .list)) .1,
-      c .read4 .ensures .0,
-    )
+add-p-3 c = omega (arith, ends (next (c .before .before .before .before .before .before)) .1, c .read4 .ensures .0)
 
 sub-left : tie.Need-sub-left Inv-loop μ-loop
 sub-left c = omega arith
@@ -221,26 +117,19 @@ returns c =
     let at-read22 = at-find .before in
     let in-loop = at-read22 .before in
     let at-loop = in-loop .before in
-    let at-second-part = at-loop .before .before in
-    λ pl γ x a. let l = arguments-at
-    (at-second-part .second-part .ensures) a
-    (at-start at-second-part .pre .1) in
-    of-call a l
+    λ pl γ x a. of-call a (arguments at-loop a)
     (lacking-one
     (in-loop .loop-test .taken)
     (at-loop .loop .inv)
     (at-read22 .read22 .ensures .0)
     (at-find .find .ensures)
     (c .enum-told .given .1) pl γ x
-    (l .list))
+    (arguments at-loop a .list))
 
 returns-2 : tie.Need-returns-2 Inv-loop μ-loop
 returns-2 c =
-    let at-second-part = c .before .before .before in
-    λ pl γ x a. let l = arguments-at
-    (at-second-part .second-part .ensures) a
-    (at-start at-second-part .pre .1) in
-    of-call a l (no-more (c .loop-test .left) (c .before .loop .inv) pl γ x (l .list))
+    let at-loop = c .before in
+    λ pl γ x a. of-call a (arguments at-loop a) (no-more (c .loop-test .left) (at-loop .loop .inv) pl γ x (arguments at-loop a .list))
 
 pub collect-arguments-spec : {M : Type 1} → statement M
 collect-arguments-spec =

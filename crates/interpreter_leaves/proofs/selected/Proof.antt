@@ -4,8 +4,9 @@ use mathlib.Core.Path.{refl}
 use Prim.Native.Nat.{_+_}
 use native.Mathlib.Omega.{arith}
 use Rattle.blocks.specs.Bytes.{le2}
+use Rattle.accepted.specs.Accepted.{Accepted}
 use Rattle.interpreter_leaves.proofs.Nodes.{enough}
-use Rattle.interpreter_leaves.proofs.Cases.{Tried, begin, switch-at, next-case, another, hit, ended, flag-in, default-given, default-absent}
+use Rattle.interpreter_leaves.proofs.Cases.{IsCase, SwitchAt, Tried, begin, switch-at, next-case, another, hit, ended, flag-in, default-given, default-absent}
 use Rattle.interpreter_leaves.proofs.selected.Statement.{statement}
 use Rattle.interpreter_leaves.proofs.selected.Tie as tie
 
@@ -22,9 +23,13 @@ at-second-part r = r .before .before
 abbrev at-start : tie.At-loop Inv-loop μ-loop → tie.Start Inv-loop μ-loop
 at-start r = at-second-part r .before .before
 
--- the list of cases
-cases : (r : tie.At-loop Inv-loop μ-loop) (a : Accepted (at-start r .args .s .now) 128 144 (at-start r .args .at)) → SwitchAt a (r .before .before .second-part .result)
+-- the cases of the node, whatever accepted it
+cases : (r : tie.At-loop Inv-loop μ-loop) (a : Accepted (at-start r .args .s .now) 128 144 (at-start r .args .at)) → SwitchAt a (at-second-part r .second-part .result)
 cases r a = switch-at (at-second-part r .second-part .ensures) a (at-start r .pre .1)
+
+-- inside the loop, the next case
+next : (r : tie.In-loop Inv-loop μ-loop) → (c : Accepted (at-start (r .before) .args .s .now) 163 163 (r .before .loop .p)) × IsCase c
+next r = next-case (r .loop-test .taken) (r .before .loop .inv) (cases (r .before) (at-start (r .before) .pre .0) .list)
 
 second-part-requires : tie.Need-second-part-requires Inv-loop μ-loop
 second-part-requires c κs = (
@@ -33,8 +38,8 @@ second-part-requires c κs = (
 )
 
 read2-requires : tie.Need-read2-requires Inv-loop μ-loop
-read2-requires c κs =
-    switch-at (c .second-part .ensures) (at-start c .pre .0) (at-start c .pre .1) .inside
+read2-requires c κs = let at-start = c .before .before in
+    switch-at (c .second-part .ensures) (at-start .pre .0) (at-start .pre .1) .inside
 
 add-p : tie.Need-add-p Inv-loop μ-loop
 add-p c =
@@ -48,115 +53,28 @@ loop-holds : tie.Need-loop-holds Inv-loop μ-loop
 loop-holds c = begin _ (c .read2 .ensures .0)
 
 add-read8 : tie.Need-add-read8 Inv-loop μ-loop
-add-read8 c =
-    let at-second-part = c .before .before .before in
-    let at-start = at-second-part .before .before in
-    omega (
-      arith,
-      next-case
-          (c .loop-test .taken)
-          (c .before .loop .inv)
-          (switch-at
-          (at-second-part .second-part .ensures)
-          (at-start .pre .0)
-          (at-start .pre .1) .list) .1 .inside,
-    )
+add-read8 c = omega (arith, next c .1 .inside)
 
 read8-requires : tie.Need-read8-requires Inv-loop μ-loop
-read8-requires c κs =
-    let at-second-part = c .before .before .before in
-    let at-start = at-second-part .before .before in
-    omega (
-      arith,
-      next-case
-          (c .loop-test .taken)
-          (c .before .loop .inv)
-          (switch-at
-          (at-second-part .second-part .ensures)
-          (at-start .pre .0)
-          (at-start .pre .1) .list) .1 .inside,
-    )
+read8-requires c κs = omega (arith, next c .1 .inside)
 
 add-t12 : tie.Need-add-t12 Inv-loop μ-loop
-add-t12 c =
-    let in-loop = c .before .before in
-    let at-loop = in-loop .before in
-    let at-second-part = at-loop .before .before in
-    let at-start = at-second-part .before .before in
-    omega (
-      arith,
-      next-case
-          (in-loop .loop-test .taken)
-          (at-loop .loop .inv)
-          (switch-at
-          (at-second-part .second-part .ensures)
-          (at-start .pre .0)
-          (at-start .pre .1) .list) .1 .inside,
-    )
+add-t12 c = omega (arith, next (c .before .before) .1 .inside)
 
 returns : tie.Need-returns Inv-loop μ-loop
 returns c =
     let in-loop = c .before .before in
     let at-loop = in-loop .before in
-    let at-second-part = at-loop .before .before in
-    λ a. hit refl refl
-    (in-loop .loop-test .taken)
-    (c .before .read8 .ensures)
-    (c .if1 .taken)
-    (at-loop .loop .inv) a
-    (switch-at (at-second-part .second-part .ensures) a (at-start at-second-part .pre .1))
+    λ a. hit refl refl (in-loop .loop-test .taken) (c .before .read8 .ensures) (c .if1 .taken) (at-loop .loop .inv) a (cases at-loop a)
 
 add-p-2 : tie.Need-add-p-2 Inv-loop μ-loop
-add-p-2 c =
-    let in-loop = c .before .before in
-    let at-loop = in-loop .before in
-    let at-second-part = at-loop .before .before in
-    let at-start = at-second-part .before .before in
-    omega (
-      arith,
-      next-case
-          (in-loop .loop-test .taken)
-          (at-loop .loop .inv)
-          (switch-at
-          (at-second-part .second-part .ensures)
-          (at-start .pre .0)
-          (at-start .pre .1) .list) .1 .inside,
-    )
+add-p-2 c = omega (arith, next (c .before .before) .1 .inside)
 
 read4-requires : tie.Need-read4-requires Inv-loop μ-loop
-read4-requires c κs =
-    let in-loop = c .before .before in
-    let at-loop = in-loop .before in
-    let at-second-part = at-loop .before .before in
-    let at-start = at-second-part .before .before in
-    omega (
-      arith,
-      next-case
-          (in-loop .loop-test .taken)
-          (at-loop .loop .inv)
-          (switch-at
-          (at-second-part .second-part .ensures)
-          (at-start .pre .0)
-          (at-start .pre .1) .list) .1 .inside,
-    )
+read4-requires c κs = omega (arith, next (c .before .before) .1 .inside)
 
 add-p-3 : tie.Need-add-p-3 Inv-loop μ-loop
-add-p-3 c =
-    let in-loop = c .before .before .before in
-    let at-loop = in-loop .before in
-    let at-second-part = at-loop .before .before in
-    let at-start = at-second-part .before .before in
-    omega (
-      arith,
-      next-case
-          (in-loop .loop-test .taken)
-          (at-loop .loop .inv)
-          (switch-at
-          (at-second-part .second-part .ensures)
-          (at-start .pre .0)
-          (at-start .pre .1) .list) .1 .next,
-      c .read4 .ensures .0,
-    )
+add-p-3 c = omega (arith, next (c .before .before .before) .1 .next, c .read4 .ensures .0)
 
 sub-left : tie.Need-sub-left Inv-loop μ-loop
 sub-left c = omega arith
@@ -179,57 +97,27 @@ loop-again c =
 shared-slice-read-b : tie.Need-shared-slice-read-b Inv-loop μ-loop
 shared-slice-read-b c =
     let at-loop = c .before .before in
-    let at-second-part = at-loop .before .before in
-    let at-start = at-second-part .before .before in
-    omega (
-      arith,
-      flag-in
-          (ended
-          (c .before .loop-test .left)
-          (at-loop .loop .inv)
-          (at-start .pre .0)
-          (switch-at (at-second-part .second-part .ensures) (at-start .pre .0) (at-start .pre .1))),
-    )
+    let a = at-start at-loop .pre .0 in
+    omega (arith, flag-in (ended (c .before .loop-test .left) (at-loop .loop .inv) a (cases at-loop a)))
 
 add-t16 : tie.Need-add-t16 Inv-loop μ-loop
 add-t16 c =
     let after-loop = c .before .before in
     let at-loop = after-loop .before in
-    let at-second-part = at-loop .before .before in
-    let at-start = at-second-part .before .before in
-    omega (
-      arith,
-      flag-in
-          (ended
-          (after-loop .loop-test .left)
-          (at-loop .loop .inv)
-          (at-start .pre .0)
-          (switch-at (at-second-part .second-part .ensures) (at-start .pre .0) (at-start .pre .1))),
-    )
+    let a = at-start at-loop .pre .0 in
+    omega (arith, flag-in (ended (after-loop .loop-test .left) (at-loop .loop .inv) a (cases at-loop a)))
 
 returns-2 : tie.Need-returns-2 Inv-loop μ-loop
 returns-2 c =
     let after-loop = c .before .before in
     let at-loop = after-loop .before in
-    let at-second-part = at-loop .before .before in
-    λ a. default-given
-    (ended
-    (after-loop .loop-test .left)
-    (at-loop .loop .inv) a
-    (switch-at (at-second-part .second-part .ensures) a (at-start at-second-part .pre .1)))
-    (c .if2 .taken)
+    λ a. default-given (ended (after-loop .loop-test .left) (at-loop .loop .inv) a (cases at-loop a)) (c .if2 .taken)
 
 returns-3 : tie.Need-returns-3 Inv-loop μ-loop
 returns-3 c =
     let after-loop = c .before .before in
     let at-loop = after-loop .before in
-    let at-second-part = at-loop .before .before in
-    λ a. default-absent
-    (ended
-    (after-loop .loop-test .left)
-    (at-loop .loop .inv) a
-    (switch-at (at-second-part .second-part .ensures) a (at-start at-second-part .pre .1)))
-    (c .if2 .left)
+    λ a. default-absent (ended (after-loop .loop-test .left) (at-loop .loop .inv) a (cases at-loop a)) (c .if2 .left)
 
 pub selected-spec : {M : Type 1} → statement M
 selected-spec =
