@@ -21,6 +21,7 @@ use Rattle.interpreter_context.specs.Located.{Simple, Next, rests, Locat
 
 -- ---- one part
 
+-- what stands behind a part is the next
 nextOf : {s : List ℕ} {p : Part} {ps : List Part} {at q : ℕ} {t : Tree} {c : Parts s (p ∷ ps) at} → at ≤ q → Behind c t q → Next c q
 nextOf {t} l b = record { rest = b .rest; low = l; inside = b .inside; first = t; tree = b .tree; stop = b .stop; room = b .room; end = b .end }
 
@@ -46,6 +47,7 @@ pub record Steps {s : List ℕ} {p : Part} {ps : List Part} {at : ℕ} (c : Part
   pub absent : code ≡ 7 → (getD s at 0 ≡ 1 → ⊥) → Next c (at + 1)
   pub block : (code ≡ 3 → ⊥) → (code ≡ 1 → ⊥) → (code ≡ 7 → ⊥) → Next c (at + 4 + le4 s at)
 
+-- every part of a node's first three is stepped over so
 pub step : {s : List ℕ} {p : Part} {ps : List Part} {at code : ℕ} → Simple p → code ≡ codeOf p → (c : Parts s (p ∷ ps) at) → Steps c code
 step Simple.text e c = record {
   number = λ h. absurd (omega arith);
@@ -87,6 +89,7 @@ past {at} {c} n e x = subst (λ (w : ℕ). Next c (at + n + w)) (sym e) x
 
 -- ---- the parts of a node's kind
 
+-- the parts that stand among the first three of a node, as a test
 isSimple : Part → Bool
 isSimple Text = true
 isSimple Key = false
@@ -105,9 +108,11 @@ isSimple (Names limit) = false
 isSimple (Paths limit) = false
 isSimple (Values limit) = false
 
+-- a test cannot go both ways
 wrong : {A : Type 0} → false ≡ true → A
 wrong e = let z : _≡_ {A = ℕ} 0 1 = cc in absurd (omega arith)
 
+-- what the test says
 simple-is : (p : Part) → isSimple p ≡ true → Simple p
 unfolding isSimple
 simple-is Text e = Simple.text
@@ -142,12 +147,14 @@ node-simples k lo hi =
     let t = sym (entry 17 (λ j. simples 3 (partsOf (128 + j))) (k - 128) true h) ∙ getD-replicate 17 (k - 128) true true h in
     rw e at t
 
+-- part i of a row, with its code and what stands behind it
 record At (ps : List Part) (i : ℕ) : Type 0 where
   part : Part
   simple : Simple part
   code : getD (map codeOf ps) i 0 ≡ codeOf part
   rest : drop i ps ≡ part ∷ drop (suc i) ps
 
+-- every part among the first n of a row whose first n are simple is one
 at-place : (n i : ℕ) (ps : List Part) → simples n ps ≡ true → i < n → i < length ps → At ps i
 at-place zero i ps t h l = absurd (omega arith)
 at-place (suc n) i [] t h l = absurd (omega arith)
@@ -163,6 +170,7 @@ pub record Column (k i : ℕ) : Type 0 where
   pub code : codeAt k i ≡ codeOf part
   pub rest : drop i (partsOf k) ≡ part ∷ drop (i + 1) (partsOf k)
 
+-- every one of a node's first three parts is one
 pub column : (k i : ℕ) → 128 ≤ k → k ≤ 144 → i < 3 → i < length (partsOf k) → Column k i
 unfolding codeAt
 column k i lo hi h l =
@@ -171,11 +179,13 @@ column k i lo hi h l =
 
 -- ---- from the first part on
 
+-- what is behind one part more
 rests-suc : (i : ℕ) (t : Tree) → rests (suc i) t ≡ rest (rests i t)
 unfolding rests
 rests-suc zero t = refl
 rests-suc (suc i) t = rests-suc i (rest t)
 
+-- the same with the code's i + 1
 rests-next : (i : ℕ) (t : Tree) → rests (i + 1) t ≡ rest (rests i t)
 rests-next i t = rw add-one (rests-suc i t)
 
@@ -187,6 +197,7 @@ kinds a = let o = opened a refl refl in (o .least, o .most, omega (arith, o .lon
 abbrev pub Standing : List ℕ → ℕ → ℕ → ℕ → Type 0
 Standing s at i q = (a : Accepted s 128 144 at) (ps : List Part) → drop i (partsOf (le2 s (at + 4))) ≡ ps → Located a ps i q
 
+-- the first part stands behind the header
 pub begins : (s : List ℕ) (at : ℕ) → Standing s at 0 (at + 6)
 unfolding rests
 begins s at a ps e = let o = opened a refl e in record {
@@ -207,6 +218,7 @@ stands {s} {at} {i} a ek ec h l st =
     let c = column (le2 s (at + 4)) i (b .0) (b .1) h l in
     (c .part, drop (i + 1) (partsOf (le2 s (at + 4))), c .simple, ec ∙ ap (λ (k : ℕ). codeAt k i) ek ∙ c .code, st a _ (c .rest) .parts)
 
+-- and the part behind it begins where the step ended
 pub stands-next : {s : List ℕ} {at i q r k code : ℕ} → k ≡ le2 s (at + 4) → code ≡ codeAt k i → i < 3 → i < length (partsOf (le2 s (at + 4))) → Standing s at i q →
     ((p : Part) (ps : List Part) (c : Parts s (p ∷ ps) q) → Simple p → code ≡ codeOf p → Next c r) → Standing s at (i + 1) r
 stands-next {s} {at} {i} ek ec h l st f a ps e =
@@ -226,6 +238,7 @@ stands-next {s} {at} {i} ek ec h l st f a ps e =
 
 -- ---- the metadata: a number, and a text behind a flag
 
+-- every node has its metadata
 two-parts : (k : ℕ) → 128 ≤ k → k ≤ 144 → 2 ≤ length (partsOf k)
 two-parts k h g = let w = rowed k h g in rw (w .1) (omega arith)
 
@@ -234,11 +247,14 @@ pub flagged : {s : List ℕ} {at : ℕ} → Accepted s 128 144 at → Standing s
 flagged {s} {at} a =
     let b = kinds a in
     let e : at + 6 + 8 ≡ at + 14 = omega arith in
-    rw e at (stands-next {i = 0} refl (part-0 (le2 s (at + 4)) 0 (b .0) (b .1) refl) (omega arith) (omega (arith, two-parts (le2 s (at + 4)) (b .0) (b .1))) (begins s at) (λ p ps c h g. step h g c .number refl))
+    rw e at (stands-next {i = 0} refl (part-0 (le2 s (at + 4)) 0 (b .0) (b .1) refl) (omega arith) (omega (arith, two-parts (le2 s (at + 4)) (b .0) (b .1)))
+    (begins s at) (λ p ps c h g. step h g c .number refl))
 
+-- a node's header and alignment lie in the bytes
 pub within : {s : List ℕ} {at : ℕ} → Accepted s 128 144 at → at + 14 ≤ length s
 within a = let l = flagged a a _ refl in omega (arith, l .inside, l .parts .fits)
 
+-- what the step over the flag and its text needs
 pub flagged-part : {s : List ℕ} {at : ℕ} → Accepted s 128 144 at → (p : Part) × (ps : List Part) × Simple p × (7 ≡ codeOf p) × Parts s (p ∷ ps) (at + 14)
 flagged-part {s} {at} a =
     let b = kinds a in
