@@ -27,7 +27,8 @@ unfolding partsOf nodeTable
 align-number st a k = number-at (located 2 st a k refl)
 
 -- its operand, which is shorter
-pub align-child : {s : List ℕ} {at q : ℕ} → Standing s at 3 q → (a : Accepted s 128 144 at) → le2 s (at + 4) ≡ 131 → (c : Accepted s 128 144 q) × (nodeOf (part 3 (bodyOf a)) ≡ nodeOf (tree c)) × (le4 s q < le4 s at) × (q + 4 + le4 s q ≤ length s)
+pub align-child : {s : List ℕ} {at q : ℕ} → Standing s at 3 q → (a : Accepted s 128 144 at) → le2 s (at + 4) ≡ 131 →
+    (c : Accepted s 128 144 q) × (nodeOf (part 3 (bodyOf a)) ≡ nodeOf (tree c)) × (le4 s q < le4 s at) × (q + 4 + le4 s q ≤ length s)
 unfolding partsOf nodeTable
 align-child st a k = child-at (located 3 st a k refl)
 
@@ -124,10 +125,12 @@ module _ {s : List ℕ} {at r p m : ℕ} {a : Accepted s 128 144 at} (st : Stand
   unfolding formOf makeThing unwrap
   unwrap-align =
       let n = node-is (u .node) k refl in
+      let t = bodyOf (u .node) in
+      let self : IrNode = asNode (makeThing Form.alignUp r t (view thingOf t)) in
       ap unwrap n
-      ∙ ap (λ (j : ℕ). cond (leb j 1) (unwrap (nodeIn 3 (view thingOf (bodyOf (u .node))))) (asNode (makeThing Form.alignUp r (bodyOf (u .node)) (view thingOf (bodyOf (u .node)))))) (align-number st (u .node) k .1 ∙ sym em)
-      ∙ ap (λ (x : IrNode). cond (leb m 1) (unwrap x) (asNode (makeThing Form.alignUp r (bodyOf (u .node)) (view thingOf (bodyOf (u .node)))))) (node-in 3 (bodyOf (u .node)))
-      ∙ ap (λ (x : IrNode). cond (leb m 1) (unwrap (nodeOf (part 3 (bodyOf (u .node))))) x) (sym n)
+      ∙ ap (λ (j : ℕ). cond (leb j 1) (unwrap (nodeIn 3 (view thingOf t))) self) (align-number st (u .node) k .1 ∙ sym em)
+      ∙ ap (λ (x : IrNode). cond (leb m 1) (unwrap x) self) (node-in 3 t)
+      ∙ ap (λ (x : IrNode). cond (leb m 1) (unwrap (nodeOf (part 3 t))) x) (sym n)
 
   -- the loop ends at an alignment above 1
   pub ends-aligned : 1 < m → Unwrapped a r

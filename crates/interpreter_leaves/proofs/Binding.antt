@@ -28,14 +28,19 @@ pub record Collecting (s values : List ℕ) (block len : ℕ) (words : List ℕ)
   pub on : (pl : ℕ) (γ : ParamMap) → Context s values block len words depth γ → (l : Listed s 164 164 m from) →
       (r : Listed s 164 164 left p) × (δ : ParamMap) × (collect-arguments pl γ (entries argumentOf (l .got .0)) [] ≡ collect-arguments pl γ (entries argumentOf (r .got .0)) δ)
 
+-- the loop begins with all of them
 pub begin : {s values : List ℕ} {block len : ℕ} {words : List ℕ} {depth m from left : ℕ} → left ≡ m → Collecting s values block len words depth m from left from
 begin {s} {values} {block} {len} {words} {depth} {m} {from} e = subst (λ (k : ℕ). Collecting s values block len words depth m from k from) (sym e) (record { on = λ pl γ c l. (l, [], refl) })
 
-one-more : (pl : ℕ) (γ : ParamMap) (x : IrArgument) (xs : List IrArgument) (δ : ParamMap) (v : ℕ) → find (x .value) γ ≡ some v → collect-arguments pl γ (x ∷ xs) δ ≡ collect-arguments pl γ xs (record { name = x .name; value = v } ∷ δ)
+-- an argument whose value the caller has is bound
+one-more : (pl : ℕ) (γ : ParamMap) (x : IrArgument) (xs : List IrArgument) (δ : ParamMap) (v : ℕ) → find (x .value) γ ≡ some v →
+    collect-arguments pl γ (x ∷ xs) δ ≡ collect-arguments pl γ xs (record { name = x .name; value = v } ∷ δ)
 unfolding collect-arguments valueOr _>>=_
 one-more pl γ x xs δ v e = ap (λ (o : Option ℕ). valueOr (refusalAt pl (x .at) MissingIrParameter 0) o >>= (λ v. collect-arguments pl γ xs (record { name = x .name; value = v } ∷ δ))) e
 
-one-missing : (pl : ℕ) (γ : ParamMap) (x : IrArgument) (xs : List IrArgument) (δ : ParamMap) → find (x .value) γ ≡ none → collect-arguments pl γ (x ∷ xs) δ ≡ refused (refusalAt pl (x .at) MissingIrParameter 0)
+-- one whose value the caller lacks ends it
+one-missing : (pl : ℕ) (γ : ParamMap) (x : IrArgument) (xs : List IrArgument) (δ : ParamMap) → find (x .value) γ ≡ none →
+    collect-arguments pl γ (x ∷ xs) δ ≡ refused (refusalAt pl (x .at) MissingIrParameter 0)
 unfolding collect-arguments valueOr _>>=_
 one-missing pl γ x xs δ e = ap (λ (o : Option ℕ). valueOr (refusalAt pl (x .at) MissingIrParameter 0) o >>= (λ v. collect-arguments pl γ xs (record { name = x .name; value = v } ∷ δ))) e
 
@@ -44,10 +49,12 @@ pub value-at : {s : List ℕ} {p u : ℕ} → u ≡ le2 s (p + 6) → (a : Accep
 value-at {s} {p} {u} e a = let f : p + 8 + u ≡ p + 6 + 2 + le2 s (p + 6) = omega arith in argument a f
 
 module _ {s values : List ℕ} {block len : ℕ} {words : List ℕ} {depth m from left p : ℕ} (h : 0 < left) (t : Collecting s values block len words depth m from left p) where
+  -- the next argument
   pub next-one : (x : (γ : ParamMap) × Context s values block len words depth γ) → Listed s 164 164 m from → Accepted s 164 164 p
   next-one x l = block-entry (t .on 0 (x .0) (x .1) l .0) h .child
 
   module _ {u : ℕ} {r : Held} (eu : u ≡ le2 s (p + 6)) (e : (γ : ParamMap) → Context s values block len words depth γ → r ≡ heldOf (find (nameAt s (p + 8 + u)) γ)) where
+    -- the caller has its value: the loop goes on behind it
     pub found-one : {v w : ℕ} → r ≡ Value v → w ≡ le4 s p → Collecting s values block len words depth m from (left - 1) (p + 4 + w)
     unfolding entries
     found-one {v} f ew = subst (λ (w : ℕ). Collecting s values block len words depth m from (left - 1) (p + 4 + w)) (sym ew) (record {
@@ -58,10 +65,12 @@ module _ {s values : List ℕ} {block len : ℕ} {words : List ℕ} {depth m fro
             b .after .rest,
             record { name = argumentOf (tree (b .child)) .name; value = v } ∷ x .1,
             x .2 ∙ ap (λ (z : Tree). collect-arguments pl γ (entries argumentOf z) (x .1)) (b .after .tree)
-                ∙ one-more pl γ (argumentOf (tree (b .child))) (entries argumentOf (b .after .rest .got .0)) (x .1) v (ap (λ (y : IrArgument). find (y .value) γ) (i .is) ∙ held-value (find (nameAt s (p + 8 + u)) γ) r v (e γ c) f),
+                ∙ one-more pl γ (argumentOf (tree (b .child))) (entries argumentOf (b .after .rest .got .0)) (x .1) v (ap (λ (y : IrArgument). find (y .value) γ) (i .is)
+                ∙ held-value (find (nameAt s (p + 8 + u)) γ) r v (e γ c) f),
           );
     })
 
+    -- the caller lacks it: its offset is the answer
     pub lacking-one : r ≡ Absent → (pl : ℕ) (γ : ParamMap) → Context s values block len words depth γ → (l : Listed s 164 164 m from) → Bound pl γ (entries argumentOf (l .got .0)) (Lacking p)
     unfolding entries
     lacking-one f pl γ c l =
@@ -69,9 +78,11 @@ module _ {s values : List ℕ} {block len : ℕ} {words : List ℕ} {depth m fro
         let b = block-entry (x .0) h in
         let i = value-at eu (b .child) in
         Bound.lacking (x .2 ∙ ap (λ (z : Tree). collect-arguments pl γ (entries argumentOf z) (x .1)) (b .after .tree)
-        ∙ one-missing pl γ (argumentOf (tree (b .child))) (entries argumentOf (b .after .rest .got .0)) (x .1) (ap (λ (y : IrArgument). find (y .value) γ) (i .is) ∙ absent-none (find (nameAt s (p + 8 + u)) γ) r (e γ c) f)
+        ∙ one-missing pl γ (argumentOf (tree (b .child))) (entries argumentOf (b .after .rest .got .0)) (x .1) (ap (λ (y : IrArgument). find (y .value) γ) (i .is)
+        ∙ absent-none (find (nameAt s (p + 8 + u)) γ) r (e γ c) f)
         ∙ ap (λ (y : IrArgument). refused (refusalAt pl (y .at) MissingIrParameter 0)) (i .is))
 
+-- none is left: all were found
 pub no-more : {s values : List ℕ} {block len : ℕ} {words : List ℕ} {depth m from left p : ℕ} → left ≤ 0 → Collecting s values block len words depth m from left p →
     (pl : ℕ) (γ : ParamMap) → Context s values block len words depth γ → (l : Listed s 164 164 m from) → Bound pl γ (entries argumentOf (l .got .0)) All
 unfolding entries collect-arguments
@@ -80,5 +91,6 @@ no-more h t pl γ c l =
     Bound.all (x .1) (x .2 ∙ ap (λ (z : Tree × ℕ). collect-arguments pl γ (entries argumentOf (z .0)) (x .1)) (none-left (x .0) h))
 
 -- of the call itself
-pub of-call : {s : List ℕ} {at q : ℕ} {pl : ℕ} {γ : ParamMap} {r : Arguments} (a : Accepted s 128 144 at) (l : ListAt a 164 164 3 q) → Bound pl γ (entries argumentOf (l .list .got .0)) r → Bound pl γ (argumentsOf (tree a)) r
+pub of-call : {s : List ℕ} {at q : ℕ} {pl : ℕ} {γ : ParamMap} {r : Arguments} (a : Accepted s 128 144 at) (l : ListAt a 164 164 3 q) →
+    Bound pl γ (entries argumentOf (l .list .got .0)) r → Bound pl γ (argumentsOf (tree a)) r
 of-call {pl} {γ} {r} a l b = subst (λ (t : Tree). Bound pl γ (entries argumentOf t) r) (sym (l .is)) b

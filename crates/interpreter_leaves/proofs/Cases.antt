@@ -25,6 +25,7 @@ use Rattle.interpreter_leaves.specs.Steps.{pick, casesOf, defaultOf, Pic
 
 -- ---- a case
 
+-- a case: its node lies inside it, and it stands for its value, that node and its parameters
 pub record IsCase {s : List ℕ} {at : ℕ} (c : Accepted s 163 163 at) : Type 0 where
   pub inside : at + 14 ≤ length s
   pub node : Accepted s 128 144 (at + 14)
@@ -33,19 +34,27 @@ pub record IsCase {s : List ℕ} {at : ℕ} (c : Accepted s 163 163 at) : Type 0
   pub parameters : List IrParameter
   pub is : itemOr Thing.nothing (view thingOf (tree c)) ≡ Thing.case (le8 s (at + 6)) (nodeOf (tree node)) parameters
 
+-- what a block 163 stands for, by its parts
 case-thing : (at : ℕ) (t : Tree) → itemOr Thing.nothing (view thingOf (block at 163 t)) ≡ Thing.case (number (part 0 t)) (nodeOf (part 1 t)) (listed parameterOf (part 2 t))
 unfolding view thingOf formOf makeThing
 case-thing at t = ap (λ (n : IrNode). Thing.case (number (part 0 t)) n (listed parameterOf (part 2 t))) (node-in 1 t)
 
-case-parts : {s : List ℕ} {at q : ℕ} (c : Accepted s 163 163 at) → q ≡ at + 6 + 8 →
-    (d : Parts s (Block 128 144 ∷ Blocks 162 162 512 ∷ []) q) × (tree c ≡ block at 163 (cons (num 8 (le8 s (at + 6))) (d .got .0))) × (d .end ≡ at + 4 + le4 s at) × (at + 4 + le4 s at ≤ length s) × (q ≤ at + 4 + le4 s at)
+-- the parts of a case behind its value begin at q
+abbrev BehindValue : {s : List ℕ} {at : ℕ} → Accepted s 163 163 at → ℕ → Type 0
+BehindValue {s} {at} c q =
+    (d : Parts s (Block 128 144 ∷ Blocks 162 162 512 ∷ []) q) × (tree c ≡ block at 163 (cons (num 8 (le8 s (at + 6))) (d .got .0)))
+    × (d .end ≡ at + 4 + le4 s at) × (at + 4 + le4 s at ≤ length s) × (q ≤ at + 4 + le4 s at)
+
+-- they stand behind the eight bytes of the value
+case-parts : {s : List ℕ} {at q : ℕ} (c : Accepted s 163 163 at) → q ≡ at + 6 + 8 → BehindValue c q
 unfolding partsOf findRow grammar
 case-parts {s} {at} {q} c e =
     let o = opened c (sole-kind c) refl in
     let b = number-part (o .parts) in
-    subst (λ (q : ℕ). (d : Parts s (Block 128 144 ∷ Blocks 162 162 512 ∷ []) q) × (tree c ≡ block at 163 (cons (num 8 (le8 s (at + 6))) (d .got .0))) × (d .end ≡ at + 4 + le4 s at) × (at + 4 + le4 s at ≤ length s) × (q ≤ at + 4 + le4 s at)) (sym e)
+    subst (BehindValue c) (sym e)
     (b .rest, o .tree ∙ ap (block at 163) (b .tree), b .end ∙ o .end, omega (arith, o .high, c .fits), omega (arith, b .inside, o .end))
 
+-- every accepted block 163 is a case
 pub case-at : {s : List ℕ} {at : ℕ} (c : Accepted s 163 163 at) → IsCase c
 unfolding part
 case-at {s} {at} c =
@@ -58,15 +67,19 @@ case-at {s} {at} c =
       short = omega (arith, b .behind .inside, x .2);
       next = x .3;
       parameters = listed parameterOf (part 1 (x .0 .got .0));
-      is = ap (λ (t : Tree). itemOr Thing.nothing (view thingOf t)) (x .1) ∙ case-thing at (cons (num 8 (le8 s (at + 6))) (x .0 .got .0)) ∙ ap (λ (t : Tree). Thing.case (le8 s (at + 6)) (nodeOf t) (listed parameterOf (part 1 (x .0 .got .0)))) (ap first (b .behind .tree));
+      is = ap (λ (t : Tree). itemOr Thing.nothing (view thingOf t)) (x .1) ∙ case-thing at (cons (num 8 (le8 s (at + 6))) (x .0 .got .0))
+          ∙ ap (λ (t : Tree). Thing.case (le8 s (at + 6)) (nodeOf t) (listed parameterOf (part 1 (x .0 .got .0)))) (ap first (b .behind .tree));
     }
 
-first-case : (a u : Tree) {v : ℕ} {n : IrNode} {ps : List IrParameter} → itemOr Thing.nothing (view thingOf a) ≡ Thing.case v n ps → casesIn (view thingOf (cons a u)) ≡ SwitchCases.case v n ps (casesIn (view thingOf u))
+-- the first case of a list
+first-case : (a u : Tree) {v : ℕ} {n : IrNode} {ps : List IrParameter} → itemOr Thing.nothing (view thingOf a) ≡ Thing.case v n ps →
+    casesIn (view thingOf (cons a u)) ≡ SwitchCases.case v n ps (casesIn (view thingOf u))
 unfolding casesIn view
 first-case a u e = ap (λ (t : Thing). withCase t (casesIn (view thingOf u))) e
 
 -- ---- the list
 
+-- the cases of a Switch begin at q, and its default stands behind them
 pub record SwitchAt {s : List ℕ} {at : ℕ} (a : Accepted s 128 144 at) (q : ℕ) : Type 0 where
   pub inside : q + 2 ≤ length s
   pub list : Listed s 163 163 (le2 s q) (q + 2)
@@ -77,6 +90,7 @@ pub record SwitchAt {s : List ℕ} {at : ℕ} (a : Accepted s 128 144 at) (q : �
   pub default : part 4 (bodyOf a) ≡ first (behind .got .0)
   pub stop : behind .end ≡ at + 4 + le4 s at
 
+-- what a Switch's last two parts say
 switch-parts : {s : List ℕ} {at q : ℕ} {a : Accepted s 128 144 at} → Located a (Blocks 163 163 64 ∷ OptBlock 128 144 ∷ []) 3 q → SwitchAt a q
 unfolding rests
 switch-parts {a} l =
@@ -92,31 +106,39 @@ switch-parts {a} l =
       stop = e .behind .end ∙ l .end;
     }
 
+-- they stand where part 3 was found
 pub switch-at : {s : List ℕ} {at q : ℕ} → Standing s at 3 q → (a : Accepted s 128 144 at) → le2 s (at + 4) ≡ 132 → SwitchAt a q
 unfolding partsOf nodeTable
 switch-at st a k = switch-parts (located 3 st a k refl)
 
 -- ---- the loop: the cases before p have other values
 
+-- Of every list that is accepted there: what is left of it picks the same node, and ends where it ends.
 pub record Tried (s : List ℕ) (v m from left p : ℕ) : Type 0 where
   pub low : from ≤ p
-  pub on : (l : Listed s 163 163 m from) → (r : Listed s 163 163 left p) × ((d : DefaultNode) → pick v (casesIn (view thingOf (l .got .0))) d ≡ pick v (casesIn (view thingOf (r .got .0))) d) × (l .got .1 ≡ r .got .1) × (r .end ≡ l .end)
+  pub on : (l : Listed s 163 163 m from) → (r : Listed s 163 163 left p) × ((d : DefaultNode) →
+      pick v (casesIn (view thingOf (l .got .0))) d ≡ pick v (casesIn (view thingOf (r .got .0))) d) × (l .got .1 ≡ r .got .1) × (r .end ≡ l .end)
 
+-- the loop begins with all of them
 pub begin : {s : List ℕ} {m from left : ℕ} (v : ℕ) → left ≡ m → Tried s v m from left from
 begin {s} {m} {from} v e = subst (λ (k : ℕ). Tried s v m from k from) (sym e) (record { low = omega arith; on = λ l. (l, (λ d. refl), refl, refl) })
 
+-- a case of another value is passed over
 pick-not : (v t : ℕ) (n : IrNode) (ps : List IrParameter) (cs : SwitchCases) (d : DefaultNode) → (t ≡ v → ⊥) → pick v (SwitchCases.case t n ps cs) d ≡ pick v cs d
 unfolding pick
 pick-not v t n ps cs d h = rw (ne-eqb t v h)
 
+-- one of the value is picked
 pick-this : (v t : ℕ) (n : IrNode) (ps : List IrParameter) (cs : SwitchCases) (d : DefaultNode) → t ≡ v → pick v (SwitchCases.case t n ps cs) d ≡ some n
 unfolding pick
 pick-this v t n ps cs d h = rw (eq-eqb t v h)
 
 module _ {s : List ℕ} {v m from left p : ℕ} where
+  -- the next case
   pub next-case : 0 < left → Tried s v m from left p → Listed s 163 163 m from → (c : Accepted s 163 163 p) × IsCase c
   next-case h t l = let b = block-entry (t .on l .0) h in (b .child, case-at (b .child))
 
+  -- it has another value: the loop goes on behind it
   pub another : {u w : ℕ} → 0 < left → u ≡ le8 s (p + 6) → (u ≡ v → ⊥) → w ≡ le4 s p → Tried s v m from left p → Tried s v m from (left - 1) (p + 4 + w)
   another h eu n ew t = subst (λ (w : ℕ). Tried s v m from (left - 1) (p + 4 + w)) (sym ew) (record {
     low = omega (arith, t .low);
@@ -125,13 +147,15 @@ module _ {s : List ℕ} {v m from left p : ℕ} where
         let b = block-entry (x .0) h in
         let i = case-at (b .child) in (
           b .after .rest,
-          (λ d. x .1 d ∙ ap (λ (z : Tree). pick v (casesIn (view thingOf z)) d) (b .after .tree) ∙ ap (λ (cs : SwitchCases). pick v cs d) (first-case (tree (b .child)) (b .after .rest .got .0) (i .is))
+          (λ d. x .1 d ∙ ap (λ (z : Tree). pick v (casesIn (view thingOf z)) d) (b .after .tree)
+              ∙ ap (λ (cs : SwitchCases). pick v cs d) (first-case (tree (b .child)) (b .after .rest .got .0) (i .is))
               ∙ pick-not v (le8 s (p + 6)) (nodeOf (tree (i .node))) (i .parameters) (casesIn (view thingOf (b .after .rest .got .0))) d (λ e. n (eu ∙ e))),
           x .2 ∙ b .after .stop,
           b .after .end ∙ x .3,
         );
   })
 
+  -- it has the value: its node is picked
   pub hit : {at q u : ℕ} → m ≡ le2 s q → from ≡ q + 2 → 0 < left → u ≡ le8 s (p + 6) → u ≡ v → Tried s v m from left p → (a : Accepted s 128 144 at) → SwitchAt a q → Picked a v (Node (p + 14))
   hit {at} {q} em ef h eu ev t a w = go m from em ef t
     where
@@ -142,7 +166,8 @@ module _ {s : List ℕ} {v m from left p : ℕ} where
           let b = block-entry (x .0) h in
           let i = case-at (b .child) in
           Picked.node (i .node) (omega (arith, i .short, b .after .inside, x .3, w .end, w .low, t′ .low))
-          (ap (λ (z : Tree). pick v (casesIn (view thingOf z)) (defaultOf (bodyOf a))) (w .is) ∙ x .1 (defaultOf (bodyOf a)) ∙ ap (λ (z : Tree). pick v (casesIn (view thingOf z)) (defaultOf (bodyOf a))) (b .after .tree)
+          (ap (λ (z : Tree). pick v (casesIn (view thingOf z)) (defaultOf (bodyOf a))) (w .is) ∙ x .1 (defaultOf (bodyOf a))
+          ∙ ap (λ (z : Tree). pick v (casesIn (view thingOf z)) (defaultOf (bodyOf a))) (b .after .tree)
           ∙ ap (λ (cs : SwitchCases). pick v cs (defaultOf (bodyOf a))) (first-case (tree (b .child)) (b .after .rest .got .0) (i .is))
           ∙ pick-this v (le8 s (p + 6)) (nodeOf (tree (i .node))) (i .parameters) (casesIn (view thingOf (b .after .rest .got .0))) (defaultOf (bodyOf a)) (sym eu ∙ ev))
 
@@ -154,41 +179,52 @@ pub record Behind {s : List ℕ} {at : ℕ} (a : Accepted s 128 144 at) (v p : �
   pub low : at + 6 ≤ p
   pub picks : pick v (casesOf (bodyOf a)) (defaultOf (bodyOf a)) ≡ pick v SwitchCases.noCase (defaultOf (bodyOf a))
 
+-- the default of a Switch stands at p
+abbrev DefaultAt : {s : List ℕ} {at : ℕ} → Accepted s 128 144 at → ℕ → Type 0
+DefaultAt {s} {at} a p = (d : Parts s (OptBlock 128 144 ∷ []) p) × (part 4 (bodyOf a) ≡ first (d .got .0)) × (d .end ≡ at + 4 + le4 s at)
+
+-- none is left: the default decides
 pub ended : {s : List ℕ} {v left p at q : ℕ} → left ≤ 0 → Tried s v (le2 s q) (q + 2) left p → (a : Accepted s 128 144 at) → SwitchAt a q → Behind a v p
 unfolding casesIn view
 ended {s} {v} {left} {p} {at} h t a w =
     let x = t .on (w .list) in
     let n = none-left (x .0) h in
     let e : w .list .got .1 ≡ p = x .2 ∙ ap (λ (z : Tree × ℕ). z .1) n in
-    let c : (d : Parts s (OptBlock 128 144 ∷ []) p) × (part 4 (bodyOf a) ≡ first (d .got .0)) × (d .end ≡ at + 4 + le4 s at) = subst (λ (p : ℕ). (d : Parts s (OptBlock 128 144 ∷ []) p) × (part 4 (bodyOf a) ≡ first (d .got .0)) × (d .end ≡ at + 4 + le4 s at)) e (w .behind, w .default, w .stop) in
+    let c = subst (DefaultAt a) e (w .behind, w .default, w .stop) in
     record {
       parts = c .0;
       default = c .1;
       stop = c .2;
       low = omega (arith, t .low, w .low);
-      picks = ap (λ (z : Tree). pick v (casesIn (view thingOf z)) (defaultOf (bodyOf a))) (w .is) ∙ x .1 (defaultOf (bodyOf a)) ∙ ap (λ (z : Tree × ℕ). pick v (casesIn (view thingOf (z .0))) (defaultOf (bodyOf a))) n;
+      picks = ap (λ (z : Tree). pick v (casesIn (view thingOf z)) (defaultOf (bodyOf a))) (w .is) ∙ x .1 (defaultOf (bodyOf a))
+          ∙ ap (λ (z : Tree × ℕ). pick v (casesIn (view thingOf (z .0))) (defaultOf (bodyOf a))) n;
     }
 
-default-some : (t u : Tree) (f : ℕ) → part 4 t ≡ cons (num 1 f) u → f ≡ 1 → (v : ℕ) → pick v SwitchCases.noCase (defaultOf t) ≡ some (nodeOf u)
-unfolding pick
-default-some t u f e h v = ap (λ (z : Tree). pick v SwitchCases.noCase (cond (eqb (number (first z)) 1) (DefaultNode.orElse (nodeOf (rest z))) DefaultNode.noDefault)) e ∙ ap (λ (b : Bool). pick v SwitchCases.noCase (cond b (DefaultNode.orElse (nodeOf u)) DefaultNode.noDefault)) (eq-eqb f 1 h)
-
-default-none : (t u : Tree) (f : ℕ) → part 4 t ≡ cons (num 1 f) u → (f ≡ 1 → ⊥) → (v : ℕ) → pick v SwitchCases.noCase (defaultOf t) ≡ none
-unfolding pick
-default-none t u f e h v = ap (λ (z : Tree). pick v SwitchCases.noCase (cond (eqb (number (first z)) 1) (DefaultNode.orElse (nodeOf (rest z))) DefaultNode.noDefault)) e ∙ ap (λ (b : Bool). pick v SwitchCases.noCase (cond b (DefaultNode.orElse (nodeOf u)) DefaultNode.noDefault)) (ne-eqb f 1 h)
+-- behind the last case the default's flag decides
+default-by : (t u : Tree) (f v : ℕ) {b : Bool} → part 4 t ≡ cons (num 1 f) u → eqb f 1 ≡ b →
+    pick v SwitchCases.noCase (defaultOf t) ≡ pick v SwitchCases.noCase (cond b (DefaultNode.orElse (nodeOf u)) DefaultNode.noDefault)
+default-by t u f v e h =
+    ap (λ (z : Tree). pick v SwitchCases.noCase (cond (eqb (number (first z)) 1) (DefaultNode.orElse (nodeOf (rest z))) DefaultNode.noDefault)) e
+    ∙ ap (λ (b : Bool). pick v SwitchCases.noCase (cond b (DefaultNode.orElse (nodeOf u)) DefaultNode.noDefault)) h
 
 module _ {s : List ℕ} {at v p : ℕ} {a : Accepted s 128 144 at} (b : Behind a v p) where
+  -- the default's flag lies in the bytes
   pub flag-in : p + 1 ≤ length s
   flag-in = let o = optional-part Optional.block (b .parts) in omega (arith, o .inside, b .parts .fits)
 
+  -- there is a default: it is picked
   pub default-given : getD s p 0 ≡ 1 → Picked a v (Node (p + 1))
+  unfolding pick
   default-given h =
       let o = optional-part Optional.block (b .parts) .there h in
       let k = block-part (o .parts) in
       Picked.node (k .child) (omega (arith, k .behind .inside, o .end, b .stop, b .low))
-      (b .picks ∙ default-some (bodyOf a) (first (o .parts .got .0)) (getD s p 0) (b .default ∙ ap first (o .tree)) h v ∙ ap (λ (z : Tree). some (nodeOf (first z))) (k .behind .tree))
+      (b .picks ∙ default-by (bodyOf a) (first (o .parts .got .0)) (getD s p 0) v (b .default ∙ ap first (o .tree)) (eq-eqb _ _ h)
+      ∙ ap (λ (z : Tree). some (nodeOf (first z))) (k .behind .tree))
 
+  -- there is none: nothing is picked
   pub default-absent : (getD s p 0 ≡ 1 → ⊥) → Picked a v Nothing
+  unfolding pick
   default-absent h =
       let o = optional-part Optional.block (b .parts) .absent h in
-      Picked.nothing (b .picks ∙ default-none (bodyOf a) nil (getD s p 0) (b .default ∙ ap first (o .tree)) h v)
+      Picked.nothing (b .picks ∙ default-by (bodyOf a) nil (getD s p 0) v (b .default ∙ ap first (o .tree)) (ne-eqb _ _ h))

@@ -35,11 +35,13 @@ use Rattle.interpreter_leaves.specs.Steps.{FieldName}
 
 -- ---- arithmetic
 
+-- a value is given as a count
 pub lifted-value : (p a v : ℕ) (n : Num) → n ≡ NumValue v → (x : Result) → n ≡ numOf x → done v ≡ lift p a x
 unfolding lift
 lifted-value p a v n e (value w) f = let h : v ≡ w = cc in ap done h
 lifted-value p a v n e (fault q) f = let z : _≡_ {A = ℕ} 0 1 = cc in absurd (omega arith)
 
+-- a fault is a refusal at the node
 pub lifted-fault : (p a q : ℕ) (n : Num) → n ≡ Fault q → (x : Result) → n ≡ numOf x → refused (refusal p a q 0) ≡ lift p a x
 unfolding lift
 lifted-fault p a q n e (value w) f = let z : _≡_ {A = ℕ} 0 1 = cc in absurd (omega arith)
@@ -47,31 +49,38 @@ lifted-fault p a q n e (fault r) f = let h : q ≡ r = cc in ap (λ (q : ℕ). r
 
 -- ---- Const
 
+-- the value of a Const node
 pub const-at : {s : List ℕ} {at p : ℕ} → Standing s at 2 p → (a : Accepted s 128 144 at) → le2 s (at + 4) ≡ 129 → (p + 8 ≤ length s) × (number (part 2 (bodyOf a)) ≡ le8 s p)
 unfolding partsOf nodeTable
 const-at st a k = number-at (located 2 st a k refl)
 
-pub const-is : {s : List ℕ} {at p v : ℕ} → Standing s at 2 p → le2 s (at + 4) ≡ 129 → v ≡ le8 s p → (handle : Handlers) (pl : ℕ) (γ : ParamMap) (a : Accepted s 128 144 at) → done v ≡ eval-node handle pl γ (nodeOf (tree a))
+-- it is what the node evaluates to
+pub const-is : {s : List ℕ} {at p v : ℕ} → Standing s at 2 p → le2 s (at + 4) ≡ 129 → v ≡ le8 s p →
+    (handle : Handlers) (pl : ℕ) (γ : ParamMap) (a : Accepted s 128 144 at) → done v ≡ eval-node handle pl γ (nodeOf (tree a))
 unfolding formOf makeThing eval-node
 const-is st k ev handle pl γ a = sym (ap (eval-node handle pl γ) (node-is a k refl) ∙ ap done (const-at st a k .1 ∙ sym ev))
 
 -- ---- FieldRef
 
+-- the path of a FieldRef node
 ref-two : {s : List ℕ} {at p : ℕ} → Standing s at 2 p → (a : Accepted s 128 144 at) → le2 s (at + 4) ≡ 130 → (p + 2 + le2 s p ≤ length s) × (text (part 2 (bodyOf a)) ≡ nameAt s p)
 unfolding partsOf nodeTable
 ref-two st a k = text-at (located 2 st a k refl)
 
+-- and its optional parameter
 pub ref-three : {s : List ℕ} {at q : ℕ} → Standing s at 3 q → (a : Accepted s 128 144 at) → le2 s (at + 4) ≡ 130 → MaybeText a 3 q
 unfolding partsOf nodeTable
 ref-three st a k = maybe-text (located 3 st a k refl)
 
 module _ {s : List ℕ} {at p q : ℕ} (st : Standing s at 2 p) (su : Standing s at 3 q) (k : le2 s (at + 4) ≡ 130) (a : Accepted s 128 144 at) where
+  -- where there is a parameter, the node looks for that
   pub by-parameter : getD s q 0 ≡ 1 → FieldName s at (q + 1)
   by-parameter h = record {
     inside = ref-three su a k .given h .0;
     is = λ b. ap (chosen (text (part 2 (bodyOf b)))) (ref-three su b k .given h .1);
   }
 
+  -- else for its path
   pub by-path : (getD s q 0 ≡ 1 → ⊥) → FieldName s at p
   by-path h = record {
     inside = ref-two st a k .0;
@@ -88,40 +97,52 @@ pub absent-none : (o : Option ℕ) (r : Held) → r ≡ heldOf o → r ≡ Absen
 absent-none none r e f = refl
 absent-none (some w) r e f = let z : _≡_ {A = ℕ} 0 1 = cc in absurd (omega arith)
 
-ref-is : {s : List ℕ} {at q : ℕ} → FieldName s at q → le2 s (at + 4) ≡ 130 → (handle : Handlers) (pl : ℕ) (γ : ParamMap) (a : Accepted s 128 144 at) → eval-node handle pl γ (nodeOf (tree a)) ≡ valueOr (refusal pl at MissingIrParameter 0) (find (nameAt s q) γ)
+-- a FieldRef node evaluates to what the context has of that name
+ref-is : {s : List ℕ} {at q : ℕ} → FieldName s at q → le2 s (at + 4) ≡ 130 → (handle : Handlers) (pl : ℕ) (γ : ParamMap) (a : Accepted s 128 144 at) →
+    eval-node handle pl γ (nodeOf (tree a)) ≡ valueOr (refusal pl at MissingIrParameter 0) (find (nameAt s q) γ)
 unfolding formOf makeThing eval-node
 ref-is {at} n k handle pl γ a = ap (eval-node handle pl γ) (node-is a k refl) ∙ ap (λ (m : Name). valueOr (refusal pl at MissingIrParameter 0) (find m γ)) (n .is a)
 
-module _ {s values : List ℕ} {block len : ℕ} {words : List ℕ} {depth at q : ℕ} {r : Held} (pl : ℕ) (n : FieldName s at q) (k : le2 s (at + 4) ≡ 130) (e : (γ : ParamMap) → Context s values block len words depth γ → r ≡ heldOf (find (nameAt s q) γ)) (handle : Handlers) (γ : ParamMap) (c : Context s values block len words depth γ) (a : Accepted s 128 144 at) where
+module _ {s values : List ℕ} {block len : ℕ} {words : List ℕ} {depth at q : ℕ} {r : Held} (pl : ℕ) (n : FieldName s at q) (k : le2 s (at + 4) ≡ 130) (e : (γ : ParamMap) →
+    Context s values block len words depth γ → r ≡ heldOf (find (nameAt s q) γ)) (handle : Handlers) (γ : ParamMap) (c : Context s values block len words depth γ) (a : Accepted s 128 144 at) where
+  -- a value was found
   pub ref-found : {v : ℕ} → r ≡ Value v → done v ≡ eval-node handle pl γ (nodeOf (tree a))
   unfolding valueOr
   ref-found f = sym (ref-is n k handle pl γ a ∙ ap (valueOr (refusal pl at MissingIrParameter 0)) (held-value (find (nameAt s q) γ) r _ (e γ c) f))
 
+  -- none was
   pub ref-absent : r ≡ Absent → refused (refusal pl at 21 0) ≡ eval-node handle pl γ (nodeOf (tree a))
   unfolding valueOr
   ref-absent f = sym (ref-is n k handle pl γ a ∙ ap (valueOr (refusal pl at MissingIrParameter 0)) (absent-none (find (nameAt s q) γ) r (e γ c) f))
 
 -- ---- ZeroSize
 
+-- a ZeroSize node evaluates to 0
 pub zero-is : {s : List ℕ} {at k : ℕ} → k ≡ le2 s (at + 4) → k ≡ 128 → (handle : Handlers) (pl : ℕ) (γ : ParamMap) (a : Accepted s 128 144 at) → done 0 ≡ eval-node handle pl γ (nodeOf (tree a))
 unfolding formOf makeThing eval-node
 zero-is ek k handle pl γ a = sym (ap (eval-node handle pl γ) (node-is a (sym ek ∙ k) refl))
 
 -- ---- the tag of a Switch, the type of a CallNested
 
+-- where the name of a Switch's tag stands
 pub switch-tag : {s : List ℕ} {at p : ℕ} → Standing s at 2 p → (a : Accepted s 128 144 at) → le2 s (at + 4) ≡ 132 → (p + 2 + le2 s p ≤ length s) × (text (part 2 (bodyOf a)) ≡ nameAt s p)
 unfolding partsOf nodeTable
 switch-tag st a k = text-at (located 2 st a k refl)
 
+-- where the name of a called type stands
 pub call-type : {s : List ℕ} {at p : ℕ} → Standing s at 2 p → (a : Accepted s 128 144 at) → le2 s (at + 4) ≡ 133 → (p + 2 + le2 s p ≤ length s) × (text (part 2 (bodyOf a)) ≡ nameAt s p)
 unfolding partsOf nodeTable
 call-type st a k = text-at (located 2 st a k refl)
 
-pub tag-is : {s values : List ℕ} {block len : ℕ} {words : List ℕ} {depth at p : ℕ} {r : Held} → Standing s at 2 p → le2 s (at + 4) ≡ 132 → ((γ : ParamMap) → Context s values block len words depth γ → r ≡ heldOf (find (nameAt s p) γ)) →
+-- what was found of the tag's name is the tag
+pub tag-is : {s values : List ℕ} {block len : ℕ} {words : List ℕ} {depth at p : ℕ} {r : Held} → Standing s at 2 p → le2 s (at + 4) ≡ 132 →
+    ((γ : ParamMap) → Context s values block len words depth γ → r ≡ heldOf (find (nameAt s p) γ)) →
     (γ : ParamMap) → Context s values block len words depth γ → (a : Accepted s 128 144 at) → r ≡ heldOf (find (text (part 2 (body (tree a)))) γ)
 tag-is st k e γ c a = e γ c ∙ ap (λ (n : Name). heldOf (find n γ)) (sym (switch-tag st a k .1))
 
-pub type-is : {s : List ℕ} {at p u : ℕ} {r : Place} → Standing s at 2 p → le2 s (at + 4) ≡ 133 → u ≡ le2 s p → (t : Tree) → TreeFound s (take (p + 2 + u - (p + 2)) (drop (p + 2) s)) (layoutOf t) r → (a : Accepted s 128 144 at) → TreeFound s (text (part 2 (body (tree a)))) (layoutOf t) r
+-- what was found of the type's name is the type
+pub type-is : {s : List ℕ} {at p u : ℕ} {r : Place} → Standing s at 2 p → le2 s (at + 4) ≡ 133 → u ≡ le2 s p → (t : Tree) →
+    TreeFound s (take (p + 2 + u - (p + 2)) (drop (p + 2) s)) (layoutOf t) r → (a : Accepted s 128 144 at) → TreeFound s (text (part 2 (body (tree a)))) (layoutOf t) r
 type-is {s} {p} {u} {r} st k eu t f a = subst (λ (n : Name). TreeFound s n (layoutOf t) r) (slice-is s p u eu ∙ sym (call-type st a k .1)) f
 
 -- the type that holds a node, where a call has opened it
