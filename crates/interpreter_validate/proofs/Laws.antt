@@ -46,11 +46,13 @@ use Rattle.interpreter_validate.specs.Validator.{judge, judgementOf, out
 abbrev pair : Outcome Tree → Outcome Tree → Outcome (Tree × Tree)
 pair x y = x >>= (λ l. y >>= (λ v. done (l, v)))
 
+-- the first input was refused
 first-no : (n : ℕ) (x y : Outcome Tree) {q o : ℕ} → inputOf n x ≡ Refused q o → judgement.Unread q o ≡ judgementOf (pair x y)
 unfolding inputOf judgementOf _>>=_
 first-no n (done t) y e = let z : _≡_ {A = ℕ} 0 1 = cc in absurd (omega arith)
 first-no n (refused r) y e = cc
 
+-- the first was read, and the second was refused
 second-no : (n m : ℕ) (x y : Outcome Tree) {i q o : ℕ} → inputOf n x ≡ Ok i → inputOf m y ≡ Refused q o → judgement.Unread q o ≡ judgementOf (pair x y)
 unfolding inputOf judgementOf _>>=_
 second-no n m (done t) y d e = first-no m y (done t) e ∙ same y
@@ -60,6 +62,7 @@ second-no n m (done t) y d e = first-no m y (done t) e ∙ same y
     same (refused r) = refl
 second-no n m (refused r) y d e = let z : _≡_ {A = ℕ} 0 1 = cc in absurd (omega arith)
 
+-- both were read
 both-yes : (n m : ℕ) (x y : Outcome Tree) {i j : ℕ} → inputOf n x ≡ Ok i → inputOf m y ≡ Ok j → judgement.Read ≡ judgementOf (pair x y)
 unfolding inputOf judgementOf _>>=_
 both-yes n m (done t) (done u) d e = refl
@@ -67,53 +70,64 @@ both-yes n m (done t) (refused r) d e = let z : _≡_ {A = ℕ} 0 1 = cc in absu
 both-yes n m (refused r) y d e = let z : _≡_ {A = ℕ} 0 1 = cc in absurd (omega arith)
 
 module _ (n : ℕ) (s v : List ℕ) (k : ℕ) where
+  -- there are too few words
   pub judge-19 : n < 8192 → judgement.Unread 19 0 ≡ judgementOf (judge n s v k)
   unfolding judge judgementOf enough _>>=_ ask
   judge-19 h = rw (lt-leb _ _ h)
 
   module _ (h : 8192 ≤ n) where
+    -- the layout is too long
     pub judge-1 : 65536 < length s → judgement.Unread 1 0 ≡ judgementOf (judge n s v k)
     unfolding judge judgementOf enough small _>>=_ ask
     judge-1 g = rw (le-leb _ _ h, lt-leb _ _ g)
 
     module _ (g : length s ≤ 65536) where
+      -- the other input is
       pub judge-1-too : 65536 < length v → judgement.Unread 1 0 ≡ judgementOf (judge n s v k)
       unfolding judge judgementOf enough small _>>=_ ask
       judge-1-too f = rw (le-leb _ _ h, le-leb _ _ g, lt-leb _ _ f)
 
       module _ (f : length v ≤ 65536) where
+        -- else both inputs are read
         reads : judge n s v k ≡ pair (readLayout s) (readInput 2 k v)
         unfolding judge enough small _>>=_ ask
         reads = rw (le-leb _ _ h, le-leb _ _ g, le-leb _ _ f)
 
         module _ {x : Read} (ex : x ≡ inputOf (length s) (readInput 256 160 s)) where
+          -- the layout was refused
           pub layout-no : {q o : ℕ} → x ≡ Refused q o → judgement.Unread q o ≡ judgementOf (judge n s v k)
           layout-no e = first-no (length s) (readLayout s) (readInput 2 k v) (sym ex ∙ e) ∙ ap judgementOf (sym reads)
 
           module _ {y : Read} (ey : y ≡ inputOf (length v) (readInput 2 k v)) {i : ℕ} (d : x ≡ Ok i) where
+            -- the other input was
             pub values-no : {q o : ℕ} → y ≡ Refused q o → judgement.Unread q o ≡ judgementOf (judge n s v k)
             values-no e = second-no (length s) (length v) (readLayout s) (readInput 2 k v) (sym ex ∙ d) (sym ey ∙ e) ∙ ap judgementOf (sym reads)
 
+            -- both were read
             pub both-read : {j : ℕ} → y ≡ Ok j → judgement.Read ≡ judgementOf (judge n s v k)
             both-read e = both-yes (length s) (length v) (readLayout s) (readInput 2 k v) (sym ex ∙ d) (sym ey ∙ e) ∙ ap judgementOf (sym reads)
 
 -- ---- a refusal before evaluating has no place and no value
 
 module _ {A B : Type 0} where
+  -- one question after another
   both : {o : Outcome A} {k : A → Outcome B} → Unread o → ((a : A) → Unread (k a)) → Unread (o >>= k)
   unfolding _>>=_
   both (Unread.given a) g = g a
   both (Unread.at-offset q o) g = Unread.at-offset q o
 
+-- a question before evaluating
 asks : (b : Bool) (q o : ℕ) → Unread (ask b (unread q o))
 unfolding ask
 asks true q o = Unread.given tt
 asks false q o = Unread.at-offset q o
 
+-- all of them
 judge-unread : (n : ℕ) (s v : List ℕ) (k : ℕ) → Unread (judge n s v k)
 unfolding judge enough small
 judge-unread n s v k = both (asks _ 19 0) (λ a. both (asks _ 1 0) (λ b. both (asks _ 1 0) (λ c. both (input-unread 256 160 s) (λ l. both (input-unread 2 k v) (λ t. Unread.given (l, t))))))
 
+-- so a refusal is known by its number and its offset
 unread-is : {o : Outcome (Tree × Tree)} {q p : ℕ} → Unread o → judgement.Unread q p ≡ judgementOf o → o ≡ refused (unread q p)
 unfolding judgementOf
 unread-is (Unread.given x) e = let z : _≡_ {A = ℕ} 0 1 = cc in absurd (omega arith)
@@ -122,6 +136,7 @@ unread-is {q} {p} (Unread.at-offset r o) e =
     let b : o ≡ p = cc in
     ap (λ (z : ℕ). refused (unread z o)) a ∙ ap (λ (z : ℕ). refused (unread q z)) b
 
+-- what was not refused was read
 read-is : (o : Outcome (Tree × Tree)) → judgement.Read ≡ judgementOf o → (x : Tree × Tree) × (o ≡ done x)
 unfolding judgementOf
 read-is (done x) e = (x, refl)
@@ -129,6 +144,7 @@ read-is (refused r) e = let z : _≡_ {A = ℕ} 0 1 = cc in absurd (omega arith)
 
 -- ---- what was read
 
+-- Both inputs were read, and their questions were passed.
 pub record Judged (n : ℕ) (s v : List ℕ) (k : ℕ) : Type 0 where
   pub layout : Tree
   pub other : Tree
@@ -138,6 +154,7 @@ pub record Judged (n : ℕ) (s v : List ℕ) (k : ℕ) : Type 0 where
   pub layout-read : readLayout s ≡ done layout
   pub other-read : readInput 2 k v ≡ done other
 
+-- what judging says where it accepts
 judged-as : (n : ℕ) (s v : List ℕ) (k : ℕ) (x : Tree × Tree) → judge n s v k ≡ done x → Judged n s v k
 unfolding judge enough small
 judged-as n s v k x e =
@@ -152,11 +169,13 @@ judged-as n s v k x e =
         let t = bound (readInput 2 k v) _ _ (l .2) in
         record { layout = l .0; other = t .0; is = e ∙ sym (t .2); words = h; small-layout = g; layout-read = l .1; other-read = t .1 }
 
+-- the same, as the code answers it
 pub judged : {n : ℕ} {s v : List ℕ} {k : ℕ} → judgement.Read ≡ judgementOf (judge n s v k) → Judged n s v k
 judged {n} {s} {v} {k} e = let x = read-is (judge n s v k) e in judged-as n s v k (x .0) (x .1)
 
 -- ---- validate
 
+-- the questions may be put first, and what follows them afterwards
 after-judging : (a b c : Outcome Unit) (x y : Outcome Tree) (g : Tree → Tree → Outcome ℕ) →
     (a >>= (λ u. b >>= (λ v. c >>= (λ w. x >>= (λ l. y >>= (λ t. g l t)))))) ≡ ((a >>= (λ u. b >>= (λ v. c >>= (λ w. pair x y)))) >>= (λ z. g (z .0) (z .1)))
 unfolding _>>=_
@@ -167,34 +186,49 @@ after-judging (done u) (done v) (done w) (refused r) y g = refl
 after-judging (done u) (done v) (done w) (done l) (refused r) g = refl
 after-judging (done u) (done v) (done w) (done l) (done t) g = refl
 
+-- what goes on with both inputs once they were read
+module _ (n : ℕ) (s v : List ℕ) (k : ℕ) {o : Outcome ℕ} (g : Tree × Tree → Outcome ℕ) (is : o ≡ (judge n s v k >>= g)) where
+  -- an input was refused
+  judged-stops : {q p : ℕ} → judgement.Unread q p ≡ judgementOf (judge n s v k) → outcomeOf (answer.Refused q 65535 p 0) ≡ o
+  unfolding _>>=_
+  judged-stops e = sym (is ∙ ap (λ (o : Outcome (Tree × Tree)). o >>= g) (unread-is (judge-unread n s v k) e))
+
+  -- both were read
+  judged-goes : (j : Judged n s v k) → o ≡ g (j .layout, j .other)
+  unfolding _>>=_
+  judged-goes j = is ∙ ap (λ (o : Outcome (Tree × Tree)). o >>= g) (j .is)
+
 module _ (n : ℕ) (s : List ℕ) (name : Name) (v : List ℕ) (len : ℕ) where
+  -- validating is judging the inputs and then evaluating
   validate-is : validate n s name v len ≡ (judge n s v 192 >>= (λ z. validate-type (layoutOf (z .0)) name len (valuesOf (z .1))))
   unfolding validate judge
   validate-is = after-judging (enough n) (small s) (small v) (readLayout s) (readInput 2 192 v) (λ l t. validate-type (layoutOf l) name len (valuesOf t))
 
+  -- an input was refused
   pub stops : {q p : ℕ} → judgement.Unread q p ≡ judgementOf (judge n s v 192) → outcomeOf (answer.Refused q 65535 p 0) ≡ validate n s name v len
-  unfolding _>>=_
-  stops e = sym (validate-is ∙ ap (λ (o : Outcome (Tree × Tree)). o >>= (λ z. validate-type (layoutOf (z .0)) name len (valuesOf (z .1)))) (unread-is (judge-unread n s v 192) e))
+  stops e = judged-stops n s v 192 _ validate-is e
 
-  pub goes : (r : Answer) → judgement.Read ≡ judgementOf (judge n s v 192) → ((t : Tree) → readLayout s ≡ done t → (a : Accepted v 192 192 0) → outcomeOf r ≡ validate-type (layoutOf t) name len (valuesOf (tree a))) → outcomeOf r ≡ validate n s name v len
-  unfolding _>>=_
-  goes r e f = last (judged e)
-    where
-      last : Judged n s v 192 → outcomeOf r ≡ validate n s name v len
-      last j =
-          let a = input 2 192 v (j .other-read) in
-          f (j .layout) (j .layout-read) (a .0)
-          ∙ ap (λ (z : Tree × ℕ). validate-type (layoutOf (j .layout)) name len (valuesOf (z .0))) (a .1)
-          ∙ sym (validate-is ∙ ap (λ (o : Outcome (Tree × Tree)). o >>= (λ z. validate-type (layoutOf (z .0)) name len (valuesOf (z .1)))) (j .is))
+  -- both were read, and the type was evaluated
+  pub goes : (r : Answer) → judgement.Read ≡ judgementOf (judge n s v 192) →
+      ((t : Tree) → readLayout s ≡ done t → (a : Accepted v 192 192 0) → outcomeOf r ≡ validate-type (layoutOf t) name len (valuesOf (tree a))) → outcomeOf r ≡ validate n s name v len
+  goes r e f =
+      let j = judged e in
+      let a = input 2 192 v (j .other-read) in
+      f (j .layout) (j .layout-read) (a .0)
+      ∙ ap (λ (z : Tree × ℕ). validate-type (layoutOf (j .layout)) name len (valuesOf (z .0))) (a .1)
+      ∙ sym (judged-goes n s v 192 _ validate-is j)
 
--- the words lent to the open calls, of n words that are zero
+-- the words for the open calls, the first of n words that are zero
 module _ (n : ℕ) (s v : List ℕ) (k : ℕ) {us : List ℕ} (e : us ≡ replicate n 0) (r : judgement.Read ≡ judgementOf (judge n s v k)) where
-  pub roomy : 16 ≤ length us
-  roomy = let l : length us ≡ n = ap length e ∙ length-replicate n 0 in omega (arith, judged r .words)
+  -- there are sixteen
+  pub has-sixteen : 16 ≤ length us
+  has-sixteen = let l : length us ≡ n = ap length e ∙ length-replicate n 0 in omega (arith, judged r .words)
 
-  pub lent : 16 ≤ length (take 16 us)
-  lent = omega (arith, length-take-le 16 us roomy)
+  -- and the first sixteen are as many
+  pub takes-sixteen : 16 ≤ length (take 16 us)
+  takes-sixteen = omega (arith, length-take-le 16 us has-sixteen)
 
+-- what evaluating asks for, where values were read
 pub given : (n : ℕ) (s v : List ℕ) {ws : List ℕ} → 16 ≤ length ws → judgement.Read ≡ judgementOf (judge n s v 192) → Given s v 0 ws
 given n s v h r =
     let j = judged r in
@@ -202,7 +236,7 @@ given n s v h r =
 
 -- ---- a type of an accepted layout
 
--- the words tell no other outcome
+-- the words say no other outcome
 tells-one : {ok : Bool} {ws us : List ℕ} (o : Outcome ℕ) → Tells ok ws us o → outcomeIn ok us ≡ o
 tells-one (done n) t = rw (t .which, t .left)
 tells-one (refused r) t = rw (t .which, t .left)
@@ -212,11 +246,13 @@ abbrev atRoot : (block len left place : ℕ) → Frame
 atRoot b len left place = record { block = b; len = len; depth = 0; left = left; place = place }
 
 module _ {s : List ℕ} {name : Name} {r : Place} (f : (t : Tree) → readLayout s ≡ done t → TreeFound s name (layoutOf t) r) where
+  -- no type has the name
   pub type-unknown : r ≡ PlaceNone → (t : Tree) → readLayout s ≡ done t → (len : ℕ) (γ : ParamMap) → outcomeOf (answer.Refused 20 65535 0 0) ≡ validate-type (layoutOf t) name len γ
   unfolding validate-type _>>=_
   type-unknown e t rd len γ = rw (found-none e (f t rd))
 
   module _ {i o : ℕ} (e : r ≡ PlaceAt i o) where
+    -- the tree of the type that was found
     pub type-tree : {v ws : List ℕ} {block : ℕ} → Given s v block ws → Accepted s 161 161 o
     type-tree g = found-at e (f (g .layout .0) (g .layout .1)) .0
 
@@ -247,24 +283,28 @@ module _ {s : List ℕ} {name : Name} {r : Place} (f : (t : Tree) → readLayout
 
 -- ---- a run
 
+-- a run of an accepted layout
+abbrev runIn : Tree → Tree → Outcome ℕ
+runIn l t = validate-type (layoutOf l) (runOf t .type-name) (runOf t .buffer-length) (runOf t .values)
+
 module _ (n : ℕ) (s v : List ℕ) where
-  run-is : validate-run n s v ≡ (judge n s v 193 >>= (λ z. validate-type (layoutOf (z .0)) (runOf (z .1) .type-name) (runOf (z .1) .buffer-length) (runOf (z .1) .values)))
+  -- validating a run is judging the inputs and then evaluating
+  run-is : validate-run n s v ≡ (judge n s v 193 >>= (λ z. runIn (z .0) (z .1)))
   unfolding validate-run judge
-  run-is = after-judging (enough n) (small s) (small v) (readLayout s) (readInput 2 193 v) (λ l t. validate-type (layoutOf l) (runOf t .type-name) (runOf t .buffer-length) (runOf t .values))
+  run-is = after-judging (enough n) (small s) (small v) (readLayout s) (readInput 2 193 v) runIn
 
+  -- an input was refused
   pub run-stops : {q p : ℕ} → judgement.Unread q p ≡ judgementOf (judge n s v 193) → outcomeOf (answer.Refused q 65535 p 0) ≡ validate-run n s v
-  unfolding _>>=_
-  run-stops e = sym (run-is ∙ ap (λ (o : Outcome (Tree × Tree)). o >>= (λ z. validate-type (layoutOf (z .0)) (runOf (z .1) .type-name) (runOf (z .1) .buffer-length) (runOf (z .1) .values))) (unread-is (judge-unread n s v 193) e))
+  run-stops e = judged-stops n s v 193 _ run-is e
 
-  pub run-goes : (r : Answer) → judgement.Read ≡ judgementOf (judge n s v 193) → ((t : Tree) → readLayout s ≡ done t → (u : Tree) → readRun v ≡ done u → outcomeOf r ≡ validate-type (layoutOf t) (runOf u .type-name) (runOf u .buffer-length) (runOf u .values)) → outcomeOf r ≡ validate-run n s v
-  unfolding _>>=_
-  run-goes r e f = last (judged e)
-    where
-      last : Judged n s v 193 → outcomeOf r ≡ validate-run n s v
-      last j =
-          f (j .layout) (j .layout-read) (j .other) (j .other-read)
-          ∙ sym (run-is ∙ ap (λ (o : Outcome (Tree × Tree)). o >>= (λ z. validate-type (layoutOf (z .0)) (runOf (z .1) .type-name) (runOf (z .1) .buffer-length) (runOf (z .1) .values))) (j .is))
+  -- both were read, and the type was evaluated
+  pub run-goes : (r : Answer) → judgement.Read ≡ judgementOf (judge n s v 193) →
+      ((t : Tree) → readLayout s ≡ done t → (u : Tree) → readRun v ≡ done u → outcomeOf r ≡ runIn t u) → outcomeOf r ≡ validate-run n s v
+  run-goes r e f =
+      let j = judged e in
+      f (j .layout) (j .layout-read) (j .other) (j .other-read) ∙ sym (judged-goes n s v 193 _ run-is j)
 
+-- what evaluating asks for, where a run was read
 pub given-run : (n : ℕ) (s v : List ℕ) {ws : List ℕ} → 16 ≤ length ws → judgement.Read ≡ judgementOf (judge n s v 193) → GivenRun s v ws
 given-run n s v h r =
     let j = judged r in
@@ -278,34 +318,42 @@ pub record RunAt (s : List ℕ) (u : ℕ) (t : Tree) : Type 0 where
   pub block : Accepted s 192 192 (8 + u + 8)
   pub is : part 2 (body t) ≡ tree block
 
+-- the name of a run, by its parts
 run-name : (t b y : Tree) (m : Name) → t ≡ block 0 193 (cons (name m) (cons b y)) → runOf t .type-name ≡ m
 unfolding part
 run-name t b y m e = rw e
 
+-- its buffer length
 run-length : (t a y : Tree) (w : ℕ) → t ≡ block 0 193 (cons a (cons (num 8 w) y)) → runOf t .buffer-length ≡ w
 unfolding part
 run-length t a y w e = rw e
 
+-- its block of values
 run-values : (t a b y d m : Tree) → t ≡ block 0 193 (cons a (cons b y)) → y ≡ cons d m → part 2 (body t) ≡ d
 unfolding part
 run-values t a b y d m e f = rw (e, f)
 
-run-third : {s : List ℕ} {u : ℕ} (t : Tree) (c : Parts s (Block 192 192 ∷ []) (8 + u + 8)) → 8 + u + 8 ≤ length s → t ≡ block 0 193 (cons (name (nameAt s 6)) (cons (num 8 (le8 s (8 + u))) (c .got .0))) → RunAt s u t
+-- the values of an accepted run, behind its name and its buffer length
+run-third : {s : List ℕ} {u : ℕ} (t : Tree) (c : Parts s (Block 192 192 ∷ []) (8 + u + 8)) → 8 + u + 8 ≤ length s →
+    t ≡ block 0 193 (cons (name (nameAt s 6)) (cons (num 8 (le8 s (8 + u))) (c .got .0))) → RunAt s u t
 run-third t c h et =
     let k = block-part c in
     record { inside = h; named = run-name t _ _ _ et; long = run-length t _ _ _ et; block = k .child; is = run-values t _ _ _ _ _ et (k .behind .tree) }
 
+-- its buffer length, behind its name
 run-second : {s : List ℕ} {u : ℕ} (t : Tree) (c : Parts s (Number ∷ Block 192 192 ∷ []) (8 + u)) → t ≡ block 0 193 (cons (name (nameAt s 6)) (c .got .0)) → RunAt s u t
 run-second {s} {u} t c et =
     let k = number-part c in
     run-third t (k .rest) (omega (arith, k .inside, c .fits)) (et ∙ ap (λ (z : Tree). block 0 193 (cons (name (nameAt s 6)) z)) (k .tree))
 
+-- its name, behind its header
 run-first : {s : List ℕ} {u : ℕ} (t : Tree) (c : Parts s (Text ∷ Number ∷ Block 192 192 ∷ []) 6) → u ≡ le2 s 6 → t ≡ block 0 193 (c .got .0) → RunAt s u t
 run-first {s} {u} t c eu et =
     let e : 6 + 2 + le2 s 6 ≡ 8 + u = omega (arith, eu) in
     let k = behind-at e (text-part c .1) in
     run-second t (k .rest) (et ∙ ap (block 0 193) (k .tree))
 
+-- every accepted run is such
 pub run-at : {s : List ℕ} {u : ℕ} {t : Tree} → readRun s ≡ done t → u ≡ le2 s 6 → RunAt s u t
 unfolding partsOf findRow grammar
 run-at {s} {u} {t} e eu = go (input 2 193 s e)
@@ -317,19 +365,23 @@ run-at {s} {u} {t} e eu = go (input 2 193 s e)
         let p = opened {k = 193} {ps = Text ∷ Number ∷ Block 192 192 ∷ []} a k refl in
         run-first t (p .parts) eu (sym (ap (λ (z : Tree × ℕ). z .0) g) ∙ p .tree)
 
+-- its header and the length of its name lie in the bytes
 pub run-six : {s v ws : List ℕ} → GivenRun s v ws → 8 ≤ length v
 run-six {v} g = omega (arith, run-at {s = v} {u = le2 v 6} (g .run-read .1) refl .inside)
 
+-- and so do its name and its buffer length
 pub run-inside : {s v ws : List ℕ} {u : ℕ} → GivenRun s v ws → u ≡ le2 v 6 → 8 + u + 8 ≤ length v
 run-inside g eu = run-at (g .run-read .1) eu .inside
 
 module _ {s v ws : List ℕ} {u : ℕ} (g : GivenRun s v ws) (eu : u ≡ le2 v 6) where
+  -- what evaluating its type asks for
   pub run-given : Given s v (8 + u + 8) ws
   run-given = record { layout = g .layout; values-read = run-at (g .run-read .1) eu .block; room = g .room; small = g .small }
 
+  -- what its type comes to is what the run comes to
   pub run-answers : (r : Answer) (len : ℕ) → len ≡ le8 v (8 + u) →
       ((t : Tree) → readLayout s ≡ done t → (a : Accepted v 192 192 (8 + u + 8)) → outcomeOf r ≡ validate-type (layoutOf t) (take (8 + u - 8) (drop 8 v)) len (valuesOf (tree a))) →
-      (t : Tree) → readLayout s ≡ done t → (x : Tree) → readRun v ≡ done x → outcomeOf r ≡ validate-type (layoutOf t) (runOf x .type-name) (runOf x .buffer-length) (runOf x .values)
+      (t : Tree) → readLayout s ≡ done t → (x : Tree) → readRun v ≡ done x → outcomeOf r ≡ runIn t x
   run-answers r len el f t rd x rx =
       let k = run-at rx eu in
       f t rd (k .block)

@@ -148,7 +148,7 @@ pub fn validate(words: &mut [u64], layout: &[u8], name: &[u8], values: &[u8], le
     }
 }
 
-// The same with working words of its own, of which it needs one for each call that may be open: none are lent, so that 19 is
+// The same with working words of its own, of which it needs one for each call that may be open: the caller gives none, so that 19 is
 // never answered and no word has to be cleared.
 pub fn length_of(layout: &[u8], name: &[u8], values: &[u8], len: u64) -> Answer
     ensures { λ r. ⌜ outcomeOf r ≡ validate 8192 (now (layout .entry)) (now (name .entry)) (now (values .entry)) len ⌝ }
