@@ -8,6 +8,10 @@ use Rattle.interpreter_runs.proofs.answer.Tie as tie
 unread-requires : tie.Need-unread-requires
 unread-requires c κs = search needs
 
+-- The places, each seen from a later one: what was known there.
+abbrev at-start : tie.Else1 → tie.Start
+at-start r = r .before .before .before .before
+
 returns : tie.Need-returns
 returns c = (refl, answer-19 _ _ _ (c .before .if1 .taken) (c .unread .ensures))
 
@@ -15,7 +19,15 @@ unread-requires-2 : tie.Need-unread-requires-2
 unread-requires-2 c κs = search needs
 
 returns-2 : tie.Need-returns-2
-returns-2 c = (refl, answer-1 _ _ _ (c .before .before .if1 .left) (c .before .before .before .before .before .before .pre .0) (c .before .if2 .taken) (c .unread2 .ensures))
+returns-2 c =
+    let at-else1 = c .before .before in (
+      refl,
+      answer-1 _ _ _
+          (at-else1 .if1 .left)
+          (at-start at-else1 .pre .0)
+          (c .before .if2 .taken)
+          (c .unread2 .ensures),
+    )
 
 enum-known-read : tie.Need-enum-known-read
 enum-known-read c = search needs
@@ -39,19 +51,74 @@ enum-told-2 : tie.Need-enum-told-2
 enum-told-2 c = search needs
 
 evaluated-run-requires : tie.Need-evaluated-run-requires
-evaluated-run-requires c κs = run-given _ _ _ (c .before .before .before .before .before .before .before .if1 .left) (c .before .before .before .before .before .before .before .before .before .before .before .pre .0) (c .before .before .before .before .before .before .if2 .left) (c .before .before .before .before .enum-told .given .1) (c .before .before .before .read-input .ensures) (c .before .enum-told2 .given .1) (c .before .before .before .before .before .before .before .before .before .before .before .pre .1 (c .before .before .before .before .before .before .before .if1 .left))
+evaluated-run-requires c κs =
+    let at-read-input = c .before .before .before in
+    let at-enum-told = at-read-input .before in
+    let at-else2 = at-enum-told .before .before in
+    let at-else1 = at-else2 .before in
+    run-given _ _ _
+    (at-else1 .if1 .left)
+    (at-start at-else1 .pre .0)
+    (at-else2 .if2 .left)
+    (at-enum-told .enum-told .given .1)
+    (at-read-input .read-input .ensures)
+    (c .before .enum-told2 .given .1)
+    (at-start at-else1 .pre .1 (at-else1 .if1 .left))
 
 returns-3 : tie.Need-returns-3
-returns-3 c = (refl, layout-stops _ _ _ (c .before .before .before .before .before .if1 .left) (c .before .before .before .before .before .before .before .before .before .pre .0) (c .before .before .before .before .if2 .left) (c .before .before .read .given .1) (c .unread3 .ensures))
+returns-3 c =
+    let at-read = c .before .before in
+    let at-else2 = at-read .before .before in
+    let at-else1 = at-else2 .before in (
+      refl,
+      layout-stops _ _ _
+          (at-else1 .if1 .left)
+          (at-start at-else1 .pre .0)
+          (at-else2 .if2 .left)
+          (at-read .read .given .1)
+          (c .unread3 .ensures),
+    )
 
 returns-4 : tie.Need-returns-4
-returns-4 c = (refl, run-stopped _ _ _ (c .before .before .before .before .before .before .before .before .if1 .left) (c .before .before .before .before .before .before .before .before .before .before .before .before .pre .0) (c .before .before .before .before .before .before .before .if2 .left) (c .before .before .before .before .before .enum-told .given .1) (c .before .before .before .before .read-input .ensures) (c .before .before .q .given .1) (c .unread4 .ensures))
+returns-4 c =
+    let at-q = c .before .before in
+    let at-read-input = at-q .before .before in
+    let at-enum-told = at-read-input .before in
+    let at-else2 = at-enum-told .before .before in
+    let at-else1 = at-else2 .before in (
+      refl,
+      run-stopped _ _ _
+          (at-else1 .if1 .left)
+          (at-start at-else1 .pre .0)
+          (at-else2 .if2 .left)
+          (at-enum-told .enum-told .given .1)
+          (at-read-input .read-input .ensures)
+          (at-q .q .given .1)
+          (c .unread4 .ensures),
+    )
 
 same-length : tie.Need-same-length
 same-length c = search needs
 
 returns-5 : tie.Need-returns-5
-returns-5 c = (c .before .before .evaluated-run .ensures .0, run-answered _ _ _ (c .before .before .before .before .before .before .before .before .before .before .if1 .left) (c .before .before .before .before .before .before .before .before .before .before .before .before .before .before .pre .0) (c .before .before .before .before .before .before .before .before .before .if2 .left) (c .before .before .before .before .before .before .before .enum-told .given .1) (c .before .before .before .before .before .before .read-input .ensures) (c .before .before .before .before .enum-told2 .given .1) (c .before .before .evaluated-run .result) (c .before .before .evaluated-run .ensures .1))
+returns-5 c =
+    let at-evaluated-run = c .before .before in
+    let at-enum-told2 = at-evaluated-run .before .before in
+    let at-read-input = at-enum-told2 .before .before in
+    let at-enum-told = at-read-input .before in
+    let at-else2 = at-enum-told .before .before in
+    let at-else1 = at-else2 .before in (
+      at-evaluated-run .evaluated-run .ensures .0,
+      run-answered _ _ _
+          (at-else1 .if1 .left)
+          (at-start at-else1 .pre .0)
+          (at-else2 .if2 .left)
+          (at-enum-told .enum-told .given .1)
+          (at-read-input .read-input .ensures)
+          (at-enum-told2 .enum-told2 .given .1)
+          (at-evaluated-run .evaluated-run .result)
+          (at-evaluated-run .evaluated-run .ensures .1),
+    )
 
 pub answer-spec : {M : Type 1} → statement M
 answer-spec =

@@ -11,7 +11,8 @@ use Rattle.interpreter_runs.proofs.answer_all.Statement.{statement}
 use Rattle.interpreter_runs.proofs.answer_all.Tie as tie
 
 abbrev Inv-loop : tie.InvT-loop
-Inv-loop n layout read s calls₀ out₀ i₀ at₀ calls out i at = (length calls ≡ length calls₀) × Answering (validate-run n layout) s out₀ out i at
+Inv-loop n layout read s calls₀ out₀ i₀ at₀ calls out i at =
+    (length calls ≡ length calls₀) × Answering (validate-run n layout) s out₀ out i at
 
 abbrev μ-loop : tie.MeasureT-loop
 μ-loop n layout read s calls₀ out₀ i₀ at₀ calls out i at = length s - i
@@ -30,7 +31,9 @@ same-length-2 c = search needs
 
 returns : tie.Need-returns Inv-loop μ-loop
 unfolding validate-runs
-returns c = (c .before .before .loop .inv .0, answering-full (c .before .before .loop .inv .1) (c .if1 .taken))
+returns c =
+    let at-loop = c .before .before in
+    (at-loop .loop .inv .0, answering-full (at-loop .loop .inv .1) (c .if1 .taken))
 
 run-end-requires : tie.Need-run-end-requires Inv-loop μ-loop
 run-end-requires c κs = search needs
@@ -45,16 +48,38 @@ part-answer-end : tie.Need-part-answer-end Inv-loop μ-loop
 part-answer-end c = omega (arith, c .run-end .ensures .inside)
 
 answer-requires : tie.Need-answer-requires Inv-loop μ-loop
-answer-requires c κs = (c .before .before .before .before .before .before .before .before .before .before .pre .0, λ h. omega (arith, c .before .before .before .before .before .loop .inv .0, c .before .before .before .before .before .before .before .before .before .before .pre .1 h))
+answer-requires c κs =
+    let at-loop = c .before .before .before .before .before in
+    let at-start = at-loop .before .before .before .before .before in
+    (at-start .pre .0, λ h. omega (arith, at-loop .loop .inv .0, at-start .pre .1 h))
 
 put-answer-requires : tie.Need-put-answer-requires Inv-loop μ-loop
-put-answer-requires c κs = omega (arith, c .before .before .before .before .before .before .before .if1 .left)
+put-answer-requires c κs =
+    let at-else1 = c .before .before .before .before .before .before .before in
+    omega (arith, at-else1 .if1 .left)
 
 loop-less : tie.Need-loop-less Inv-loop μ-loop
-loop-less c = omega (arith, c .before .before .before .before .before .before .before .before .before .run-end .ensures .more, c .before .before .before .before .before .before .before .before .before .run-end .ensures .inside)
+loop-less c =
+    let at-run-end = c .before .before .before .before .before .before .before .before .before in
+    omega (arith, at-run-end .run-end .ensures .more, at-run-end .run-end .ensures .inside)
 
 loop-again : tie.Need-loop-again Inv-loop μ-loop
-loop-again c = (c .before .before .before .before .before .before .answer .ensures .0 ∙ c .before .before .before .before .before .before .before .before .before .before .before .before .loop .inv .0, answering-more (c .before .before .before .before .before .before .before .before .before .before .before .before .loop .inv .1) (c .before .before .before .before .before .before .before .before .before .before .before .loop-test .taken) (c .before .before .before .before .before .before .before .before .before .before .if1 .left) (c .before .before .before .before .before .before .before .before .before .run-end .ensures) (c .before .before .before .before .before .before .answer .ensures .1) (c .before .before .put-answer .ensures))
+loop-again c =
+    let at-put-answer = c .before .before in
+    let at-answer = at-put-answer .before .before .before .before in
+    let at-run-end = at-answer .before .before .before in
+    let at-else1 = at-run-end .before in
+    let in-loop = at-else1 .before in
+    let at-loop = in-loop .before in (
+      at-answer .answer .ensures .0 ∙ at-loop .loop .inv .0,
+      answering-more
+          (at-loop .loop .inv .1)
+          (in-loop .loop-test .taken)
+          (at-else1 .if1 .left)
+          (at-run-end .run-end .ensures)
+          (at-answer .answer .ensures .1)
+          (at-put-answer .put-answer .ensures),
+    )
 
 same-length-3 : tie.Need-same-length-3 Inv-loop μ-loop
 same-length-3 c = search needs
@@ -64,7 +89,10 @@ same-length-4 c = search needs
 
 returns-2 : tie.Need-returns-2 Inv-loop μ-loop
 unfolding validate-runs
-returns-2 c = (c .before .loop .inv .0, answering-end (c .before .loop .inv .1) (c .loop-test .left))
+returns-2 c = (
+  c .before .loop .inv .0,
+  answering-end (c .before .loop .inv .1) (c .loop-test .left),
+)
 
 pub answer-all-spec : {M : Type 1} → statement M
 answer-all-spec =

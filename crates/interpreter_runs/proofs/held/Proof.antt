@@ -11,7 +11,9 @@ read-input-requires : tie.Need-read-input-requires
 read-input-requires c κs = search needs
 
 returns-2 : tie.Need-returns-2
-returns-2 c = held-read (c .before .before .before .args .layout .now) (c .before .if1 .left) (c .read-input .ensures)
+returns-2 c =
+    let at-start = c .before .before .before in
+    held-read (at-start .args .layout .now) (c .before .if1 .left) (c .read-input .ensures)
 
 pub held-spec : {M : Type 1} → statement M
 held-spec = tie.close (tie.spec returns read-input-requires returns-2)

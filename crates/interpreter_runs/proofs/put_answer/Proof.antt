@@ -20,13 +20,19 @@ same-length : tie.Need-same-length
 same-length c = search needs
 
 returns : tie.Need-returns
-returns c = count-told (c .before .before .before .before .before .a .given .1) (c .before .before .put-four .ensures)
+returns c =
+    let at-put-four = c .before .before in
+    let at-a = at-put-four .before .before .before in
+    count-told (at-a .a .given .1) (at-put-four .put-four .ensures)
 
 same-length-2 : tie.Need-same-length-2
 same-length-2 c = search needs
 
 returns-2 : tie.Need-returns-2
-returns-2 c = refusal-told (c .before .before .before .before .before .a2 .given .1) (c .before .before .put-four2 .ensures)
+returns-2 c =
+    let at-put-four2 = c .before .before in
+    let at-a2 = at-put-four2 .before .before .before in
+    refusal-told (at-a2 .a2 .given .1) (at-put-four2 .put-four2 .ensures)
 
 pub put-answer-spec : {M : Type 1} → statement M
 put-answer-spec =

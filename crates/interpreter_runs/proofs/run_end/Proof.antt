@@ -14,7 +14,15 @@ read4-requires : tie.Need-read4-requires
 read4-requires c κs = search needs
 
 returns-2 : tie.Need-returns-2
-returns-2 c = ends-cut (c .before .before .before .before .args .s .now) _ (c .before .before .before .before .pre) (c .before .read4 .ensures .0) (c .before .before .if1 .left) (c .if2 .taken)
+returns-2 c =
+    let at-else1 = c .before .before in
+    let at-start = at-else1 .before .before in
+    ends-cut
+    (at-start .args .s .now) _
+    (at-start .pre)
+    (c .before .read4 .ensures .0)
+    (at-else1 .if1 .left)
+    (c .if2 .taken)
 
 add-result : tie.Need-add-result
 add-result c = search needs
@@ -23,7 +31,15 @@ add-result-2 : tie.Need-add-result-2
 add-result-2 c = search needs
 
 returns-3 : tie.Need-returns-3
-returns-3 c = ends-inside (c .before .before .before .before .args .s .now) _ (c .before .before .before .before .pre) (c .before .read4 .ensures .0) (c .before .before .if1 .left) (c .if2 .left)
+returns-3 c =
+    let at-else1 = c .before .before in
+    let at-start = at-else1 .before .before in
+    ends-inside
+    (at-start .args .s .now) _
+    (at-start .pre)
+    (c .before .read4 .ensures .0)
+    (at-else1 .if1 .left)
+    (c .if2 .left)
 
 pub run-end-spec : {M : Type 1} → statement M
 run-end-spec =

@@ -22,10 +22,28 @@ slice-relend-prefix-calls : tie.Need-slice-relend-prefix-calls
 slice-relend-prefix-calls c = search needs
 
 slice-aggregate-calls : tie.Need-slice-aggregate-calls
-slice-aggregate-calls c = lent _ _ (c .before .before .before .before .before .clear-words .last .0) (c .before .before .before .before .before .clear-words .ensures) (c .before .few .ensures .0)
+slice-aggregate-calls c =
+    let at-clear-words = c .before .before .before .before .before in
+    lent _ _
+    (at-clear-words .clear-words .last .0)
+    (at-clear-words .clear-words .ensures)
+    (c .before .few .ensures .0)
 
 answer-all-requires : tie.Need-answer-all-requires
-answer-all-requires c κs = (c .before .before .before .before .held .ensures, λ h. omega (arith, lent _ _ (c .before .before .before .before .before .before .before .clear-words .last .0) (c .before .before .before .before .before .before .before .clear-words .ensures) (c .before .before .before .few .ensures .0), c .before .before .before .few .ensures .1 h))
+answer-all-requires c κs =
+    let at-few = c .before .before .before in
+    let at-held = at-few .before in
+    let at-clear-words = at-held .before .before .before in (
+      at-held .held .ensures,
+      λ h. omega (
+        arith,
+        lent _ _
+            (at-clear-words .clear-words .last .0)
+            (at-clear-words .clear-words .ensures)
+            (at-few .few .ensures .0),
+        at-few .few .ensures .1 h,
+      ),
+    )
 
 clear-words-requires-2 : tie.Need-clear-words-requires-2
 clear-words-requires-2 c κs = search needs
@@ -37,7 +55,22 @@ same-length-2 : tie.Need-same-length-2
 same-length-2 c = search needs
 
 returns : tie.Need-returns
-returns c = (answers-told _ (c .before .before .before .before .before .before .before .answer-all .ensures .1), (answers-stand _ (c .before .before .before .before .before .before .before .answer-all .ensures .1), lent-cleared _ _ (c .before .before .before .before .before .before .before .before .before .before .before .before .before .before .before .clear-words .last .0) (c .before .before .before .before .before .before .before .before .before .before .before .before .before .before .before .clear-words .ensures) (c .before .before .before .before .before .before .before .before .before .before .before .few .ensures .0) (c .before .before .clear-words2 .ensures ∙ ap (λ (n : ℕ). replicate n 0) (c .before .before .before .before .before .before .before .answer-all .ensures .0))))
+returns c =
+    let at-clear-words2 = c .before .before in
+    let at-answer-all = at-clear-words2 .before .before .before .before .before in
+    let at-few = at-answer-all .before .before .before .before in
+    let at-clear-words = at-few .before .before .before .before in (
+      answers-told _ (at-answer-all .answer-all .ensures .1),
+      (
+        answers-stand _ (at-answer-all .answer-all .ensures .1),
+        lent-cleared _ _
+            (at-clear-words .clear-words .last .0)
+            (at-clear-words .clear-words .ensures)
+            (at-few .few .ensures .0)
+            (at-clear-words2 .clear-words2 .ensures
+            ∙ ap (λ (n : ℕ). replicate n 0) (at-answer-all .answer-all .ensures .0)),
+      ),
+    )
 
 pub validate-runs-spec : {M : Type 1} → statement M
 validate-runs-spec =
