@@ -12,7 +12,7 @@ use Rattle.wire.proofs.Laws.{both, none, poke-length, poke-whole}
 use Rattle.interpreter.specs.Runs.{first-run, later-runs, outcomes, given}
 use Rattle.errors.specs.Answer.{answerWords, allAnswerWords}
 use Rattle.interpreter_runs.specs.Held.{Ends}
-use Rattle.interpreter_runs.proofs.Laws.{told-length}
+use Rattle.interpreter_runs.proofs.Laws.{four-words}
 
 -- The words of the answers that are left behind m of them, where there is room for so many in all.
 abbrev left : (List ℕ → Outcome ℕ) → ℕ → List ℕ → ℕ → ℕ → List ℕ
@@ -28,25 +28,31 @@ pub record Answering (f : List ℕ → Outcome ℕ) (s out xs : List ℕ) (i at 
   pub passed : m ≤ i
   pub rest : (zs : List ℕ) (r : ℕ) → Wrote xs at (left f (length out) s i m) zs r → Wrote out 0 (allAnswerWords (given (length out) (outcomes (length s) f s))) zs r
 
+-- the loop begins with no answer
 pub answering-start : (f : List ℕ → Outcome ℕ) (s out : List ℕ) → Answering f s out out 0 0
 unfolding given
 answering-start f s out =
     record { m = 0; cursor = refl; fits = omega arith; same = refl; inside = omega arith; passed = omega arith; rest = λ zs r w. rw (sub-zero (length s), sub-zero (length out / 4)) at w }
 
+-- no bytes, no answers
 no-runs : (k : ℕ) (f : List ℕ → Outcome ℕ) → outcomes k f [] ≡ []
 unfolding outcomes
 no-runs zero f = refl
 no-runs (suc k) f = refl
 
-one-more : (j k : ℕ) (f : List ℕ → Outcome ℕ) (x : ℕ) (t : List ℕ) → allAnswerWords (take (suc j) (outcomes (suc k) f (x ∷ t))) ≡ answerWords (f (first-run (x ∷ t))) ++ allAnswerWords (take j (outcomes k f (later-runs (x ∷ t))))
+-- the words of the first answer stand before those of the others
+one-more : (j k : ℕ) (f : List ℕ → Outcome ℕ) (x : ℕ) (t : List ℕ) →
+    allAnswerWords (take (suc j) (outcomes (suc k) f (x ∷ t))) ≡ answerWords (f (first-run (x ∷ t))) ++ allAnswerWords (take j (outcomes k f (later-runs (x ∷ t))))
 unfolding allAnswerWords outcomes
 one-more j k f x t = refl
 
 module _ {f : List ℕ → Outcome ℕ} {s out xs : List ℕ} {i at : ℕ} (g : Answering f s out xs i at) where
+  -- no byte is left: all answers were written
   pub answering-end : length s ≤ i → Wrote out 0 (allAnswerWords (given (length out) (outcomes (length s) f s))) xs at
   unfolding allAnswerWords
   answering-end h = g .rest xs at (rw (drop-of-length-le s h, no-runs (length s - g .m) f, take-nil {A = Outcome ℕ} (length out / 4 - g .m)) (none xs at))
 
+  -- no room is left: as many as there is room for were written
   pub answering-full : length xs - at < 4 → Wrote out 0 (allAnswerWords (given (length out) (outcomes (length s) f s))) xs at
   unfolding allAnswerWords
   answering-full h =
@@ -54,18 +60,20 @@ module _ {f : List ℕ → Outcome ℕ} {s out xs : List ℕ} {i at : ℕ} (g : 
       g .rest xs at (rw e (none xs at))
 
   module _ (lies : i < length s) (room : 4 ≤ length xs - at) {end : ℕ} (ends : Ends s i end) where
+    -- the answer to the run at i, and what is left behind it
     turn : left f (length out) s i (g .m) ≡ answerWords (f (take (end - i) (drop i s))) ++ left f (length out) s end (g .m + 1)
     turn =
         let j : length out / 4 - g .m ≡ suc (length out / 4 - (g .m + 1)) = omega (arith, g .cursor, g .same) in
         let k : length s - g .m ≡ suc (length s - (g .m + 1)) = omega (arith, g .passed) in
         rw (ends .run, ends .later, j, k, drop-cons s i 0 lies) (one-more (length out / 4 - (g .m + 1)) (length s - (g .m + 1)) f _ _)
 
+    -- its words were written: the loop goes on behind the run
     pub answering-more : {o : Outcome ℕ} {ys : List ℕ} {r : ℕ} → o ≡ f (take (end - i) (drop i s)) → Wrote xs at (answerWords o) ys r → Answering f s out ys end r
     answering-more {o} e w =
         record {
           m = g .m + 1;
-          cursor = omega (arith, w .end, told-length o, g .cursor);
-          fits = omega (arith, w .end, told-length o, g .same, g .fits);
+          cursor = omega (arith, w .end, four-words o, g .cursor);
+          fits = omega (arith, w .end, four-words o, g .same, g .fits);
           same = ap length (w .left) ∙ poke-length xs at (answerWords o) ∙ g .same;
           inside = ends .inside;
           passed = omega (arith, ends .more, g .passed);
@@ -74,18 +82,21 @@ module _ {f : List ℕ → Outcome ℕ} {s out xs : List ℕ} {i at : ℕ} (g : 
 
 -- ---- how many answers, and what is left behind them
 
-told-all-length : (os : List (Outcome ℕ)) → length (allAnswerWords os) ≡ 4 * length os
+-- answers have four words each
+all-words : (os : List (Outcome ℕ)) → length (allAnswerWords os) ≡ 4 * length os
 unfolding allAnswerWords
-told-all-length [] = refl
-told-all-length (o ∷ os) = omega (arith, length-append (answerWords o) (allAnswerWords os), told-length o, told-all-length os)
+all-words [] = refl
+all-words (o ∷ os) = omega (arith, length-append (answerWords o) (allAnswerWords os), four-words o, all-words os)
 
 module _ {xs ys : List ℕ} (os : List (Outcome ℕ)) {r : ℕ} (w : Wrote xs 0 (allAnswerWords (given (length xs) os)) ys r) where
-  pub answers-told : r / 4 ≡ length (given (length xs) os)
-  answers-told = omega (arith, w .end, told-all-length (given (length xs) os))
+  -- a quarter of the words is the number of answers
+  pub answers-counted : r / 4 ≡ length (given (length xs) os)
+  answers-counted = omega (arith, w .end, all-words (given (length xs) os))
 
+  -- the answers' words, and behind them what stood there before
   pub answers-stand : ys ≡ allAnswerWords (given (length xs) os) ++ drop (4 * (r / 4)) xs
   unfolding given
   answers-stand =
-      let l = told-all-length (given (length xs) os) in
+      let l = all-words (given (length xs) os) in
       let k : length (allAnswerWords (given (length xs) os)) ≡ 4 * (r / 4) = omega (arith, w .end) in
       w .left ∙ poke-whole xs _ (omega (arith, length-take (length xs / 4) os)) ∙ rw k

@@ -1,5 +1,5 @@
 -- `interpreter_runs::put_answer` meets its contract. Assumes nothing.
-use Rattle.interpreter_runs.proofs.Laws.{count-told, refusal-told}
+use Rattle.interpreter_runs.proofs.Laws.{count-written, refusal-written}
 use borrow.Author.Needs.{needs}
 use Rattle.interpreter_runs.proofs.put_answer.Statement.{statement}
 use Rattle.interpreter_runs.proofs.put_answer.Tie as tie
@@ -23,7 +23,7 @@ returns : tie.Need-returns
 returns c =
     let at-put-four = c .before .before in
     let at-a = at-put-four .before .before .before in
-    count-told (at-a .a .given .1) (at-put-four .put-four .ensures)
+    count-written (at-a .a .given .1) (at-put-four .put-four .ensures)
 
 same-length-2 : tie.Need-same-length-2
 same-length-2 c = search needs
@@ -32,7 +32,7 @@ returns-2 : tie.Need-returns-2
 returns-2 c =
     let at-put-four2 = c .before .before in
     let at-a2 = at-put-four2 .before .before .before in
-    refusal-told (at-a2 .a2 .given .1) (at-put-four2 .put-four2 .ensures)
+    refusal-written (at-a2 .a2 .given .1) (at-put-four2 .put-four2 .ensures)
 
 pub put-answer-spec : {M : Type 1} → statement M
 put-answer-spec =

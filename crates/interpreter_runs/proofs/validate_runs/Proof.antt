@@ -3,8 +3,8 @@ use mathlib.Core.Path.{ap, _∙_}
 use Prim.Native.Nat.{ℕ}
 use native.Mathlib.Omega.{arith}
 use lib.ListN.{replicate}
-use Rattle.interpreter_runs.proofs.Laws.{lent, lent-cleared}
-use Rattle.interpreter_runs.proofs.Loop.{answers-told, answers-stand}
+use Rattle.interpreter_runs.proofs.Laws.{part-length, part-clean}
+use Rattle.interpreter_runs.proofs.Loop.{answers-counted, answers-stand}
 use borrow.Author.Needs.{needs}
 use Rattle.interpreter_runs.proofs.validate_runs.Statement.{statement}
 use Rattle.interpreter_runs.proofs.validate_runs.Tie as tie
@@ -24,7 +24,7 @@ slice-relend-prefix-calls c = search needs
 slice-aggregate-calls : tie.Need-slice-aggregate-calls
 slice-aggregate-calls c =
     let at-clear-words = c .before .before .before .before .before in
-    lent _ _
+    part-length _ _
     (at-clear-words .clear-words .last .0)
     (at-clear-words .clear-words .ensures)
     (c .before .few .ensures .0)
@@ -37,7 +37,7 @@ answer-all-requires c κs =
       at-held .held .ensures,
       λ h. omega (
         arith,
-        lent _ _
+        part-length _ _
             (at-clear-words .clear-words .last .0)
             (at-clear-words .clear-words .ensures)
             (at-few .few .ensures .0),
@@ -60,10 +60,10 @@ returns c =
     let at-answer-all = at-clear-words2 .before .before .before .before .before in
     let at-few = at-answer-all .before .before .before .before in
     let at-clear-words = at-few .before .before .before .before in (
-      answers-told _ (at-answer-all .answer-all .ensures .1),
+      answers-counted _ (at-answer-all .answer-all .ensures .1),
       (
         answers-stand _ (at-answer-all .answer-all .ensures .1),
-        lent-cleared _ _
+        part-clean _ _
             (at-clear-words .clear-words .last .0)
             (at-clear-words .clear-words .ensures)
             (at-few .few .ensures .0)
