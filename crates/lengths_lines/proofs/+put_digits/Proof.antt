@@ -24,7 +24,12 @@ put-digits-below t =
     and 1 put-digits-kinds.ps (falls 1 put-digits-kinds.ps _<_ μ-put-digits t) put-digits.Pre
 
 abbrev put-digits-with : ℕ → put-digits-lts.Claims
-put-digits-with t = (put-byte-reads.Asked, put-byte-reads.Learnt, put-digits-below t, put-digits.Post)
+put-digits-with t = (
+  put-byte-reads.Asked,
+  put-byte-reads.Learnt,
+  put-digits-below t,
+  put-digits.Post,
+)
 
 put-digits-returns : (t : ℕ) → put-digits-lts.Need-returns (put-digits-with t) (put-digits-at t) put-digits.Post
 put-digits-returns t c = (digits-none _ _ _ _ (c .if1 .taken), omega arith)
@@ -68,4 +73,9 @@ put-digits-returns-3 t c = (search (digits-more), omega arith)
 pub +put-digits-spec : {M : Type 1} → statement M
 +put-digits-spec =
     close μ-put-digits
-    (λ t. put-digits-lts.spec (put-digits-with t) (put-digits-at t) put-digits.Post (put-digits-returns t) (put-digits-add-put-byte t) (put-digits-cast-put-byte t) (put-digits-put-byte-requires t) (put-digits-same-length t) (put-digits-returns-2 t) (put-digits-sub-put-digits t) (put-digits-put-digits-requires t) (put-digits-add-put-byte-2 t) (put-digits-cast-put-byte-2 t) (put-digits-put-byte-requires-2 t) (put-digits-same-length-2 t) (put-digits-returns-3 t))
+    (λ t. put-digits-lts.spec (put-digits-with t) (put-digits-at t) put-digits.Post
+    (put-digits-returns t) (put-digits-add-put-byte t) (put-digits-cast-put-byte t)
+    (put-digits-put-byte-requires t) (put-digits-same-length t) (put-digits-returns-2 t)
+    (put-digits-sub-put-digits t) (put-digits-put-digits-requires t) (put-digits-add-put-byte-2 t)
+    (put-digits-cast-put-byte-2 t) (put-digits-put-byte-requires-2 t) (put-digits-same-length-2 t)
+    (put-digits-returns-3 t))

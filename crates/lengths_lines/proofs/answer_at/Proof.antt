@@ -11,11 +11,22 @@ validate-run-requires c κs = search needs
 enum-known-n : tie.Need-enum-known-n
 enum-known-n c = search needs
 
+-- The places, each seen from a later one: what was known there.
+abbrev at-validate-run : tie.After-n → tie.After-validate-run
+at-validate-run r = r .before .before .before .before
+
 run-length-requires : tie.Need-run-length-requires
-run-length-requires c κs = run-accepted _ _ _ (c .before .before .before .before .before .validate-run .ensures .0) (c .before .n .given .1)
+run-length-requires c κs =
+    let at-n = c .before in
+    run-accepted _ _ _ (at-validate-run at-n .validate-run .ensures .0) (at-n .n .given .1)
 
 fill-requires : tie.Need-fill-requires
-fill-requires c κs = run-within _ _ _ (c .before .before .before .before .before .before .validate-run .ensures .0) (c .before .before .n .given .1) (c .run-length .ensures)
+fill-requires c κs =
+    let at-n = c .before .before in
+    run-within _ _ _
+    (at-validate-run at-n .validate-run .ensures .0)
+    (at-n .n .given .1)
+    (c .run-length .ensures)
 
 put-line-requires : tie.Need-put-line-requires
 put-line-requires c κs = search needs
@@ -33,7 +44,18 @@ same-length-2 : tie.Need-same-length-2
 same-length-2 c = search needs
 
 returns : tie.Need-returns
-returns c = (answers-stop _ _ _ (c .before .before .before .before .before .before .before .before .before .before .validate-run .ensures .0) (c .before .before .before .before .before .before .number .given .1) _ (c .before .before .before .before .if1 .taken) (c .before .before .put-stopped .ensures .0), (c .before .before .before .before .before .before .before .before .before .before .validate-run .ensures .1, omega arith))
+returns c =
+    let at-put-stopped = c .before .before in
+    let at-then1 = at-put-stopped .before .before in
+    let at-number = at-then1 .before .before in
+    let at-validate-run = at-number .before .before .before .before in (
+      answers-stop _ _ _
+          (at-validate-run .validate-run .ensures .0)
+          (at-number .number .given .1) _
+          (at-then1 .if1 .taken)
+          (at-put-stopped .put-stopped .ensures .0),
+      (at-validate-run .validate-run .ensures .1, omega arith),
+    )
 
 put-line-requires-2 : tie.Need-put-line-requires-2
 put-line-requires-2 c κs = search needs
@@ -45,7 +67,19 @@ same-length-4 : tie.Need-same-length-4
 same-length-4 c = search needs
 
 returns-2 : tie.Need-returns-2
-returns-2 c = (answers-count _ _ _ (c .before .before .before .before .before .before .before .before .before .before .before .validate-run .ensures .0) (c .before .before .before .before .before .before .before .n .given .1) _ (c .before .before .before .before .before .run-length .ensures) (c .before .before .before .before .fill .ensures) (c .before .before .put-line .ensures .0), (c .before .before .before .before .before .before .before .before .before .before .before .validate-run .ensures .1, omega arith))
+returns-2 c =
+    let at-put-line = c .before .before in
+    let at-fill = at-put-line .before .before in
+    let at-run-length = at-fill .before in
+    let at-n = at-run-length .before .before in (
+      answers-count _ _ _
+          (at-validate-run at-n .validate-run .ensures .0)
+          (at-n .n .given .1) _
+          (at-run-length .run-length .ensures)
+          (at-fill .fill .ensures)
+          (at-put-line .put-line .ensures .0),
+      (at-validate-run at-n .validate-run .ensures .1, omega arith),
+    )
 
 same-length-5 : tie.Need-same-length-5
 same-length-5 c = search needs
@@ -54,7 +88,18 @@ same-length-6 : tie.Need-same-length-6
 same-length-6 c = search needs
 
 returns-3 : tie.Need-returns-3
-returns-3 c = (answers-refused _ _ _ (c .before .before .before .before .before .before .before .before .before .before .validate-run .ensures .0) (c .before .before .before .before .before .before .number .given .1) _ (c .before .before .before .before .if1 .left) (c .before .before .put-line2 .ensures .0), (c .before .before .before .before .before .before .before .before .before .before .validate-run .ensures .1, omega arith))
+returns-3 c =
+    let at-put-line2 = c .before .before in
+    let at-else1 = at-put-line2 .before .before in
+    let at-number = at-else1 .before .before in
+    let at-validate-run = at-number .before .before .before .before in (
+      answers-refused _ _ _
+          (at-validate-run .validate-run .ensures .0)
+          (at-number .number .given .1) _
+          (at-else1 .if1 .left)
+          (at-put-line2 .put-line2 .ensures .0),
+      (at-validate-run .validate-run .ensures .1, omega arith),
+    )
 
 pub answer-at-spec : {M : Type 1} → statement M
 answer-at-spec =

@@ -34,19 +34,41 @@ loop-less : tie.Need-loop-less Inv-loop μ-loop
 loop-less c = search needs
 
 loop-again : tie.Need-loop-again Inv-loop μ-loop
-loop-again c = ⊎-elim (λ w. fill-in (c .before .loop-test .taken) (c .before .before .loop .inv) (w .0 .taken) (w .1) (w .2)) (λ w. fill-over (c .before .loop-test .taken) (c .before .before .loop .inv) (c .before .before .before .before .pre) (w .0 .left) (w .1) (w .2)) (c .if2 .came)
+loop-again c =
+    let at-loop = c .before .before in
+    let at-start = at-loop .before .before in
+    ⊎-elim
+    (λ w. fill-in (c .before .loop-test .taken) (at-loop .loop .inv) (w .0 .taken) (w .1) (w .2))
+    (λ w. fill-over
+    (c .before .loop-test .taken)
+    (at-loop .loop .inv)
+    (at-start .pre)
+    (w .0 .left)
+    (w .1)
+    (w .2))
+    (c .if2 .came)
 
 sub-if3 : tie.Need-sub-if3 Inv-loop μ-loop
 sub-if3 c = search needs
 
 returns-2 : tie.Need-returns-2 Inv-loop μ-loop
-returns-2 c = fill-down (c .before .before .before .if1 .left) (c .before .loop-test .left) (c .before .before .loop .inv) (c .if3 .taken)
+returns-2 c =
+    let at-loop = c .before .before in
+    let at-else1 = at-loop .before in
+    fill-down
+    (at-else1 .if1 .left)
+    (c .before .loop-test .left)
+    (at-loop .loop .inv)
+    (c .if3 .taken)
 
 add-result : tie.Need-add-result Inv-loop μ-loop
 add-result c = search needs
 
 returns-3 : tie.Need-returns-3 Inv-loop μ-loop
-returns-3 c = fill-up (c .before .before .before .if1 .left) (c .before .loop-test .left) (c .before .before .loop .inv) (c .if3 .left)
+returns-3 c =
+    let at-loop = c .before .before in
+    let at-else1 = at-loop .before in
+    fill-up (at-else1 .if1 .left) (c .before .loop-test .left) (at-loop .loop .inv) (c .if3 .left)
 
 pub fill-spec : {M : Type 1} → statement M
 fill-spec =

@@ -14,7 +14,9 @@ read8-requires : tie.Need-read8-requires
 read8-requires c κs = length-inside (c .before .before .pre) (c .read2 .ensures .0)
 
 returns : tie.Need-returns
-returns c = length-is (c .before .before .before .pre) (c .before .read2 .ensures .0) (c .read8 .ensures)
+returns c =
+    let at-start = c .before .before .before in
+    length-is (at-start .pre) (c .before .read2 .ensures .0) (c .read8 .ensures)
 
 pub run-length-spec : {M : Type 1} → statement M
 run-length-spec = tie.close (tie.spec read2-requires add-read8 read8-requires returns)

@@ -9,7 +9,8 @@ use Rattle.lengths_lines.proofs.run_lines.Statement.{statement}
 use Rattle.lengths_lines.proofs.run_lines.Tie as tie
 
 abbrev Inv-loop : tie.InvT-loop
-Inv-loop layout s words₀ out₀ at₀ i₀ run₀ words out at i run = Running layout s out₀ words out at i run
+Inv-loop layout s words₀ out₀ at₀ i₀ run₀ words out at i run =
+    Running layout s out₀ words out at i run
 
 abbrev μ-loop : tie.MeasureT-loop
 μ-loop layout s words₀ out₀ at₀ i₀ run₀ words out at i run = length s - i
@@ -17,8 +18,14 @@ abbrev μ-loop : tie.MeasureT-loop
 clear-words-requires : tie.Need-clear-words-requires Inv-loop μ-loop
 clear-words-requires c κs = search needs
 
+-- The places, each seen from a later one: what was known there.
+abbrev at-start : tie.After-clear-words Inv-loop μ-loop → tie.Start Inv-loop μ-loop
+at-start r = r .before .before .before .before .before .before
+
 loop-holds : tie.Need-loop-holds Inv-loop μ-loop
-loop-holds c = running-start _ _ _ (c .before .before .clear-words .ensures) (c .before .before .before .before .before .before .before .before .pre .0)
+loop-holds c =
+    let at-clear-words = c .before .before in
+    running-start _ _ _ (at-clear-words .clear-words .ensures) (at-start at-clear-words .pre .0)
 
 sub-whole-block : tie.Need-sub-whole-block Inv-loop μ-loop
 sub-whole-block c = search needs
@@ -45,13 +52,37 @@ same-length-2 : tie.Need-same-length-2 Inv-loop μ-loop
 same-length-2 c = search needs
 
 returns : tie.Need-returns Inv-loop μ-loop
-returns c = (running-stop (c .before .before .before .before .before .before .before .before .before .before .loop .inv) (c .before .before .before .before .before .before .before .before .before .loop-test .taken) _ (c .before .before .before .before .before .before .before .whole-block .ensures .0) (c .before .before .before .before .before .q .given .1) (c .before .before .put-stopped .ensures .0), zeroed (c .before .before .before .before .before .before .before .before .before .before .loop .inv .clean) refl (c .before .before .before .before .before .before .before .before .before .before .before .before .before .before .before .before .before .before .before .pre .0))
+returns c =
+    let at-put-stopped = c .before .before in
+    let at-q = at-put-stopped .before .before .before in
+    let at-whole-block = at-q .before .before in
+    let in-loop = at-whole-block .before .before in
+    let at-loop = in-loop .before in (
+      running-stop
+          (at-loop .loop .inv)
+          (in-loop .loop-test .taken) _
+          (at-whole-block .whole-block .ensures .0)
+          (at-q .q .given .1)
+          (at-put-stopped .put-stopped .ensures .0),
+      zeroed (at-loop .loop .inv .clean) refl (at-start (at-loop .before .before .before) .pre .0),
+    )
 
 enum-known-n : tie.Need-enum-known-n Inv-loop μ-loop
 enum-known-n c = search needs
 
 add-end : tie.Need-add-end Inv-loop μ-loop
-add-end c = omega (arith, turn-inside (c .before .before .before .before .before .before .loop .inv) (c .before .before .before .before .before .loop-test .taken) (c .before .before .before .whole-block .ensures .1) (c .before .n .given .1) .1)
+add-end c =
+    let at-whole-block = c .before .before .before in
+    let in-loop = at-whole-block .before .before in
+    let at-loop = in-loop .before in
+    omega (
+      arith,
+      turn-inside
+          (at-loop .loop .inv)
+          (in-loop .loop-test .taken)
+          (at-whole-block .whole-block .ensures .1)
+          (c .before .n .given .1) .1,
+    )
 
 sub-answer-at : tie.Need-sub-answer-at Inv-loop μ-loop
 sub-answer-at c = search needs
@@ -60,7 +91,18 @@ part-answer-at-start : tie.Need-part-answer-at-start Inv-loop μ-loop
 part-answer-at-start c = search needs
 
 part-answer-at-end : tie.Need-part-answer-at-end Inv-loop μ-loop
-part-answer-at-end c = omega (arith, turn-inside (c .before .before .before .before .before .before .loop .inv) (c .before .before .before .before .before .loop-test .taken) (c .before .before .before .whole-block .ensures .1) (c .before .n .given .1) .1)
+part-answer-at-end c =
+    let at-whole-block = c .before .before .before in
+    let in-loop = at-whole-block .before .before in
+    let at-loop = in-loop .before in
+    omega (
+      arith,
+      turn-inside
+          (at-loop .loop .inv)
+          (in-loop .loop-test .taken)
+          (at-whole-block .whole-block .ensures .1)
+          (c .before .n .given .1) .1,
+    )
 
 answer-at-requires : tie.Need-answer-at-requires Inv-loop μ-loop
 answer-at-requires c κs = search needs
@@ -75,7 +117,25 @@ same-length-4 : tie.Need-same-length-4 Inv-loop μ-loop
 same-length-4 c = search needs
 
 returns-2 : tie.Need-returns-2 Inv-loop μ-loop
-returns-2 c = (running-last (c .before .before .before .before .before .before .before .before .before .before .before .before .before .before .before .before .before .loop .inv) (c .before .before .before .before .before .before .before .before .before .before .before .before .before .before .before .before .loop-test .taken) _ (c .before .before .before .before .before .before .before .before .before .before .before .before .before .before .whole-block .ensures .0) (c .before .before .before .before .before .before .before .before .before .before .before .before .n .given .1) (c .before .before .before .before .before .before .before .before .before .before .before .before .before .before .before .before .before .loop .inv .long) (c .before .before .before .before .before .before .before .answer-at .ensures .0) (c .before .r .given .1), zeroed (c .before .before .before .before .before .before .before .answer-at .ensures .1 .0) (c .before .before .before .before .before .before .before .before .before .before .before .before .before .before .before .before .before .loop .inv .long) (c .before .before .before .before .before .before .before .before .before .before .before .before .before .before .before .before .before .before .before .before .before .before .before .before .before .before .pre .0))
+returns-2 c =
+    let at-answer-at = c .before .before .before .before .before .before .before in
+    let at-n = at-answer-at .before .before .before .before .before in
+    let at-whole-block = at-n .before .before in
+    let in-loop = at-whole-block .before .before in
+    let at-loop = in-loop .before in (
+      running-last
+          (at-loop .loop .inv)
+          (in-loop .loop-test .taken) _
+          (at-whole-block .whole-block .ensures .0)
+          (at-n .n .given .1)
+          (at-loop .loop .inv .long)
+          (at-answer-at .answer-at .ensures .0)
+          (c .before .r .given .1),
+      zeroed
+          (at-answer-at .answer-at .ensures .1 .0)
+          (at-loop .loop .inv .long)
+          (at-start (at-loop .before .before .before) .pre .0),
+    )
 
 enum-known-r-2 : tie.Need-enum-known-r-2 Inv-loop μ-loop
 enum-known-r-2 c = search needs
@@ -84,10 +144,44 @@ add-run : tie.Need-add-run Inv-loop μ-loop
 add-run c = search needs
 
 loop-less : tie.Need-loop-less Inv-loop μ-loop
-loop-less c = omega (arith, turn-inside (c .before .before .before .before .before .before .before .before .before .before .before .before .before .before .before .before .before .loop .inv) (c .before .before .before .before .before .before .before .before .before .before .before .before .before .before .before .before .loop-test .taken) (c .before .before .before .before .before .before .before .before .before .before .before .before .before .before .whole-block .ensures .1) (c .before .before .before .before .before .before .before .before .before .before .before .before .n .given .1) .0, turn-inside (c .before .before .before .before .before .before .before .before .before .before .before .before .before .before .before .before .before .loop .inv) (c .before .before .before .before .before .before .before .before .before .before .before .before .before .before .before .before .loop-test .taken) (c .before .before .before .before .before .before .before .before .before .before .before .before .before .before .whole-block .ensures .1) (c .before .before .before .before .before .before .before .before .before .before .before .before .n .given .1) .1)
+loop-less c =
+    let at-n = c .before .before .before .before .before .before .before .before .before .before .before .before in
+    let at-whole-block = at-n .before .before in
+    let in-loop = at-whole-block .before .before in
+    let at-loop = in-loop .before in
+    omega (
+      arith,
+      turn-inside
+          (at-loop .loop .inv)
+          (in-loop .loop-test .taken)
+          (at-whole-block .whole-block .ensures .1)
+          (at-n .n .given .1) .0,
+      turn-inside
+          (at-loop .loop .inv)
+          (in-loop .loop-test .taken)
+          (at-whole-block .whole-block .ensures .1)
+          (at-n .n .given .1) .1,
+    )
 
 loop-again : tie.Need-loop-again Inv-loop μ-loop
-loop-again c = running-more (c .before .before .before .before .before .before .before .before .before .before .before .before .before .before .before .before .before .loop .inv) (c .before .before .before .before .before .before .before .before .before .before .before .before .before .before .before .before .loop-test .taken) _ (c .before .before .before .before .before .before .before .before .before .before .before .before .before .before .whole-block .ensures .0) (c .before .before .before .before .before .before .before .before .before .before .before .before .n .given .1) (c .before .before .before .before .before .before .before .before .before .before .before .before .before .before .before .before .before .loop .inv .long) (c .before .before .before .before .before .before .before .answer-at .ensures .0) (c .before .before .before .before .before .before .before .before .before .before .before .before .before .before .whole-block .ensures .1) (c .before .r2 .given .1) (c .before .before .before .before .before .before .before .answer-at .ensures .1 .1) (c .before .before .before .before .before .before .before .answer-at .kept .1 .1 .1 .1 .0) (c .before .before .before .before .before .before .before .answer-at .ensures .1 .0)
+loop-again c =
+    let at-answer-at = c .before .before .before .before .before .before .before in
+    let at-n = at-answer-at .before .before .before .before .before in
+    let at-whole-block = at-n .before .before in
+    let in-loop = at-whole-block .before .before in
+    let at-loop = in-loop .before in
+    running-more
+    (at-loop .loop .inv)
+    (in-loop .loop-test .taken) _
+    (at-whole-block .whole-block .ensures .0)
+    (at-n .n .given .1)
+    (at-loop .loop .inv .long)
+    (at-answer-at .answer-at .ensures .0)
+    (at-whole-block .whole-block .ensures .1)
+    (c .before .r2 .given .1)
+    (at-answer-at .answer-at .ensures .1 .1)
+    (at-answer-at .answer-at .kept .1 .1 .1 .1 .0)
+    (at-answer-at .answer-at .ensures .1 .0)
 
 same-length-5 : tie.Need-same-length-5 Inv-loop μ-loop
 same-length-5 c = search needs
@@ -96,7 +190,9 @@ same-length-6 : tie.Need-same-length-6 Inv-loop μ-loop
 same-length-6 c = search needs
 
 returns-3 : tie.Need-returns-3 Inv-loop μ-loop
-returns-3 c = running-end (c .before .before .before .before .before .before .before .before .before .before .pre .0) (c .before .loop .inv) (c .loop-test .left)
+returns-3 c =
+    let at-clear-words = c .before .before .before .before in
+    running-end (at-start at-clear-words .pre .0) (c .before .loop .inv) (c .loop-test .left)
 
 pub run-lines-spec : {M : Type 1} → statement M
 run-lines-spec =

@@ -14,14 +14,46 @@ enum-known-q c = search needs
 enum-known-n : tie.Need-enum-known-n
 enum-known-n c = search needs
 
+-- The places, each seen from a later one: what was known there.
+abbrev at-start : tie.After-block-length → tie.Start
+at-start r = r .before .before
+
 returns : tie.Need-returns
-returns c = (whole-no (c .before .before .before .before .before .args .s .now) (c .before .before .before .block-length .ensures .0) (c .before .q .given .1), Inside.stops)
+returns c =
+    let at-block-length = c .before .before .before in (
+      whole-no
+          (at-start at-block-length .args .s .now)
+          (at-block-length .block-length .ensures .0)
+          (c .before .q .given .1),
+      Inside.stops,
+    )
 
 returns-2 : tie.Need-returns-2
-returns-2 c = (whole-lies (c .before .before .before .before .before .before .args .s .now) (c .before .before .before .before .block-length .ensures .0) (c .before .before .n .given .1) (c .if1 .taken), Inside.lies {n = c .before .before .n .given .0 .0} (header-within (c .before .before .before .before .block-length .ensures .1) (c .before .before .n .given .1) .0) (c .if1 .taken))
+returns-2 c =
+    let at-n = c .before .before in
+    let at-block-length = at-n .before .before in (
+      whole-lies
+          (at-start at-block-length .args .s .now)
+          (at-block-length .block-length .ensures .0)
+          (at-n .n .given .1)
+          (c .if1 .taken),
+      Inside.lies
+          {n = at-n .n .given .0 .0}
+          (header-within (at-block-length .block-length .ensures .1) (at-n .n .given .1) .0)
+          (c .if1 .taken),
+    )
 
 returns-3 : tie.Need-returns-3
-returns-3 c = (whole-cut (c .before .before .before .before .before .before .args .s .now) (c .before .before .before .before .block-length .ensures .0) (c .before .before .n .given .1) (c .if1 .left), Inside.stops)
+returns-3 c =
+    let at-n = c .before .before in
+    let at-block-length = at-n .before .before in (
+      whole-cut
+          (at-start at-block-length .args .s .now)
+          (at-block-length .block-length .ensures .0)
+          (at-n .n .given .1)
+          (c .if1 .left),
+      Inside.stops,
+    )
 
 pub whole-block-spec : {M : Type 1} → statement M
 whole-block-spec =
