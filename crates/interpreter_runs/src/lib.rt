@@ -132,7 +132,7 @@ fn answer_all(
 }
 
 // The smaller of n and 16: a word for each call that may be open.
-fn few(n: usize) -> usize
+fn call_words(n: usize) -> usize
     ensures { λ r. ⌜ (r ≤ n) × (8192 ≤ n → 16 ≤ r) ⌝ }
 {
     if n < 16 {
@@ -150,7 +150,7 @@ pub fn validate_runs(words: &mut [u64], layout: &[u8], runs: &[u8], answers: &mu
     let n = words.len();
     wire::clear_words(words);
     let read = held(layout);
-    let most = few(n);
+    let most = call_words(n);
     let calls = &mut words[..most];
     let end = answer_all(n, layout, read, runs, calls, answers);
     wire::clear_words(calls);

@@ -33,16 +33,19 @@ use Rattle.lengths_lines.specs.Lines.{from-header, Answered, AcceptedRun
 
 -- ---- decimal
 
+-- no digits are asked for, and none are written
 pub digits-none : (xs : List ℕ) (at k n : ℕ) → k ≡ 0 → Wrote xs at (digits k n) xs at
 unfolding digits
 digits-none xs at zero n h = none xs at
 digits-none xs at (suc k) n h = absurd (let z : ⊥ = omega arith in z)
 
+-- a number below 10 is one digit
 pub digits-one : (xs ys : List ℕ) (at k n r : ℕ) → (k ≡ 0 → ⊥) → n < 10 → Wrote xs at ((0x30 + n) ∷ []) ys r → Wrote xs at (digits k n) ys r
 unfolding digits
 digits-one xs ys at zero n r h g w = absurd (h refl)
 digits-one xs ys at (suc k) n r h g w = rw (lt-ltb _ _ g, digits) w
 
+-- another is its digits but the last, and then the last
 pub digits-more : (xs ys zs : List ℕ) (at p k n r : ℕ) → (k ≡ 0 → ⊥) → 10 ≤ n → Wrote xs at (digits (k - 1) (n / 10)) ys p → Wrote ys p ((0x30 + n % 10) ∷ []) zs r → Wrote xs at (digits k n) zs r
 unfolding digits
 digits-more xs ys zs at p zero n r h g w v = absurd (h refl)
@@ -50,12 +53,16 @@ digits-more xs ys zs at p (suc k) n r h g w v = rw (le-ltb _ _ g, digits) (both 
 
 -- ---- lines
 
+-- four numbers, each with what stands behind it, are a line
 pub line-puts : {xs ys zs us vs : List ℕ} {at a b c d : ℕ} (run q v f : ℕ) →
-    Wrote xs at (decimal run ++ (0x20 ∷ [])) ys a → Wrote ys a (decimal q ++ (0x20 ∷ [])) zs b → Wrote zs b (decimal v ++ (0x20 ∷ [])) us c → Wrote us c (decimal f ++ (0x0A ∷ [])) vs d → Wrote xs at (line run q v f) vs d
+    Wrote xs at (decimal run ++ (0x20 ∷ [])) ys a → Wrote ys a (decimal q ++ (0x20 ∷ [])) zs b → Wrote zs b (decimal v ++ (0x20 ∷ [])) us c →
+    Wrote us c (decimal f ++ (0x0A ∷ [])) vs d → Wrote xs at (line run q v f) vs d
 unfolding line
 line-puts run q v f g h i j = simp append-assoc at (both g (both h (both i j)))
 
-pub stopped-puts : {xs ys zs us : List ℕ} {at a b c : ℕ} (q : ℕ) → Wrote xs at (0x53 ∷ []) ys a → Wrote ys a (0x20 ∷ []) zs b → Wrote zs b (decimal q ++ (0x0A ∷ [])) us c → Wrote xs at (stopped (plain q)) us c
+-- the letter, a space and the number are the line that ends the output
+pub stopped-puts : {xs ys zs us : List ℕ} {at a b c : ℕ} (q : ℕ) → Wrote xs at (0x53 ∷ []) ys a → Wrote ys a (0x20 ∷ []) zs b → Wrote zs b (decimal q ++ (0x0A ∷ [])) us c →
+    Wrote xs at (stopped (plain q)) us c
 unfolding stopped
 stopped-puts q g h i = both g (both h i)
 
@@ -69,33 +76,41 @@ pub record Filled (count len i whole rest : ℕ) : Type 0 where
   pub is : i * count ≡ whole * len + rest
 
 module _ {count len i whole rest : ℕ} (t : i < 100) (f : Filled count len i whole rest) where
+  -- one count more, which fits into the rest
   pub fill-in : {w r : ℕ} → rest < len - count → w ≡ whole → r ≡ rest + count → Filled count len (i + 1) w r
   fill-in h ew er =
       record { turns = omega arith; few = omega (arith, f .few); below = omega arith; is = rw (ew, er) (omega (arith, add-mul i 1 count, f .is)) }
 
+  -- one count more, with which another whole length is reached
   pub fill-over : {w r : ℕ} → count ≤ len → len - count ≤ rest → w ≡ whole + 1 → r ≡ rest - (len - count) → Filled count len (i + 1) w r
   fill-over l h ew er =
       record { turns = omega arith; few = omega (arith, f .few); below = omega (arith, f .below); is = rw (ew, er) (omega (arith, add-mul i 1 count, add-mul whole 1 len, f .is)) }
 
+-- of no bytes nothing is filled
 pub fill-none : (count len : ℕ) → len ≡ 0 → 0 ≡ fill count len
 unfolding fill
 fill-none count len h = rw (eq-eqb len 0 h)
 
+-- the fill is the number between these bounds
 filled : (count len q : ℕ) → (len ≡ 0 → ⊥) → q * (2 * len) ≤ 200 * count + len → 200 * count + len < (q + 1) * (2 * len) → q ≡ fill count len
 unfolding fill
 filled count len q h a b = rw (ne-eqb len 0 h) (sym (div-eq-of-lt-le (2 * len) a b))
 
+-- two may be taken out of the product
 twice : (q len : ℕ) → q * (2 * len) ≡ 2 * (q * len)
 twice q len = mul-left-comm q 2 len
 
 module _ {count len i whole rest : ℕ} (h : len ≡ 0 → ⊥) (t : 100 ≤ i) (f : Filled count len i whole rest) where
+  -- a hundred counts are so many whole lengths and a rest
   hundred : 100 * count ≡ whole * len + rest
   hundred = let e : i ≡ 100 = omega (arith, f .turns) in rw e at (f .is)
 
+  -- a rest below half of the length is dropped
   pub fill-down : rest < len - rest → whole ≡ fill count len
   fill-down g =
       filled count len whole h (omega (arith, twice whole len, hundred)) (omega (arith, twice (whole + 1) len, add-mul whole 1 len, hundred))
 
+  -- another counts as one more
   pub fill-up : len - rest ≤ rest → whole + 1 ≡ fill count len
   fill-up g =
       filled count len (whole + 1) h (omega (arith, twice (whole + 1) len, add-mul whole 1 len, hundred)) (omega (arith, twice (whole + 1 + 1) len, add-mul (whole + 1) 1 len, add-mul whole 1 len, hundred, f .below))
@@ -103,26 +118,32 @@ module _ {count len i whole rest : ℕ} (h : len ≡ 0 → ⊥) (t : 100 ≤ i) 
 -- ---- the first bytes of a block
 
 module _ (h s : List ℕ) (e : take 4 s ≡ take 4 h) where
+  -- too short is too short, whichever of the two is looked at
   same-length : length h < 4 → length s < 4
   same-length g = omega (arith, length-take 4 s, length-take 4 h, ap length e)
 
+  -- and so is long enough
   long-enough : 4 ≤ length h → 4 ≤ length s
   long-enough g = omega (arith, length-take 4 s, length-take 4 h, ap length e)
 
+  -- both have the same length field
   same-number : le4 h 0 ≡ le4 s 0
   same-number = sym (first-four h) ∙ ap (λ (z : List ℕ). le4 z 0) (sym e) ∙ first-four s
     where
       first-four : (z : List ℕ) → le4 (take 4 z) 0 ≡ le4 z 0
       first-four z = rw (getD-take 4 z 0 0 (omega arith), getD-take 4 z 1 0 (omega arith), getD-take 4 z 2 0 (omega arith), getD-take 4 z 3 0 (omega arith))
 
+-- there are too few bytes for a length field
 pub header-cut : (h : List ℕ) → length h < 4 → (s : List ℕ) → take 4 s ≡ take 4 h → next-block s ≡ from-header (header.Refused 2) s
 unfolding next-block from-header ask _>>=_
 header-cut h g s e = rw (lt-leb _ _ (same-length h s e g))
 
+-- the block is too long
 pub header-large : (h : List ℕ) {n : ℕ} → 4 ≤ length h → n ≡ le4 h 0 → 65536 < 4 + n → (s : List ℕ) → take 4 s ≡ take 4 h → next-block s ≡ from-header (header.Refused 1) s
 unfolding next-block from-header ask _>>=_
 header-large h g en f s e = let l : 65536 < 4 + le4 s 0 = omega (arith, same-number h s e) in rw (le-leb _ _ (long-enough h s e g), lt-leb _ _ l)
 
+-- the block is as long as its length field says
 pub header-fits : (h : List ℕ) {n : ℕ} → 4 ≤ length h → n ≡ le4 h 0 → 4 + n ≤ 65536 → (s : List ℕ) → take 4 s ≡ take 4 h → next-block s ≡ from-header (header.Fits (4 + n)) s
 unfolding next-block from-header ask _>>=_
 header-fits h {n} g en f s e =
@@ -132,21 +153,26 @@ header-fits h {n} g en f s e =
 
 -- ---- a run's buffer length
 
+-- the name and the buffer length lie in the bytes
 pub length-inside : {s : List ℕ} {n : ℕ} → AcceptedRun s → n ≡ le2 s 6 → 8 + n + 8 ≤ length s
 length-inside a e = run-at (a .read) e .inside
 
+-- and so do the header and the name's length
 pub length-name : {s : List ℕ} → AcceptedRun s → 8 ≤ length s
 length-name {s} a = omega (arith, length-inside {s = s} {n = le2 s 6} a refl)
 
+-- the buffer length of a run that was read
 length-of : (s : List ℕ) {t : Tree} → readRun s ≡ done t → run-length s ≡ runOf t .buffer-length
 unfolding run-length _>>=_
 length-of s e = rw e
 
+-- it is the number behind the name
 pub length-is : {s : List ℕ} {n r : ℕ} → AcceptedRun s → n ≡ le2 s 6 → r ≡ le8 s (8 + n) → r ≡ run-length s
 length-is {s} a e f = f ∙ sym (length-of s (a .read) ∙ run-at (a .read) e .long)
 
 -- ---- what an accepted run says
 
+-- a count that is given is at most the buffer length
 counted-within : (p len count c : ℕ) → fits-buffer p len count ≡ done c → c ≤ len
 counted-within p len count c e = go (leb count len) refl e
   where
@@ -154,6 +180,7 @@ counted-within p len count c e = go (leb count len) refl e
     go true h d = omega (arith, done-one d, leb-true count len h)
     go false h d = absurd (not-done d)
 
+-- so it is with a type
 counted-type : (ts : List TypeIr) (m : Name) (len : ℕ) (γ : ParamMap) (c : ℕ) → validate-type ts m len γ ≡ done c → c ≤ len
 unfolding validate-type
 counted-type ts m len γ c e =
@@ -161,6 +188,7 @@ counted-type ts m len γ c e =
     let v = bound (eval-within 16 ts (l .0 .0) (with-buffer-size len γ) (l .0 .1 .root)) _ _ (l .2) in
     counted-within (l .0 .0) len (v .0) c (v .2)
 
+-- and with a run, which then was read
 counted : (n : ℕ) (s v : List ℕ) (c : ℕ) → validate-run n s v ≡ done c → (a : AcceptedRun v) × (c ≤ run-length v)
 unfolding validate-run enough small
 counted n s v c e =
@@ -176,27 +204,35 @@ counted n s v c e =
         (record { tree = r .0; read = r .1 }, rw (length-of v (r .1)) (counted-type (layoutOf t) _ _ _ c (r .2)))
 
 module _ (n : ℕ) (s v : List ℕ) {a : Answer} {c : ℕ} (e : outcomeOf a ≡ validate-run n s v) (f : a ≡ answer.Count c) where
+  -- the run came to a count
   is-done : validate-run n s v ≡ done c
   is-done = sym e ∙ ap outcomeOf f
 
+  -- it was read
   pub run-accepted : AcceptedRun v
   run-accepted = counted n s v c is-done .0
 
+  -- its count is at most its buffer length
   pub run-within : {len : ℕ} → len ≡ run-length v → c ≤ len
   run-within h = rw h (counted n s v c is-done .1)
 
-  pub answers-count : (run : ℕ) {len p c₀ r : ℕ} {xs ys : List ℕ} → len ≡ run-length v → p ≡ fill c len → Wrote xs c₀ (line run 0 c p) ys r → Answered (answer-lines run (run-length v) (validate-run n s v)) xs c₀ ys (printed.Line r)
+  -- its line was written
+  pub answers-count : (run : ℕ) {len p c₀ r : ℕ} {xs ys : List ℕ} → len ≡ run-length v → p ≡ fill c len → Wrote xs c₀ (line run 0 c p) ys r →
+      Answered (answer-lines run (run-length v) (validate-run n s v)) xs c₀ ys (printed.Line r)
   unfolding answer-lines
   answers-count run h g w = rw (is-done) (Answered.line w (λ more. rw (g, h)))
 
 module _ (n : ℕ) (s v : List ℕ) {a : Answer} {q p o x : ℕ} (e : outcomeOf a ≡ validate-run n s v) (f : a ≡ answer.Refused q p o x) where
+  -- the run was refused
   is-refused : validate-run n s v ≡ refused (refusalAt p o q x)
   is-refused = sym e ∙ ap outcomeOf f
 
+  -- a refusal of reading ends the output
   pub answers-stop : (run : ℕ) {c r : ℕ} {xs ys : List ℕ} → q ≤ 6 → Wrote xs c (stopped (plain q)) ys r → Answered (answer-lines run (run-length v) (validate-run n s v)) xs c ys (printed.Last r)
   unfolding answer-lines stopped
   answers-stop run h w = rw is-refused (Answered.last w (λ more. rw (le-leb _ _ h)))
 
+  -- another is a line
   pub answers-refused : (run : ℕ) {c r : ℕ} {xs ys : List ℕ} → 6 < q → Wrote xs c (line run q x 0) ys r → Answered (answer-lines run (run-length v) (validate-run n s v)) xs c ys (printed.Line r)
   unfolding answer-lines
   answers-refused run h w = rw is-refused (Answered.line w (λ more. rw (lt-leb _ _ h)))

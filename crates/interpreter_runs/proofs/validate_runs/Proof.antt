@@ -15,8 +15,8 @@ clear-words-requires c κs = search needs
 held-requires : tie.Need-held-requires
 held-requires c κs = search needs
 
-few-requires : tie.Need-few-requires
-few-requires c κs = search needs
+call-words-requires : tie.Need-call-words-requires
+call-words-requires c κs = search needs
 
 slice-relend-prefix-calls : tie.Need-slice-relend-prefix-calls
 slice-relend-prefix-calls c = search needs
@@ -27,12 +27,12 @@ slice-aggregate-calls c =
     part-length _ _
     (at-clear-words .clear-words .last .0)
     (at-clear-words .clear-words .ensures)
-    (c .before .few .ensures .0)
+    (c .before .call-words .ensures .0)
 
 answer-all-requires : tie.Need-answer-all-requires
 answer-all-requires c κs =
-    let at-few = c .before .before .before in
-    let at-held = at-few .before in
+    let at-call-words = c .before .before .before in
+    let at-held = at-call-words .before in
     let at-clear-words = at-held .before .before .before in (
       at-held .held .ensures,
       λ h. omega (
@@ -40,8 +40,8 @@ answer-all-requires c κs =
         part-length _ _
             (at-clear-words .clear-words .last .0)
             (at-clear-words .clear-words .ensures)
-            (at-few .few .ensures .0),
-        at-few .few .ensures .1 h,
+            (at-call-words .call-words .ensures .0),
+        at-call-words .call-words .ensures .1 h,
       ),
     )
 
@@ -58,15 +58,15 @@ returns : tie.Need-returns
 returns c =
     let at-clear-words2 = c .before .before in
     let at-answer-all = at-clear-words2 .before .before .before .before .before in
-    let at-few = at-answer-all .before .before .before .before in
-    let at-clear-words = at-few .before .before .before .before in (
+    let at-call-words = at-answer-all .before .before .before .before in
+    let at-clear-words = at-call-words .before .before .before .before in (
       answers-counted _ (at-answer-all .answer-all .ensures .1),
       (
         answers-stand _ (at-answer-all .answer-all .ensures .1),
         part-clean _ _
             (at-clear-words .clear-words .last .0)
             (at-clear-words .clear-words .ensures)
-            (at-few .few .ensures .0)
+            (at-call-words .call-words .ensures .0)
             (at-clear-words2 .clear-words2 .ensures
             ∙ ap (λ (n : ℕ). replicate n 0) (at-answer-all .answer-all .ensures .0)),
       ),
@@ -78,7 +78,7 @@ validate-runs-spec =
     (tie.spec
     clear-words-requires
     held-requires
-    few-requires
+    call-words-requires
     slice-relend-prefix-calls
     slice-aggregate-calls
     answer-all-requires
