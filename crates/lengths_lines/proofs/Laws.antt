@@ -113,7 +113,8 @@ module _ {count len i whole rest : ℕ} (h : len ≡ 0 → ⊥) (t : 100 ≤ i) 
   -- another counts as one more
   pub fill-up : len - rest ≤ rest → whole + 1 ≡ fill count len
   fill-up g =
-      filled count len (whole + 1) h (omega (arith, twice (whole + 1) len, add-mul whole 1 len, hundred)) (omega (arith, twice (whole + 1 + 1) len, add-mul (whole + 1) 1 len, add-mul whole 1 len, hundred, f .below))
+      filled count len (whole + 1) h (omega (arith, twice (whole + 1) len, add-mul whole 1 len, hundred))
+      (omega (arith, twice (whole + 1 + 1) len, add-mul (whole + 1) 1 len, add-mul whole 1 len, hundred, f .below))
 
 -- ---- the first bytes of a block
 

@@ -131,12 +131,16 @@ module _ {layout s out us xs : List ℕ} {at i run : ℕ} (g : Running layout s 
     running-stop {r} {ys} e w = g .rest ys r (rw (lines-turn, next-is, e) w)
 
     module _ {n w : ℕ} (e : h ≡ header.Fits n) (ew : w ≡ 8192) where
+      -- the lines of the run at i, and then others
+      abbrev answers : List ℕ → List ℕ
+      answers = answer-lines run (run-length (take (i + n - i) (drop i s))) (validate-run w layout (take (i + n - i) (drop i s)))
+
       -- it is a run, which is answered first
-      lines-block : run-lines (length s - run) layout run (drop i s) ≡ answer-lines run (run-length (take (i + n - i) (drop i s))) (validate-run w layout (take (i + n - i) (drop i s))) (run-lines (length s - (run + 1)) layout (run + 1) (drop (i + n) s))
+      lines-block : run-lines (length s - run) layout run (drop i s) ≡ answers (run-lines (length s - (run + 1)) layout (run + 1) (drop (i + n) s))
       unfolding block-lines blockOf
       lines-block = let k : i + n - i ≡ n = omega arith in lines-turn ∙ rw (next-is, e, k, ew, ← drop-drop n i s)
 
-      module _ {ys : List ℕ} {p : Printed} (a : Answered (answer-lines run (run-length (take (i + n - i) (drop i s))) (validate-run w layout (take (i + n - i) (drop i s)))) xs at ys p) where
+      module _ {ys : List ℕ} {p : Printed} (a : Answered answers xs at ys p) where
         -- its line is the last
         pub running-last : {r : ℕ} → p ≡ printed.Last r → Wrote out 0 (run-lines (length s) layout 0 s) ys r
         running-last {r} f = g .rest ys r (rw lines-block (answered-last _ a f))

@@ -1,5 +1,6 @@
--- `lengths_lines::run_lines` meets its contract. The loop's invariant: whatever writes the lines of the runs that are left makes all lines. Assumes nothing.
-use Prim.Native.Nat.{_-_}
+-- `run_lines` meets its contract. The invariant: whatever writes the lines of the runs that are left makes all lines. The measure is the
+-- bytes that are left.
+use Prim.Native.Nat.{_+_, _-_, _≤_}
 use borrow.Author.Needs.{needs}
 use mathlib.Core.Path.{refl}
 use native.Mathlib.Omega.{arith}
@@ -67,22 +68,28 @@ returns c =
       zeroed (at-loop .loop .inv .clean) refl (at-start (at-loop .before .before .before) .pre .0),
     )
 
+-- The places inside the loop, each seen from where a block of n bytes was found.
+abbrev at-whole-block : tie.After-n Inv-loop μ-loop → tie.After-whole-block Inv-loop μ-loop
+at-whole-block r = r .before .before
+
+abbrev in-loop : tie.After-n Inv-loop μ-loop → tie.In-loop Inv-loop μ-loop
+in-loop r = at-whole-block r .before .before
+
+abbrev at-loop : tie.After-n Inv-loop μ-loop → tie.At-loop Inv-loop μ-loop
+at-loop r = in-loop r .before
+
+abbrev at-entry : tie.After-n Inv-loop μ-loop → tie.Start Inv-loop μ-loop
+at-entry r = at-start (at-loop r .before .before .before)
+
+-- the block has a header, and ends in the bytes
+inside : (r : tie.After-n Inv-loop μ-loop) → (4 ≤ r .n .given .0 .0) × (at-loop r .loop .i + r .n .given .0 .0 ≤ length (at-entry r .args .s .now))
+inside r = turn-inside (at-loop r .loop .inv) (in-loop r .loop-test .taken) (at-whole-block r .whole-block .ensures .1) (r .n .given .1)
+
 enum-known-n : tie.Need-enum-known-n Inv-loop μ-loop
 enum-known-n c = search needs
 
 add-end : tie.Need-add-end Inv-loop μ-loop
-add-end c =
-    let at-whole-block = c .before .before .before in
-    let in-loop = at-whole-block .before .before in
-    let at-loop = in-loop .before in
-    omega (
-      arith,
-      turn-inside
-          (at-loop .loop .inv)
-          (in-loop .loop-test .taken)
-          (at-whole-block .whole-block .ensures .1)
-          (c .before .n .given .1) .1,
-    )
+add-end c = omega (arith, inside (c .before) .1)
 
 sub-answer-at : tie.Need-sub-answer-at Inv-loop μ-loop
 sub-answer-at c = search needs
@@ -91,18 +98,7 @@ part-answer-at-start : tie.Need-part-answer-at-start Inv-loop μ-loop
 part-answer-at-start c = search needs
 
 part-answer-at-end : tie.Need-part-answer-at-end Inv-loop μ-loop
-part-answer-at-end c =
-    let at-whole-block = c .before .before .before in
-    let in-loop = at-whole-block .before .before in
-    let at-loop = in-loop .before in
-    omega (
-      arith,
-      turn-inside
-          (at-loop .loop .inv)
-          (in-loop .loop-test .taken)
-          (at-whole-block .whole-block .ensures .1)
-          (c .before .n .given .1) .1,
-    )
+part-answer-at-end c = omega (arith, inside (c .before) .1)
 
 answer-at-requires : tie.Need-answer-at-requires Inv-loop μ-loop
 answer-at-requires c κs = search needs
@@ -119,22 +115,16 @@ same-length-4 c = search needs
 returns-2 : tie.Need-returns-2 Inv-loop μ-loop
 returns-2 c =
     let at-answer-at = c .before .before .before .before .before .before .before in
-    let at-n = at-answer-at .before .before .before .before .before in
-    let at-whole-block = at-n .before .before in
-    let in-loop = at-whole-block .before .before in
-    let at-loop = in-loop .before in (
+    let r = at-answer-at .before .before .before .before .before in (
       running-last
-          (at-loop .loop .inv)
-          (in-loop .loop-test .taken) _
-          (at-whole-block .whole-block .ensures .0)
-          (at-n .n .given .1)
-          (at-loop .loop .inv .long)
+          (at-loop r .loop .inv)
+          (in-loop r .loop-test .taken) _
+          (at-whole-block r .whole-block .ensures .0)
+          (r .n .given .1)
+          (at-loop r .loop .inv .long)
           (at-answer-at .answer-at .ensures .0)
           (c .before .r .given .1),
-      zeroed
-          (at-answer-at .answer-at .ensures .1 .0)
-          (at-loop .loop .inv .long)
-          (at-start (at-loop .before .before .before) .pre .0),
+      zeroed (at-answer-at .answer-at .ensures .1 .0) (at-loop r .loop .inv .long) (at-entry r .pre .0),
     )
 
 enum-known-r-2 : tie.Need-enum-known-r-2 Inv-loop μ-loop
@@ -145,39 +135,21 @@ add-run c = search needs
 
 loop-less : tie.Need-loop-less Inv-loop μ-loop
 loop-less c =
-    let at-n = c .before .before .before .before .before .before .before .before .before .before .before .before in
-    let at-whole-block = at-n .before .before in
-    let in-loop = at-whole-block .before .before in
-    let at-loop = in-loop .before in
-    omega (
-      arith,
-      turn-inside
-          (at-loop .loop .inv)
-          (in-loop .loop-test .taken)
-          (at-whole-block .whole-block .ensures .1)
-          (at-n .n .given .1) .0,
-      turn-inside
-          (at-loop .loop .inv)
-          (in-loop .loop-test .taken)
-          (at-whole-block .whole-block .ensures .1)
-          (at-n .n .given .1) .1,
-    )
+    let k = inside (c .before .before .before .before .before .before .before .before .before .before .before .before) in
+    omega arith
 
 loop-again : tie.Need-loop-again Inv-loop μ-loop
 loop-again c =
     let at-answer-at = c .before .before .before .before .before .before .before in
-    let at-n = at-answer-at .before .before .before .before .before in
-    let at-whole-block = at-n .before .before in
-    let in-loop = at-whole-block .before .before in
-    let at-loop = in-loop .before in
+    let r = at-answer-at .before .before .before .before .before in
     running-more
-    (at-loop .loop .inv)
-    (in-loop .loop-test .taken) _
-    (at-whole-block .whole-block .ensures .0)
-    (at-n .n .given .1)
-    (at-loop .loop .inv .long)
+    (at-loop r .loop .inv)
+    (in-loop r .loop-test .taken) _
+    (at-whole-block r .whole-block .ensures .0)
+    (r .n .given .1)
+    (at-loop r .loop .inv .long)
     (at-answer-at .answer-at .ensures .0)
-    (at-whole-block .whole-block .ensures .1)
+    (at-whole-block r .whole-block .ensures .1)
     (c .before .r2 .given .1)
     (at-answer-at .answer-at .ensures .1 .1)
     (at-answer-at .answer-at .kept .1 .1 .1 .1 .0)
