@@ -1,4 +1,5 @@
--- `interpreter_context::at_root` meets its contract. Assumes nothing.
+-- `at_root` meets its contract: the value of the name in the block of values, or else the buffer length where the name is
+-- `__buffer_size`: as `with-buffer-size` puts it behind the values.
 use mathlib.Core.Path.{_∙_, ap}
 use Prim.Native.Nat.{_-_}
 use Rattle.blocks.specs.Name.{Name}

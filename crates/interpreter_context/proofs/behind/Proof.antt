@@ -1,4 +1,4 @@
--- `interpreter_context::behind` meets its contract. Assumes nothing.
+-- `behind` meets its contract: by the part's code, what stands behind a number, a text, an optional text or a block.
 use native.Mathlib.Omega.{arith}
 use Rattle.interpreter_context.proofs.Laws.{step, past}
 use Rattle.interpreter_context.proofs.behind.Statement.{statement}

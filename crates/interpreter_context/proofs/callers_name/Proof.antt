@@ -1,4 +1,5 @@
--- `interpreter_context::callers_name` meets its contract. Assumes nothing.
+-- `callers_name` meets its contract: the last argument of the name decides, and where there is none, whether the parameters list the
+-- name.
 use mathlib.Core.Path.{refl}
 use Prim.Native.Nat.{_-_}
 use Rattle.interpreter_context.proofs.Calls.{from-argument, from-parameter, from-nothing}

@@ -1,4 +1,4 @@
--- `interpreter_context::first_part` meets its contract: it steps over the metadata. Assumes nothing.
+-- `first_part` meets its contract: it steps over the metadata.
 use native.Mathlib.Omega.{arith}
 use Rattle.interpreter_context.proofs.Laws.{flagged-part, behind-metadata, within}
 use Rattle.interpreter_context.proofs.first_part.Statement.{statement}

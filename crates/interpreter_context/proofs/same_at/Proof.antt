@@ -1,4 +1,4 @@
--- `interpreter_context::same_at` meets its contract. Assumes nothing.
+-- `same_at` meets its contract: the part of the slice is the first of the two names.
 use Prim.Native.Nat.{_-_}
 use Rattle.interpreter_context.proofs.Names.{same-slice}
 use borrow.Author.Needs.{needs}

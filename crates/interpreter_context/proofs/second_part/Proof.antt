@@ -1,4 +1,4 @@
--- `interpreter_context::second_part` meets its contract. Assumes nothing.
+-- `second_part` meets its contract: it steps over one part more, whose code the table of node kinds gives.
 use borrow.Author.Needs.{needs}
 use native.Mathlib.Omega.{arith}
 use Rattle.interpreter_context.proofs.Laws.{kinds, stands, stands-next}

@@ -1,4 +1,5 @@
--- `interpreter_leaves::called` meets its contract. Assumes nothing.
+-- `called` meets its contract: the type's name stands in the first part behind the metadata; where a call has opened the type that
+-- holds the node, that type's place and offset are known from the call's word.
 use native.Mathlib.Omega.{arith}
 use Rattle.interpreter_leaves.proofs.Nodes.{call-type, type-is, held-here}
 use borrow.Author.Needs.{needs}

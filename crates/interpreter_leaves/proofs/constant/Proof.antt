@@ -1,4 +1,4 @@
--- `interpreter_leaves::constant` meets its contract. Assumes nothing.
+-- `constant` meets its contract: the value is the first part behind the metadata.
 use Rattle.interpreter_leaves.proofs.Tells.{tells-as}
 use Rattle.interpreter_leaves.proofs.Nodes.{const-at, const-is}
 use borrow.Author.Needs.{needs}

@@ -1,4 +1,4 @@
--- `interpreter_leaves::field` meets its contract. Assumes nothing.
+-- `field` meets its contract: what the context has of the name is what the node evaluates to.
 use Prim.Native.Nat.{_-_}
 use Rattle.interpreter_leaves.proofs.Tells.{tells-as}
 use Rattle.interpreter_leaves.proofs.Nodes.{ref-found, ref-absent}

@@ -1,4 +1,4 @@
--- `interpreter_leaves::field_name` meets its contract. Assumes nothing.
+-- `field_name` meets its contract: the parameter's name where there is one, else the path.
 use native.Mathlib.Omega.{arith}
 use Rattle.interpreter_leaves.proofs.Nodes.{enough}
 use Rattle.interpreter_leaves.proofs.Nodes.{ref-three, by-parameter, by-path}

@@ -1,4 +1,4 @@
--- `interpreter_leaves::lifted` meets its contract. Assumes nothing.
+-- `lifted` meets its contract: a value becomes a count, a fault a refusal at the node.
 use Rattle.interpreter_leaves.proofs.Tells.{tells-as}
 use Rattle.interpreter_leaves.proofs.Nodes.{lifted-value, lifted-fault}
 use borrow.Author.Needs.{needs}

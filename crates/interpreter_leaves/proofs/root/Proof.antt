@@ -1,4 +1,4 @@
--- `interpreter_leaves::root` meets its contract. Assumes nothing.
+-- `root` meets its contract: the root stands behind the name and the alignment.
 use mathlib.Core.Path.{refl}
 use Prim.Native.Nat.{_-_}
 use native.Mathlib.Omega.{arith}

@@ -1,4 +1,4 @@
--- `interpreter_leaves::tag` meets its contract. Assumes nothing.
+-- `tag` meets its contract: the tag's name is the first part behind the metadata.
 use Rattle.interpreter_leaves.proofs.Nodes.{switch-tag, tag-is}
 use Rattle.interpreter_leaves.proofs.tag.Statement.{statement}
 use Rattle.interpreter_leaves.proofs.tag.Tie as tie

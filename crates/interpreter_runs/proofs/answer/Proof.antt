@@ -1,4 +1,4 @@
--- `interpreter_runs::answer` meets its contract: question by question. Assumes nothing.
+-- `answer` meets its contract: question by question.
 use mathlib.Core.Path.{refl}
 use Rattle.interpreter_runs.proofs.Laws.{answer-19, answer-1, layout-stops, run-stopped, run-given, run-answered}
 use borrow.Author.Needs.{needs}

@@ -1,4 +1,4 @@
--- `interpreter_runs::answer_all` meets its contract. The loop's invariant: whatever writes the words of the answers that are left makes all words. Assumes nothing.
+-- `answer_all` meets its contract. The loop's invariant: whatever writes the words of the answers that are left makes all words.
 use Prim.Native.Nat.{_-_}
 use mathlib.Core.Path.{_≡_, refl, _∙_}
 use borrow.Author.Needs.{needs}

@@ -1,4 +1,4 @@
--- `interpreter_runs::held` meets its contract. Assumes nothing.
+-- `held` meets its contract: a layout that is too long is refused, another is read.
 use Rattle.interpreter_runs.proofs.Laws.{held-long, held-read}
 use borrow.Author.Needs.{needs}
 use Rattle.interpreter_runs.proofs.held.Statement.{statement}

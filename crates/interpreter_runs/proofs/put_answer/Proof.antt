@@ -1,4 +1,4 @@
--- `interpreter_runs::put_answer` meets its contract. Assumes nothing.
+-- `put_answer` meets its contract: the four words of a count or of a refusal are written.
 use Rattle.interpreter_runs.proofs.Laws.{count-written, refusal-written}
 use borrow.Author.Needs.{needs}
 use Rattle.interpreter_runs.proofs.put_answer.Statement.{statement}

@@ -1,4 +1,4 @@
--- `interpreter_runs::put_four` meets its contract. Assumes nothing.
+-- `put_four` meets its contract: four stores, each of which fits.
 use native.Mathlib.Omega.{arith}
 use lib.ListN.{length-set}
 use Rattle.interpreter_runs.proofs.Laws.{four}

@@ -1,4 +1,4 @@
--- `interpreter_runs::run_end` meets its contract. Assumes nothing.
+-- `run_end` meets its contract: a run ends where its length field says, or where the bytes do.
 use Rattle.interpreter_runs.proofs.Laws.{ends-short, ends-cut, ends-inside}
 use borrow.Author.Needs.{needs}
 use Rattle.interpreter_runs.proofs.run_end.Statement.{statement}

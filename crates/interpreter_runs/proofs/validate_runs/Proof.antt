@@ -1,4 +1,5 @@
--- `interpreter_runs::validate_runs` meets its contract. Assumes nothing.
+-- `validate_runs` meets its contract: every run is answered over the layout that was read once. The words are cleared before it and
+-- the part that was used after it, so that all are zero.
 use mathlib.Core.Path.{ap, _∙_}
 use Prim.Native.Nat.{ℕ}
 use native.Mathlib.Omega.{arith}

@@ -1,4 +1,4 @@
--- `interpreter_validate::answered` meets its contract. Assumes nothing.
+-- `answered` meets its contract: the words that evaluating left say no other outcome.
 use mathlib.Core.Path.{sym, ap}
 use mathlib.Core.Bool.{Bool}
 use Rattle.interpreter_validate.specs.Validator.{outcomeIn}

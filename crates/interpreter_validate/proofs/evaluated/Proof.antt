@@ -1,4 +1,5 @@
--- `interpreter_validate::evaluated` meets its contract. Assumes nothing.
+-- `evaluated` meets its contract: the type is looked up, its root evaluated with all calls left, and its count held against the buffer
+-- length.
 use Rattle.interpreter_validate.proofs.Laws.{type-unknown, type-tree, root-ready, type-goes}
 use native.Mathlib.Omega.{arith}
 use borrow.Author.Needs.{needs}

@@ -1,4 +1,5 @@
--- `interpreter_validate::evaluated_run` meets its contract. Assumes nothing.
+-- `evaluated_run` meets its contract: the name, the buffer length and the values stand one behind the other, and the type is evaluated
+-- with them.
 use native.Mathlib.Omega.{arith}
 use Rattle.interpreter_validate.proofs.Laws.{run-six, run-inside, run-given, run-answers}
 use borrow.Author.Needs.{needs}

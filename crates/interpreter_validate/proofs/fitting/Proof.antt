@@ -1,4 +1,4 @@
--- `interpreter_validate::fitting` meets its contract. Assumes nothing.
+-- `fitting` meets its contract: a count above the buffer length is a 25; a refusal stays.
 use borrow.Author.Tests.{le-leb, lt-leb}
 use Rattle.errors.specs.Refusal.{_>>=_}
 use Rattle.interpreter_validate.specs.Validator.{fitted}

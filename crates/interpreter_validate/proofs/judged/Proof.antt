@@ -1,4 +1,4 @@
--- `interpreter_validate::judged` meets its contract: question by question.
+-- `judged` meets its contract: question by question.
 use borrow.Author.Needs.{needs}
 use Rattle.interpreter_validate.proofs.Laws.{judge-19, judge-1, judge-1-too, layout-no, values-no, both-read}
 use Rattle.interpreter_validate.proofs.judged.Statement.{statement}

@@ -1,4 +1,5 @@
--- `interpreter_validate::validate_run` meets its contract. Assumes nothing.
+-- `validate_run` meets its contract: the questions are put in order; a refusal ends it, else the run is evaluated. The words are
+-- cleared before it and the first sixteen after it, so that all are zero.
 use mathlib.Core.Path.{sym, ap, _∙_}
 use Prim.Native.Nat.{ℕ}
 use lib.ListN.{length, replicate}

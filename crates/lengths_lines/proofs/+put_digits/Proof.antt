@@ -1,4 +1,4 @@
--- `lengths_lines::put_digits` meets its contract. The measure is the number of digits that are left. Assumes nothing.
+-- `put_digits` meets its contract. The measure is the number of digits that are left.
 use borrow.Author.Needs.{needs}
 use native.Mathlib.Omega.{arith}
 use Rattle.lengths_lines.proofs.Laws.{digits-none, digits-one, digits-more}

@@ -1,4 +1,4 @@
--- `lengths_lines::answer_at` meets its contract: a count is at most the buffer length, so the fill is that of the definition. Assumes nothing.
+-- `answer_at` meets its contract: a count is at most the buffer length, so the fill is that of the definition.
 use borrow.Author.Needs.{needs}
 use native.Mathlib.Omega.{arith}
 use Rattle.lengths_lines.proofs.Laws.{run-accepted, run-within, answers-count, answers-stop, answers-refused}

@@ -1,4 +1,4 @@
--- `lengths_lines::block_length` meets its contract. Assumes nothing.
+-- `block_length` meets its contract: the length field decides, where there are four bytes.
 use Prim.Native.Nat.{_+_}
 use native.Mathlib.Omega.{arith}
 use Rattle.lengths_lines.specs.Lines.{Within}

@@ -1,4 +1,4 @@
--- `lengths_lines::fill` meets its contract. The loop's invariant: i counts are the whole lengths and the rest. Assumes nothing.
+-- `fill` meets its contract. The loop's invariant: i counts are the whole lengths and the rest.
 use Prim.Native.Nat.{_-_}
 use mathlib.Core.Logic.{⊎-elim}
 use borrow.Author.Needs.{needs}

@@ -1,4 +1,4 @@
--- `lengths_lines::put_line` meets its contract: four writes, one behind the other. Assumes nothing.
+-- `put_line` meets its contract: four writes, one behind the other.
 use native.Mathlib.Omega.{arith}
 use Rattle.lengths_lines.proofs.Laws.{line-puts}
 use borrow.Author.Needs.{needs}

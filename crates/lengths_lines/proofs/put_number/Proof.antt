@@ -1,4 +1,4 @@
--- `lengths_lines::put_number` meets its contract: two writes, one behind the other. Assumes nothing.
+-- `put_number` meets its contract: two writes, one behind the other.
 use native.Mathlib.Omega.{arith}
 use Rattle.wire.proofs.Laws.{both}
 use borrow.Author.Needs.{needs}

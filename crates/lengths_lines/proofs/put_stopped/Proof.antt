@@ -1,4 +1,4 @@
--- `lengths_lines::put_stopped` meets its contract: three writes, one behind the other. Assumes nothing.
+-- `put_stopped` meets its contract: three writes, one behind the other.
 use native.Mathlib.Omega.{arith}
 use Rattle.lengths_lines.proofs.Laws.{stopped-puts}
 use borrow.Author.Needs.{needs}

@@ -1,4 +1,4 @@
--- `lengths_lines::run_length` meets its contract. Assumes nothing.
+-- `run_length` meets its contract: the buffer length stands behind the name of an accepted run.
 use Rattle.lengths_lines.proofs.Laws.{length-name, length-inside, length-is}
 use borrow.Author.Needs.{needs}
 use Rattle.lengths_lines.proofs.run_length.Statement.{statement}

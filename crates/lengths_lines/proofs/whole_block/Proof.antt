@@ -1,4 +1,4 @@
--- `lengths_lines::whole_block` meets its contract. Assumes nothing.
+-- `whole_block` meets its contract: the block that the header announces lies in the bytes, or it is a 2.
 use Rattle.lengths_lines.specs.Lines.{Inside}
 use Rattle.lengths_lines.proofs.Runs.{header-within, whole-no, whole-cut, whole-lies}
 use borrow.Author.Needs.{needs}
