@@ -19,7 +19,7 @@ ghost use Rattle.errors.specs.Answer.{allAnswerWords};
 ghost use Rattle.ciztarmo.specs.Outcomes.{answerWords, read, built};
 
 // What a reading answered, as four words.
-fn tell_reading(a: reader_calls::Answer, answer: &mut [u64; 4])
+fn put_reading(a: reader_calls::Answer, answer: &mut [u64; 4])
     ensures { λ _. ⌜ ((o : Outcome Tree) → a ≡ answerOf o → now (answer .exit) ≡ answerWords (read o)) ⌝ }
 {
     match a {
@@ -33,7 +33,7 @@ fn tell_reading(a: reader_calls::Answer, answer: &mut [u64; 4])
 }
 
 // What a build answered, as four words.
-fn tell_length(a: builder_set::Answer, answer: &mut [u64; 4])
+fn put_length(a: builder_set::Answer, answer: &mut [u64; 4])
     ensures { λ _. ⌜ ((o : Outcome (List ℕ)) → a ≡ layoutAnswer o → now (answer .exit) ≡ answerWords (built o)) ⌝ }
 {
     match a {
@@ -47,7 +47,7 @@ fn tell_length(a: builder_set::Answer, answer: &mut [u64; 4])
 }
 
 // What a validation answered, as four words.
-fn tell_count(a: interpreter_leaves::Answer, answer: &mut [u64; 4])
+fn put_count(a: interpreter_leaves::Answer, answer: &mut [u64; 4])
     ensures { λ _. ⌜ now (answer .exit) ≡ answerWords (outcomeOf a) ⌝ }
 {
     match a {
@@ -72,7 +72,7 @@ pub extern "C" fn ciztarmo_read_set(words: &mut [u64], set: &[u8], answer: &mut 
     ensures { λ _. ⌜ now (words .exit) ≡ words-after (now (words .entry)) ⌝ }
 {
     let a = reader_calls::read_set(words, set);
-    tell_reading(a, answer);
+    put_reading(a, answer);
 }
 
 // Whether a layout is read.
@@ -82,7 +82,7 @@ pub extern "C" fn ciztarmo_read_layout(words: &mut [u64], layout: &[u8], answer:
     ensures { λ _. ⌜ now (words .exit) ≡ words-after (now (words .entry)) ⌝ }
 {
     let a = reader_calls::read_layout(words, layout);
-    tell_reading(a, answer);
+    put_reading(a, answer);
 }
 
 // Whether values are read.
@@ -92,7 +92,7 @@ pub extern "C" fn ciztarmo_read_values(words: &mut [u64], values: &[u8], answer:
     ensures { λ _. ⌜ now (words .exit) ≡ words-after (now (words .entry)) ⌝ }
 {
     let a = reader_calls::read_values(words, values);
-    tell_reading(a, answer);
+    put_reading(a, answer);
 }
 
 // Whether a run is read.
@@ -102,7 +102,7 @@ pub extern "C" fn ciztarmo_read_run(words: &mut [u64], run: &[u8], answer: &mut 
     ensures { λ _. ⌜ now (words .exit) ≡ words-after (now (words .entry)) ⌝ }
 {
     let a = reader_calls::read_run(words, run);
-    tell_reading(a, answer);
+    put_reading(a, answer);
 }
 
 // The layout of a set's types, in set order, and its length.
@@ -118,7 +118,7 @@ pub extern "C" fn ciztarmo_build_set(
     ensures { λ _. ⌜ now (words .exit) ≡ words-after (now (words .entry)) ⌝ }
 {
     let a = builder_set::build_set(set, out, words);
-    tell_length(a, answer);
+    put_length(a, answer);
 }
 
 // The same with no words lent: the call has those that it needs.
@@ -128,7 +128,7 @@ pub extern "C" fn ciztarmo_layout_of(set: &[u8], out: &mut [u8], answer: &mut [u
     ensures { λ _. ⌜ now (out .exit) ≡ output-after (now (out .entry)) (build-set 8192 (length (now (out .entry))) (now (set .entry))) ⌝ }
 {
     let a = builder_set::layout_of(set, out);
-    tell_length(a, answer);
+    put_length(a, answer);
 }
 
 // The count of a type's bytes.
@@ -145,7 +145,7 @@ pub extern "C" fn ciztarmo_validate(
     ensures { λ _. ⌜ now (words .exit) ≡ words-after (now (words .entry)) ⌝ }
 {
     let a = interpreter_validate::validate(words, layout, name, values, len);
-    tell_count(a, answer);
+    put_count(a, answer);
 }
 
 // The count of the bytes that a run asks for.
@@ -160,7 +160,7 @@ pub extern "C" fn ciztarmo_validate_run(
     ensures { λ _. ⌜ now (words .exit) ≡ words-after (now (words .entry)) ⌝ }
 {
     let a = interpreter_validate::validate_run(words, layout, run);
-    tell_count(a, answer);
+    put_count(a, answer);
 }
 
 // The count of a type's bytes, with no words lent: the call has those that it needs.
@@ -175,7 +175,7 @@ pub extern "C" fn ciztarmo_length_of(
     ensures { λ _. ⌜ now (answer .exit) ≡ answerWords (validate 8192 (now (layout .entry)) (now (name .entry)) (now (values .entry)) len) ⌝ }
 {
     let a = interpreter_validate::length_of(layout, name, values, len);
-    tell_count(a, answer);
+    put_count(a, answer);
 }
 
 // The count of the bytes that a run asks for, with no words lent.
@@ -184,7 +184,7 @@ pub extern "C" fn ciztarmo_length_of_run(layout: &[u8], run: &[u8], answer: &mut
     ensures { λ _. ⌜ now (answer .exit) ≡ answerWords (validate-run 8192 (now (layout .entry)) (now (run .entry))) ⌝ }
 {
     let a = interpreter_validate::length_of_run(layout, run);
-    tell_count(a, answer);
+    put_count(a, answer);
 }
 
 // The counts of the bytes that runs, one behind the other, ask for, over one layout: how many runs have their answers in

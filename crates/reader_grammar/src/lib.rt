@@ -52,7 +52,7 @@ const PATHS: u32 = 15 + 2097152 * 64;
 const VALUES: u32 = 16 + 2097152 * 512;
 
 // The code with number i of these, counted from 0; 0 behind the last.
-fn few(i: usize, a: u32, b: u32, c: u32, d: u32) -> u32
+fn row_of(i: usize, a: u32, b: u32, c: u32, d: u32) -> u32
     ensures { λ r. ⌜ r ≡ getD (a ∷ b ∷ c ∷ d ∷ []) i 0 ⌝ }
 {
     match i {
@@ -103,17 +103,17 @@ fn type_code(kind: usize, i: usize) -> u32
         // type reference
         7 => typed(i, TEXT, 0, 0),
         // references
-        32 => few(i, OWNERS, 0, 0, 0),
+        32 => row_of(i, OWNERS, 0, 0, 0),
         // field
-        33 => few(i, TEXT, OPT_NUMBER, TYPE, 0),
+        33 => row_of(i, TEXT, OPT_NUMBER, TYPE, 0),
         // enum variant
-        34 => few(i, TEXT, NUMBER, TYPE, 0),
+        34 => row_of(i, TEXT, NUMBER, TYPE, 0),
         // sized variant
-        35 => few(i, TEXT, NUMBER, TYPE, 0),
+        35 => row_of(i, TEXT, NUMBER, TYPE, 0),
         // type set
-        36 => few(i, TYPES, 0, 0, 0),
+        36 => row_of(i, TYPES, 0, 0, 0),
         // owner
-        37 => few(i, KEY, PATHS, 0, 0),
+        37 => row_of(i, KEY, PATHS, 0, 0),
         _ => 0,
     }
 }
@@ -125,16 +125,16 @@ fn expression_code(kind: usize, i: usize) -> u32
 {
     match kind {
         // literal
-        64 => few(i, LITERAL, 0, 0, 0),
+        64 => row_of(i, LITERAL, 0, 0, 0),
         // field reference
-        65 => few(i, SEGMENTS, 0, 0, 0),
+        65 => row_of(i, SEGMENTS, 0, 0, 0),
         // a name
-        66 => few(i, TEXT, 0, 0, 0),
-        67 => few(i, TEXT, 0, 0, 0),
+        66 => row_of(i, TEXT, 0, 0, 0),
+        67 => row_of(i, TEXT, 0, 0, 0),
         // two expressions, or one
-        68..=78 => few(i, EXPRESSION, EXPRESSION, 0, 0),
-        79..=82 => few(i, EXPRESSION, 0, 0, 0),
-        83..=91 => few(i, EXPRESSION, EXPRESSION, 0, 0),
+        68..=78 => row_of(i, EXPRESSION, EXPRESSION, 0, 0),
+        79..=82 => row_of(i, EXPRESSION, 0, 0, 0),
+        83..=91 => row_of(i, EXPRESSION, EXPRESSION, 0, 0),
         _ => 0,
     }
 }
@@ -146,19 +146,19 @@ fn layout_code(kind: usize, i: usize) -> u32
 {
     match kind {
         // layout
-        160 => few(i, TREES, 0, 0, 0),
+        160 => row_of(i, TREES, 0, 0, 0),
         // type tree
-        161 => few(i, KEY, NUMBER, NODE, PARAMETERS),
+        161 => row_of(i, KEY, NUMBER, NODE, PARAMETERS),
         // parameter
-        162 => few(i, TEXT, OPT_TEXT, FLAG, 0),
+        162 => row_of(i, TEXT, OPT_TEXT, FLAG, 0),
         // case
-        163 => few(i, NUMBER, NODE, PARAMETERS, 0),
+        163 => row_of(i, NUMBER, NODE, PARAMETERS, 0),
         // argument
-        164 => few(i, TEXT, TEXT, 0, 0),
+        164 => row_of(i, TEXT, TEXT, 0, 0),
         // values
-        192 => few(i, VALUES, 0, 0, 0),
+        192 => row_of(i, VALUES, 0, 0, 0),
         // run
-        193 => few(i, TEXT, NUMBER, RUN_VALUES, 0),
+        193 => row_of(i, TEXT, NUMBER, RUN_VALUES, 0),
         _ => 0,
     }
 }

@@ -438,7 +438,7 @@ fn tree(s: &[u8], room: usize, at: usize, end: usize) -> usize
 }
 
 // n type trees behind their count at `at`, their names distinct: each is compared with all before it.
-fn few_trees(s: &[u8], room: usize, at: usize, n: usize, end: usize) -> usize
+fn trees_compared(s: &[u8], room: usize, at: usize, n: usize, end: usize) -> usize
     requires { ⌜ Counted (now s) at n end ⌝ }
     ensures { λ r. ⌜ ((start : ℕ) → Reads r (readList (λ f a. readBlock room (now (s .entry)) f 161 161 a end) (Earlier.distinct []) 256 (now (s .entry)) start end at)) × (r ≤ end) ⌝ }
 {
@@ -460,7 +460,7 @@ fn few_trees(s: &[u8], room: usize, at: usize, n: usize, end: usize) -> usize
 }
 
 // The same for many: a name is compared only where it falls together with one before it.
-fn many_trees(s: &[u8], room: usize, at: usize, n: usize, end: usize) -> usize
+fn trees_marked(s: &[u8], room: usize, at: usize, n: usize, end: usize) -> usize
     requires { ⌜ Counted (now s) at n end ⌝ }
     ensures { λ r. ⌜ ((start : ℕ) → Reads r (readList (λ f a. readBlock room (now (s .entry)) f 161 161 a end) (Earlier.distinct []) 256 (now (s .entry)) start end at)) × (r ≤ end) ⌝ }
 {
@@ -495,9 +495,9 @@ fn trees(s: &[u8], room: usize, at: usize, end: usize) -> usize
         return 0;
     }
     if n < 6 {
-        return few_trees(s, room, at, n, end);
+        return trees_compared(s, room, at, n, end);
     }
-    many_trees(s, room, at, n, end)
+    trees_marked(s, room, at, n, end)
 }
 
 // Whether the input is a layout. If not, nothing is said.

@@ -58,7 +58,7 @@ fn bump(tally: &mut [u64; 62], i: usize) {
 }
 
 // How many of the words a record's call is lent: as many as its first four bytes say, or all.
-fn lent(s: &[u8], words: &[u64]) -> usize
+fn word_count(s: &[u8], words: &[u64]) -> usize
     ensures { λ r. ⌜ Counts r (now (words .entry)) ⌝ }
 {
     if s.len() < 4 {
@@ -72,7 +72,7 @@ fn lent(s: &[u8], words: &[u64]) -> usize
 }
 
 // Puts something into every word.
-fn soil(words: &mut [u64]) {
+fn fill_words(words: &mut [u64]) {
     let mut i = 0;
     while i < words.len() {
         words[i] = u64::MAX;
@@ -199,7 +199,7 @@ fn verdict(same: bool) -> Held {
 }
 
 // Puts something into every byte.
-fn soil_bytes(out: &mut [u8]) {
+fn fill_bytes(out: &mut [u8]) {
     let mut i = 0;
     while i < out.len() {
         out[i] = 0xA5;
@@ -220,7 +220,7 @@ fn is_all(out: &[u8], b: u8) -> bool {
 }
 
 // How much of the output a record's call is lent: as many bytes as it says, or all.
-fn lent_output(s: &[u8], out: &[u8]) -> usize
+fn output_length(s: &[u8], out: &[u8]) -> usize
     ensures { λ r. ⌜ Counts r (now (out .entry)) ⌝ }
 {
     if s.len() < 8 {
@@ -269,8 +269,8 @@ fn same_build(words: &mut [u64], out: &mut [u8], s: &[u8], end: usize) -> bool {
         return false;
     }
     let start = end + 19;
-    soil(words);
-    soil_bytes(out);
+    fill_words(words);
+    fill_bytes(out);
     let got = builder_set::build_set(&s[12..end], out, words);
     is_clean(words) && is_built(got, out, s, end, &s[start..])
 }
@@ -284,14 +284,14 @@ fn hold_set(words: &mut [u64], tally: &mut [u64; 62], s: &[u8]) -> Held {
     if part_end(s, end + 15) != s.len() {
         return Held::Cut;
     }
-    soil(words);
+    fill_words(words);
     let got = reader_calls::read_set(words, &s[12..end]);
     count_refused(tally, got);
     if !(is_clean(words) && is_read(got, s, end)) {
         return Held::Differs;
     }
     let mut out = [0u8; 131072];
-    let n = lent_output(s, &out);
+    let n = output_length(s, &out);
     verdict(same_build(words, &mut out[..n], s, end))
 }
 
@@ -329,12 +329,12 @@ fn same_reading(
     s: &[u8],
     at: usize,
 ) -> bool {
-    soil(words);
+    fill_words(words);
     let a = reader_calls::read_layout(words, layout);
     if !is_clean(words) {
         return false;
     }
-    soil(words);
+    fill_words(words);
     let b = read_input(words, input, kind);
     let got = first(a, b);
     count_refused(tally, got);
@@ -362,7 +362,7 @@ fn validated(
     }
     let len = wire::read8(s, 4) as u64;
     let read = same_reading(words, tally, layout, values, 2, s, at);
-    soil(words);
+    fill_words(words);
     let got = interpreter_validate::validate(words, layout, name, values, len);
     verdict(same_answer(words, tally, got, s, at) && read)
 }
@@ -412,7 +412,7 @@ fn hold_run(words: &mut [u64], tally: &mut [u64; 62], s: &[u8]) -> Held {
         return Held::Cut;
     }
     let read = same_reading(words, tally, &s[8..layout], &s[start..run], 4, s, run);
-    soil(words);
+    fill_words(words);
     let got = interpreter_validate::validate_run(words, &s[8..layout], &s[start..run]);
     verdict(same_answer(words, tally, got, s, run) && read)
 }
@@ -466,12 +466,12 @@ fn hold_record(words: &mut [u64], tally: &mut [u64; 62], kind: u8, s: &[u8]) -> 
     match kind {
         1 => {
             bump(tally, SETS);
-            let n = lent(s, words);
+            let n = word_count(s, words);
             hold_set(&mut words[..n], tally, s)
         }
         2 => {
             bump(tally, VALIDATIONS);
-            let n = lent(s, words);
+            let n = word_count(s, words);
             hold_validation(&mut words[..n], tally, s)
         }
         3 => {
@@ -480,7 +480,7 @@ fn hold_record(words: &mut [u64], tally: &mut [u64; 62], kind: u8, s: &[u8]) -> 
         }
         4 => {
             bump(tally, RUNS);
-            let n = lent(s, words);
+            let n = word_count(s, words);
             hold_run(&mut words[..n], tally, s)
         }
         _ => Held::Cut,

@@ -248,7 +248,7 @@ pub fn clear_bytes(out: &mut [u8])
 }
 
 // The words' bits together: 0 only where every word is 0.
-fn few_bits(words: &[u64]) -> u64
+fn or_of(words: &[u64]) -> u64
     ensures { λ r. ⌜ (r ≡ 0 → now (words .entry) ≡ replicate (length (now (words .entry))) 0) ⌝ }
 {
     let mut bits = 0;
@@ -261,7 +261,7 @@ fn few_bits(words: &[u64]) -> u64
 }
 
 // The same, faster for many words: five fifths are read side by side, so that the processor fetches from five places at once.
-fn any_bits(words: &[u64]) -> u64
+fn or_of_fifths(words: &[u64]) -> u64
     ensures { λ r. ⌜ (r ≡ 0 → now (words .entry) ≡ replicate (length (now (words .entry))) 0) ⌝ }
 {
     let fifth = words.len() / 5;
@@ -276,7 +276,7 @@ fn any_bits(words: &[u64]) -> u64
         i += 1;
     }
     let rest = 5 * fifth;
-    bits | few_bits(&words[rest..])
+    bits | or_of(&words[rest..])
 }
 
 // Every word is 0 after it.
@@ -294,7 +294,7 @@ fn zero_words(words: &mut [u64])
 pub fn clear_words(words: &mut [u64])
     ensures { λ _. ⌜ now (words .exit) ≡ replicate (length (now (words .entry))) 0 ⌝ }
 {
-    if any_bits(words) != 0 {
+    if or_of_fifths(words) != 0 {
         zero_words(words);
     }
 }

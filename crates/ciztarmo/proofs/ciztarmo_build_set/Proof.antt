@@ -6,8 +6,8 @@ use Rattle.ciztarmo.proofs.ciztarmo_build_set.Tie as tie
 build-set-requires : tie.Need-build-set-requires
 build-set-requires c κs = search needs
 
-tell-length-requires : tie.Need-tell-length-requires
-tell-length-requires c κs = search needs
+put-length-requires : tie.Need-put-length-requires
+put-length-requires c κs = search needs
 
 same-length : tie.Need-same-length
 same-length c = search needs
@@ -16,7 +16,7 @@ same-length-2 : tie.Need-same-length-2
 same-length-2 c = search needs
 
 returns : tie.Need-returns
-returns c = let call = c .before .before .before .before .before .before .build-set in (c .tell-length .ensures _ (call .ensures .0), (call .ensures .1 .0, call .ensures .1 .1))
+returns c = let call = c .before .before .before .before .before .before .build-set in (c .put-length .ensures _ (call .ensures .0), (call .ensures .1 .0, call .ensures .1 .1))
 
 pub ciztarmo-build-set-spec : {M : Type 1} → statement M
-ciztarmo-build-set-spec = tie.close (tie.spec build-set-requires tell-length-requires same-length same-length-2 returns)
+ciztarmo-build-set-spec = tie.close (tie.spec build-set-requires put-length-requires same-length same-length-2 returns)

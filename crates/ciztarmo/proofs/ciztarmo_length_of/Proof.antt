@@ -8,11 +8,11 @@ use Rattle.ciztarmo.proofs.ciztarmo_length_of.Tie as tie
 length-of-requires : tie.Need-length-of-requires
 length-of-requires c κs = search needs
 
-tell-count-requires : tie.Need-tell-count-requires
-tell-count-requires c κs = search needs
+put-count-requires : tie.Need-put-count-requires
+put-count-requires c κs = search needs
 
 returns : tie.Need-returns
-returns c = c .tell-count .ensures ∙ ap answerWords (c .before .before .length-of .ensures)
+returns c = c .put-count .ensures ∙ ap answerWords (c .before .before .length-of .ensures)
 
 pub ciztarmo-length-of-spec : {M : Type 1} → statement M
-ciztarmo-length-of-spec = tie.close (tie.spec length-of-requires tell-count-requires returns)
+ciztarmo-length-of-spec = tie.close (tie.spec length-of-requires put-count-requires returns)

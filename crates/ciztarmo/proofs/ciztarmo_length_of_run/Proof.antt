@@ -8,11 +8,11 @@ use Rattle.ciztarmo.proofs.ciztarmo_length_of_run.Tie as tie
 length-of-run-requires : tie.Need-length-of-run-requires
 length-of-run-requires c κs = search needs
 
-tell-count-requires : tie.Need-tell-count-requires
-tell-count-requires c κs = search needs
+put-count-requires : tie.Need-put-count-requires
+put-count-requires c κs = search needs
 
 returns : tie.Need-returns
-returns c = c .tell-count .ensures ∙ ap answerWords (c .before .before .length-of-run .ensures)
+returns c = c .put-count .ensures ∙ ap answerWords (c .before .before .length-of-run .ensures)
 
 pub ciztarmo-length-of-run-spec : {M : Type 1} → statement M
-ciztarmo-length-of-run-spec = tie.close (tie.spec length-of-run-requires tell-count-requires returns)
+ciztarmo-length-of-run-spec = tie.close (tie.spec length-of-run-requires put-count-requires returns)

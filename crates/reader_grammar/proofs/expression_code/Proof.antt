@@ -9,30 +9,30 @@ use Rattle.reader_grammar.proofs.Rows.{named, ranged, missing}
 use Rattle.reader_grammar.proofs.expression_code.Statement.{statement}
 use Rattle.reader_grammar.proofs.expression_code.Tie as tie
 
-few-requires : tie.Need-few-requires
-few-requires c κs = search needs
+row-of-requires : tie.Need-row-of-requires
+row-of-requires c κs = search needs
 
-few-requires-2 : tie.Need-few-requires-2
-few-requires-2 c κs = search needs
+row-of-requires-2 : tie.Need-row-of-requires-2
+row-of-requires-2 c κs = search needs
 
-few-requires-3 : tie.Need-few-requires-3
-few-requires-3 c κs = search needs
+row-of-requires-3 : tie.Need-row-of-requires-3
+row-of-requires-3 c κs = search needs
 
-few-requires-4 : tie.Need-few-requires-4
-few-requires-4 c κs = search needs
+row-of-requires-4 : tie.Need-row-of-requires-4
+row-of-requires-4 c κs = search needs
 
-few-requires-5 : tie.Need-few-requires-5
-few-requires-5 c κs = search needs
+row-of-requires-5 : tie.Need-row-of-requires-5
+row-of-requires-5 c κs = search needs
 
-few-requires-6 : tie.Need-few-requires-6
-few-requires-6 c κs = search needs
+row-of-requires-6 : tie.Need-row-of-requires-6
+row-of-requires-6 c κs = search needs
 
-few-requires-7 : tie.Need-few-requires-7
-few-requires-7 c κs = search needs
+row-of-requires-7 : tie.Need-row-of-requires-7
+row-of-requires-7 c κs = search needs
 
 returns : tie.Need-returns
 unfolding findRow grammar
-returns c = named 64 3 (c .before .before .args .i) (c .before .match .keys1) (c .few .ensures)
+returns c = named 64 3 (c .before .before .args .i) (c .before .match .keys1) (c .row-of .ensures)
 
 returns-2 : tie.Need-returns-2
 unfolding findRow grammar
@@ -69,4 +69,4 @@ unfolding findRow grammar
 returns-9 c = missing [] 92 36 (c .before .before .before .before .before .args .i) refl tt (c .if4 .left) (c .before .before .before .before .before .pre .1)
 
 pub expression-code-spec : {M : Type 1} → statement M
-expression-code-spec = tie.close (tie.spec few-requires few-requires-2 few-requires-3 few-requires-4 few-requires-5 few-requires-6 few-requires-7 returns returns-2 returns-3 returns-4 returns-5 returns-6 returns-7 returns-8 returns-9)
+expression-code-spec = tie.close (tie.spec row-of-requires row-of-requires-2 row-of-requires-3 row-of-requires-4 row-of-requires-5 row-of-requires-6 row-of-requires-7 returns returns-2 returns-3 returns-4 returns-5 returns-6 returns-7 returns-8 returns-9)

@@ -29,23 +29,23 @@ typed-requires-6 c κs = search needs
 typed-requires-7 : tie.Need-typed-requires-7
 typed-requires-7 c κs = search needs
 
-few-requires : tie.Need-few-requires
-few-requires c κs = search needs
+row-of-requires : tie.Need-row-of-requires
+row-of-requires c κs = search needs
 
-few-requires-2 : tie.Need-few-requires-2
-few-requires-2 c κs = search needs
+row-of-requires-2 : tie.Need-row-of-requires-2
+row-of-requires-2 c κs = search needs
 
-few-requires-3 : tie.Need-few-requires-3
-few-requires-3 c κs = search needs
+row-of-requires-3 : tie.Need-row-of-requires-3
+row-of-requires-3 c κs = search needs
 
-few-requires-4 : tie.Need-few-requires-4
-few-requires-4 c κs = search needs
+row-of-requires-4 : tie.Need-row-of-requires-4
+row-of-requires-4 c κs = search needs
 
-few-requires-5 : tie.Need-few-requires-5
-few-requires-5 c κs = search needs
+row-of-requires-5 : tie.Need-row-of-requires-5
+row-of-requires-5 c κs = search needs
 
-few-requires-6 : tie.Need-few-requires-6
-few-requires-6 c κs = search needs
+row-of-requires-6 : tie.Need-row-of-requires-6
+row-of-requires-6 c κs = search needs
 
 returns : tie.Need-returns
 unfolding findRow grammar
@@ -77,7 +77,7 @@ returns-7 c = named 7 2 (c .before .before .args .i) (c .before .match .keys7) (
 
 returns-8 : tie.Need-returns-8
 unfolding findRow grammar
-returns-8 c = named 32 3 (c .before .before .args .i) (c .before .match .keys8) (c .few .ensures)
+returns-8 c = named 32 3 (c .before .before .args .i) (c .before .match .keys8) (c .row-of .ensures)
 
 returns-9 : tie.Need-returns-9
 unfolding findRow grammar
@@ -104,4 +104,4 @@ unfolding findRow grammar
 returns-14 c = missing (37 ∷ 36 ∷ 35 ∷ 34 ∷ 33 ∷ 32 ∷ 7 ∷ 6 ∷ 5 ∷ 4 ∷ 3 ∷ 2 ∷ 1 ∷ []) 0 64 (c .before .args .i) refl (c .match .rest) (omega arith) (omega arith)
 
 pub type-code-spec : {M : Type 1} → statement M
-type-code-spec = tie.close (tie.spec typed-requires typed-requires-2 typed-requires-3 typed-requires-4 typed-requires-5 typed-requires-6 typed-requires-7 few-requires few-requires-2 few-requires-3 few-requires-4 few-requires-5 few-requires-6 returns returns-2 returns-3 returns-4 returns-5 returns-6 returns-7 returns-8 returns-9 returns-10 returns-11 returns-12 returns-13 returns-14)
+type-code-spec = tie.close (tie.spec typed-requires typed-requires-2 typed-requires-3 typed-requires-4 typed-requires-5 typed-requires-6 typed-requires-7 row-of-requires row-of-requires-2 row-of-requires-3 row-of-requires-4 row-of-requires-5 row-of-requires-6 returns returns-2 returns-3 returns-4 returns-5 returns-6 returns-7 returns-8 returns-9 returns-10 returns-11 returns-12 returns-13 returns-14)

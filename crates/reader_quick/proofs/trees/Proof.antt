@@ -16,14 +16,14 @@ read2-requires c κs = search needs
 returns-2 : tie.Need-returns-2
 returns-2 c = (λ start z. absurd (omega arith), omega arith)
 
-few-trees-requires : tie.Need-few-trees-requires
-few-trees-requires c κs = search needs
+trees-compared-requires : tie.Need-trees-compared-requires
+trees-compared-requires c κs = search needs
 
 returns-3 : tie.Need-returns-3
 returns-3 c = search needs
 
-many-trees-requires : tie.Need-many-trees-requires
-many-trees-requires c κs = search needs
+trees-marked-requires : tie.Need-trees-marked-requires
+trees-marked-requires c κs = search needs
 
 returns-4 : tie.Need-returns-4
 returns-4 c = search needs
@@ -36,7 +36,7 @@ trees-spec =
     returns
     read2-requires
     returns-2
-    few-trees-requires
+    trees-compared-requires
     returns-3
-    many-trees-requires
+    trees-marked-requires
     returns-4)

@@ -19,8 +19,8 @@ part-end-requires-2 c κs = search needs
 returns-2 : tie.Need-returns-2
 returns-2 c = search needs
 
-soil-requires : tie.Need-soil-requires
-soil-requires c κs = search needs
+fill-words-requires : tie.Need-fill-words-requires
+fill-words-requires c κs = search needs
 
 sub-read-set : tie.Need-sub-read-set
 sub-read-set c = search needs
@@ -52,8 +52,8 @@ returns-3 c = search needs
 slice-aggregate-lent-output : tie.Need-slice-aggregate-lent-output
 slice-aggregate-lent-output c = search needs
 
-lent-output-requires : tie.Need-lent-output-requires
-lent-output-requires c κs = search needs
+output-length-requires : tie.Need-output-length-requires
+output-length-requires c κs = search needs
 
 array-borrow-prefix-out : tie.Need-array-borrow-prefix-out
 array-borrow-prefix-out c = search needs
@@ -82,7 +82,7 @@ hold-set-spec =
     add-part-end
     part-end-requires-2
     returns-2
-    soil-requires
+    fill-words-requires
     sub-read-set
     part-read-set-start
     part-read-set-end
@@ -93,7 +93,7 @@ hold-set-spec =
     same-length
     returns-3
     slice-aggregate-lent-output
-    lent-output-requires
+    output-length-requires
     array-borrow-prefix-out
     slice-aggregate-same-build
     same-build-requires

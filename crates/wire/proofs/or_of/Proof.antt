@@ -1,10 +1,10 @@
--- `wire::few_bits` meets its contract. The loop's invariant: the bits of the first `i` words. Assumes nothing.
+-- `wire::or_of` meets its contract. The loop's invariant: the bits of the first `i` words. Assumes nothing.
 use Prim.Native.Nat.{_-_, _≤_}
 use native.Mathlib.Omega.{arith}
 use lib.ListN.{length, getD}
 use Rattle.wire.proofs.Laws.{Bits, bits-none, bits-more, zeros-end}
-use Rattle.wire.proofs.few_bits.Statement.{statement}
-use Rattle.wire.proofs.few_bits.Tie as tie
+use Rattle.wire.proofs.or_of.Statement.{statement}
+use Rattle.wire.proofs.or_of.Tie as tie
 
 abbrev Inv-loop : tie.InvT-loop
 Inv-loop words bits₀ i₀ bits i = (i ≤ length words) × Bits (λ k. getD words k 0) bits i
@@ -33,8 +33,8 @@ loop-again c = (omega arith, bits-more _ _ _ (c .before .before .loop .inv .1))
 returns : tie.Need-returns Inv-loop μ-loop
 returns c = λ e. zeros-end _ (λ k h. c .before .loop .inv .1 e k (omega arith))
 
-pub few-bits-spec : {M : Type 1} → statement M
-few-bits-spec =
+pub or-of-spec : {M : Type 1} → statement M
+or-of-spec =
     tie.close
     (tie.spec
     Inv-loop

@@ -1,10 +1,10 @@
--- `replay::soil_bytes` is safe and ends. Assumes nothing.
+-- `replay::fill_bytes` is safe and ends. Assumes nothing.
 use Prim.Native.Nat.{_≤_, _-_}
 use mathlib.Core.Path.{_≡_}
 use borrow.Author.Needs.{needs}
 use lib.ListN.{length}
-use Rattle.replay.proofs.soil_bytes.Statement.{statement}
-use Rattle.replay.proofs.soil_bytes.Tie as tie
+use Rattle.replay.proofs.fill_bytes.Statement.{statement}
+use Rattle.replay.proofs.fill_bytes.Tie as tie
 
 abbrev Inv-loop : tie.InvT-loop
 Inv-loop out₀ i₀ out i = (i ≤ length out₀) × (length out ≡ length out₀)
@@ -33,8 +33,8 @@ same-length c = search needs
 returns : tie.Need-returns Inv-loop μ-loop
 returns c = search needs
 
-pub soil-bytes-spec : {M : Type 1} → statement M
-soil-bytes-spec =
+pub fill-bytes-spec : {M : Type 1} → statement M
+fill-bytes-spec =
     tie.close
     (tie.spec
     Inv-loop

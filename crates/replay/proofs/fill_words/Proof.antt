@@ -1,10 +1,10 @@
--- `replay::soil` is safe and ends. Assumes nothing.
+-- `replay::fill_words` is safe and ends. Assumes nothing.
 use Prim.Native.Nat.{_≤_, _-_}
 use mathlib.Core.Path.{_≡_}
 use borrow.Author.Needs.{needs}
 use lib.ListN.{length}
-use Rattle.replay.proofs.soil.Statement.{statement}
-use Rattle.replay.proofs.soil.Tie as tie
+use Rattle.replay.proofs.fill_words.Statement.{statement}
+use Rattle.replay.proofs.fill_words.Tie as tie
 
 abbrev Inv-loop : tie.InvT-loop
 Inv-loop words₀ i₀ words i = (i ≤ length words₀) × (length words ≡ length words₀)
@@ -36,8 +36,8 @@ same-length c = search needs
 returns : tie.Need-returns Inv-loop μ-loop
 returns c = search needs
 
-pub soil-spec : {M : Type 1} → statement M
-soil-spec =
+pub fill-words-spec : {M : Type 1} → statement M
+fill-words-spec =
     tie.close
     (tie.spec
     Inv-loop

@@ -1,9 +1,9 @@
--- `wire::any_bits` meets its contract. The loop's invariant: the bits of the first `i` words of each fifth. Assumes nothing.
+-- `wire::or_of_fifths` meets its contract. The loop's invariant: the bits of the first `i` words of each fifth. Assumes nothing.
 use Prim.Native.Nat.{_-_, _≤_}
 use native.Mathlib.Omega.{arith}
 use Rattle.wire.proofs.Laws.{Bits, bits-none, bits-more, fifths, fifths-end}
-use Rattle.wire.proofs.any_bits.Statement.{statement}
-use Rattle.wire.proofs.any_bits.Tie as tie
+use Rattle.wire.proofs.or_of_fifths.Statement.{statement}
+use Rattle.wire.proofs.or_of_fifths.Tie as tie
 
 abbrev Inv-loop : tie.InvT-loop
 Inv-loop words fifth bits₀ i₀ bits i = (i ≤ fifth) × Bits (fifths words fifth) bits i
@@ -78,26 +78,26 @@ loop-again c = (omega arith, bits-more _ _ _ (c .before .before .before .before 
 mul-rest : tie.Need-mul-rest Inv-loop μ-loop
 mul-rest c = omega arith
 
-mul-few-bits : tie.Need-mul-few-bits Inv-loop μ-loop
-mul-few-bits c = omega arith
+mul-or-of : tie.Need-mul-or-of Inv-loop μ-loop
+mul-or-of c = omega arith
 
-sub-few-bits : tie.Need-sub-few-bits Inv-loop μ-loop
-sub-few-bits c = omega arith
+sub-or-of : tie.Need-sub-or-of Inv-loop μ-loop
+sub-or-of c = omega arith
 
-part-few-bits-start : tie.Need-part-few-bits-start Inv-loop μ-loop
-part-few-bits-start c = omega arith
+part-or-of-start : tie.Need-part-or-of-start Inv-loop μ-loop
+part-or-of-start c = omega arith
 
-part-few-bits-end : tie.Need-part-few-bits-end Inv-loop μ-loop
-part-few-bits-end c = omega arith
+part-or-of-end : tie.Need-part-or-of-end Inv-loop μ-loop
+part-or-of-end c = omega arith
 
-few-bits-requires : tie.Need-few-bits-requires Inv-loop μ-loop
-few-bits-requires c κs = omega arith
+or-of-requires : tie.Need-or-of-requires Inv-loop μ-loop
+or-of-requires c κs = omega arith
 
 returns : tie.Need-returns Inv-loop μ-loop
-returns c = fifths-end _ _ _ (c .before .before .before .loop .i) _ (omega arith) (c .before .before .before .loop .inv .1) (c .few-bits .ensures)
+returns c = fifths-end _ _ _ (c .before .before .before .loop .i) _ (omega arith) (c .before .before .before .loop .inv .1) (c .or-of .ensures)
 
-pub any-bits-spec : {M : Type 1} → statement M
-any-bits-spec =
+pub or-of-fifths-spec : {M : Type 1} → statement M
+or-of-fifths-spec =
     tie.close
     (tie.spec
     Inv-loop
@@ -124,9 +124,9 @@ any-bits-spec =
     loop-less
     loop-again
     mul-rest
-    mul-few-bits
-    sub-few-bits
-    part-few-bits-start
-    part-few-bits-end
-    few-bits-requires
+    mul-or-of
+    sub-or-of
+    part-or-of-start
+    part-or-of-end
+    or-of-requires
     returns)

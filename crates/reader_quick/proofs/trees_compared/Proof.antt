@@ -1,10 +1,10 @@
--- `reader_quick::few_trees` meets its contract. The loop's invariant: the whole list reads as what is left of it. Assumes nothing.
+-- `reader_quick::trees_compared` meets its contract. The loop's invariant: the whole list reads as what is left of it. Assumes nothing.
 use mathlib.Core.Path.{refl}
 use Prim.Native.Nat.{_-_}
 use native.Mathlib.Omega.{arith}
 use Rattle.reader_quick.proofs.Listed.{Going, going-first, going-stand, going-next, going-last, fresh-asked, not-not}
-use Rattle.reader_quick.proofs.few_trees.Statement.{statement}
-use Rattle.reader_quick.proofs.few_trees.Tie as tie
+use Rattle.reader_quick.proofs.trees_compared.Statement.{statement}
+use Rattle.reader_quick.proofs.trees_compared.Tie as tie
 
 abbrev Inv-loop : tie.InvT-loop
 Inv-loop s room at n end first i₀ count₀ i count = Going room s end at n first count i
@@ -45,8 +45,8 @@ loop-again c = going-next _ _ _ (c .before .before .before .before .before .befo
 returns-3 : tie.Need-returns-3 Inv-loop μ-loop
 returns-3 c = (λ start z. going-last _ _ _ (c .before .before .before .pre .1) (c .before .loop .inv) (c .loop-test .left) start, c .before .loop .inv .inside)
 
-pub few-trees-spec : {M : Type 1} → statement M
-few-trees-spec =
+pub trees-compared-spec : {M : Type 1} → statement M
+trees-compared-spec =
     tie.close
     (tie.spec
     Inv-loop

@@ -1,10 +1,10 @@
--- `reader_grammar::few` meets its contract.
+-- `reader_grammar::row_of` meets its contract.
 use mathlib.Core.List.{[], _∷_}
 use Prim.Native.Nat.{_≤_}
 use native.Mathlib.Omega.{arith}
 use Rattle.reader_grammar.proofs.Rows.{behind}
-use Rattle.reader_grammar.proofs.few.Statement.{statement}
-use Rattle.reader_grammar.proofs.few.Tie as tie
+use Rattle.reader_grammar.proofs.row_of.Statement.{statement}
+use Rattle.reader_grammar.proofs.row_of.Tie as tie
 
 returns : tie.Need-returns
 returns c = rw (c .match .keys1)
@@ -25,5 +25,5 @@ returns-5 c =
     let h : 4 ≤ a .i = omega (arith, r .1, r .0 .1, r .0 .0 .1, r .0 .0 .0 .1) in
     behind (a .a ∷ a .b ∷ a .c ∷ a .d ∷ []) (a .i) h
 
-pub few-spec : {M : Type 1} → statement M
-few-spec = tie.close (tie.spec returns returns-2 returns-3 returns-4 returns-5)
+pub row-of-spec : {M : Type 1} → statement M
+row-of-spec = tie.close (tie.spec returns returns-2 returns-3 returns-4 returns-5)

@@ -1,9 +1,9 @@
--- `replay::lent_output` meets its contract. Assumes nothing.
+-- `replay::output_length` meets its contract. Assumes nothing.
 use native.Mathlib.Omega.{arith}
 use lib.ListN.{length-take}
 use borrow.Author.Needs.{needs}
-use Rattle.replay.proofs.lent_output.Statement.{statement}
-use Rattle.replay.proofs.lent_output.Tie as tie
+use Rattle.replay.proofs.output_length.Statement.{statement}
+use Rattle.replay.proofs.output_length.Tie as tie
 
 returns : tie.Need-returns
 returns c = search needs
@@ -17,5 +17,5 @@ returns-2 c = (omega arith, simp length-take (omega arith))
 returns-3 : tie.Need-returns-3
 returns-3 c = (omega arith, simp length-take (omega arith))
 
-pub lent-output-spec : {M : Type 1} → statement M
-lent-output-spec = tie.close (tie.spec returns read4-requires returns-2 returns-3)
+pub output-length-spec : {M : Type 1} → statement M
+output-length-spec = tie.close (tie.spec returns read4-requires returns-2 returns-3)

@@ -1,12 +1,12 @@
--- `reader_quick::many_trees` meets its contract. The loop's invariant: the whole list reads as what is left of it. Assumes nothing.
+-- `reader_quick::trees_marked` meets its contract. The loop's invariant: the whole list reads as what is left of it. Assumes nothing.
 use mathlib.Core.Path.{_≡_, refl}
 use Prim.Native.Nat.{_-_}
 use native.Mathlib.Omega.{arith}
 use lib.ListN.{length}
 use Rattle.reader_quick.specs.Quick.{Marked}
 use Rattle.reader_quick.proofs.Listed.{Going, going-first, going-stand, going-here, going-next, going-last, marked-long, marks-long, marked-more, not-not}
-use Rattle.reader_quick.proofs.many_trees.Statement.{statement}
-use Rattle.reader_quick.proofs.many_trees.Tie as tie
+use Rattle.reader_quick.proofs.trees_marked.Statement.{statement}
+use Rattle.reader_quick.proofs.trees_marked.Tie as tie
 
 abbrev Inv-loop : tie.InvT-loop
 Inv-loop s room at n end first marks₀ i₀ count₀ marks i count = (Going room s end at n first count i × Marked marks s first count) × (length marks ≡ 4096)
@@ -47,8 +47,8 @@ loop-again c = ((going-next _ _ _ (c .before .before .before .before .before .be
 returns-3 : tie.Need-returns-3 Inv-loop μ-loop
 returns-3 c = (λ start z. going-last _ _ _ (c .before .before .before .pre .1) (c .before .loop .inv .0 .0) (c .loop-test .left) start, c .before .loop .inv .0 .0 .inside)
 
-pub many-trees-spec : {M : Type 1} → statement M
-many-trees-spec =
+pub trees-marked-spec : {M : Type 1} → statement M
+trees-marked-spec =
     tie.close
     (tie.spec
     Inv-loop

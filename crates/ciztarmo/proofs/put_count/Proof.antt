@@ -1,10 +1,10 @@
--- `ciztarmo::tell_count` meets its contract: the answer word by word. Assumes nothing.
+-- `ciztarmo::put_count` meets its contract: the answer word by word. Assumes nothing.
 use mathlib.Core.Path.{sym, ap}
 use Rattle.interpreter_leaves.specs.Outcome.{outcomeOf}
 use Rattle.ciztarmo.proofs.Laws.{count-yes, count-no}
 use borrow.Author.Needs.{needs}
-use Rattle.ciztarmo.proofs.tell_count.Statement.{statement}
-use Rattle.ciztarmo.proofs.tell_count.Tie as tie
+use Rattle.ciztarmo.proofs.put_count.Statement.{statement}
+use Rattle.ciztarmo.proofs.put_count.Tie as tie
 
 enum-known-a : tie.Need-enum-known-a
 enum-known-a c = search needs
@@ -18,5 +18,5 @@ returns c = count-yes _ (ap outcomeOf (sym (c .before .before .a .given .1)))
 returns-2 : tie.Need-returns-2
 returns-2 c = count-no _ (ap outcomeOf (sym (c .before .before .a2 .given .1)))
 
-pub tell-count-spec : {M : Type 1} → statement M
-tell-count-spec = tie.close (tie.spec enum-known-a enum-known-a-2 returns returns-2)
+pub put-count-spec : {M : Type 1} → statement M
+put-count-spec = tie.close (tie.spec enum-known-a enum-known-a-2 returns returns-2)

@@ -1,9 +1,9 @@
--- `replay::lent` meets its contract. Assumes nothing.
+-- `replay::word_count` meets its contract. Assumes nothing.
 use native.Mathlib.Omega.{arith}
 use lib.ListN.{length-take}
 use borrow.Author.Needs.{needs}
-use Rattle.replay.proofs.lent.Statement.{statement}
-use Rattle.replay.proofs.lent.Tie as tie
+use Rattle.replay.proofs.word_count.Statement.{statement}
+use Rattle.replay.proofs.word_count.Tie as tie
 
 returns : tie.Need-returns
 returns c = search needs
@@ -17,5 +17,5 @@ returns-2 c = (omega arith, simp length-take (omega arith))
 returns-3 : tie.Need-returns-3
 returns-3 c = (omega arith, simp length-take (omega arith))
 
-pub lent-spec : {M : Type 1} → statement M
-lent-spec = tie.close (tie.spec returns read4-requires returns-2 returns-3)
+pub word-count-spec : {M : Type 1} → statement M
+word-count-spec = tie.close (tie.spec returns read4-requires returns-2 returns-3)
