@@ -6,6 +6,7 @@ use Rattle.blocks.specs.Tree.{part, entries, view, partOr, partView}
 use Rattle.blocks.specs.Read.{inOrder, nameOf, readText, readKey, readNumber, readFlag, readIf, readOptional, inType, readLiteral, readCount, readEntries, readList, readValue, readPart, readParts, readHeader, readBlock, small, readInput}
 use Rattle.blocks.specs.Write.{write}
 
+-- has no value of interest: a proof that unfolds it unfolds what it names
 unfoldable pub compute : Unit {0}
 unfolding bytes printable isText same less among grammar nodeTable findRow partsOf part entries view partOr partView inOrder nameOf readText readKey readNumber readFlag readIf readOptional inType readLiteral readCount readEntries readList readValue readPart readParts readHeader readBlock small readInput write
 compute = tt

@@ -13,19 +13,23 @@ use Rattle.blocks.specs.Name.{Name, same, less, among}
 pub false-true : {X : Type 0} → false ≡ true → X
 false-true e = let z : _≡_ {A = ℕ} 0 1 = cc in absurd (omega arith)
 
+-- of two tests that both hold, the first
 pub and-left : (a b : Bool) → (a && b) ≡ true → a ≡ true
 and-left true b e = refl
 and-left false b e = e
 
+-- of two tests that both hold, the second
 pub and-right : (a b : Bool) → (a && b) ≡ true → b ≡ true
 and-right true b e = e
 and-right false b e = false-true e
 
+-- a name is the same as itself
 pub same-refl : (n : Name) → same n n ≡ true
 unfolding same
 same-refl [] = refl
 same-refl (x ∷ xs) = rw (eq-eqb x x refl) (same-refl xs)
 
+-- names that `same` accepts are equal
 pub same-eq : (n m : Name) → same n m ≡ true → n ≡ m
 unfolding same
 same-eq [] [] e = refl
@@ -38,6 +42,7 @@ pub data Before (x y : ℕ) (xs ys : Name) : Type 0 where
   byte : x < y → Before x y xs ys
   rest : x ≡ y → less xs ys ≡ true → Before x y xs ys
 
+-- what is known where one name with a first byte is less than another: used to take `less` apart
 less-cons : (x y : ℕ) (xs ys : Name) → less (x ∷ xs) (y ∷ ys) ≡ true → Before x y xs ys
 unfolding less
 less-cons x y xs ys e = go (ltb x y) refl e
@@ -46,11 +51,13 @@ less-cons x y xs ys e = go (ltb x y) refl e
     go true h g = Before.byte (ltb-true x y h)
     go false h g = Before.rest (eqb-true x y (and-left _ _ g)) (and-right (eqb x y) _ g)
 
+-- the other way round: used to put `less` together
 cons-less : (x y : ℕ) (xs ys : Name) → Before x y xs ys → less (x ∷ xs) (y ∷ ys) ≡ true
 unfolding less
 cons-less x y xs ys (Before.byte h) = rw (lt-ltb x y h)
 cons-less x y xs ys (Before.rest h g) = rw (le-ltb x y (omega arith), eq-eqb x y h) g
 
+-- no name is less than itself
 pub less-irrefl : (n : Name) → less n n ≡ true → ⊥
 unfolding less
 less-irrefl [] e = false-true e
@@ -60,6 +67,7 @@ less-irrefl (x ∷ xs) e = go (less-irrefl xs) (less-cons x x xs xs e)
     go ih (Before.byte h) = omega arith
     go ih (Before.rest h g) = ih g
 
+-- a name that is less than another is less than all that the other is less than
 pub less-trans : (a b c : Name) → less a b ≡ true → less b c ≡ true → less a c ≡ true
 unfolding less
 less-trans [] [] c e f = f
@@ -98,6 +106,7 @@ pub data Among (n : Name) : List Name → Type 0 where
   here : {ms : List Name} → Among n (n ∷ ms)
   there : {m : Name} {ms : List Name} → Among n ms → Among n (m ∷ ms)
 
+-- a name that `among` finds is a member
 pub among-in : (n : Name) (ms : List Name) → among n ms ≡ true → Among n ms
 unfolding among
 among-in n [] e = false-true e
@@ -107,6 +116,7 @@ among-in n (m ∷ ms) e = go (among-in n ms) (same n m) refl e
     go ih true h g = rw (← same-eq n m h) Among.here
     go ih false h g = Among.there (ih g)
 
+-- a member is found by `among`
 pub in-among : {n : Name} {ms : List Name} → Among n ms → among n ms ≡ true
 unfolding among
 in-among {n} Among.here = rw (same-refl n)

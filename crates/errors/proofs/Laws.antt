@@ -10,6 +10,7 @@ module _ {A : Type 0} where
   pub done-one : {x y : A} → done x ≡ done y → x ≡ y
   done-one e = cc
 
+  -- a refusal is no answer: closes the cases that an accepted input rules out
   pub not-done : {r : Refusal} {x : A} → refused r ≡ done x → ⊥
   not-done e = let z : _≡_ {A = ℕ} 0 1 = cc in absurd (omega arith)
 
@@ -19,6 +20,7 @@ module _ {A : Type 0} where
   asked true r k x e = (refl, e)
   asked false r k x e = absurd (not-done e)
 
+  -- where the question is answered "yes", the chain goes on
   pub asked-yes : {b : Bool} (r : Refusal) (k : Unit → Outcome A) → b ≡ true → (ask b r >>= k) ≡ k tt
   unfolding _>>=_ ask
   asked-yes r k h = rw h
@@ -30,6 +32,7 @@ module _ {A B : Type 0} where
   bound (done a) k x e = (a, refl, e)
   bound (refused r) k x e = absurd (not-done e)
 
+  -- where a step gives a value, the chain goes on with it
   pub bound-done : {o : Outcome A} {a : A} (k : A → Outcome B) → o ≡ done a → (o >>= k) ≡ k a
   unfolding _>>=_
   bound-done k h = rw h

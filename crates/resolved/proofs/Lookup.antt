@@ -9,9 +9,11 @@ use Rattle.blocks.specs.Name.{Name, same}
 use Rattle.blocks.proofs.Name.{same-eq}
 use Rattle.resolved.specs.Resolved.{ResolvedType, head, get-type-info}
 
+-- what was found is one type only
 some-one : {x y : ResolvedType} → some x ≡ some y → x ≡ y
 some-one e = cc
 
+-- the type that is found under a name has it
 pub type-named : (n : Name) (ts : List ResolvedType) (x : ResolvedType) → get-type-info n ts ≡ some x → head x .name ≡ n
 unfolding get-type-info
 type-named n [] x e = let z : _≡_ {A = ℕ} 0 1 = cc in absurd (omega arith)

@@ -4,7 +4,7 @@ use mathlib.Core.Bool.{Bool, true, false, cond}
 use mathlib.Core.List.{List, [], _∷_, _++_, append-assoc, append-nil}
 use Prim.Native.Nat.{ℕ, zero, suc, _+_, _-_, _*_, _%_, _/_, _<_, _≤_}
 use native.Mathlib.Numerals.{add-one, sub-one}
-use native.Mathlib.Nat.{add-zero, zero-add, not-suc-le-zero}
+use native.Mathlib.Nat.{add-zero, zero-add, one-mul, suc-mul, not-suc-le-zero}
 use native.Mathlib.Omega.{arith}
 use borrow.Author.Count.{below-more}
 use borrow.Author.Fill.{fill-none, fill-more}
@@ -18,6 +18,7 @@ use Rattle.blocks.specs.Tree.{Tree, name, num, block, nil, cons}
 use Rattle.blocks.specs.Write.{write}
 use Rattle.wire.specs.Poke.{poke, Wrote, opened}
 
+-- writing keeps the length of the slice
 pub poke-length : (xs : List ℕ) (at : ℕ) (bs : List ℕ) → length (poke xs at bs) ≡ length xs
 unfolding poke
 poke-length xs at bs = length-sets xs at bs
@@ -49,6 +50,7 @@ poke-patch xs at (x ∷ z) (y ∷ n) body h =
     rw (set-poke (set xs at x) at (suc at) y (z ++ body) (omega arith), set-set xs at x y)
     (poke-patch (set xs at y) (suc at) z n body (omega arith))
 
+-- a number of k bytes is k long
 pub bytes-length : (k v : ℕ) → length (bytes k v) ≡ k
 unfolding bytes
 bytes-length zero v = refl
@@ -56,6 +58,7 @@ bytes-length (suc k) v = ap suc (bytes-length k (v / 256))
 
 -- ---- writes, one behind another
 
+-- nothing written leaves the slice and the cursor as they are
 pub none : (xs : List ℕ) (at : ℕ) → Wrote xs at [] xs at
 unfolding poke
 none xs at = record { end = sym (add-zero at); left = refl }
@@ -70,6 +73,7 @@ pub parts : {xs ys zs : List ℕ} {at p r : ℕ} (a b : Tree) → Wrote xs at (w
 unfolding write
 parts a b u v = both u v
 
+-- a body with no parts is nothing written
 pub no-parts : (xs : List ℕ) (at : ℕ) → Wrote xs at (write nil) xs at
 unfolding write
 no-parts xs at = none xs at
@@ -88,52 +92,59 @@ closed {xs} {ys} {zs} {at} {u} {q} o k t f g =
     let d : u - at - 4 ≡ 2 + length (write t) = omega arith in
     patched (bytes 4 0) (bytes 4 (2 + length (write t))) (bytes 2 k ++ write t) (bytes-length 4 0 ∙ sym (bytes-length 4 (2 + length (write t)))) (rw append-assoc at f) (rw d at g)
 
-pub opened-length : (k : ℕ) → length (opened k) ≡ 6
-unfolding opened bytes
-opened-length k = refl
-
+-- a written block is six bytes longer than its body
 pub block-length : (o k : ℕ) (t : Tree) → length (write (block o k t)) ≡ 6 + length (write t)
 unfolding write bytes
 block-length o k t = omega arith
 
 -- ---- in the form in which the code has them
 
+-- a byte stored inside the slice is written
 pub byte-in : (xs : List ℕ) (at b : ℕ) → Wrote xs at (b ∷ []) (set xs at b) (at + 1)
 unfolding poke
 byte-in xs at b = record { end = refl; left = refl }
 
+-- a byte behind the slice's end is only counted
 pub byte-out : (xs : List ℕ) (at b : ℕ) → length xs ≤ at → Wrote xs at (b ∷ []) xs (at + 1)
 unfolding poke
 byte-out xs at b h = record { end = refl; left = sym (set-out xs at b h) }
 
+-- no byte of a number is left to be written
 pub le-none : (xs : List ℕ) (at k v : ℕ) → k ≤ 0 → Wrote xs at (bytes k v) xs at
 unfolding bytes
 le-none xs at zero v h = none xs at
 le-none xs at (suc k) v h = absurd (not-suc-le-zero h)
 
+-- the lowest byte, and then the others, are the whole number
 pub le-more : (xs ys zs : List ℕ) (at p k v r : ℕ) → 0 < k → Wrote xs at (v % 256 ∷ []) ys p → Wrote ys p (bytes (k - 1) (v / 256)) zs r → Wrote xs at (bytes k v) zs r
 unfolding bytes
 le-more xs ys zs at p zero v r h f g = absurd (not-suc-le-zero h)
 le-more xs ys zs at p (suc k) v r h f g = both f (rw sub-one at g)
 
+-- no byte of the text is left to be written
 pub from-none : (xs s : List ℕ) (at i : ℕ) → length s ≤ i → Wrote xs at (drop i s) xs at
 from-none xs s at i h = rw (drop-of-length-le s h) (none xs at)
 
+-- the byte at i, and then those behind it, are the text from i on
 pub from-more : (xs ys zs s : List ℕ) (at p i r : ℕ) → i < length s → Wrote xs at (getD s i 0 ∷ []) ys p → Wrote ys p (drop (i + 1) s) zs r → Wrote xs at (drop i s) zs r
 from-more xs ys zs s at p i r h f g = rw (drop-cons s i 0 h, ← add-one) (both f g)
 
+-- a name is its length and its bytes
 pub name-puts : (xs ys zs s : List ℕ) (at p r : ℕ) → Wrote xs at (bytes 2 (length s)) ys p → Wrote ys p (drop 0 s) zs r → Wrote xs at (write (name s)) zs r
 unfolding write
 name-puts xs ys zs s at p r f g = both f g
 
+-- a flag that is on is a 1
 pub flag-on : (xs ys : List ℕ) (at r : ℕ) (on : Bool) → on ≡ true → Wrote xs at (1 ∷ []) ys r → Wrote xs at (write (num 1 (cond on 1 0))) ys r
 unfolding write bytes
 flag-on xs ys at r on h f = rw h f
 
+-- a flag that is off is a 0
 pub flag-off : (xs ys : List ℕ) (at r : ℕ) (on : Bool) → on ≡ false → Wrote xs at (0 ∷ []) ys r → Wrote xs at (write (num 1 (cond on 1 0))) ys r
 unfolding write bytes
 flag-off xs ys at r on h f = rw h f
 
+-- the head of a block is a length that is yet to be written and its kind
 pub open-puts : (xs ys zs : List ℕ) (at p r k : ℕ) → Wrote xs at (bytes 4 0) ys p → Wrote ys p (bytes 2 k) zs r → Wrote xs at (opened k) zs r
 unfolding opened
 open-puts xs ys zs at p r k f g = both f g
@@ -148,13 +159,16 @@ pub record Cleared (ws us : List ℕ) (i : ℕ) : Type 0 where
   pub long : length us ≡ length ws
   pub holds : us ≡ replicate i 0 ++ drop i ws
 
+-- at the start nothing is cleared
 pub clear-none : (ws : List ℕ) → Cleared ws ws 0
 clear-none ws = record { within = omega arith; long = refl; holds = fill-none ws 0 }
 
+-- one more entry is cleared
 pub clear-more : (ws us : List ℕ) (i : ℕ) → i < length us → Cleared ws us i → Cleared ws (set us i 0) (i + 1)
 clear-more ws us i h c =
     record { within = omega arith; long = length-set us i 0 ∙ c .long; holds = rw (c .holds) (fill-more i 0 ws (omega arith)) }
 
+-- where all are cleared, the list is zeros
 pub clear-end : (ws us : List ℕ) (i : ℕ) → length us ≤ i → Cleared ws us i → us ≡ replicate (length ws) 0
 clear-end ws us i h c =
     let z : i ≡ length ws = omega arith in
@@ -172,6 +186,7 @@ Zeros ws n = (k : ℕ) → k < n → getD ws k 0 ≡ 0
 abbrev pub Bits : (ℕ → ℕ) → ℕ → ℕ → Type 0
 Bits f bits i = bits ≡ 0 → (k : ℕ) → k < i → f k ≡ 0
 
+-- an or of two numbers is 0 only where both are
 or-none : (a b : ℕ) → bitOr a b ≡ 0 → (a ≡ 0) × (b ≡ 0)
 or-none a b h =
     let e : bitOr a b + bitAnd a b ≡ a + b = or-add-and a b in
@@ -179,18 +194,22 @@ or-none a b h =
     let r : bitAnd a b ≤ b = and-le-r a b in
     (omega arith, omega arith)
 
+-- of no numbers nothing is said
 pub bits-none : (f : ℕ → ℕ) → Bits f 0 0
 bits-none f e k h = absurd (not-suc-le-zero h)
 
+-- one more number is taken in
 pub bits-more : (f : ℕ → ℕ) (bits i : ℕ) → Bits f bits i → Bits f (bitOr bits (f i)) (i + 1)
 bits-more f bits i b e = let o = or-none bits (f i) e in below-more (λ (k : ℕ). f k ≡ 0) i (b (o .0)) (o .1)
 
+-- a list whose entries are all 0 is the list of zeros
 pub zeros-end : (ws : List ℕ) → Zeros ws (length ws) → ws ≡ replicate (length ws) 0
 zeros-end ws z = ext-getD 0 ws (replicate (length ws) 0) (sym (length-replicate (length ws) 0)) (λ k h. z k h ∙ sym (getD-replicate (length ws) k 0 0 h))
 
--- what stands at k in each of five parts of n entries, together
-unfoldable pub fifths : List ℕ → ℕ → ℕ → ℕ
-fifths ws n k = bitOr (bitOr (bitOr (bitOr (getD ws k 0) (getD ws (n + k) 0)) (getD ws (2 * n + k) 0)) (getD ws (3 * n + k) 0)) (getD ws (4 * n + k) 0)
+-- what stands at k in each of the first j + 1 parts of n entries, together
+unfoldable pub ors : List ℕ → ℕ → ℕ → ℕ → ℕ
+ors ws n zero k = getD ws k 0
+ors ws n (suc j) k = bitOr (ors ws n j k) (getD ws (suc j * n + k) 0)
 
 module _ (ws : List ℕ) where
   -- n more behind the first a
@@ -205,40 +224,36 @@ module _ (ws : List ℕ) where
       go false q = f k (omega (arith, leb-false a k q))
 
   module _ (n : ℕ) where
-    fifths-none : (k : ℕ) → fifths ws n k ≡ 0 → (getD ws k 0 ≡ 0) × (getD ws (n + k) 0 ≡ 0) × (getD ws (2 * n + k) 0 ≡ 0) × (getD ws (3 * n + k) 0 ≡ 0) × (getD ws (4 * n + k) 0 ≡ 0)
-    unfolding fifths
-    fifths-none k h =
-        let e = or-none _ (getD ws (4 * n + k) 0) h in
-        let d = or-none _ (getD ws (3 * n + k) 0) (e .0) in
-        let c = or-none _ (getD ws (2 * n + k) 0) (d .0) in
-        let b = or-none (getD ws k 0) (getD ws (n + k) 0) (c .0) in
-        (b .0, b .1, c .1, d .1, e .1)
+    -- the five words that the loop takes in at once, in its order
+    pub five-words : (k : ℕ) → bitOr (bitOr (bitOr (bitOr (getD ws k 0) (getD ws (n + k) 0)) (getD ws (2 * n + k) 0)) (getD ws (3 * n + k) 0)) (getD ws (4 * n + k) 0) ≡ ors ws n 4 k
+    unfolding ors
+    five-words k = rw (one-mul n)
 
-    fifths-zeros : ((k : ℕ) → k < n → fifths ws n k ≡ 0) → Zeros ws (5 * n)
-    fifths-zeros h =
-        zeros-more (4 * n) n (5 * n) (omega arith)
-        (zeros-more (3 * n) n (4 * n) (omega arith)
-        (zeros-more (2 * n) n (3 * n) (omega arith)
-        (zeros-more n n (2 * n) (omega arith) (λ k l. fifths-none k (h k l) .0) (λ k l. fifths-none k (h k l) .1))
-        (λ k l. fifths-none k (h k l) .2))
-        (λ k l. fifths-none k (h k l) .3))
-        (λ k l. fifths-none k (h k l) .4)
+    -- where the or of the parts is 0 at each place, all their entries are
+    parts-zeros : (j : ℕ) → ((k : ℕ) → k < n → ors ws n j k ≡ 0) → Zeros ws (suc j * n)
+    unfolding ors
+    parts-zeros zero h = λ k l. h k (omega (arith, one-mul n))
+    parts-zeros (suc j) h =
+        zeros-more (suc j * n) n (suc (suc j) * n) (omega (arith, suc-mul (suc j) n))
+        (parts-zeros j (λ k l. or-none (ors ws n j k) _ (h k l) .0)) (λ k l. or-none (ors ws n j k) _ (h k l) .1)
 
     -- the parts, and the rest behind them
     abbrev pub Rest : List ℕ
     Rest = take (length ws - 5 * n) (drop (5 * n) ws)
 
-    pub fifths-end : (bits i r : ℕ) → n ≤ i → Bits (fifths ws n) bits i → (r ≡ 0 → Rest ≡ replicate (length Rest) 0) → bitOr bits r ≡ 0 → ws ≡ replicate (length ws) 0
+    -- where the or of the five parts and of the rest is 0, all entries are
+    pub fifths-end : (bits i r : ℕ) → n ≤ i → Bits (ors ws n 4) bits i → (r ≡ 0 → Rest ≡ replicate (length Rest) 0) → bitOr bits r ≡ 0 → ws ≡ replicate (length ws) 0
     fifths-end bits i r l b f e =
         let o = or-none bits r e in
         let d = length-drop (5 * n) ws in
         let w : Rest ≡ drop (5 * n) ws = take-all (length ws - 5 * n) (drop (5 * n) ws) (omega arith) in
         let z : drop (5 * n) ws ≡ replicate (length (drop (5 * n) ws)) 0 = rw w at (f (o .1)) in
-        zeros-end ws (zeros-more (5 * n) (length ws - 5 * n) (length ws) (omega arith) (fifths-zeros (λ k h. b (o .0) k (omega arith)))
+        zeros-end ws (zeros-more (5 * n) (length ws - 5 * n) (length ws) (omega arith) (parts-zeros 4 (λ k h. b (o .0) k (omega arith)))
         (λ k h. sym (getD-drop (5 * n) ws k 0) ∙ rw z (getD-replicate (length (drop (5 * n) ws)) k 0 0 (omega arith))))
 
 -- ---- a part that is cleared in zeros
 
+-- zeros whose first entries are put in anew as zeros are the same zeros
 zeros-part : (k n : ℕ) → k ≤ n → _++_ {A = ℕ} (replicate k 0) (drop k (replicate n 0)) ≡ replicate n 0
 zeros-part zero n h = refl
 zeros-part (suc k) zero h = absurd (not-suc-le-zero h)

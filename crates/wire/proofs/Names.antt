@@ -15,6 +15,7 @@ use Rattle.blocks.proofs.Name.{same-eq, same-refl}
 
 -- ---- same_name
 
+-- names that are not equal are not the same: the form in which `same_name` says no
 differ : (a b : List ℕ) → (a ≡ b → ⊥) → false ≡ same a b
 differ a b h = go (same a b) refl
   where
@@ -22,23 +23,28 @@ differ a b h = go (same a b) refl
     go true e = absurd (h (same-eq a b e))
     go false e = refl
 
+-- names of different lengths are not the same
 pub same-long : (a b : List ℕ) → (length a ≡ length b → ⊥) → false ≡ same a b
 same-long a b h = differ a b (λ e. h (ap length e))
 
+-- names that differ at a place are not the same
 pub same-not : (a b : List ℕ) (i : ℕ) → (getD a i 0 ≡ getD b i 0 → ⊥) → false ≡ same a b
 same-not a b i h = differ a b (λ e. h (ap (λ (l : List ℕ). getD l i 0) e))
 
 -- the bytes from i on are the same
 module _ (a b : List ℕ) (l : length a ≡ length b) where
+  -- behind the last byte nothing is left to compare
   pub same-none : drop (length a) a ≡ drop (length a) b
   same-none = rw (drop-of-length-le a {i = length a} (omega arith), drop-of-length-le b {i = length a} (omega arith))
 
   module _ (i : ℕ) (e : drop i a ≡ drop i b) where
+    -- one byte more, from the end on, is the same
     pub same-more : 0 < i → i ≤ length a → getD a (i - 1) 0 ≡ getD b (i - 1) 0 → drop (i - 1) a ≡ drop (i - 1) b
     same-more h k q =
         let z : suc (i - 1) ≡ i = omega arith in
         rw (drop-cons a (i - 1) 0 (omega arith), drop-cons b (i - 1) 0 (omega arith), z, e, q)
 
+    -- where all bytes are, the names are the same
     pub same-end : i ≤ 0 → true ≡ same a b
     same-end h =
         let z : i ≡ 0 = omega arith in
@@ -50,21 +56,26 @@ pub ruleset sames = (same-long, same-none, same-more, same-end)
 -- ---- less_name
 
 module _ (a b : List ℕ) (i : ℕ) (e : less a b ≡ less (drop i a) (drop i b)) where
+  -- b has ended, and a has not
   pub less-short : i < length a → length b ≤ i → false ≡ less a b
   unfolding less
   less-short h k = rw (e, drop-cons a i 0 h, drop-of-length-le b k)
 
   module _ (h : i < length a) (k : i < length b) where
+    -- `less` at the place i: its bytes decide, or what stands behind them
     less-step : less a b ≡ (ltb (getD a i 0) (getD b i 0) || (eqb (getD a i 0) (getD b i 0) && less (drop (i + 1) a) (drop (i + 1) b)))
     unfolding less
     less-step = rw (e, add-one, drop-cons a i 0 h, drop-cons b i 0 k)
 
+    -- the byte of a is less
     pub less-yes : getD a i 0 < getD b i 0 → true ≡ less a b
     less-yes l = rw (less-step, lt-ltb _ _ l)
 
+    -- the byte of b is less
     pub less-no : getD b i 0 < getD a i 0 → false ≡ less a b
     less-no l = rw (less-step, le-ltb _ _ (le-of-lt l), ne-eqb (getD a i 0) (getD b i 0) (λ q. omega arith))
 
+    -- the bytes at i are equal, so those behind them decide
     pub less-more : getD b i 0 ≤ getD a i 0 → getD a i 0 ≤ getD b i 0 → less a b ≡ less (drop (i + 1) a) (drop (i + 1) b)
     less-more l m = rw (less-step, le-ltb _ _ l, eq-eqb _ _ (le-antisymm m l))
 

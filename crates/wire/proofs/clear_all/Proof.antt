@@ -22,7 +22,15 @@ clear-8-requires : tie.Need-clear-8-requires Inv-loop μ-loop
 clear-8-requires c κs = omega arith
 
 returns : tie.Need-returns Inv-loop μ-loop
-returns c = all-no (c .before .before .before .before .before .args .s .now) (c .before .before .before .loop .inv .1) _ (c .before .clear-8 .ensures) (c .if1 .taken) (omega arith)
+returns c =
+    let at-loop = c .before .before .before in
+    let at-start = at-loop .before .before in
+    all-no
+    (at-start .args .s .now)
+    (at-loop .loop .inv .1) _
+    (c .before .clear-8 .ensures)
+    (c .if1 .taken)
+    (omega arith)
 
 add-i : tie.Need-add-i Inv-loop μ-loop
 add-i c = omega arith
@@ -31,13 +39,30 @@ loop-less : tie.Need-loop-less Inv-loop μ-loop
 loop-less c = omega arith
 
 loop-again : tie.Need-loop-again Inv-loop μ-loop
-loop-again c = (omega arith, all-next (c .before .before .before .before .before .args .s .now) (c .before .before .before .loop .inv .1) _ (c .before .clear-8 .ensures) (c .if1 .left))
+loop-again c =
+    let at-loop = c .before .before .before in
+    let at-start = at-loop .before .before in (
+      omega arith,
+      all-next
+          (at-start .args .s .now)
+          (at-loop .loop .inv .1) _
+          (c .before .clear-8 .ensures)
+          (c .if1 .left),
+    )
 
 clear-8-requires-2 : tie.Need-clear-8-requires-2 Inv-loop μ-loop
 clear-8-requires-2 c κs = omega arith
 
 returns-2 : tie.Need-returns-2 Inv-loop μ-loop
-returns-2 c = all-last (c .before .before .before .before .args .s .now) (c .before .before .loop .inv .1) _ refl (c .before .before .before .before .pre) (c .before .loop-test .left) (c .clear-82 .ensures)
+returns-2 c =
+    let at-loop = c .before .before in
+    let at-start = at-loop .before .before in
+    all-last
+    (at-start .args .s .now)
+    (at-loop .loop .inv .1) _ refl
+    (at-start .pre)
+    (c .before .loop-test .left)
+    (c .clear-82 .ensures)
 
 pub clear-all-spec : {M : Type 1} → statement M
 clear-all-spec =

@@ -1,5 +1,6 @@
 -- `wire::is_text` meets its contract, length by length. Assumes nothing.
-use Rattle.wire.proofs.Texts.{text-long, text-all, text-four, text-two, text-one, text-none}
+use Rattle.wire.proofs.Texts.{text-long, text-all, two, four, text-ends, text-one, text-none}
+use native.Mathlib.Omega.{arith}
 use borrow.Author.Needs.{needs}
 use Rattle.wire.proofs.is_text.Statement.{statement}
 use Rattle.wire.proofs.is_text.Tie as tie
@@ -20,7 +21,17 @@ clear-4-requires-2 : tie.Need-clear-4-requires-2
 clear-4-requires-2 c κs = search needs
 
 returns-3 : tie.Need-returns-3
-returns-3 c = text-four (c .before .before .before .before .before .before .args .s .now) (c .before .before .before .before .if1 .left) (c .before .before .if3 .taken) (c .before .before .before .if2 .left) (c .before .clear-4 .ensures) (c .clear-42 .ensures)
+returns-3 c =
+    let at-then3 = c .before .before in
+    let at-else1 = at-then3 .before .before in
+    let at-start = at-else1 .before .before in
+    text-ends _
+    (at-else1 .if1 .left)
+    (four (at-start .args .s .now))
+    (at-then3 .if3 .taken)
+    (omega arith)
+    (c .before .clear-4 .ensures)
+    (c .clear-42 .ensures)
 
 clear-2-requires : tie.Need-clear-2-requires
 clear-2-requires c κs = search needs
@@ -29,16 +40,35 @@ clear-2-requires-2 : tie.Need-clear-2-requires-2
 clear-2-requires-2 c κs = search needs
 
 returns-4 : tie.Need-returns-4
-returns-4 c = text-two (c .before .before .before .before .before .before .before .args .s .now) (c .before .before .before .before .before .if1 .left) (c .before .before .if4 .taken) (c .before .before .before .if3 .left) (c .before .clear-2 .ensures) (c .clear-22 .ensures)
+returns-4 c =
+    let at-then4 = c .before .before in
+    let at-else1 = at-then4 .before .before .before in
+    let at-start = at-else1 .before .before in
+    text-ends _
+    (at-else1 .if1 .left)
+    (two (at-start .args .s .now))
+    (at-then4 .if4 .taken)
+    (omega arith)
+    (c .before .clear-2 .ensures)
+    (c .clear-22 .ensures)
 
 clear-requires : tie.Need-clear-requires
 clear-requires c κs = search needs
 
 returns-5 : tie.Need-returns-5
-returns-5 c = text-one (c .before .before .before .before .before .before .before .args .s .now) (c .before .before .before .before .before .if1 .left) (c .before .if5 .taken) (c .clear .ensures)
+returns-5 c =
+    let at-else1 = c .before .before .before .before .before in
+    let at-start = at-else1 .before .before in
+    text-one
+    (at-start .args .s .now)
+    (at-else1 .if1 .left)
+    (c .before .if5 .taken)
+    (c .clear .ensures)
 
 returns-6 : tie.Need-returns-6
-returns-6 c = text-none _ (c .before .before .before .before .if1 .left) (c .before .if4 .left) (c .if5 .left)
+returns-6 c =
+    let at-else1 = c .before .before .before .before in
+    text-none _ (at-else1 .if1 .left) (c .before .if4 .left) (c .if5 .left)
 
 pub is-text-spec : {M : Type 1} → statement M
 is-text-spec =

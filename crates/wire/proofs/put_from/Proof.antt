@@ -11,7 +11,10 @@ use Rattle.wire.proofs.put_from.Statement.{statement}
 use Rattle.wire.proofs.put_from.Tie as tie
 
 abbrev Inv-loop : tie.InvT-loop
-Inv-loop out₀ at s i p₀ j₀ out p j = (p + i ≡ at + j) × (length out ≡ length out₀) × ((zs : List ℕ) (r : ℕ) → Wrote out p (drop j s) zs r → Wrote out₀ at (drop i s) zs r)
+Inv-loop out₀ at s i p₀ j₀ out p j =
+    (p + i ≡ at + j) ×
+    (length out ≡ length out₀) ×
+    ((zs : List ℕ) (r : ℕ) → Wrote out p (drop j s) zs r → Wrote out₀ at (drop i s) zs r)
 
 abbrev μ-loop : tie.MeasureT-loop
 μ-loop out₀ at s i p₀ j₀ out p j = length s - j
@@ -32,14 +35,25 @@ loop-less : tie.Need-loop-less Inv-loop μ-loop
 loop-less c = omega arith
 
 loop-again : tie.Need-loop-again Inv-loop μ-loop
-loop-again c = (omega arith, search needs, λ zs r g. c .before .before .before .before .before .before .loop .inv .2 zs r (from-more _ _ _ _ _ _ _ _ (c .before .before .before .before .before .loop-test .taken) (c .before .before .put-byte .ensures .0) g))
+loop-again c =
+    let at-put-byte = c .before .before in
+    let in-loop = at-put-byte .before .before .before in
+    let at-loop = in-loop .before in (
+      omega arith,
+      search needs,
+      λ zs r g. at-loop .loop .inv .2 zs r
+          (from-more _ _ _ _ _ _ _ _
+          (in-loop .loop-test .taken)
+          (at-put-byte .put-byte .ensures .0) g),
+    )
 
 same-length : tie.Need-same-length Inv-loop μ-loop
 same-length c = search needs
 
 returns : tie.Need-returns Inv-loop μ-loop
 returns c =
-    let w : Wrote _ _ _ _ _ = c .before .loop .inv .2 _ _ (from-none _ _ _ _ (c .loop-test .left)) in
+    let w : Wrote _ _ _ _ _ = c .before .loop .inv .2 _ _
+    (from-none _ _ _ _ (c .loop-test .left)) in
     (w, simp length-drop at (w .end))
 
 pub put-from-spec : {M : Type 1} → statement M

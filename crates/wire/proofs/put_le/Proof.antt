@@ -12,7 +12,10 @@ use Rattle.wire.proofs.put_le.Statement.{statement}
 use Rattle.wire.proofs.put_le.Tie as tie
 
 abbrev Inv-loop : tie.InvT-loop
-Inv-loop out₀ at k v p₀ left₀ rest₀ out p left rest = (p + left ≡ at + k) × (length out ≡ length out₀) × ((zs : List ℕ) (r : ℕ) → Wrote out p (bytes left rest) zs r → Wrote out₀ at (bytes k v) zs r)
+Inv-loop out₀ at k v p₀ left₀ rest₀ out p left rest =
+    (p + left ≡ at + k) ×
+    (length out ≡ length out₀) ×
+    ((zs : List ℕ) (r : ℕ) → Wrote out p (bytes left rest) zs r → Wrote out₀ at (bytes k v) zs r)
 
 abbrev μ-loop : tie.MeasureT-loop
 μ-loop out₀ at k v p₀ left₀ rest₀ out p left rest = left
@@ -33,13 +36,26 @@ loop-less : tie.Need-loop-less Inv-loop μ-loop
 loop-less c = omega arith
 
 loop-again : tie.Need-loop-again Inv-loop μ-loop
-loop-again c = (omega arith, search needs, λ zs r g. c .before .before .before .before .before .loop .inv .2 zs r (le-more _ _ _ _ _ _ _ _ (c .before .before .before .before .loop-test .taken) (c .before .before .put-byte .ensures .0) g))
+loop-again c =
+    let at-put-byte = c .before .before in
+    let in-loop = at-put-byte .before .before in
+    let at-loop = in-loop .before in (
+      omega arith,
+      search needs,
+      λ zs r g. at-loop .loop .inv .2 zs r
+          (le-more _ _ _ _ _ _ _ _
+          (in-loop .loop-test .taken)
+          (at-put-byte .put-byte .ensures .0) g),
+    )
 
 same-length : tie.Need-same-length Inv-loop μ-loop
 same-length c = search needs
 
 returns : tie.Need-returns Inv-loop μ-loop
-returns c = (c .before .loop .inv .2 _ _ (le-none _ _ _ _ (c .loop-test .left)), omega (arith, c .loop-test .left))
+returns c = (
+  c .before .loop .inv .2 _ _ (le-none _ _ _ _ (c .loop-test .left)),
+  omega (arith, c .loop-test .left),
+)
 
 pub put-le-spec : {M : Type 1} → statement M
 put-le-spec =
