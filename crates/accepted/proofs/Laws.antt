@@ -12,7 +12,7 @@ use borrow.Author.Tests.{leb-true, eqb-true, eqb-false}
 use Rattle.errors.specs.Refusal.{done}
 use Rattle.errors.proofs.Laws.{done-one, not-done, asked, bound, bound-done}
 use Rattle.blocks.specs.declared.Part.{Part}
-use Rattle.blocks.specs.declared.Part.the-variants.{Text, Key, Number, Flag, Size, OptNumber, OptText, Literal, Block}
+use Rattle.blocks.specs.declared.Part.the-variants.{Text, Key, Number, Flag, Size, OptNumber, Literal, Block}
 use Rattle.blocks.specs.Bytes.{le2, le4, le8}
 use Rattle.blocks.specs.Name.{isText}
 use Rattle.blocks.specs.Grammar.{partsOf, within}
@@ -39,6 +39,7 @@ pub record Opened {s : List ℕ} {lo hi at : ℕ} (k : ℕ) (ps : List Part) (a 
   pub end : parts .end ≡ at + 4 + le4 s at
   pub ended : parts .got .1 ≡ at + 4 + le4 s at
 
+-- the same of a block that was read with at least one room
 opened-suc : (s : List ℕ) (lo hi at k : ℕ) (ps : List Part) (room : ℕ) (e : Earlier) (end : ℕ) (got : Tree × ℕ) (fits : end ≤ length s) (read : readBlock (suc room) s e lo hi at end ≡ done got) →
     le2 s (at + 4) ≡ k → partsOf k ≡ ps → Opened k ps (record { room = suc room; earlier = e; end = end; got = got; fits = fits; read = read })
 unfolding readBlock
@@ -65,6 +66,7 @@ opened-suc s lo hi at k ps room e end got fits read ek ep =
       ended = eqb-true (b .0 .1) (at + 4 + n) (q .0);
     }
 
+-- an accepted block of kind k is opened: header, parts and end
 pub opened : {s : List ℕ} {lo hi at k : ℕ} {ps : List Part} (a : Accepted s lo hi at) → le2 s (at + 4) ≡ k → partsOf k ≡ ps → Opened k ps a
 unfolding readBlock
 opened {s} {lo} {hi} {at} {k} {ps} a = go (a .room) (a .earlier) (a .end) (a .got) (a .fits) (a .read)
@@ -79,6 +81,7 @@ abbrev pub Each : (ℕ → Type 0) → ℕ → ℕ → Type 0
 Each P k zero = Unit
 Each P k (suc d) = P k × Each P (k + 1) d
 
+-- what holds of each kind of a range one by one holds of every kind in it
 pub each : (P : ℕ → Type 0) (d lo : ℕ) → Each P lo d → (k : ℕ) → lo ≤ k → k < lo + d → P k
 each P zero lo h k a b = absurd (omega arith)
 each P (suc d) lo h k a b = go (eqb lo k) refl (each P d (lo + 1) (h .1) k)
@@ -102,6 +105,7 @@ pub record Behind {s : List ℕ} {p : Part} {ps : List Part} {at : ℕ} (c : Par
 abbrev partAt : {s : List ℕ} {ps : List Part} {at : ℕ} → Parts s ps at → Part → ℕ → Step
 partAt {s} c = readPart (readBlock (c .room) s) s (c .earlier) (c .start) (c .end)
 
+-- how the parts ps are read there
 abbrev partsAt : {s : List ℕ} {ps : List Part} {at : ℕ} → Parts s ps at → List Part → ℕ → Step
 partsAt {s} c = readParts (readBlock (c .room) s) s (c .earlier) (c .start) (c .end)
 
@@ -114,6 +118,7 @@ pub chained : {s : List ℕ} {p : Part} {ps : List Part} {at : ℕ} (c : Parts s
 unfolding readParts
 chained {p} {ps} {at} c = both (partAt c p at) (λ x. partsAt c ps (x .1)) (c .read)
 
+-- the parts behind the first, where it is known what the first is and where it ends
 pub behind : {s : List ℕ} {p : Part} {ps : List Part} {at q : ℕ} {t : Tree} (c : Parts s (p ∷ ps) at) → chained c .one ≡ (t, q) → q ≤ c .end → Behind c t q
 behind {ps} c e h =
     let b = chained c in
@@ -126,28 +131,28 @@ behind {ps} c e h =
       end = refl;
     }
 
--- behind the last part
-pub nothing-left : {s : List ℕ} {at : ℕ} (c : Parts s [] at) → c .got ≡ (nil, at)
-unfolding readParts
-nothing-left c = sym (done-one (c .read))
-
 module _ {s : List ℕ} {ps : List Part} {at : ℕ} where
+  -- the first part is a text: it may stand there, and what is behind it
   pub text-part : (c : Parts s (Text ∷ ps) at) → (isText (nameAt s at) ≡ true) × Behind c (name (nameAt s at)) (at + 2 + le2 s at)
   unfolding readPart
   text-part c = let t = text-read s (c .start) (c .end) at (chained c .one-read) in (t .1, behind c (t .2) (t .0))
 
+  -- a name in its order
   pub key-part : (c : Parts s (Key ∷ ps) at) → (isText (nameAt s at) ≡ true) × (inOrder (c .earlier) (nameAt s at) ≡ true) × Behind c (name (nameAt s at)) (at + 2 + le2 s at)
   unfolding readPart
   key-part c = let k = key-read s (c .start) (c .end) at (c .earlier) (chained c .one-read) in (k .1, k .2, behind c (k .3) (k .0))
 
+  -- a number of eight bytes
   pub number-part : (c : Parts s (Number ∷ ps) at) → Behind c (num 8 (le8 s at)) (at + 8)
   unfolding readPart
   number-part c = let n = number-read s (c .start) (c .end) at (chained c .one-read) in behind c (n .1) (n .0)
 
+  -- a flag
   pub flag-part : (c : Parts s (Flag ∷ ps) at) → (getD s at 0 ≤ 1) × Behind c (num 1 (getD s at 0)) (at + 1)
   unfolding readPart
   flag-part c = let f = flag-read s (c .start) (c .end) at (chained c .one-read) in (f .1, behind c (f .2) (f .0))
 
+  -- a literal: its code, and its number inside the code's type
   pub literal-part : (c : Parts s (Literal ∷ ps) at) →
       (getD s at 0 ≤ 7) × (inType (getD s at 0) (le8 s (at + 1)) ≡ true) × Behind c (cons (num 1 (getD s at 0)) (num 8 (le8 s (at + 1)))) (at + 1 + 8)
   unfolding readPart
@@ -155,12 +160,14 @@ module _ {s : List ℕ} {ps : List Part} {at : ℕ} where
 
 -- ---- a block among the parts
 
+-- the block that is the first part, with the room and the end of the whole
 pub record Child {s : List ℕ} {ps : List Part} {lo hi at : ℕ} (c : Parts s (Block lo hi ∷ ps) at) : Type 0 where
   pub child : Accepted s lo hi at
   pub room : child .room ≡ c .room
   pub end : child .end ≡ c .end
   pub behind : Behind c (child .got .0) (at + 4 + le4 s at)
 
+-- where the first part is a block, it is accepted itself
 pub block-part : {s : List ℕ} {ps : List Part} {lo hi at : ℕ} (c : Parts s (Block lo hi ∷ ps) at) → Child c
 unfolding readPart
 block-part {s} {lo} {hi} {at} c =
@@ -179,12 +186,14 @@ pub record There {s : List ℕ} {p : Part} {ps : List Part} {at : ℕ} (c : Part
   pub room : parts .room ≡ c .room
   pub end : parts .end ≡ c .end
 
+-- what a flag says: whether the part behind it is there
 pub record Announced {s : List ℕ} {p : Part} {ps : List Part} {at : ℕ} (c : Parts s (p ∷ ps) at) (on : ℕ) (inner : Part) : Type 0 where
   pub inside : at + 1 ≤ c .end
   pub small : getD s at 0 ≤ 1
   pub there : getD s at 0 ≡ on → There c inner
   pub absent : (getD s at 0 ≡ on → ⊥) → Behind c (cons (num 1 (getD s at 0)) nil) (at + 1)
 
+-- the four optional parts are read alike
 optional-as : {p inner : Part} {on : ℕ} → Optional p on inner → (rb : Reader) (s : List ℕ) (e : Earlier) (start end at : ℕ) → readPart rb s e start end p at ≡ readOptional (readPart rb s e start end inner) on s start end at
 unfolding readPart
 optional-as Optional.size rb s e start end at = refl
@@ -192,6 +201,7 @@ optional-as Optional.number rb s e start end at = refl
 optional-as Optional.text rb s e start end at = refl
 optional-as Optional.block rb s e start end at = refl
 
+-- the part behind the flag was read: the parts from behind the flag on
 there-is : {s : List ℕ} {p : Part} {ps : List Part} {at : ℕ} (c : Parts s (p ∷ ps) at) (inner : Part) (x m : Tree × ℕ) → partsAt c ps (x .1) ≡ done m → c .got ≡ (cons (x .0) (m .0), m .1) →
     (y : Tree × ℕ) × (partAt c inner (at + 1) ≡ done y) × (x ≡ (cons (num 1 (getD s at 0)) (y .0), y .1)) → There c inner
 unfolding readParts
@@ -205,6 +215,7 @@ there-is {ps} c inner x m r g (y, d, i) =
       end = refl;
     }
 
+-- the first part is an optional one: both values of its flag
 pub optional-part : {s : List ℕ} {p inner : Part} {ps : List Part} {on at : ℕ} → Optional p on inner → (c : Parts s (p ∷ ps) at) → Announced c on inner
 optional-part {s} {inner} {on} {at} o c =
     let b = chained c in
@@ -220,9 +231,11 @@ optional-part {s} {inner} {on} {at} o c =
 abbrev pub optionalTree : List ℕ → ℕ → ℕ → Tree → Tree
 optionalTree s at on t = cons (num 1 (getD s at 0)) (cond (eqb (getD s at 0) on) t nil)
 
+-- where an optional part ends
 abbrev pub behindOptional : List ℕ → ℕ → ℕ → ℕ → ℕ
 behindOptional s at on q = cond (eqb (getD s at 0) on) q (at + 1)
 
+-- the parts behind an optional part, for both values of its flag
 pub optional-behind : {s : List ℕ} {p inner : Part} {ps : List Part} {on at q : ℕ} {t : Tree} → Optional p on inner → (c : Parts s (p ∷ ps) at) → ((i : Parts s (inner ∷ ps) (at + 1)) → Behind i t q) →
     Behind c (optionalTree s at on t) (behindOptional s at on q)
 optional-behind {s} {inner} {on} {at} {q} {t} o c h = go (eqb (getD s at 0) on) refl (optional-part o c)
@@ -242,14 +255,13 @@ optional-behind {s} {inner} {on} {at} {q} {t} o c h = go (eqb (getD s at 0) on) 
     go false e a = a .absent (eqb-false _ _ e)
 
 module _ {s : List ℕ} {ps : List Part} {at : ℕ} where
+  -- an optional size
   pub size-part : (c : Parts s (Size ∷ ps) at) → Behind c (optionalTree s at 0 (num 8 (le8 s (at + 1)))) (behindOptional s at 0 (at + 1 + 8))
   size-part c = optional-behind Optional.size c number-part
 
+  -- an optional number
   pub opt-number-part : (c : Parts s (OptNumber ∷ ps) at) → Behind c (optionalTree s at 1 (num 8 (le8 s (at + 1)))) (behindOptional s at 1 (at + 1 + 8))
   opt-number-part c = optional-behind Optional.number c number-part
-
-  pub opt-text-part : (c : Parts s (OptText ∷ ps) at) → Behind c (optionalTree s at 1 (name (nameAt s (at + 1)))) (behindOptional s at 1 (at + 1 + 2 + le2 s (at + 1)))
-  opt-text-part c = optional-behind Optional.text c (λ i. text-part i .1)
 
 -- ---- a list
 
@@ -278,6 +290,7 @@ unfolding readEntries
 entered {n = zero} l h = absurd (omega arith)
 entered {n = suc n} {at} l h = rw sub-one (both (itemAt l (l .earlier) at) (λ x. readEntries (itemAt l) (met (l .earlier) (x .0)) n (x .1)) (l .read))
 
+-- the entries behind the first, where it is known what the first is and where it ends
 pub after : {s : List ℕ} {i : Item} {n at q : ℕ} {t : Tree} (l : Entries s i n at) (h : 0 < n) → entered l h .one ≡ (t, q) → q ≤ l .end → After l t q
 after {n} l h e f =
     let b = entered l h in
@@ -290,12 +303,14 @@ after {n} l h e f =
       end = refl;
     }
 
+-- the block that is the first entry, with the room and the end of the list
 pub record Enter {s : List ℕ} {lo hi n at : ℕ} (l : Listed s lo hi n at) : Type 0 where
   pub child : Accepted s lo hi at
   pub room : child .room ≡ l .room
   pub end : child .end ≡ l .end
   pub after : After l (child .got .0) (at + 4 + le4 s at)
 
+-- where the first entry is a block, it is accepted itself
 pub block-entry : {s : List ℕ} {lo hi n at : ℕ} (l : Listed s lo hi n at) → 0 < n → Enter l
 block-entry {s} {lo} {hi} {at} l h =
     let b = entered l h in
@@ -304,9 +319,11 @@ block-entry {s} {lo} {hi} {at} l h =
     record { child = a; room = refl; end = refl; after = after l h (ap (λ (n : ℕ). (b .one .0, n)) (o .stop)) (o .high) }
 
 module _ {s : List ℕ} {n at : ℕ} where
+  -- the first entry is a name in its order
   pub name-entry : (l : Entries s Item.names n at) → 0 < n → (isText (nameAt s at) ≡ true) × (inOrder (l .earlier) (nameAt s at) ≡ true) × After l (name (nameAt s at)) (at + 2 + le2 s at)
   name-entry l h = let k = key-read s (l .start) (l .end) at (l .earlier) (entered l h .one-read) in (k .1, k .2, after l h (k .3) (k .0))
 
+  -- the first entry is a name in its order with a number
   pub value-entry : (l : Entries s Item.values n at) → 0 < n →
       (isText (nameAt s at) ≡ true) × (inOrder (l .earlier) (nameAt s at) ≡ true) × After l (cons (name (nameAt s at)) (num 8 (le8 s (at + 2 + le2 s at)))) (at + 2 + le2 s at + 8)
   value-entry l h = let k = value-read s (l .start) (l .end) at (l .earlier) (entered l h .one-read) in (k .1, k .2, after l h (k .3) (k .0))
@@ -320,6 +337,7 @@ item-high (Item.blocks lo hi) room s start end fits e at x d =
 item-high Item.names room s start end fits e at x d = let k = key-read s start end at e d in omega (arith, k .0, ap (λ (z : Tree × ℕ). z .1) (k .3))
 item-high Item.values room s start end fits e at x d = let k = value-read s start end at e d in omega (arith, k .0, ap (λ (z : Tree × ℕ). z .1) (k .3))
 
+-- entries end inside, if each one does
 entries-high : (f : Earlier → ℕ → Step) (end : ℕ) → ((e : Earlier) (at : ℕ) (x : Tree × ℕ) → f e at ≡ done x → x .1 ≤ end) →
     (n : ℕ) (e : Earlier) (at : ℕ) (x : Tree × ℕ) → at ≤ end → readEntries f e n at ≡ done x → x .1 ≤ end
 unfolding readEntries
@@ -329,6 +347,7 @@ entries-high f end h (suc n) e at x l d =
     let r = entries-high f end h n (met e (b .one .0)) (b .one .1) (b .more) (h e at (b .one) (b .one-read)) (b .more-read) in
     omega (arith, r, ap (λ (z : Tree × ℕ). z .1) (b .is))
 
+-- an accepted list ends inside its block
 pub list-high : {s : List ℕ} {i : Item} {n at : ℕ} (l : Entries s i n at) → at ≤ l .end → l .got .1 ≤ l .end
 list-high {s} {i} {n} {at} l h = entries-high (itemAt l) (l .end) (item-high i (l .room) s (l .start) (l .end) (l .fits)) n (l .earlier) at (l .got) h (l .read)
 
@@ -342,6 +361,7 @@ pub record Enlisted {s : List ℕ} {p : Part} {ps : List Part} {at : ℕ} (c : P
   pub earlier : list .earlier ≡ e
   pub behind : Behind c (cons (num 2 (le2 s at)) (list .got .0)) (list .got .1)
 
+-- the six parts that are lists are read alike
 counted-as : {p : Part} {i : Item} {limit : ℕ} {o : Earlier} → Counted p i limit o → (room : ℕ) (s : List ℕ) (e : Earlier) (start end at : ℕ) →
     (m : ℕ) × (m ≤ limit) × (readPart (readBlock room s) s e start end p at ≡ readList (readItem i room s start end) o m s start end at)
 unfolding readPart
@@ -352,6 +372,7 @@ counted-as (Counted.names {limit}) room s e start end at = (limit, omega arith, 
 counted-as (Counted.paths {limit}) room s e start end at = (limit - pathsBefore e, omega arith, refl)
 counted-as (Counted.values {limit}) room s e start end at = (limit, omega arith, refl)
 
+-- the first part is a list: its count, its entries, and the parts behind it
 pub list-part : {s : List ℕ} {p : Part} {ps : List Part} {i : Item} {limit at : ℕ} {o : Earlier} → Counted p i limit o → (c : Parts s (p ∷ ps) at) → Enlisted c i limit o
 list-part {s} {i} {limit} {at} {o} k c =
     let m = counted-as k (c .room) s (c .earlier) (c .start) (c .end) at in
@@ -372,6 +393,7 @@ pub data All (P : Tree → Type 0) : Tree → Type 0 where
   none : All P nil
   more : {a b : Tree} → P a → All P b → All P (cons a b)
 
+-- what holds of every accepted block holds of each entry of a list of blocks
 pub all-entries : {s : List ℕ} {lo hi n at : ℕ} (P : Tree → Type 0) → ((q : ℕ) (a : Accepted s lo hi q) → P (a .got .0)) → (l : Listed s lo hi n at) → All P (l .got .0)
 all-entries {s} {lo} {hi} {n} {at} P h l = go n at l
   where
@@ -391,6 +413,7 @@ pub record Sole {s : List ℕ} {lo hi at : ℕ} (a : Accepted s lo hi at) (i : I
   pub list : Entries s i (le2 s (at + 6)) (at + 6 + 2)
   pub tree : rest (part 0 (body (a .got .0))) ≡ list .got .0
 
+-- a block whose only part is a list: the list
 pub sole : {s : List ℕ} {k at limit : ℕ} {p : Part} {i : Item} {o : Earlier} (a : Accepted s k k at) → partsOf k ≡ p ∷ [] → Counted p i limit o → Sole a i limit
 unfolding part
 sole {s} {k} {at} a e d =

@@ -12,6 +12,7 @@ pub record Left (R : Tree → Tree → Type 0) (s : List ℕ) (i : Item) (n at l
   pub here : Entries s i left q
   pub whole : (l : Entries s i n at) → (r : Entries s i left q) × R (l .got .0) (r .got .0) × (l .got .1 ≡ r .got .1)
 
+-- before the first entry all are left
 pub starts : {R : Tree → Tree → Type 0} {s : List ℕ} {i : Item} {n at : ℕ} → ((t : Tree) → R t t) → Entries s i n at → Left R s i n at n at
 starts h l = record { here = l; whole = λ w. (w, h (w .got .0), refl) }
 
@@ -25,6 +26,7 @@ steps {R} t h g l = record {
       (a .rest, g (m .0) (w .got .0) (a .rest .got .0) (subst (λ (z : Tree). R (w .got .0) z) (a .tree) (m .1)), m .2 ∙ a .stop);
 }
 
+-- after the last entry nothing is left, and the list ends there
 pub ended : {R : Tree → Tree → Type 0} {s : List ℕ} {i : Item} {n at left q : ℕ} → left ≤ 0 → Left R s i n at left q → (l : Entries s i n at) → R (l .got .0) nil × (l .got .1 ≡ q)
 ended {R} h l w =
     let m = l .whole w in

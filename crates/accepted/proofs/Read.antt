@@ -25,6 +25,7 @@ pub record Both (o : Step) (g : (Tree × ℕ) → Step) (z : Tree × ℕ) : Type
   pub more-read : g one ≡ done more
   pub is : z ≡ (cons (one .0) (more .0), more .1)
 
+-- a chain of two readers that gave a value: both gave theirs
 pub both : {z : Tree × ℕ} (o : Step) (g : (Tree × ℕ) → Step) → (o >>= (λ x. g x >>= (λ y. done (cons (x .0) (y .0), y .1)))) ≡ done z → Both o g z
 both o g e =
     let a = bound o _ _ e in
@@ -34,6 +35,7 @@ both o g e =
 -- ---- what is read: s the input, start and end the block's
 
 module _ (s : List ℕ) (start end at : ℕ) where
+  -- a text that was read: where it ends, and what it is
   pub text-read : {x : Tree × ℕ} → readText s start end at ≡ done x → (at + 2 + le2 s at ≤ end) × (isText (nameAt s at) ≡ true) × (x ≡ (name (nameAt s at), at + 2 + le2 s at))
   unfolding readText
   text-read e =
@@ -42,6 +44,7 @@ module _ (s : List ℕ) (start end at : ℕ) where
       let q3 = asked (isText (nameAt s at)) _ _ _ (q2 .1) in
       (leb-true _ _ (q2 .0), q3 .0, sym (done-one (q3 .1)))
 
+  -- a name that was read: the same, and that it is in its order
   pub key-read : (f : Earlier) {x : Tree × ℕ} → readKey s start end f at ≡ done x →
       (at + 2 + le2 s at ≤ end) × (isText (nameAt s at) ≡ true) × (inOrder f (nameAt s at) ≡ true) × (x ≡ (name (nameAt s at), at + 2 + le2 s at))
   unfolding readKey nameOf
@@ -51,10 +54,12 @@ module _ (s : List ℕ) (start end at : ℕ) where
       let q = asked (inOrder f (nameOf (b .0 .0))) _ _ _ (b .2) in
       (t .0, t .1, ap (λ (z : Tree × ℕ). inOrder f (nameOf (z .0))) (sym (t .2)) ∙ q .0, sym (done-one (q .1)) ∙ t .2)
 
+  -- a number that was read
   pub number-read : {x : Tree × ℕ} → readNumber s start end at ≡ done x → (at + 8 ≤ end) × (x ≡ (num 8 (le8 s at), at + 8))
   unfolding readNumber
   number-read e = let q = asked (leb (at + 8) end) _ _ _ e in (leb-true _ _ (q .0), sym (done-one (q .1)))
 
+  -- a flag that was read
   pub flag-read : {x : Tree × ℕ} → readFlag s start end at ≡ done x → (at + 1 ≤ end) × (getD s at 0 ≤ 1) × (x ≡ (num 1 (getD s at 0), at + 1))
   unfolding readFlag
   flag-read e =
@@ -63,6 +68,7 @@ module _ (s : List ℕ) (start end at : ℕ) where
       (leb-true _ _ (q1 .0), leb-true _ _ (q2 .0), sym (done-one (q2 .1)))
 
 module _ (s : List ℕ) (start end at : ℕ) where
+  -- a literal that was read: its code, and its number inside the code's type
   pub literal-read : {x : Tree × ℕ} → readLiteral s start end at ≡ done x →
       (at + 1 + 8 ≤ end) × (getD s at 0 ≤ 7) × (inType (getD s at 0) (le8 s (at + 1)) ≡ true) × (x ≡ (cons (num 1 (getD s at 0)) (num 8 (le8 s (at + 1))), at + 1 + 8))
   unfolding readLiteral
@@ -75,6 +81,7 @@ module _ (s : List ℕ) (start end at : ℕ) where
       let n = number-read s start end (at + 1) (b .1) in
       (n .0, leb-true _ _ (q2 .0), ap (λ (z : Tree × ℕ). inType c (number (z .0))) (sym (n .1)) ∙ q3 .0, sym (done-one (q3 .1)) ∙ ap (λ (z : Tree × ℕ). (cons (num 1 c) (z .0), z .1)) (n .1))
 
+  -- a count that was read: it is within its limit
   pub count-read : (limit : ℕ) {x : Tree × ℕ} → readCount limit s start end at ≡ done x → (at + 2 ≤ end) × (le2 s at ≤ limit) × (x ≡ (num 2 (le2 s at), at + 2))
   unfolding readCount
   count-read limit e =
@@ -100,12 +107,14 @@ pub record Flagged (f : ℕ → Step) (on : ℕ) (s : List ℕ) (end at : ℕ) (
   pub there : getD s at 0 ≡ on → (y : Tree × ℕ) × (f (at + 1) ≡ done y) × (x ≡ (cons (num 1 (getD s at 0)) (y .0), y .1))
   pub absent : (getD s at 0 ≡ on → ⊥) → x ≡ (cons (num 1 (getD s at 0)) nil, at + 1)
 
+-- what stands behind a flag was read where the flag says so, and nothing was where it does not
 if-read : (f : ℕ → Step) (on v at : ℕ) (b : Bool) (y x : Tree × ℕ) → eqb v on ≡ b → readIf b f at ≡ done y → x ≡ (cons (num 1 v) (y .0), y .1) →
     (v ≡ on → (y : Tree × ℕ) × (f at ≡ done y) × (x ≡ (cons (num 1 v) (y .0), y .1))) × ((v ≡ on → ⊥) → x ≡ (cons (num 1 v) nil, at))
 unfolding readIf
 if-read f on v at true y x h e i = (λ _. (y, e, i), λ n. absurd (n (eqb-true v on h)))
 if-read f on v at false y x h e i = (λ o. false-true (sym h ∙ eq-eqb v on o), λ _. i ∙ ap (λ (z : Tree × ℕ). (cons (num 1 v) (z .0), z .1)) (sym (done-one e)))
 
+-- a flag that was read, and what it announces
 pub optional-read : (f : ℕ → Step) (on : ℕ) (s : List ℕ) (start end at : ℕ) {x : Tree × ℕ} → readOptional f on s start end at ≡ done x → Flagged f on s end at x
 unfolding readOptional
 optional-read f on s start end at {x} e =
@@ -126,6 +135,7 @@ pub record Entered (f : Earlier → ℕ → Step) (e : Earlier) (limit : ℕ) (s
   pub list-read : readEntries f e (le2 s at) (at + 2) ≡ done list
   pub is : x ≡ (cons (num 2 (le2 s at)) (list .0), list .1)
 
+-- a list that was read: its count and its entries
 pub list-read : (f : Earlier → ℕ → Step) (o : Earlier) (limit : ℕ) (s : List ℕ) (start end at : ℕ) {x : Tree × ℕ} → readList f o limit s start end at ≡ done x → Entered f o limit s end at x
 unfolding readList
 list-read f o limit s start end at e =

@@ -11,15 +11,15 @@ use borrow.Author.Tests.{leb-true, eqb-true}
 use Rattle.errors.specs.Refusal.{done, _>>=_}
 use Rattle.errors.proofs.Laws.{done-one, not-done, asked, bound, bound-done}
 use Rattle.blocks.specs.declared.Part.{Part}
-use Rattle.blocks.specs.declared.Part.the-variants.{Text, Key, Number, Flag, Size, OptNumber, OptText, Literal, Block, OptBlock, Blocks, Ascending, Distinct, Names, Paths, Values}
 use Rattle.blocks.specs.Bytes.{bytes, le2, le4, le8, bytesAt}
 use Rattle.blocks.specs.Name.{isText}
 use Rattle.blocks.specs.Grammar.{partsOf, within}
 use Rattle.blocks.specs.Tree.{Tree, name, num, block, nil, cons, number}
-use Rattle.blocks.specs.Read.{Step, Earlier, pathsBefore, inOrder, nameOf, met, inType, Reader, readText, readKey, readNumber, readFlag, readIf, readOptional, readLiteral, readCount, readEntries, readList, readValue, readPart, readParts, readHeader, readBlock, readInput}
+use Rattle.blocks.specs.Read.{Step, Earlier, inOrder, nameOf, met, inType, Reader, readText, readKey, readNumber, readFlag, readIf, readOptional, readLiteral, readCount, readEntries, readList, readValue, readPart, readParts, readHeader, readBlock, readInput}
 use Rattle.blocks.specs.Write.{write}
 use Rattle.roundtrip.specs.Placed.{placed}
 use Rattle.roundtrip.specs.Fits.{Limits, Nothing, nothing, Both, both, TextFits, text, KeyFits, NumberFits, held, FlagFits, IfFits, there, absent, OptionalFits, LiteralFits, CountFits, EntriesFits, ListFits, ValueFits, InBlocks, PartFits, PartsFits, Inside, inside, BlockFits}
+use Rattle.roundtrip.proofs.Parts.{each-part}
 use Rattle.roundtrip.proofs.Bytes.{le, le-one, le-two, le-four, le-eight, width, text-length, frame, below, spelt}
 
 -- What was read from `at` on: a tree within limits, whose bytes stand there, with its offsets; and the offset behind it.
@@ -42,6 +42,7 @@ moved {s} {P} {at} {end} h e = subst (λ (z : Tree × ℕ). Got s P at end z) (d
 more : {s : List ℕ} {P Q : Limits} {at end : ℕ} {x : Tree × ℕ} → Got s P at end x → Q (x .0) → Got s Q at end x
 more h q = record { stop = h .stop; high = h .high; same = h .same; offsets = h .offsets; fits = q }
 
+-- nothing is read where no part is left
 none-got : (s : List ℕ) (at end : ℕ) → at ≤ end → Got s Nothing at end (nil, at)
 unfolding write placed
 none-got s at end h = record { stop = omega arith; high = h; same = refl; offsets = refl; fits = nothing }
@@ -85,6 +86,7 @@ module _ (s : List ℕ) (small : (i : ℕ) → getD s i 0 < 256) (end : ℕ) (fi
     fits = held (rw e at (below s small w at));
   }
 
+  -- each reader gives such an answer: that of a text
   text-got : (start at : ℕ) (x : Tree × ℕ) → readText s start end at ≡ done x → Got s TextFits at end x
   unfolding readText write placed
   text-got start at x e =
@@ -105,6 +107,7 @@ module _ (s : List ℕ) (small : (i : ℕ) → getD s i 0 < 256) (end : ℕ) (fi
         fits = text (q3 .0);
       }) (q3 .1)
 
+  -- of a name in its order
   key-got : (start : ℕ) (e : Earlier) (at : ℕ) (x : Tree × ℕ) → readKey s start end e at ≡ done x → Got s (KeyFits e) at end x
   unfolding readKey
   key-got start e at x d =
@@ -113,12 +116,14 @@ module _ (s : List ℕ) (small : (i : ℕ) → getD s i 0 < 256) (end : ℕ) (fi
       let q = asked (inOrder e (nameOf (b .0 .0))) _ _ _ (b .2) in
       moved (more h (h .fits, q .0)) (q .1)
 
+  -- of a number of eight bytes
   number-got : (start at : ℕ) (x : Tree × ℕ) → readNumber s start end at ≡ done x → Got s (NumberFits 8) at end x
   unfolding readNumber
   number-got start at x e =
       let q = asked (leb (at + 8) end) _ _ _ e in
       moved (width-got 8 at (le8 s at) (leb-true _ _ (q .0)) (le-eight s at)) (q .1)
 
+  -- of a flag
   flag-got : (start at : ℕ) (x : Tree × ℕ) → readFlag s start end at ≡ done x → Got s FlagFits at end x
   unfolding readFlag
   flag-got start at x e =
@@ -131,17 +136,20 @@ module _ (s : List ℕ) (small : (i : ℕ) → getD s i 0 < 256) (end : ℕ) (fi
   abbrev Meets : (ℕ → Step) → Limits → Type 0
   Meets f P = (at : ℕ) (x : Tree × ℕ) → f at ≡ done x → Got s P at end x
 
+  -- of a part that a flag announces
   if-got : {f : ℕ → Step} {P : Limits} → Meets f P → (b : Bool) (at : ℕ) (x : Tree × ℕ) → at ≤ end → readIf b f at ≡ done x → Got s (IfFits P b) at end x
   unfolding readIf
   if-got hf true at x h e = let g = hf at x e in more g (there (g .fits))
   if-got hf false at x h e = moved (more (none-got s at end h) absent) e
 
+  -- of a flag and that part
   optional-got : {f : ℕ → Step} {P : Limits} → Meets f P → (on start : ℕ) → Meets (readOptional f on s start end) (OptionalFits P on)
   unfolding readOptional
   optional-got {f} hf on start at z e =
       both-got (readFlag s start end at) (λ x. readIf (eqb (number (x .0)) on) f (x .1)) (flag-got start at)
       (λ x y h d. if-got hf (eqb (number (x .0)) on) (x .1) y (h .high) d) e
 
+  -- of a literal
   literal-got : (start : ℕ) → Meets (readLiteral s start end) LiteralFits
   unfolding readLiteral
   literal-got start at x e =
@@ -154,6 +162,7 @@ module _ (s : List ℕ) (small : (i : ℕ) → getD s i 0 < 256) (end : ℕ) (fi
       let g = number-got start (at + 1) (b .0) (b .1) in
       moved (joined {x = (num 1 c, at + 1)} (more h (h .fits, leb-true _ _ (q2 .0))) (more g (g .fits, q3 .0))) (q3 .1)
 
+  -- of a list's count
   count-got : (limit start : ℕ) → Meets (readCount limit s start end) (CountFits limit)
   unfolding readCount
   count-got limit start at x e =
@@ -162,6 +171,7 @@ module _ (s : List ℕ) (small : (i : ℕ) → getD s i 0 < 256) (end : ℕ) (fi
       let h = width-got 2 at (le2 s at) (leb-true _ _ (q1 .0)) (le-two s at) in
       moved (more h (h .fits, leb-true _ _ (q2 .0))) (q2 .1)
 
+  -- of a list's entries
   entries-got : {f : Earlier → ℕ → Step} {P : Earlier → Limits} → ((e : Earlier) → Meets (f e) (P e)) → (n : ℕ) (e : Earlier) (at : ℕ) (x : Tree × ℕ) → at ≤ end → readEntries f e n at ≡ done x → Got s (EntriesFits P e n) at end x
   unfolding readEntries EntriesFits
   entries-got hf zero e at x h d = moved (none-got s at end h) d
@@ -169,37 +179,34 @@ module _ (s : List ℕ) (small : (i : ℕ) → getD s i 0 < 256) (end : ℕ) (fi
       both-got (f e at) (λ x. readEntries f (met e (x .0)) n (x .1)) (hf e at)
       (λ x y g c. entries-got hf n (met e (x .0)) (x .1) y (g .high) c) d
 
+  -- of a list
   list-got : {f : Earlier → ℕ → Step} {P : Earlier → Limits} → ((e : Earlier) → Meets (f e) (P e)) → (o : Earlier) (limit start : ℕ) → Meets (readList f o limit s start end) (ListFits P o limit)
   unfolding readList
   list-got {f} hf o limit start at z e =
       both-got (readCount limit s start end at) (λ n. readEntries f o (number (n .0)) (n .1)) (count-got limit start at)
       (λ n y h d. entries-got hf (number (n .0)) o (n .1) y (h .high) d) e
 
+  -- of a value: a name and a number
   value-got : (start : ℕ) (e : Earlier) → Meets (readValue s start end e) (ValueFits e)
   unfolding readValue
   value-got start e at z d = both-got (readKey s start end e at) (λ x. readNumber s start end (x .1)) (key-got start e at) (λ x y h c. number-got start (x .1) y c) d
 
   -- rb reads blocks
   module _ (rb : Reader) {B : InBlocks} (m : (e : Earlier) (lo hi : ℕ) → Meets (λ at. rb e lo hi at end) (B e lo hi)) where
+    -- of any part of the grammar
     part-got : (p : Part) (e : Earlier) (start : ℕ) → Meets (readPart rb s e start end p) (PartFits B e p)
-    unfolding readPart PartFits
-    part-got Text e start = text-got start
-    part-got Key e start = key-got start e
-    part-got Number e start = number-got start
-    part-got Flag e start = flag-got start
-    part-got Size e start = optional-got (number-got start) 0 start
-    part-got OptNumber e start = optional-got (number-got start) 1 start
-    part-got OptText e start = optional-got (text-got start) 1 start
-    part-got Literal e start = literal-got start
-    part-got (Block lo hi) e start = m Earlier.any lo hi
-    part-got (OptBlock lo hi) e start = optional-got (m Earlier.any lo hi) 1 start
-    part-got (Blocks lo hi limit) e start = list-got (λ f. m f lo hi) Earlier.any limit start
-    part-got (Ascending lo hi limit) e start = list-got (λ f. m f lo hi) (Earlier.ascending [] 0) limit start
-    part-got (Distinct lo hi limit) e start = list-got (λ f. m f lo hi) (Earlier.distinct []) limit start
-    part-got (Names limit) e start = list-got (key-got start) Earlier.any limit start
-    part-got (Paths limit) e start = list-got (key-got start) (Earlier.ascending [] 0) (limit - pathsBefore e) start
-    part-got (Values limit) e start = list-got (value-got start) (Earlier.ascending [] 0) limit start
+    part-got p e start = each-part {R = λ f P. Meets f P} (record {
+      text = text-got start;
+      key = key-got start;
+      number = number-got start;
+      flag = flag-got start;
+      literal = literal-got start;
+      value = value-got start;
+      optional = λ m on. optional-got m on start;
+      list = λ m o limit. list-got m o limit start;
+    }) rb m p e
 
+    -- of all parts of a body
     parts-got : (ps : List Part) (e : Earlier) (start at : ℕ) (x : Tree × ℕ) → at ≤ end → readParts rb s e start end ps at ≡ done x → Got s (PartsFits B e ps) at end x
     unfolding readParts PartsFits
     parts-got [] e start at x h d = moved (none-got s at end h) d
@@ -214,6 +221,7 @@ pub record Header (s : List ℕ) (lo hi at end : ℕ) : Type 0 where
   pub known : within lo hi (le2 s (at + 4)) ≡ true
   pub read : readHeader s lo hi at end ≡ done (le2 s (at + 4), at + 4 + le4 s at)
 
+-- what a header that was read says of its bytes
 pub header-got : (s : List ℕ) (lo hi at end : ℕ) (h : ℕ × ℕ) → readHeader s lo hi at end ≡ done h → Header s lo hi at end
 unfolding readHeader
 header-got s lo hi at end h e =
@@ -246,6 +254,7 @@ module _ (s : List ℕ) (small : (i : ℕ) → getD s i 0 < 256) where
         fits = inside w (rw ek at (below s small 2 (at + 4))) (rw (en, l) at (below s small 4 at)) (g .fits);
       }
 
+  -- a block that was read is within the limits, and its bytes stand there
   pub block-got : (room : ℕ) → AllMeet (readBlock room s) (BlockFits room)
   unfolding readBlock BlockFits
   block-got zero end fits e lo hi at x d = absurd (not-done (bound (readHeader s lo hi at end) _ _ d .2))

@@ -14,17 +14,21 @@ unfoldable pub le : ℕ → List ℕ → ℕ → ℕ
 le zero s at = 0
 le (suc w) s at = getD s at 0 + 256 * le w s (at + 1)
 
+-- the byte at equal offsets: lets offsets be written in two ways
 same-at : (s : List ℕ) (i j : ℕ) → i ≡ j → getD s i 0 ≡ getD s j 0
 same-at s i j e = ap (λ (k : ℕ). getD s k 0) e
 
+-- one byte is its number
 pub le-one : (s : List ℕ) (at : ℕ) → le 1 s at ≡ getD s at 0
 unfolding le
 le-one s at = omega arith
 
+-- two bytes, as document 01 reads them
 pub le-two : (s : List ℕ) (at : ℕ) → le 2 s at ≡ le2 s at
 unfolding le
 le-two s at = omega arith
 
+-- four bytes
 pub le-four : (s : List ℕ) (at : ℕ) → le 4 s at ≡ le4 s at
 unfolding le
 le-four s at =
@@ -37,11 +41,13 @@ half : (s : List ℕ) (at : ℕ) → le 8 s at ≡ le 4 s at + 4294967296 * le 4
 unfolding le
 half s at = omega arith
 
+-- eight bytes
 pub le-eight : (s : List ℕ) (at : ℕ) → le 8 s at ≡ le8 s at
 le-eight s at =
     let i : at + 1 + 1 + 1 + 1 ≡ at + 4 = omega arith in
     half s at ∙ rw (i, le-four s at, le-four s (at + 4))
 
+-- a number of w bytes is w long
 pub width : (w v : ℕ) → length (bytes w v) ≡ w
 unfolding bytes
 width zero v = refl
@@ -73,6 +79,7 @@ back s (suc w) at v r h =
     let m : v % (256 ^ w * 256) ≡ (v / 256 % 256 ^ w) * 256 + v % 256 = mod-mul v (one-le-pow w 256 (omega arith)) (omega arith) in
     rw pow-suc (omega arith)
 
+-- a number that its bytes hold is read back as it is
 pub back-below : (s : List ℕ) (w at v : ℕ) (r : List ℕ) → v < 256 ^ w → drop at s ≡ bytes w v ++ r → le w s at ≡ v
 back-below s w at v r f h = back s w at v r h ∙ mod-eq-of-lt f
 
@@ -93,11 +100,13 @@ block-back s at n k b r hn hk h =
 
 -- a number that is read is written so
 module _ (s : List ℕ) (small : (i : ℕ) → getD s i 0 < 256) where
+  -- a number that is read is held by its bytes
   pub below : (w at : ℕ) → le w s at < 256 ^ w
   unfolding le
   below zero at = omega arith
   below (suc w) at = rw pow-suc (omega (arith, small at, below w (at + 1)))
 
+  -- the bytes of a number that is read are the writing of it
   pub spelt : (w at : ℕ) → at + w ≤ length s → drop at s ≡ bytes w (le w s at) ++ drop (at + w) s
   unfolding bytes le
   spelt zero at h = rw add-zero

@@ -1,4 +1,5 @@
 pub mod Bytes
+pub mod Parts
 pub mod Accepted
 pub mod Written
 pub mod Unique

@@ -17,18 +17,22 @@ use Rattle.roundtrip.specs.Shape.{Form, formOf, formsOf, times, Shaped, 
 abbrev Has : Limits → Form → Type 0
 Has P F = (t : Tree) → P t → Shaped F t × (cut t ≡ t)
 
+-- no part: nothing to be shaped
 none-has : Has Nothing Form.nothing
 unfolding cut
 none-has t nothing = (Shaped.nothing, refl)
 
+-- one part, then others
 both-has : {P : Limits} {Q : Tree → Limits} {F G : Form} → Has P F → ((a : Tree) → Has (Q a) G) → Has (Both P Q) (Form.both F G)
 unfolding cut
 both-has hp hq t (both {a} {b} p q) = (Shaped.both (hp a p .0) (hq a b q .0), ap₂ cons (hp a p .1) (hq a b q .1))
 
+-- a text
 text-has : Has TextFits Form.text
 unfolding cut
 text-has t (text q) = (Shaped.text, refl)
 
+-- a number of w bytes, which hold it
 number-has : (w : ℕ) → Has (NumberFits w) (Form.number w)
 unfolding cut
 number-has w t (held f) = (Shaped.number, ap (num w) (mod-eq-of-lt f))
@@ -37,27 +41,33 @@ number-has w t (held f) = (Shaped.number, ap (num w) (mod-eq-of-lt f))
 key-has : (e : Earlier) → Has (KeyFits e) Form.text
 key-has e t p = text-has t (p .0)
 
+-- a number with a limit
 upto-has : (w limit : ℕ) → Has (UpTo w limit) (Form.number w)
 upto-has w limit t p = number-has w t (p .0)
 
+-- what a flag announces
 if-has : {P : Limits} {F : Form} → Has P F → (b : Bool) → Has (IfFits P b) (cond b F Form.nothing)
 unfolding cut
 if-has h true t (there p) = h t p
 if-has h false t absent = (Shaped.nothing, refl)
 
+-- a flag and what it announces
 optional-has : {P : Limits} {F : Form} → Has P F → (on : ℕ) → Has (OptionalFits P on) (Form.optional F on)
 unfolding cut
 optional-has h on t (both {b} (held {v} f, q) p) = let r = if-has h (eqb v on) b p in (Shaped.optional f (r .0), ap₂ cons (ap (num 1) (mod-eq-of-lt f)) (r .1))
 
+-- n entries
 entries-has : {P : Earlier → Limits} {F : Form} → ((e : Earlier) → Has (P e) F) → (n : ℕ) (e : Earlier) → Has (EntriesFits P e n) (times n F)
 unfolding EntriesFits times
 entries-has h zero e = none-has
 entries-has h (suc n) e = both-has (h e) (λ a. entries-has h n (met e a))
 
+-- a count and its entries
 list-has : {P : Earlier → Limits} {F : Form} → ((e : Earlier) → Has (P e) F) → (o : Earlier) (limit : ℕ) → Has (ListFits P o limit) (Form.list F)
 unfolding cut
 list-has h o limit t (both {b} (held {v} f, q) p) = let r = entries-has h v o b p in (Shaped.list (r .0), ap₂ cons (ap (num 2) (mod-eq-of-lt f)) (r .1))
 
+-- any part of the grammar
 part-has : {B : InBlocks} → ((e : Earlier) (lo hi : ℕ) → Has (B e lo hi) Form.block) → (p : Part) (e : Earlier) → Has (PartFits B e p) (formOf p)
 unfolding PartFits formOf
 part-has m Text e = text-has
@@ -77,11 +87,13 @@ part-has m (Names limit) e = list-has key-has Earlier.any limit
 part-has m (Paths limit) e = list-has key-has (Earlier.ascending [] 0) (limit - pathsBefore e)
 part-has m (Values limit) e = list-has (λ f. both-has (key-has f) (λ a. number-has 8)) (Earlier.ascending [] 0) limit
 
+-- all parts of a body
 parts-has : {B : InBlocks} → ((e : Earlier) (lo hi : ℕ) → Has (B e lo hi) Form.block) → (ps : List Part) (e : Earlier) → Has (PartsFits B e ps) (formsOf ps)
 unfolding PartsFits formsOf
 parts-has m [] e = none-has
 parts-has m (p ∷ ps) e = both-has (part-has m p e) (λ a. parts-has m ps e)
 
+-- a block within the limits has the grammar's shape, and none of its numbers is cut: so `unique` applies to it
 pub limited : (room : ℕ) (e : Earlier) (lo hi : ℕ) (t : Tree) → BlockFits room e lo hi t → BlockShaped t × (cut t ≡ t)
 unfolding BlockFits cut
 limited zero e lo hi t p = absurd p

@@ -43,6 +43,7 @@ Finds s o at t = (r : List ℕ) → drop at s ≡ write t ++ r → length (write
 abbrev FindsAll : List ℕ → (ℕ → Step) → Form → Type 0
 FindsAll s f F = (t : Tree) → Shaped F t → (at : ℕ) → Finds s (f at) at t
 
+-- a tree and an offset are equal if both parts are
 pair : {a b : Tree} {m n : ℕ} → a ≡ b → m ≡ n → _≡_ {A = Tree × ℕ} (a, m) (b, n)
 pair e f = rw (e, f)
 
@@ -60,6 +61,7 @@ chain s o g a b at hf hg r h l z e =
     sym (done-one (d .2)) ∙ ap₂ (λ (x y : Tree × ℕ). (cons (x .0) (y .0), y .1)) ea eb
     ∙ pair (ap (λ (k : ℕ). cons (placed at (cut a)) (placed (at + k) (cut b))) (sym (cut-length a))) (omega arith)
 
+-- no part: nothing is read
 none-finds : (s : List ℕ) → FindsAll s (λ at. done (nil, at)) Form.nothing
 unfolding write placed cut
 none-finds s t Shaped.nothing at r h l x e = sym (done-one e) ∙ pair refl (omega arith)
@@ -74,10 +76,12 @@ text-wide : (t : Tree) → Shaped Form.text t → 2 ≤ length (write t)
 unfolding write
 text-wide t (Shaped.text {n}) = omega (arith, text-length n)
 
+-- so has a block
 block-wide : (t : Tree) → Shaped Form.block t → 2 ≤ length (write t)
 unfolding write
 block-wide t (Shaped.block {k} {t = b} m p) = omega (arith, frame (2 + length (write b)) k (write b))
 
+-- and a name with a number
 value-wide : (t : Tree) → Shaped (Form.both Form.text (Form.number 8)) t → 2 ≤ length (write t)
 unfolding write
 value-wide t (Shaped.both {a} {b} p q) = omega (arith, length-append (write a) (write b), text-wide a p)
@@ -88,6 +92,7 @@ module _ (s : List ℕ) (end start : ℕ) where
   unfolding write placed cut
   width-finds w v u at r h e = pair (ap (num w) (sym e ∙ back s w at v r h)) (ap (λ (n : ℕ). at + n) (sym (width w v)))
 
+  -- each reader finds what was written: that of a text
   text-finds : FindsAll s (readText s start end) Form.text
   unfolding readText write placed cut
   text-finds t (Shaped.text {n}) at r h l x e =
@@ -98,6 +103,7 @@ module _ (s : List ℕ) (end start : ℕ) where
       let q3 = asked (isText (bytesAt s (at + 2) (le2 s at))) _ _ _ (q2 .1) in
       sym (done-one (q3 .1)) ∙ pair (ap name (b .1)) (omega (arith, b .0))
 
+  -- of a name in its order
   key-finds : (e : Earlier) → FindsAll s (readKey s start end e) Form.text
   unfolding readKey
   key-finds e t p at r h l x d =
@@ -105,12 +111,14 @@ module _ (s : List ℕ) (end start : ℕ) where
       let q = asked (inOrder e (nameOf (b .0 .0))) _ _ _ (b .2) in
       sym (done-one (q .1)) ∙ text-finds t p at r h l (b .0) (b .1)
 
+  -- of a number of eight bytes
   number-finds : FindsAll s (readNumber s start end) (Form.number 8)
   unfolding readNumber write
   number-finds t (Shaped.number {v}) at r h l x e =
       let q = asked (leb (at + 8) end) _ _ _ e in
       sym (done-one (q .1)) ∙ width-finds 8 v (le8 s at) at r h (le-eight s at)
 
+  -- of a flag
   flag-finds : FindsAll s (readFlag s start end) (Form.number 1)
   unfolding readFlag write
   flag-finds t (Shaped.number {v}) at r h l x e =
@@ -118,6 +126,7 @@ module _ (s : List ℕ) (end start : ℕ) where
       let q2 = asked (leb (getD s at 0) 1) _ _ _ (q1 .1) in
       sym (done-one (q2 .1)) ∙ width-finds 1 v (getD s at 0) at r h (le-one s at)
 
+  -- of a list's count
   count-finds : (limit : ℕ) → FindsAll s (readCount limit s start end) (Form.number 2)
   unfolding readCount write
   count-finds limit t (Shaped.number {v}) at r h l x e =
@@ -125,11 +134,13 @@ module _ (s : List ℕ) (end start : ℕ) where
       let q2 = asked (leb (le2 s at) limit) _ _ _ (q1 .1) in
       sym (done-one (q2 .1)) ∙ width-finds 2 v (le2 s at) at r h (le-two s at)
 
+  -- of what a flag announces
   if-finds : {f : ℕ → Step} {F : Form} → FindsAll s f F → (b : Bool) → FindsAll s (readIf b f) (cond b F Form.nothing)
   unfolding readIf
   if-finds hf true = hf
   if-finds hf false = none-finds s
 
+  -- of a flag and what it announces
   optional-finds : {f : ℕ → Step} {F : Form} → FindsAll s f F → (on : ℕ) → FindsAll s (readOptional f on s start end) (Form.optional F on)
   unfolding readOptional write placed cut
   optional-finds {f} hf on t (Shaped.optional {v} {t = a} m p) at =
@@ -137,6 +148,7 @@ module _ (s : List ℕ) (end start : ℕ) where
       chain s (readFlag s start end at) (λ x. readIf (eqb (number (x .0)) on) f (x .1)) (num 1 v) a at (flag-finds (num 1 v) Shaped.number at)
       (rw e (if-finds hf (eqb v on) a p (at + length (bytes 1 v))))
 
+  -- of a literal
   literal-finds : FindsAll s (readLiteral s start end) (Form.both (Form.number 1) (Form.number 8))
   unfolding readLiteral write placed cut
   literal-finds t (Shaped.both (Shaped.number {v}) (Shaped.number {v = u})) at r h l x e =
@@ -156,24 +168,28 @@ module _ (s : List ℕ) (end start : ℕ) where
   enough w zero t Shaped.nothing = omega arith
   enough w (suc n) t (Shaped.both {a} {b} p q) = omega (arith, w a p, enough w n b q, length-append (write a) (write b))
 
+  -- of n entries
   entries-finds : {f : Earlier → ℕ → Step} {F : Form} → ((e : Earlier) → FindsAll s (f e) F) → (n : ℕ) (e : Earlier) → FindsAll s (readEntries f e n) (times n F)
   unfolding readEntries times
   entries-finds hf zero e t p at = none-finds s t p at
   entries-finds {f} hf (suc n) e t (Shaped.both {a} {b} p q) at =
       chain s (f e at) (λ x. readEntries f (met e (x .0)) n (x .1)) a b at (hf e a p at) (entries-finds hf n (met e (placed at (cut a))) b q (at + length (write a)))
 
+  -- of a list
   list-finds : {f : Earlier → ℕ → Step} {F : Form} → ((t : Tree) → Shaped F t → 2 ≤ length (write t)) → ((e : Earlier) → FindsAll s (f e) F) → (o : Earlier) (limit : ℕ) → FindsAll s (readList f o limit s start end) (Form.list F)
   unfolding readList write placed cut
   list-finds {f} w hf o limit t (Shaped.list {n} {t = a} p) at =
       chain s (readCount limit s start end at) (λ k. readEntries f o (number (k .0)) (k .1)) (num 2 n) a at (count-finds limit (num 2 n) Shaped.number at)
       (λ r h l. let e : n % 65536 ≡ n = mod-eq-of-lt (omega (arith, enough w n a p)) in rw e (entries-finds hf n o a p (at + length (bytes 2 n)) r h l))
 
+  -- of a value: a name and a number
   value-finds : (e : Earlier) → FindsAll s (readValue s start end e) (Form.both Form.text (Form.number 8))
   unfolding readValue
   value-finds e t (Shaped.both {a} {b} p q) at = chain s (readKey s start end e at) (λ x. readNumber s start end (x .1)) a b at (key-finds e a p at) (number-finds b q (at + length (write a)))
 
   -- rb reads blocks
   module _ (rb : Reader) (m : (e : Earlier) (lo hi : ℕ) → FindsAll s (λ at. rb e lo hi at end) Form.block) where
+    -- of any part of the grammar
     part-finds : (p : Part) (e : Earlier) → FindsAll s (readPart rb s e start end p) (formOf p)
     unfolding readPart formOf
     part-finds Text e = text-finds
@@ -193,6 +209,7 @@ module _ (s : List ℕ) (end start : ℕ) where
     part-finds (Paths limit) e = list-finds text-wide key-finds (Earlier.ascending [] 0) (limit - pathsBefore e)
     part-finds (Values limit) e = list-finds value-wide value-finds (Earlier.ascending [] 0) limit
 
+    -- of all parts of a body
     parts-finds : (ps : List Part) (e : Earlier) → FindsAll s (readParts rb s e start end ps) (formsOf ps)
     unfolding readParts formsOf
     parts-finds [] e t p at = none-finds s t p at
@@ -204,6 +221,7 @@ abbrev BlocksFound : List ℕ → Reader → Type 0
 BlocksFound s rb = (end : ℕ) (e : Earlier) (lo hi : ℕ) → FindsAll s (λ at. rb e lo hi at end) Form.block
 
 module _ (s : List ℕ) where
+  -- the reader of blocks finds a block that was written, with any number of blocks open
   pub block-finds : (room : ℕ) → BlocksFound s (readBlock room s)
   unfolding readBlock write placed cut
   block-finds zero end e lo hi t p at r h l x d = absurd (not-done (bound (readHeader s lo hi at end) _ _ d .2))

@@ -25,7 +25,18 @@ returns-7 : tie.Need-returns-7
 returns-7 c = rw (c .match .keys7)
 
 returns-8 : tie.Need-returns-8
-returns-8 c = let r = c .match .rest in rw (last-digit _ (c .before .pre) (r .0 .0 .0 .0 .0 .0 .1) (r .0 .0 .0 .0 .0 .1) (r .0 .0 .0 .0 .1) (r .0 .0 .0 .1) (r .0 .0 .1) (r .0 .1) (r .1))
+returns-8 c =
+    let r = c .match .rest in
+    rw
+    (last-digit _
+    (c .before .pre)
+    (r .0 .0 .0 .0 .0 .0 .1)
+    (r .0 .0 .0 .0 .0 .1)
+    (r .0 .0 .0 .0 .1)
+    (r .0 .0 .0 .1)
+    (r .0 .0 .1)
+    (r .0 .1)
+    (r .1))
 
 pub digit-code-spec : {M : Type 1} → statement M
 digit-code-spec =

@@ -8,7 +8,9 @@ returns : tie.Need-returns
 returns c = part-0 _ _ (c .before .pre .0) (c .before .pre .1) (c .if1 .taken)
 
 returns-2 : tie.Need-returns-2
-returns-2 c = part-1 _ _ (c .before .before .pre .0) (c .before .before .pre .1) (c .if2 .taken)
+returns-2 c =
+    let at-start = c .before .before in
+    part-1 _ _ (at-start .pre .0) (at-start .pre .1) (c .if2 .taken)
 
 node-row-requires : tie.Need-node-row-requires
 node-row-requires c κs = search needs
@@ -17,19 +19,38 @@ digit-code-requires : tie.Need-digit-code-requires
 digit-code-requires c κs = search needs
 
 returns-3 : tie.Need-returns-3
-returns-3 c = part-2 _ _ _ (c .before .before .node-row .ensures) (c .before .if3 .taken) (c .digit-code .ensures)
+returns-3 c =
+    part-2 _ _ _
+    (c .before .before .node-row .ensures)
+    (c .before .if3 .taken)
+    (c .digit-code .ensures)
 
 digit-code-requires-2 : tie.Need-digit-code-requires-2
 digit-code-requires-2 c κs = search needs
 
 returns-4 : tie.Need-returns-4
-returns-4 c = part-3 _ _ _ (c .before .before .before .node-row .ensures) (c .before .if4 .taken) (c .digit-code2 .ensures)
+returns-4 c =
+    let at-node-row = c .before .before .before in
+    part-3 _ _ _ (at-node-row .node-row .ensures) (c .before .if4 .taken) (c .digit-code2 .ensures)
 
 digit-code-requires-3 : tie.Need-digit-code-requires-3
 digit-code-requires-3 c κs = search needs
 
 returns-5 : tie.Need-returns-5
-returns-5 c = part-4 _ _ _ (c .before .before .before .node-row .ensures) (c .before .before .before .before .before .before .pre .2) (c .before .before .before .before .before .if1 .left) (c .before .before .before .before .if2 .left) (c .before .before .if3 .left) (c .before .if4 .left) (c .digit-code3 .ensures)
+returns-5 c =
+    let at-else3 = c .before .before in
+    let at-node-row = at-else3 .before in
+    let at-else2 = at-node-row .before in
+    let at-else1 = at-else2 .before in
+    let at-start = at-else1 .before in
+    part-4 _ _ _
+    (at-node-row .node-row .ensures)
+    (at-start .pre .2)
+    (at-else1 .if1 .left)
+    (at-else2 .if2 .left)
+    (at-else3 .if3 .left)
+    (c .before .if4 .left)
+    (c .digit-code3 .ensures)
 
 pub node-part-spec : {M : Type 1} → statement M
 node-part-spec =

@@ -36,4 +36,5 @@ returns-5 c = node-ends _ _ (omega arith) (omega arith) (omega arith)
 pub code-at-spec : {M : Type 1} → statement M
 code-at-spec =
     tie.close
-    (tie.spec type-code-requires returns expression-code-requires returns-2 layout-code-requires returns-3 node-part-requires returns-4 returns-5)
+    (tie.spec type-code-requires returns expression-code-requires returns-2 layout-code-requires
+    returns-3 node-part-requires returns-4 returns-5)

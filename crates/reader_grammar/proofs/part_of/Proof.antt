@@ -22,4 +22,5 @@ returns : tie.Need-returns
 returns c = (λ p h e. c .made-part .ensures ∙ rw e (again p h), c .made-part .ensures)
 
 pub part-of-spec : {M : Type 1} → statement M
-part-of-spec = tie.close (tie.spec cast-made-part cast-made-part-2 cast-made-part-3 made-part-requires returns)
+part-of-spec =
+    tie.close (tie.spec cast-made-part cast-made-part-2 cast-made-part-3 made-part-requires returns)

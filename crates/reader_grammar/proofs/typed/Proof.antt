@@ -33,9 +33,17 @@ returns-8 : tie.Need-returns-8
 returns-8 c =
     let r = c .match .rest in
     let a = c .before .args in
-    let g : 4 ≤ a .i = omega (arith, r .0 .0 .0 .1, r .0 .0 .0 .0 .1, r .0 .0 .0 .0 .0 .1, r .0 .0 .0 .0 .0 .0 .1) in
+    let g : 4 ≤ a .i = omega (
+      arith,
+      r .0 .0 .0 .1,
+      r .0 .0 .0 .0 .1,
+      r .0 .0 .0 .0 .0 .1,
+      r .0 .0 .0 .0 .0 .0 .1,
+    ) in
     let h : 7 ≤ a .i = omega (arith, g, r .1, r .0 .1, r .0 .0 .1) in
     behind (map codeOf head ++ (a .a ∷ a .b ∷ a .c ∷ [])) (a .i) h
 
 pub typed-spec : {M : Type 1} → statement M
-typed-spec = tie.close (tie.spec returns returns-2 returns-3 returns-4 returns-5 returns-6 returns-7 returns-8)
+typed-spec =
+    tie.close
+    (tie.spec returns returns-2 returns-3 returns-4 returns-5 returns-6 returns-7 returns-8)

@@ -9,7 +9,10 @@ returns : tie.Need-returns
 returns c = sym (first-ascends _ _ _ _ (c .if1 .taken))
 
 compared-requires : tie.Need-compared-requires
-compared-requires c κs = let h = c .if1 .left in (c .before .before .pre .0 (omega arith), c .before .before .pre .1)
+compared-requires c κs =
+    let at-start = c .before .before in
+    let h = c .if1 .left in
+    (at-start .pre .0 (omega arith), at-start .pre .1)
 
 returns-2 : tie.Need-returns-2
 returns-2 c = c .compared .ensures ∙ sym (next-ascends _ _ _ _ (c .before .if1 .left))

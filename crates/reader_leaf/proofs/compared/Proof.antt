@@ -52,7 +52,16 @@ less-name-requires : tie.Need-less-name-requires
 less-name-requires c κs = search needs
 
 returns : tie.Need-returns
-returns c = rw (c .before .before .before .if1 .taken) (c .less-name .ensures ∙ ap₂ less (name-part _ _ _ (c .before .before .before .before .before .read2 .ensures .0)) (name-part _ _ _ (c .before .before .before .before .read22 .ensures .0)))
+returns c =
+    let at-then1 = c .before .before .before in
+    let at-read22 = at-then1 .before in
+    let at-read2 = at-read22 .before in
+    rw
+    (at-then1 .if1 .taken)
+    (c .less-name .ensures
+    ∙ ap₂ less
+    (name-part _ _ _ (at-read2 .read2 .ensures .0))
+    (name-part _ _ _ (at-read22 .read22 .ensures .0)))
 
 sub-same-name : tie.Need-sub-same-name
 sub-same-name c = search needs
@@ -76,7 +85,16 @@ same-name-requires : tie.Need-same-name-requires
 same-name-requires c κs = search needs
 
 returns-2 : tie.Need-returns-2
-returns-2 c = rw (c .before .before .before .if1 .left) (c .same-name .ensures ∙ ap₂ same (name-part _ _ _ (c .before .before .before .before .before .read2 .ensures .0)) (name-part _ _ _ (c .before .before .before .before .read22 .ensures .0)))
+returns-2 c =
+    let at-else1 = c .before .before .before in
+    let at-read22 = at-else1 .before in
+    let at-read2 = at-read22 .before in
+    rw
+    (at-else1 .if1 .left)
+    (c .same-name .ensures
+    ∙ ap₂ same
+    (name-part _ _ _ (at-read2 .read2 .ensures .0))
+    (name-part _ _ _ (at-read22 .read22 .ensures .0)))
 
 pub compared-spec : {M : Type 1} → statement M
 compared-spec =

@@ -20,11 +20,25 @@ read2-requires c κs = search needs
 
 returns-2 : tie.Need-returns-2
 unfolding countOf readCount _>>=_ ask
-returns-2 c = (rw (← c .before .read2 .ensures .0, le-leb _ _ (c .before .before .if1 .left), lt-leb _ _ (c .if2 .taken)), tt)
+returns-2 c = (
+  rw (
+    ← c .before .read2 .ensures .0,
+    le-leb _ _ (c .before .before .if1 .left),
+    lt-leb _ _ (c .if2 .taken),
+  ),
+  tt,
+)
 
 returns-3 : tie.Need-returns-3
 unfolding countOf readCount _>>=_ ask
-returns-3 c = (rw (← c .before .read2 .ensures .0, le-leb _ _ (c .before .before .if1 .left), le-leb _ _ (c .if2 .left)), omega arith)
+returns-3 c = (
+  rw (
+    ← c .before .read2 .ensures .0,
+    le-leb _ _ (c .before .before .if1 .left),
+    le-leb _ _ (c .if2 .left),
+  ),
+  omega arith,
+)
 
 pub counted-spec : {M : Type 1} → statement M
 counted-spec = tie.close (tie.spec add-if1 returns read2-requires returns-2 returns-3)

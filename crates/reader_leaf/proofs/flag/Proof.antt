@@ -28,7 +28,10 @@ add-t6 c = search needs
 
 returns-3 : tie.Need-returns-3
 unfolding forget readFlag _>>=_ ask
-returns-3 c = (rw (le-leb _ _ (c .before .before .if1 .left), le-leb _ _ (c .if2 .left)), (refl, omega arith))
+returns-3 c = (
+  rw (le-leb _ _ (c .before .before .if1 .left), le-leb _ _ (c .if2 .left)),
+  (refl, omega arith),
+)
 
 pub flag-spec : {M : Type 1} → statement M
 flag-spec = tie.close (tie.spec add-if1 returns shared-slice-read-b returns-2 add-t6 returns-3)

@@ -13,38 +13,67 @@ enum-known-seen c = search needs
 
 add-name : tie.Need-add-name
 unfolding Grows
-add-name c = let g = rw (c .before .seen .given .1) at (c .before .before .before .before .pre) in omega arith
+add-name c =
+    let at-start = c .before .before .before .before in
+    let g = rw (c .before .seen .given .1) at (at-start .pre) in
+    omega arith
 
 read2-requires : tie.Need-read2-requires
 unfolding Grows
-read2-requires c κs = let g = rw (c .before .seen .given .1) at (c .before .before .before .before .pre) in omega arith
+read2-requires c κs =
+    let at-start = c .before .before .before .before in
+    let g = rw (c .before .seen .given .1) at (at-start .pre) in
+    omega arith
 
 add-read2 : tie.Need-add-read2
 unfolding Grows
-add-read2 c = let g = rw (c .before .before .seen .given .1) at (c .before .before .before .before .before .pre) in omega arith
+add-read2 c =
+    let at-seen = c .before .before in
+    let at-start = at-seen .before .before .before in
+    let g = rw (at-seen .seen .given .1) at (at-start .pre) in
+    omega arith
 
 add-read2-2 : tie.Need-add-read2-2
 unfolding Grows
-add-read2-2 c = let g = rw (c .before .before .seen .given .1) at (c .before .before .before .before .before .pre) in omega arith
+add-read2-2 c =
+    let at-seen = c .before .before in
+    let at-start = at-seen .before .before .before in
+    let g = rw (at-seen .seen .given .1) at (at-start .pre) in
+    omega arith
 
 read2-requires-2 : tie.Need-read2-requires-2
 unfolding Grows
-read2-requires-2 c κs = let g = rw (c .before .before .seen .given .1) at (c .before .before .before .before .before .pre) in omega arith
+read2-requires-2 c κs =
+    let at-seen = c .before .before in
+    let at-start = at-seen .before .before .before in
+    let g = rw (at-seen .seen .given .1) at (at-start .pre) in
+    omega arith
 
 add-more : tie.Need-add-more
 unfolding Grows
-add-more c = let g = rw (c .before .before .before .seen .given .1) at (c .before .before .before .before .before .before .pre) in omega arith
+add-more c =
+    let at-seen = c .before .before .before in
+    let at-start = at-seen .before .before .before in
+    let g = rw (at-seen .seen .given .1) at (at-start .pre) in
+    omega arith
 
 add-all : tie.Need-add-all
 unfolding Grows
-add-all c = let g = rw (c .before .before .before .seen .given .1) at (c .before .before .before .before .before .before .pre) in omega arith
+add-all c =
+    let at-seen = c .before .before .before in
+    let at-start = at-seen .before .before .before in
+    let g = rw (at-seen .seen .given .1) at (at-start .pre) in
+    omega arith
 
 enum-known-seen-2 : tie.Need-enum-known-seen-2
 enum-known-seen-2 c = search needs
 
 add-more-2 : tie.Need-add-more-2
 unfolding Grows
-add-more-2 c = let g = rw (c .before .seen2 .given .1) at (c .before .before .before .before .pre) in omega arith
+add-more-2 c =
+    let at-start = c .before .before .before .before in
+    let g = rw (c .before .seen2 .given .1) at (at-start .pre) in
+    omega arith
 
 enum-known-seen-3 : tie.Need-enum-known-seen-3
 enum-known-seen-3 c = search needs
@@ -55,7 +84,9 @@ returns c = rw (c .enum-told .given .1)
 
 returns-2 : tie.Need-returns-2
 unfolding grownOf
-returns-2 c = rw (c .before .before .before .seen .given .1, ← c .before .read2 .ensures .0, ← c .read22 .ensures .0)
+returns-2 c =
+    let at-seen = c .before .before .before in
+    rw (at-seen .seen .given .1, ← c .before .read2 .ensures .0, ← c .read22 .ensures .0)
 
 returns-3 : tie.Need-returns-3
 unfolding grownOf

@@ -15,21 +15,28 @@ enum-known-seen c = search needs
 
 ascends-requires : tie.Need-ascends-requires
 unfolding Valid
-ascends-requires c κs = let v = rw (c .before .seen .given .1) at (c .before .before .before .before .pre .0) in (rw (v .1) (owners-last _ _ _ (v .0)), c .before .before .before .before .pre .1)
+ascends-requires c κs =
+    let at-start = c .before .before .before .before in
+    let v = rw (c .before .seen .given .1) at (at-start .pre .0) in
+    (rw (v .1) (owners-last _ _ _ (v .0)), at-start .pre .1)
 
 enum-known-seen-2 : tie.Need-enum-known-seen-2
 enum-known-seen-2 c = search needs
 
 differs-requires : tie.Need-differs-requires
 unfolding Valid
-differs-requires c κs = (rw (c .before .seen2 .given .1) at (c .before .before .before .before .pre .0), c .before .before .before .before .pre .1)
+differs-requires c κs =
+    let at-start = c .before .before .before .before in
+    (rw (c .before .seen2 .given .1) at (at-start .pre .0), at-start .pre .1)
 
 enum-known-seen-3 : tie.Need-enum-known-seen-3
 enum-known-seen-3 c = search needs
 
 ascends-requires-2 : tie.Need-ascends-requires-2
 unfolding Valid
-ascends-requires-2 c κs = (rw (c .before .seen3 .given .1) at (c .before .before .before .before .pre .0), c .before .before .before .before .pre .1)
+ascends-requires-2 c κs =
+    let at-start = c .before .before .before .before in
+    (rw (c .before .seen3 .given .1) at (at-start .pre .0), at-start .pre .1)
 
 returns : tie.Need-returns
 unfolding inOrder earlierOf
@@ -37,7 +44,13 @@ returns c = rw (c .enum-told .given .1)
 
 returns-2 : tie.Need-returns-2
 unfolding Valid earlierOf
-returns-2 c = rw (c .before .before .seen .given .1) (c .ascends .ensures ∙ owners-order _ _ _ _ _ _ ((rw (c .before .before .seen .given .1) at (c .before .before .before .before .before .pre .0)) .1))
+returns-2 c =
+    let at-seen = c .before .before in
+    let at-start = at-seen .before .before .before in
+    rw
+    (at-seen .seen .given .1)
+    (c .ascends .ensures
+    ∙ owners-order _ _ _ _ _ _ ((rw (at-seen .seen .given .1) at (at-start .pre .0)) .1))
 
 returns-3 : tie.Need-returns-3
 unfolding inOrder earlierOf

@@ -52,7 +52,21 @@ unfolding inType
 returns-8 c = rw (c .before .match .keys8) (c .outside4 .ensures)
 
 returns-9 : tie.Need-returns-9
-returns-9 c = let r = c .match .rest in sym (no-type _ _ (past 4 _ (past 0 _ (omega arith) (r .0 .0 .0 .0 .0 .0 .0 .1) (r .0 .0 .0 .0 .0 .0 .1) (r .0 .0 .0 .0 .0 .1) (r .0 .0 .0 .0 .1)) (r .0 .0 .0 .1) (r .0 .0 .1) (r .0 .1) (r .1)))
+returns-9 c =
+    let r = c .match .rest in
+    sym
+    (no-type _ _
+    (past 4 _
+    (past 0 _
+    (omega arith)
+    (r .0 .0 .0 .0 .0 .0 .0 .1)
+    (r .0 .0 .0 .0 .0 .0 .1)
+    (r .0 .0 .0 .0 .0 .1)
+    (r .0 .0 .0 .0 .1))
+    (r .0 .0 .0 .1)
+    (r .0 .0 .1)
+    (r .0 .1)
+    (r .1)))
 
 pub in-type-spec : {M : Type 1} → statement M
 in-type-spec =

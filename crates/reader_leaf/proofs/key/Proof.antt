@@ -16,16 +16,38 @@ enum-known-next : tie.Need-enum-known-next
 enum-known-next c = search needs
 
 in-order-requires : tie.Need-in-order-requires
-in-order-requires c κs = let h = rw (c .before .next .given .1) at (c .before .before .before .text .ensures .1) in (c .before .before .before .before .before .pre .2, omega arith)
+in-order-requires c κs =
+    let at-text = c .before .before .before in
+    let at-start = at-text .before .before in
+    let h = rw (c .before .next .given .1) at (at-text .text .ensures .1) in
+    (at-start .pre .2, omega arith)
 
 returns : tie.Need-returns
-returns c = (sym (key-stop _ _ _ _ _ (sym (c .before .before .before .text .ensures .0) ∙ c .before .q .given .1)), tt)
+returns c =
+    let at-text = c .before .before .before in
+    (sym (key-stop _ _ _ _ _ (sym (at-text .text .ensures .0) ∙ c .before .q .given .1)), tt)
 
 returns-2 : tie.Need-returns-2
-returns-2 c = (sym (key-yes _ _ _ _ _ (sym (c .before .before .before .before .before .text .ensures .0) ∙ c .before .before .before .next .given .1) (sym (c .before .in-order .ensures) ∙ c .if1 .taken)), rw (c .before .before .before .next .given .1) at (c .before .before .before .before .before .text .ensures .1))
+returns-2 c =
+    let at-next = c .before .before .before in
+    let at-text = at-next .before .before in (
+      sym
+          (key-yes _ _ _ _ _
+          (sym (at-text .text .ensures .0) ∙ at-next .next .given .1)
+          (sym (c .before .in-order .ensures) ∙ c .if1 .taken)),
+      rw (at-next .next .given .1) at (at-text .text .ensures .1),
+    )
 
 returns-3 : tie.Need-returns-3
-returns-3 c = (sym (key-no _ _ _ _ _ (sym (c .before .before .before .before .before .text .ensures .0) ∙ c .before .before .before .next .given .1) (sym (c .before .in-order .ensures) ∙ c .if1 .left)), tt)
+returns-3 c =
+    let at-next = c .before .before .before in
+    let at-text = at-next .before .before in (
+      sym
+          (key-no _ _ _ _ _
+          (sym (at-text .text .ensures .0) ∙ at-next .next .given .1)
+          (sym (c .before .in-order .ensures) ∙ c .if1 .left)),
+      tt,
+    )
 
 pub key-spec : {M : Type 1} → statement M
 key-spec =

@@ -30,7 +30,15 @@ add-if3-2 c = search needs
 
 returns-3 : tie.Need-returns-3
 unfolding forget readLiteral readNumber _>>=_ ask
-returns-3 c = (rw (le-leb _ _ (c .before .before .before .if1 .left), le-leb _ _ (c .before .if2 .left), lt-leb _ _ (c .if3 .taken)), tt)
+returns-3 c =
+    let at-else1 = c .before .before .before in (
+      rw (
+        le-leb _ _ (at-else1 .if1 .left),
+        le-leb _ _ (c .before .if2 .left),
+        lt-leb _ _ (c .if3 .taken),
+      ),
+      tt,
+    )
 
 add-read8 : tie.Need-add-read8
 add-read8 c = search needs
@@ -49,11 +57,39 @@ add-t15 c = search needs
 
 returns-4 : tie.Need-returns-4
 unfolding forget readLiteral readNumber _>>=_ ask
-returns-4 c = (rw (← c .before .before .read8 .ensures, le-leb _ _ (c .before .before .before .before .before .before .if1 .left), le-leb _ _ (c .before .before .before .before .if2 .left), le-leb _ _ (c .before .before .before .if3 .left), ← c .before .in-type .ensures, c .if4 .taken), omega arith)
+returns-4 c =
+    let at-read8 = c .before .before in
+    let at-else3 = at-read8 .before in
+    let at-else2 = at-else3 .before in
+    let at-else1 = at-else2 .before .before in (
+      rw (
+        ← at-read8 .read8 .ensures,
+        le-leb _ _ (at-else1 .if1 .left),
+        le-leb _ _ (at-else2 .if2 .left),
+        le-leb _ _ (at-else3 .if3 .left),
+        ← c .before .in-type .ensures,
+        c .if4 .taken,
+      ),
+      omega arith,
+    )
 
 returns-5 : tie.Need-returns-5
 unfolding forget readLiteral readNumber _>>=_ ask
-returns-5 c = (rw (← c .before .before .read8 .ensures, le-leb _ _ (c .before .before .before .before .before .before .if1 .left), le-leb _ _ (c .before .before .before .before .if2 .left), le-leb _ _ (c .before .before .before .if3 .left), ← c .before .in-type .ensures, c .if4 .left), tt)
+returns-5 c =
+    let at-read8 = c .before .before in
+    let at-else3 = at-read8 .before in
+    let at-else2 = at-else3 .before in
+    let at-else1 = at-else2 .before .before in (
+      rw (
+        ← at-read8 .read8 .ensures,
+        le-leb _ _ (at-else1 .if1 .left),
+        le-leb _ _ (at-else2 .if2 .left),
+        le-leb _ _ (at-else3 .if3 .left),
+        ← c .before .in-type .ensures,
+        c .if4 .left,
+      ),
+      tt,
+    )
 
 pub literal-spec : {M : Type 1} → statement M
 literal-spec =

@@ -20,19 +20,42 @@ enum-known-next : tie.Need-enum-known-next
 enum-known-next c = search needs
 
 number-requires : tie.Need-number-requires
-number-requires c κs = let h = rw (c .before .before .next .given .1) at (c .before .before .before .before .key .ensures .1) in omega arith
+number-requires c κs =
+    let at-next = c .before .before in
+    let at-key = at-next .before .before in
+    let h = rw (at-next .next .given .1) at (at-key .key .ensures .1) in
+    omega arith
 
 returns : tie.Need-returns
 unfolding earlierOf
-returns c = (sym (entry-stop _ _ _ _ _ _ (sym (c .before .before .before .key .ensures .0) ∙ c .before .q .given .1)), tt)
+returns c =
+    let at-key = c .before .before .before in
+    (sym (entry-stop _ _ _ _ _ _ (sym (at-key .key .ensures .0) ∙ c .before .q .given .1)), tt)
 
 returns-2 : tie.Need-returns-2
 unfolding earlierOf readEntry
-returns-2 c = (rw (c .before .if1 .taken) (c .number .ensures .0 ∙ sym (value-then _ _ _ _ _ (sym (c .before .before .before .before .before .key .ensures .0) ∙ c .before .before .before .next .given .1))), pair-inside (c .number .result) _ _ _ _ (rw (c .before .before .before .next .given .1) at (c .before .before .before .before .before .key .ensures .1)) (c .number .ensures .1))
+returns-2 c =
+    let at-next = c .before .before .before in
+    let at-key = at-next .before .before in (
+      rw
+          (c .before .if1 .taken)
+          (c .number .ensures .0
+          ∙ sym (value-then _ _ _ _ _ (sym (at-key .key .ensures .0) ∙ at-next .next .given .1))),
+      pair-inside
+          (c .number .result) _ _ _ _
+          (rw (at-next .next .given .1) at (at-key .key .ensures .1))
+          (c .number .ensures .1),
+    )
 
 returns-3 : tie.Need-returns-3
 unfolding earlierOf readEntry
-returns-3 c = let h = rw (c .before .before .next .given .1) at (c .before .before .before .before .key .ensures .1) in (rw (c .if1 .left) (sym (sym (c .before .before .before .before .key .ensures .0) ∙ c .before .before .next .given .1)), (omega arith, h .1))
+returns-3 c =
+    let at-next = c .before .before in
+    let at-key = at-next .before .before in
+    let h = rw (at-next .next .given .1) at (at-key .key .ensures .1) in (
+      rw (c .if1 .left) (sym (sym (at-key .key .ensures .0) ∙ at-next .next .given .1)),
+      (omega arith, h .1),
+    )
 
 pub next-entry-spec : {M : Type 1} → statement M
 next-entry-spec =

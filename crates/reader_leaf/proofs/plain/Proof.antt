@@ -17,7 +17,9 @@ enum-told-2 : tie.Need-enum-told-2
 enum-told-2 c = search needs
 
 key-requires : tie.Need-key-requires
-key-requires c κs = (c .before .before .before .pre .0, c .before .before .before .pre .1, c .before .before .before .pre .2)
+key-requires c κs =
+    let at-start = c .before .before .before in
+    (at-start .pre .0, at-start .pre .1, at-start .pre .2)
 
 enum-told-3 : tie.Need-enum-told-3
 enum-told-3 c = search needs
@@ -75,47 +77,86 @@ number-requires c κs = omega arith
 
 returns : tie.Need-returns
 unfolding readPart
-returns c = ((λ rb. rw (c .before .enum-told .given .1) (c .text .ensures .0)), text-inside (c .text .result) _ _ _ (c .text .ensures .1))
+returns c = (
+  (λ rb. rw (c .before .enum-told .given .1) (c .text .ensures .0)),
+  text-inside (c .text .result) _ _ _ (c .text .ensures .1),
+)
 
 returns-2 : tie.Need-returns-2
 unfolding readPart
-returns-2 c = ((λ rb. rw (c .before .enum-told2 .given .1) (c .key .ensures .0)), text-inside (c .key .result) _ _ _ (c .key .ensures .1))
+returns-2 c = (
+  (λ rb. rw (c .before .enum-told2 .given .1) (c .key .ensures .0)),
+  text-inside (c .key .result) _ _ _ (c .key .ensures .1),
+)
 
 returns-3 : tie.Need-returns-3
 unfolding readPart
-returns-3 c = ((λ rb. rw (c .before .enum-told3 .given .1) (c .flag .ensures .0)), wide-inside (c .flag .result) _ _ _ (c .flag .ensures .1))
+returns-3 c = (
+  (λ rb. rw (c .before .enum-told3 .given .1) (c .flag .ensures .0)),
+  wide-inside (c .flag .result) _ _ _ (c .flag .ensures .1),
+)
 
 returns-4 : tie.Need-returns-4
 unfolding readPart
-returns-4 c = ((λ rb. rw (c .before .enum-told4 .given .1) (c .optional .ensures .0)), c .optional .ensures .1)
+returns-4 c = (
+  (λ rb. rw (c .before .enum-told4 .given .1) (c .optional .ensures .0)),
+  c .optional .ensures .1,
+)
 
 returns-5 : tie.Need-returns-5
 unfolding readPart
-returns-5 c = ((λ rb. rw (c .before .enum-told5 .given .1) (c .optional2 .ensures .0)), c .optional2 .ensures .1)
+returns-5 c = (
+  (λ rb. rw (c .before .enum-told5 .given .1) (c .optional2 .ensures .0)),
+  c .optional2 .ensures .1,
+)
 
 returns-6 : tie.Need-returns-6
 unfolding readPart
-returns-6 c = ((λ rb. rw (c .before .enum-told6 .given .1) (c .optional3 .ensures .0)), c .optional3 .ensures .1)
+returns-6 c = (
+  (λ rb. rw (c .before .enum-told6 .given .1) (c .optional3 .ensures .0)),
+  c .optional3 .ensures .1,
+)
 
 returns-7 : tie.Need-returns-7
 unfolding readPart
-returns-7 c = ((λ rb. rw (c .before .enum-told7 .given .1) (c .literal .ensures .0)), c .literal .ensures .1)
+returns-7 c = (
+  (λ rb. rw (c .before .enum-told7 .given .1) (c .literal .ensures .0)),
+  c .literal .ensures .1,
+)
 
 returns-8 : tie.Need-returns-8
 unfolding readPart
-returns-8 c = ((λ rb. rw (c .before .before .p .given .1) (c .names .ensures .0)), c .names .ensures .1)
+returns-8 c = (
+  (λ rb. rw (c .before .before .p .given .1) (c .names .ensures .0)),
+  c .names .ensures .1,
+)
 
 returns-9 : tie.Need-returns-9
 unfolding readPart readEntry
-returns-9 c = ((λ rb. rw (c .before .before .before .p2 .given .1, paths-before, ← c .before .remaining .ensures) (c .entries .ensures .0)), c .entries .ensures .1)
+returns-9 c =
+    let at-p2 = c .before .before .before in (
+      (λ rb. rw
+          (at-p2 .p2 .given .1, paths-before, ← c .before .remaining .ensures)
+          (c .entries .ensures .0)),
+      c .entries .ensures .1,
+    )
 
 returns-10 : tie.Need-returns-10
 unfolding readPart readEntry
-returns-10 c = ((λ rb. rw (c .before .before .p3 .given .1) (c .entries2 .ensures .0)), c .entries2 .ensures .1)
+returns-10 c = (
+  (λ rb. rw (c .before .before .p3 .given .1) (c .entries2 .ensures .0)),
+  c .entries2 .ensures .1,
+)
 
 returns-11 : tie.Need-returns-11
 unfolding readPart
-returns-11 c = ((λ rb. rw (last-plain _ (c .before .match .keys11) (c .before .before .before .pre .3)) (c .number .ensures .0)), wide-inside (c .number .result) _ _ _ (c .number .ensures .1))
+returns-11 c =
+    let at-start = c .before .before .before in (
+      (λ rb. rw
+          (last-plain _ (c .before .match .keys11) (at-start .pre .3))
+          (c .number .ensures .0)),
+      wide-inside (c .number .result) _ _ _ (c .number .ensures .1),
+    )
 
 pub plain-spec : {M : Type 1} → statement M
 plain-spec =

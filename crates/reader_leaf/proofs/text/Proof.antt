@@ -28,7 +28,14 @@ add-if2-2 c = search needs
 
 returns-2 : tie.Need-returns-2
 unfolding forget readText _>>=_ ask
-returns-2 c = (rw (← c .before .read2 .ensures .0, le-leb _ _ (c .before .before .if1 .left), lt-leb _ _ (c .if2 .taken)), tt)
+returns-2 c = (
+  rw (
+    ← c .before .read2 .ensures .0,
+    le-leb _ _ (c .before .before .if1 .left),
+    lt-leb _ _ (c .if2 .taken),
+  ),
+  tt,
+)
 
 add-from : tie.Need-add-from
 add-from c = search needs
@@ -53,11 +60,35 @@ is-text-requires c κs = search needs
 
 returns-3 : tie.Need-returns-3
 unfolding forget _>>=_ ask
-returns-3 c = (sym (text-is _ _ _ _ _ (c .before .before .before .before .read2 .ensures .0) (c .before .before .before .before .before .if1 .left) (c .before .before .before .if2 .left) _ (c .before .is-text .ensures) ∙ rw (c .if3 .taken)), (omega arith, omega arith))
+returns-3 c =
+    let at-else2 = c .before .before .before in
+    let at-read2 = at-else2 .before in
+    let at-else1 = at-read2 .before in (
+      sym
+          (text-is _ _ _ _ _
+          (at-read2 .read2 .ensures .0)
+          (at-else1 .if1 .left)
+          (at-else2 .if2 .left) _
+          (c .before .is-text .ensures)
+          ∙ rw (c .if3 .taken)),
+      (omega arith, omega arith),
+    )
 
 returns-4 : tie.Need-returns-4
 unfolding forget _>>=_ ask
-returns-4 c = (sym (text-is _ _ _ _ _ (c .before .before .before .before .read2 .ensures .0) (c .before .before .before .before .before .if1 .left) (c .before .before .before .if2 .left) _ (c .before .is-text .ensures) ∙ rw (c .if3 .left)), tt)
+returns-4 c =
+    let at-else2 = c .before .before .before in
+    let at-read2 = at-else2 .before in
+    let at-else1 = at-read2 .before in (
+      sym
+          (text-is _ _ _ _ _
+          (at-read2 .read2 .ensures .0)
+          (at-else1 .if1 .left)
+          (at-else2 .if2 .left) _
+          (c .before .is-text .ensures)
+          ∙ rw (c .if3 .left)),
+      tt,
+    )
 
 pub text-spec : {M : Type 1} → statement M
 text-spec =
