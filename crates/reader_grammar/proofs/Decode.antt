@@ -1,4 +1,4 @@
--- A part is told by its code.
+-- A part has one code, and is found again from it.
 use mathlib.Core.Path.{_≡_, refl}
 use Prim.Native.Nat.{ℕ, _+_, _*_, _/_, _%_, _<_}
 use native.Mathlib.Omega.{arith}
@@ -7,6 +7,7 @@ use Rattle.blocks.specs.declared.Part.the-variants.{Text, Key, Number, Flag, Si
 use Rattle.ir_nodes.specs.Codes.{codeOf}
 use Rattle.reader_grammar.specs.Parts.{Coded, made, decoded}
 
+-- the fields of a code, taken out as the code does
 split : (tag lo hi limit : ℕ) → tag < 32 → lo < 256 → hi < 256 → decoded (tag + 32 * lo + 8192 * hi + 2097152 * limit) ≡ made tag lo hi limit
 split tag lo hi limit t l h =
     let c : ℕ = tag + 32 * lo + 8192 * hi + 2097152 * limit in
@@ -18,6 +19,7 @@ split tag lo hi limit t l h =
     let e3 : c / 2097152 ≡ limit = omega arith in
     rw (e0, e1, f1, e2, f2, e3)
 
+-- from its code each part that the grammar has is made again
 pub again : (p : Part) → Coded p → decoded (codeOf p) ≡ p
 unfolding made
 again Text c = refl

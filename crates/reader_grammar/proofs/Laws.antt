@@ -31,6 +31,7 @@ abbrev nodesPass : (List Part → Bool) → List (List Part) → Bool
 nodesPass f [] = f metadata
 nodesPass f (ps ∷ pss) = f (metadata ++ ps) && nodesPass f pss
 
+-- a test that all rows pass is passed by the row that is found
 row-passes : (f : List Part → Bool) (k : ℕ) (rs : List Row) → rowsPass f rs ≡ true → f (findRow k rs) ≡ true
 unfolding findRow
 row-passes f k [] t = t
@@ -40,11 +41,13 @@ row-passes f k (r ∷ rs) t = go (within (r .lo) (r .hi) k) (and-left _ _ t) (ro
     go true h g = h
     go false h g = g
 
+-- the same of the node kinds
 node-passes : (f : List Part → Bool) (j : ℕ) (pss : List (List Part)) → nodesPass f pss ≡ true → f (metadata ++ getD pss j []) ≡ true
 node-passes f j [] t = t
 node-passes f zero (ps ∷ pss) t = and-left _ _ t
 node-passes f (suc j) (ps ∷ pss) t = node-passes f j pss (and-right (f (metadata ++ ps)) _ t)
 
+-- so every kind's parts pass a test that was computed once
 everywhere : (f : List Part → Bool) → rowsPass f grammar ≡ true → nodesPass f nodeTable ≡ true → (k : ℕ) → f (partsOf k) ≡ true
 unfolding partsOf
 everywhere f t u k = go (within 128 144 k) (node-passes f (k - 128) nodeTable u) (row-passes f k grammar t)
@@ -55,21 +58,26 @@ everywhere f t u k = go (within 128 144 k) (node-passes f (k - 128) nodeTable u)
 
 -- ---- what each part has
 
+-- a test at each part
 abbrev each : (Part → Bool) → List Part → Bool
 each f [] = true
 each f (p ∷ ps) = f p && each f ps
 
+-- what all parts pass, one of them passes
 each-member : (f : Part → Bool) (ps : List Part) → each f ps ≡ true → (p : Part) → List·Memᴰ p ps → f p ≡ true
 each-member f [] t p m = absurd (List·Memᴰ·not-nil m)
 each-member f (q ∷ ps) t p (List·Memᴰ·head e) = rw e (and-left (f q) _ t)
 each-member f (q ∷ ps) t p (List·Memᴰ·tail m) = each-member f ps (and-right (f q) _ t) p m
 
+-- whether a part's code is not 0: code 0 says that no part is left
 positive : Part → Bool
 positive p = ltb 0 (codeOf p)
 
+-- whether a code has room for the part's fields
 isCoded : Part → Bool
 isCoded p = ltb (fieldsOf p .lo) 256 && (ltb (fieldsOf p .hi) 256 && ltb (fieldsOf p .limit) 1024)
 
+-- whether a list with an order is of blocks that begin with a name
 isKeyed : Part → Bool
 isKeyed p =
     cond (eqb (fieldsOf p .tag) 12) (eqb (fieldsOf p .lo) 37 && eqb (fieldsOf p .hi) 37)
@@ -80,22 +88,27 @@ isKeyed p =
 sound : List Part → Bool
 sound ps = leb (length ps) 7 && (each positive ps && (each isCoded ps && each isKeyed ps))
 
+-- all kinds' parts pass it
 all-sound : (k : ℕ) → sound (partsOf k) ≡ true
 unfolding sound positive isCoded isKeyed grammar nodeTable
 all-sound = everywhere sound refl refl
 
+-- a kind has at most seven parts: the reader's loop ends
 pub short : (k : ℕ) → length (partsOf k) ≤ 7
 unfolding sound
 short k = leb-true _ _ (and-left _ _ (all-sound k))
 
+-- the codes of all kinds' parts are above 0
 all-positive : (k : ℕ) → each positive (partsOf k) ≡ true
 unfolding sound
 all-positive k = and-left _ _ (and-right (leb (length (partsOf k)) 7) _ (all-sound k))
 
+-- all kinds' parts are coded and keyed
 all-named : (k : ℕ) → (each isCoded (partsOf k) && each isKeyed (partsOf k)) ≡ true
 unfolding sound
 all-named k = and-right (each positive (partsOf k)) _ (and-right (leb (length (partsOf k)) 7) _ (all-sound k))
 
+-- a part of the grammar is found again from its code
 pub coded : (k : ℕ) (p : Part) → List·Memᴰ p (partsOf k) → Coded p
 unfolding isCoded
 coded k p m =
@@ -107,13 +120,16 @@ coded k p m =
       limit = ltb-true _ _ (and-right (ltb (fieldsOf p .hi) 256) _ u);
     }
 
+-- two tests of equality that hold
 both-equal : (a b c d : ℕ) → (eqb a b && eqb c d) ≡ true → (a ≡ b) × (c ≡ d)
 both-equal a b c d t = (eqb-true a b (and-left _ _ t), eqb-true c d (and-right (eqb a b) _ t))
 
+-- one of two tests holds
 either : (a b : Bool) {A B : Type 0} → (a ≡ true → A) → (b ≡ true → B) → (a || b) ≡ true → A ⊎ B
 either true b f g t = inl (f refl)
 either false b f g t = inr (g t)
 
+-- the lists with an order are of owners, types or type trees
 pub keyed : (k : ℕ) (p : Part) → List·Memᴰ p (partsOf k) → Keyed p
 unfolding isKeyed
 keyed k p m =
@@ -125,6 +141,7 @@ keyed k p m =
 
 -- ---- a loop over the columns of a kind
 
+-- where the code is 0, no part is left
 ended-in : (ps : List Part) (i : ℕ) → each positive ps ≡ true → getD (map codeOf ps) i 0 ≡ 0 → drop i ps ≡ []
 unfolding positive
 ended-in [] i t e = drop-nil i
@@ -144,6 +161,7 @@ record At (ps : List Part) (i : ℕ) : Type 0 where
   member : List·Memᴰ part ps
   inside : i < length ps
 
+-- where the code is not 0, there is a part
 part-at : (ps : List Part) (i : ℕ) → (getD (map codeOf ps) i 0 ≡ 0 → ⊥) → At ps i
 part-at [] i h = absurd (h refl)
 part-at (p ∷ ps) zero h = record { part = p; code = refl; rest = refl; member = List·Memᴰ·head refl; inside = omega arith }
@@ -174,11 +192,13 @@ column k i h =
       below = omega (arith, short k);
     }
 
--- ---- the kinds that begin with a name of question 6: types, owners, type trees
+-- ---- the kinds that begin with a name of question 6: types, type trees
 
+-- parts whose first is a name
 begins-in : (ps : List Part) → take 1 ps ≡ Key ∷ [] → ps ≡ Key ∷ drop 1 ps
 begins-in ps e = sym (take-append-drop 1 ps) ∙ ap (λ (qs : List Part). qs ++ drop 1 ps) e
 
+-- a type begins with its name
 pub type-begins : (k : ℕ) → 1 ≤ k → k ≤ 7 → partsOf k ≡ Key ∷ drop 1 (partsOf k)
 unfolding partsOf findRow grammar
 type-begins k lo hi =
@@ -187,20 +207,19 @@ type-begins k lo hi =
     let first = sym (entry 7 (λ j. take 1 (partsOf (1 + j))) (k - 1) (Key ∷ []) h) ∙ getD-replicate 7 (k - 1) (Key ∷ []) (Key ∷ []) h in
     begins-in (partsOf k) (rw e at first)
 
-pub owner-begins : partsOf 37 ≡ Key ∷ drop 1 (partsOf 37)
-unfolding partsOf findRow grammar
-owner-begins = refl
-
+-- a type tree begins with its name
 pub tree-begins : partsOf 161 ≡ Key ∷ drop 1 (partsOf 161)
 unfolding partsOf findRow grammar
 tree-begins = refl
 
 -- ---- where a kind's parts stand
 
+-- of a kind below 128 the parts are its row's
 pub row-low : (k i : ℕ) → k < 128 → getD (map codeOf (findRow k grammar)) i 0 ≡ codeAt k i
 unfolding codeAt partsOf
 row-low k i h = rw (lt-leb 128 k h)
 
+-- of a kind above 144 the parts are its row's
 pub row-high : (k i : ℕ) → 128 ≤ k → 144 < k → getD (map codeOf (findRow k grammar)) i 0 ≡ codeAt k i
 unfolding codeAt partsOf
 row-high k i h g = rw (le-leb 128 k h, lt-leb k 144 g)

@@ -14,6 +14,7 @@ use Rattle.ir_nodes.proofs.Table.{tabulate, entry}
 
 -- ---- a row
 
+-- behind the last code stands 0
 pub behind : (xs : List ℕ) (i : ℕ) → length xs ≤ i → 0 ≡ getD xs i 0
 behind xs i h = sym (List·getD-eq-default xs 0 h)
 
@@ -25,6 +26,7 @@ padded [] (suc n) (suc i) = padded [] n i
 padded (x ∷ xs) n zero = refl
 padded (x ∷ xs) n (suc i) = padded xs n i
 
+-- two kinds with one row have the same codes
 same-row : (k n kind i : ℕ) {r : ℕ} → findRow kind grammar ≡ findRow k grammar → r ≡ getD (map codeOf (findRow k grammar) ++ replicate n 0) i 0 → r ≡ getD (map codeOf (findRow kind grammar)) i 0
 same-row k n kind i e h = rw e (h ∙ padded (map codeOf (findRow k grammar)) n i)
 
@@ -34,6 +36,7 @@ named k n i {kind} e h = same-row k n kind i (ap (λ (j : ℕ). findRow j gramma
 
 -- ---- what is computed at each of n numbers from lo on
 
+-- what was computed at each number of a range holds of every number in it
 steady : {A : Type 0} (f : ℕ → A) (a : A) (lo n k : ℕ) → tabulate n (λ j. f (lo + j)) ≡ replicate n a → lo ≤ k → k < lo + n → f k ≡ a
 steady {A = A} f a lo n k e l h =
     let q : lo + (k - lo) ≡ k = omega arith in
@@ -51,10 +54,12 @@ abbrev pub NoneOf : List ℕ → ℕ → Type 0
 NoneOf [] k = Unit
 NoneOf (j ∷ js) k = NoneOf js k × (k ≡ j → ⊥)
 
+-- whether a number is one of these
 abbrev member : ℕ → List ℕ → Bool
 member k [] = false
 member k (j ∷ js) = eqb k j || member k js
 
+-- a number that is none of these is no member
 apart : (js : List ℕ) (k : ℕ) → NoneOf js k → member k js ≡ false
 apart [] k h = refl
 apart (j ∷ js) k h = rw (ne-eqb k j (h .1)) (apart js k (h .0))
@@ -71,6 +76,7 @@ abbrev eachRow : (Row → Bool) → List Row → Bool
 eachRow f [] = true
 eachRow f (r ∷ rs) = f r && eachRow f rs
 
+-- behind the last row's kinds there is no row
 beyond : (k n : ℕ) (rs : List Row) → n ≤ k → eachRow (λ r. ltb (r .hi) n) rs ≡ true → findRow k rs ≡ []
 unfolding findRow
 beyond k n [] h e = refl

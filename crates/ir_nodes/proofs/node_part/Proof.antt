@@ -1,5 +1,6 @@
 -- `ir::node_part` meets its contract: the metadata, then the digits of the row. Assumes nothing.
-use Rattle.ir_nodes.proofs.Rows.{part-0, part-1, part-2, part-3, part-4}
+use Rattle.ir_nodes.proofs.Rows.{part-0, part-1, part-on}
+use native.Mathlib.Omega.{arith}
 use borrow.Author.Needs.{needs}
 use Rattle.ir_nodes.proofs.node_part.Statement.{statement}
 use Rattle.ir_nodes.proofs.node_part.Tie as tie
@@ -20,7 +21,7 @@ digit-code-requires c κs = search needs
 
 returns-3 : tie.Need-returns-3
 returns-3 c =
-    part-2 _ _ _
+    part-on _ _ _ 0
     (c .before .before .node-row .ensures)
     (c .before .if3 .taken)
     (c .digit-code .ensures)
@@ -31,25 +32,17 @@ digit-code-requires-2 c κs = search needs
 returns-4 : tie.Need-returns-4
 returns-4 c =
     let at-node-row = c .before .before .before in
-    part-3 _ _ _ (at-node-row .node-row .ensures) (c .before .if4 .taken) (c .digit-code2 .ensures)
+    part-on _ _ _ 1 (at-node-row .node-row .ensures) (c .before .if4 .taken) (c .digit-code2 .ensures)
 
 digit-code-requires-3 : tie.Need-digit-code-requires-3
 digit-code-requires-3 c κs = search needs
 
 returns-5 : tie.Need-returns-5
 returns-5 c =
-    let at-else3 = c .before .before in
-    let at-node-row = at-else3 .before in
-    let at-else2 = at-node-row .before in
-    let at-else1 = at-else2 .before in
-    let at-start = at-else1 .before in
-    part-4 _ _ _
+    let at-node-row = c .before .before .before in
+    part-on _ _ _ 2
     (at-node-row .node-row .ensures)
-    (at-start .pre .2)
-    (at-else1 .if1 .left)
-    (at-else2 .if2 .left)
-    (at-else3 .if3 .left)
-    (c .before .if4 .left)
+    (omega arith)
     (c .digit-code3 .ensures)
 
 pub node-part-spec : {M : Type 1} → statement M

@@ -9,57 +9,36 @@ use Rattle.reader_grammar.proofs.Rows.{named, ranged, missing}
 use Rattle.reader_grammar.proofs.expression_code.Statement.{statement}
 use Rattle.reader_grammar.proofs.expression_code.Tie as tie
 
-row-of-requires : tie.Need-row-of-requires
-row-of-requires c κs = search needs
-
-row-of-requires-2 : tie.Need-row-of-requires-2
-row-of-requires-2 c κs = search needs
-
-row-of-requires-3 : tie.Need-row-of-requires-3
-row-of-requires-3 c κs = search needs
-
-row-of-requires-4 : tie.Need-row-of-requires-4
-row-of-requires-4 c κs = search needs
-
-row-of-requires-5 : tie.Need-row-of-requires-5
-row-of-requires-5 c κs = search needs
-
-row-of-requires-6 : tie.Need-row-of-requires-6
-row-of-requires-6 c κs = search needs
-
-row-of-requires-7 : tie.Need-row-of-requires-7
-row-of-requires-7 c κs = search needs
-
 returns : tie.Need-returns
 unfolding findRow grammar
 returns c = named 64 3 (c .before .before .args .i) (c .before .match .keys1) (c .row-of .ensures)
 
 returns-2 : tie.Need-returns-2
 unfolding findRow grammar
-returns-2 c = named 65 3 (c .before .before .args .i) (c .before .match .keys2) (c .few2 .ensures)
+returns-2 c = named 65 3 (c .before .before .args .i) (c .before .match .keys2) (c .row-of2 .ensures)
 
 returns-3 : tie.Need-returns-3
 unfolding findRow grammar
-returns-3 c = named 66 3 (c .before .before .args .i) (c .before .match .keys3) (c .few3 .ensures)
+returns-3 c = named 66 3 (c .before .before .args .i) (c .before .match .keys3) (c .row-of3 .ensures)
 
 returns-4 : tie.Need-returns-4
 unfolding findRow grammar
-returns-4 c = named 67 3 (c .before .before .args .i) (c .before .match .keys4) (c .few4 .ensures)
+returns-4 c = named 67 3 (c .before .before .args .i) (c .before .match .keys4) (c .row-of4 .ensures)
 
 returns-5 : tie.Need-returns-5
 unfolding findRow grammar
 returns-5 c =
     let r = c .before .before .before .match .rest in
     let l : 68 ≤ c .before .before .before .before .args .kind = omega (arith, c .before .before .if1 .left, r .1, r .0 .1, r .0 .0 .1, r .0 .0 .0 .1) in
-    ranged 68 2 11 (c .before .before .before .before .args .i) refl l (c .before .if2 .taken) (c .few5 .ensures)
+    ranged 68 2 11 (c .before .before .before .before .args .i) refl l (c .before .if2 .taken) (c .row-of5 .ensures)
 
 returns-6 : tie.Need-returns-6
 unfolding findRow grammar
-returns-6 c = ranged 79 3 4 (c .before .before .before .before .before .args .i) refl (c .before .before .if2 .left) (c .before .if3 .taken) (c .few6 .ensures)
+returns-6 c = ranged 79 3 4 (c .before .before .before .before .before .args .i) refl (c .before .before .if2 .left) (c .before .if3 .taken) (c .row-of6 .ensures)
 
 returns-7 : tie.Need-returns-7
 unfolding findRow grammar
-returns-7 c = ranged 83 2 9 (c .before .before .before .before .before .before .args .i) refl (c .before .before .if3 .left) (c .before .if4 .taken) (c .few7 .ensures)
+returns-7 c = ranged 83 2 9 (c .before .before .before .before .before .before .args .i) refl (c .before .before .if3 .left) (c .before .if4 .taken) (c .row-of7 .ensures)
 
 returns-8 : tie.Need-returns-8
 returns-8 c = absurd (omega arith)
@@ -69,4 +48,18 @@ unfolding findRow grammar
 returns-9 c = missing [] 92 36 (c .before .before .before .before .before .args .i) refl tt (c .if4 .left) (c .before .before .before .before .before .pre .1)
 
 pub expression-code-spec : {M : Type 1} → statement M
-expression-code-spec = tie.close (tie.spec row-of-requires row-of-requires-2 row-of-requires-3 row-of-requires-4 row-of-requires-5 row-of-requires-6 row-of-requires-7 returns returns-2 returns-3 returns-4 returns-5 returns-6 returns-7 returns-8 returns-9)
+expression-code-spec =
+    tie.close
+    (tie.spec
+    -- the calls ask for nothing
+    (λ c κs. search needs) (λ c κs. search needs) (λ c κs. search needs) (λ c κs. search needs)
+    (λ c κs. search needs) (λ c κs. search needs) (λ c κs. search needs)
+    returns
+    returns-2
+    returns-3
+    returns-4
+    returns-5
+    returns-6
+    returns-7
+    returns-8
+    returns-9)

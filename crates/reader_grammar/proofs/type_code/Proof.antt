@@ -8,45 +8,6 @@ use Rattle.reader_grammar.proofs.Rows.{named, missing}
 use Rattle.reader_grammar.proofs.type_code.Statement.{statement}
 use Rattle.reader_grammar.proofs.type_code.Tie as tie
 
-typed-requires : tie.Need-typed-requires
-typed-requires c κs = search needs
-
-typed-requires-2 : tie.Need-typed-requires-2
-typed-requires-2 c κs = search needs
-
-typed-requires-3 : tie.Need-typed-requires-3
-typed-requires-3 c κs = search needs
-
-typed-requires-4 : tie.Need-typed-requires-4
-typed-requires-4 c κs = search needs
-
-typed-requires-5 : tie.Need-typed-requires-5
-typed-requires-5 c κs = search needs
-
-typed-requires-6 : tie.Need-typed-requires-6
-typed-requires-6 c κs = search needs
-
-typed-requires-7 : tie.Need-typed-requires-7
-typed-requires-7 c κs = search needs
-
-row-of-requires : tie.Need-row-of-requires
-row-of-requires c κs = search needs
-
-row-of-requires-2 : tie.Need-row-of-requires-2
-row-of-requires-2 c κs = search needs
-
-row-of-requires-3 : tie.Need-row-of-requires-3
-row-of-requires-3 c κs = search needs
-
-row-of-requires-4 : tie.Need-row-of-requires-4
-row-of-requires-4 c κs = search needs
-
-row-of-requires-5 : tie.Need-row-of-requires-5
-row-of-requires-5 c κs = search needs
-
-row-of-requires-6 : tie.Need-row-of-requires-6
-row-of-requires-6 c κs = search needs
-
 returns : tie.Need-returns
 unfolding findRow grammar
 returns c = named 1 3 (c .before .before .args .i) (c .before .match .keys1) (c .typed .ensures)
@@ -81,27 +42,48 @@ returns-8 c = named 32 3 (c .before .before .args .i) (c .before .match .keys8) 
 
 returns-9 : tie.Need-returns-9
 unfolding findRow grammar
-returns-9 c = named 33 1 (c .before .before .args .i) (c .before .match .keys9) (c .few2 .ensures)
+returns-9 c = named 33 1 (c .before .before .args .i) (c .before .match .keys9) (c .row-of2 .ensures)
 
 returns-10 : tie.Need-returns-10
 unfolding findRow grammar
-returns-10 c = named 34 1 (c .before .before .args .i) (c .before .match .keys10) (c .few3 .ensures)
+returns-10 c = named 34 1 (c .before .before .args .i) (c .before .match .keys10) (c .row-of3 .ensures)
 
 returns-11 : tie.Need-returns-11
 unfolding findRow grammar
-returns-11 c = named 35 1 (c .before .before .args .i) (c .before .match .keys11) (c .few4 .ensures)
+returns-11 c = named 35 1 (c .before .before .args .i) (c .before .match .keys11) (c .row-of4 .ensures)
 
 returns-12 : tie.Need-returns-12
 unfolding findRow grammar
-returns-12 c = named 36 3 (c .before .before .args .i) (c .before .match .keys12) (c .few5 .ensures)
+returns-12 c = named 36 3 (c .before .before .args .i) (c .before .match .keys12) (c .row-of5 .ensures)
 
 returns-13 : tie.Need-returns-13
 unfolding findRow grammar
-returns-13 c = named 37 2 (c .before .before .args .i) (c .before .match .keys13) (c .few6 .ensures)
+returns-13 c = named 37 2 (c .before .before .args .i) (c .before .match .keys13) (c .row-of6 .ensures)
 
 returns-14 : tie.Need-returns-14
 unfolding findRow grammar
 returns-14 c = missing (37 ∷ 36 ∷ 35 ∷ 34 ∷ 33 ∷ 32 ∷ 7 ∷ 6 ∷ 5 ∷ 4 ∷ 3 ∷ 2 ∷ 1 ∷ []) 0 64 (c .before .args .i) refl (c .match .rest) (omega arith) (omega arith)
 
 pub type-code-spec : {M : Type 1} → statement M
-type-code-spec = tie.close (tie.spec typed-requires typed-requires-2 typed-requires-3 typed-requires-4 typed-requires-5 typed-requires-6 typed-requires-7 row-of-requires row-of-requires-2 row-of-requires-3 row-of-requires-4 row-of-requires-5 row-of-requires-6 returns returns-2 returns-3 returns-4 returns-5 returns-6 returns-7 returns-8 returns-9 returns-10 returns-11 returns-12 returns-13 returns-14)
+type-code-spec =
+    tie.close
+    (tie.spec
+    -- the calls ask for nothing
+    (λ c κs. search needs) (λ c κs. search needs) (λ c κs. search needs) (λ c κs. search needs)
+    (λ c κs. search needs) (λ c κs. search needs) (λ c κs. search needs) (λ c κs. search needs)
+    (λ c κs. search needs) (λ c κs. search needs) (λ c κs. search needs) (λ c κs. search needs)
+    (λ c κs. search needs)
+    returns
+    returns-2
+    returns-3
+    returns-4
+    returns-5
+    returns-6
+    returns-7
+    returns-8
+    returns-9
+    returns-10
+    returns-11
+    returns-12
+    returns-13
+    returns-14)
