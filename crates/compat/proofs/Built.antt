@@ -8,6 +8,7 @@ use native.Mathlib.Omega.{arith}
 use Rattle.errors.specs.Refusal.{Refusal, Outcome, done, refused, atType}
 use Rattle.errors.proofs.Laws.{done-one, not-done, bound}
 use Rattle.blocks.specs.Name.{Name, same}
+use Rattle.resolved.proofs.Lookup.{some-one}
 use Rattle.resolved.specs.Resolved.{ResolvedType, ResolvedTypeKind, Fields, head, fields, get-type-info}
 use Rattle.ir.specs.Ir.{IrParameter, TypeIr}
 use Rattle.interpreter.specs.Eval.{lookup-type}
@@ -18,7 +19,7 @@ use Rattle.builder.specs.Build.{build-type, build-types}
 use Rattle.compat.specs.Types.{TypeGrown, KindGrown, FieldsGrown, TypesGrown}
 use Rattle.compat.specs.Nodes.{NodeExtended, Found, LayoutExtended}
 use Rattle.compat.proofs.Keeps.{Keeps, gives, binds, first}
-use Rattle.compat.proofs.Types.{some-one, jagged-kept, root-extends}
+use Rattle.compat.proofs.Types.{kind-kept, root-extends}
 
 -- ---- parameters
 
@@ -27,8 +28,9 @@ has-jagged-kept : (n : Name) {fs fs′ : Fields} → FieldsGrown false fs fs′
     → has-jagged n (fields fs) ≡ has-jagged n (fields fs′)
 unfolding has-jagged fields
 has-jagged-kept n (FieldsGrown.noField v) = refl
-has-jagged-kept n (FieldsGrown.field m o (TypeGrown.resolved h k) g) = rw (jagged-kept k, has-jagged-kept n g)
+has-jagged-kept n (FieldsGrown.field m o (TypeGrown.resolved h k) g) = rw (kind-kept k .1, has-jagged-kept n g)
 
+-- the same of any kind: only a struct has fields that count here
 kind-jagged-kept : {v : Bool} {k k′ : ResolvedTypeKind} → KindGrown v k k′ → (n : Name)
     → has-jagged n (fieldsOf k) ≡ has-jagged n (fieldsOf k′)
 kind-jagged-kept (KindGrown.Primitive v) n = refl
@@ -39,12 +41,14 @@ kind-jagged-kept (KindGrown.Array v e j g) n = refl
 kind-jagged-kept (KindGrown.SizeDiscriminatedUnion g) n = refl
 kind-jagged-kept (KindGrown.TypeRef v m) n = refl
 
+-- so whether a parameter is an element's of such an array is kept
 jagged-parameter-kept : {t t′ : ResolvedType} → TypeGrown t t′ → (n : Name) (o : Option Name)
     → before-element (split (replace-colons n)) ≡ o → is-jagged-element-parameter t n ≡ is-jagged-element-parameter t′ n
 unfolding is-jagged-element-parameter
 jagged-parameter-kept (TypeGrown.resolved h g) n none e = rw e
 jagged-parameter-kept (TypeGrown.resolved h g) n (some m) e = rw e (kind-jagged-kept g m)
 
+-- and the parameters that are listed are the same
 filter-kept : {t t′ : ResolvedType} → TypeGrown t t′ → (ps : List IrParameter)
     → filter-jagged-element-parameters t ps ≡ filter-jagged-element-parameters t′ ps
 unfolding filter-jagged-element-parameters
@@ -76,12 +80,14 @@ tree-named : (types : List ResolvedType) (t : ResolvedType)
 unfolding build-type-ir
 tree-named types t = first _ (λ _. first _ (λ root. first _ (λ parameters. gives _ _ refl)))
 
+-- the same of a built type: it has its name in the set
 named : (types : List ResolvedType) (t : ResolvedType) (x : TypeIr)
     → build-type types t ≡ done x → x .type-name ≡ head t .name
 named types t x e = started types types t t (tree-named types t) x x e e
 
 module _ (Known : Name → Type 0) (old new : List ResolvedType) (grown : TypesGrown old new)
     (known : (n : Name) (t : ResolvedType) → get-type-info n old ≡ some t → Known n) where
+  -- a type and what it has grown to build to a tree and its extension
   tree-extends : {t t′ : ResolvedType} → TypeGrown t t′ → Keeps (Extended Known) (build-type-ir old t) (build-type-ir new t′)
   unfolding build-type-ir
   tree-extends (TypeGrown.resolved h g) =
@@ -99,11 +105,13 @@ data Trees (types : List ResolvedType) : List ResolvedType → List TypeIr → T
   tree : {t : ResolvedType} {x : TypeIr} {ts : List ResolvedType} {xs : List TypeIr}
       → build-type types t ≡ done x → Trees types ts xs → Trees types (t ∷ ts) (x ∷ xs)
 
+-- a place that a refusal gets changes no value
 at-type : {A : Type 0} (i : ℕ) (o : Outcome A) (x : A) → atType i o ≡ done x → o ≡ done x
 unfolding atType
 at-type i (done a) x e = e
 at-type i (refused r) x e = absurd (not-done e)
 
+-- a set that builds has a tree for each of its types
 trees : (types ts : List ResolvedType) (i : ℕ) (xs : List TypeIr) → build-types types i ts ≡ done xs → Trees types ts xs
 unfolding build-types
 trees types [] i xs e = rw (← done-one e) Trees.noTree
@@ -125,6 +133,7 @@ module _ {types : List ResolvedType} where
   chosen true t i x e h = Looked.both t i x e
   chosen false t i x e h = h
 
+  -- a name is found in both, or in neither
   looked : {ts : List ResolvedType} {xs : List TypeIr} → Trees types ts xs → (i : ℕ) (n : Name)
       → Looked types (get-type-info n ts) (lookup-type i n xs)
   unfolding get-type-info lookup-type

@@ -23,20 +23,24 @@ use Rattle.compat.proofs.Places.{Stand, down, same-place, roots, found-
 
 -- p, q: the places of the types whose trees hold the two nodes. A value is found in both, or missing in both.
 module _ (p q : ℕ) where
+  -- the same value, or a missing parameter at both places
   data Same {A : Type 0} : Outcome A → Outcome A → Type 0 where
     here : (x : A) → Same (done x) (done x)
     missing : (a b : ℕ) → Same (refused (refusalAt p a MissingIrParameter 0)) (refused (refusalAt q b MissingIrParameter 0))
 
+  -- a value by name
   same-value : (a b : ℕ) (x : Option ℕ) → Same (valueOr (refusalAt p a MissingIrParameter 0) x) (valueOr (refusalAt q b MissingIrParameter 0) x)
   unfolding valueOr
   same-value a b none = Same.missing a b
   same-value a b (some v) = Same.here v
 
+  -- a step behind it that is the same in both
   same-then : {A B : Type 0} {o o′ : Outcome A} (f g : A → Outcome B) → Same o o′ → ((x : A) → Same (f x) (g x)) → Same (o >>= f) (o′ >>= g)
   unfolding _>>=_
   same-then f g (Same.here x) h = h x
   same-then f g (Same.missing a b) h = Same.missing a b
 
+  -- the values of a call's arguments
   same-arguments : {xs ys : List IrArgument} → SameArguments xs ys → (γ δ : ParamMap) → Same (collect-arguments p γ xs δ) (collect-arguments q γ ys δ)
   unfolding collect-arguments
   same-arguments SameArguments.none γ δ = Same.here δ
@@ -46,12 +50,14 @@ module _ (p q : ℕ) where
 module _ (old new : List TypeIr) where
   -- ---- one lemma for each thing that answers are made of
 
+  -- what is done with a value that is the same in both
   agree-same : {A : Type 0} {p q : ℕ} {o o′ : Outcome A} (f g : A → Outcome ℕ) → SamePlace old new p q → Same p q o o′
       → ((x : A) → Agree old new (f x) (g x)) → Agree old new (o >>= f) (o′ >>= g)
   unfolding _>>=_
   agree-same f g e (Same.here x) h = h x
   agree-same f g e (Same.missing a b) h = Agree.refusal _ _ refl refl e
 
+  -- a value that is the same in both is an answer that agrees
   agree-of : {p q : ℕ} {o o′ : Outcome ℕ} → SamePlace old new p q → Same p q o o′ → Agree old new o o′
   agree-of e (Same.here x) = Agree.count x
   agree-of e (Same.missing a b) = Agree.refusal _ _ refl refl e
@@ -64,20 +70,24 @@ module _ (old new : List TypeIr) where
   agree-then f g (Agree.refusal r r′ n v e) h = Agree.refusal r r′ n v e
   agree-then f g (Agree.added r o n c) h = Agree.added r (o >>= g) n c
 
+  -- an operation's value, or its fault at both places
   agree-lift : {p q : ℕ} (a b : ℕ) → SamePlace old new p q → (x : Result) → Agree old new (lift p a x) (lift q b x)
   unfolding lift
   agree-lift a b e (value n) = Agree.count n
   agree-lift a b e (fault r) = Agree.refusal _ _ refl refl e
 
+  -- a choice by one test
   agree-if : (b : Bool) {x y x′ y′ : Outcome ℕ} → Agree old new x x′ → Agree old new y y′
       → Agree old new (elim b [ true ↦ x | false ↦ y ]) (elim b [ true ↦ x′ | false ↦ y′ ])
   agree-if true h g = h
   agree-if false h g = g
 
+  -- the same, where the choice is written with `cond`
   agree-cond : (b : Bool) {x y x′ y′ : Outcome ℕ} → Agree old new x x′ → Agree old new y y′ → Agree old new (cond b x y) (cond b x′ y′)
   agree-cond true h g = h
   agree-cond false h g = g
 
+  -- whether the buffer holds the count
   agree-fits : {p q : ℕ} (len count : ℕ) → SamePlace old new p q → Agree old new (fits-buffer p len count) (fits-buffer q len count)
   agree-fits len count e = agree-cond (leb count len) (Agree.count count) (Agree.refusal _ _ refl refl e)
 
@@ -141,6 +151,7 @@ module _ (old new : List TypeIr) where
     mutual
       unfolding eval-node eval-cases eval-default caseCount
 
+      -- a node and its extension, evaluated over the same values
       agree-node : {n n′ : IrNode} → NodeExtended (Found old) n n′ → Stand old new p q n n′ → Agree old new (eval-node k p γ n) (eval-node k′ q γ n′)
       agree-node (NodeExtended.ZeroSize a b m) s = Agree.count 0
       agree-node (NodeExtended.Const a b m v) s = Agree.count v
@@ -196,6 +207,7 @@ module _ (old new : List TypeIr) where
         (p q a b i j : ℕ) (δ : ParamMap) (n n′ : IrNode) →
         SamePlace old new p q → Stand old new i j n n′ → NodeExtended (Found old) n n′ → Agree old new (e p a i δ n) (e′ q b j δ n′)
 
+    -- calls agree, where entering the called type does
     agree-call : (e e′ : Enter) → AgreeEnter e e′ → AgreeCalls (handlers e old) (handlers e′ new)
     unfolding eval-call
     agree-call e e′ h p q γ a b n xs ys s f x =

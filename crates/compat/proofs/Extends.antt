@@ -18,6 +18,7 @@ use Rattle.compat.proofs.Reread.{held, heldMeta, NodeReread, CasesRerea
 
 -- ---- nodes
 
+-- arguments stay the same when both lists are read back
 arguments-follow : {xs ys us vs : List IrArgument} → SameArguments xs ys → SameArguments xs us → SameArguments ys vs → SameArguments us vs
 arguments-follow SameArguments.none SameArguments.none SameArguments.none = SameArguments.none
 arguments-follow (SameArguments.more a b n v s) (SameArguments.more _ c _ _ p) (SameArguments.more _ d _ _ q) = SameArguments.more c d n v (arguments-follow s p q)
@@ -25,6 +26,7 @@ arguments-follow (SameArguments.more a b n v s) (SameArguments.more _ c _ _ p) (
 -- K, J: which names are known to the old layout as it was built, and as it is read
 module _ {K J : Name → Type 0} (know : (n : Name) → K n → J n) where
   mutual
+    -- a node and its extension, both read back, are a node and its extension
     node-follows : {n n′ m m′ : IrNode} → NodeExtended K n n′ → NodeReread n m → NodeReread n′ m′ → NodeExtended J m m′
     node-follows (NodeExtended.ZeroSize _ _ _) (NodeReread.ZeroSize _ a m) (NodeReread.ZeroSize _ b _) = NodeExtended.ZeroSize a b (heldMeta m)
     node-follows (NodeExtended.Const _ _ _ _) (NodeReread.Const _ a m v) (NodeReread.Const _ b _ _) = NodeExtended.Const a b (heldMeta m) (held v)
@@ -35,6 +37,7 @@ module _ {K J : Name → Type 0} (know : (n : Name) → K n → J n) where
     node-follows (NodeExtended.Binary _ _ _ _ e f) (NodeReread.Binary _ a m o p r) (NodeReread.Binary _ b _ _ q s) = NodeExtended.Binary a b (heldMeta m) o (node-follows e p q) (node-follows f r s)
     node-follows (NodeExtended.SumOverArray _ _ _ _ _ e) (NodeReread.SumOverArray _ a m t f p) (NodeReread.SumOverArray _ b _ _ _ q) = NodeExtended.SumOverArray a b (heldMeta m) t f (node-follows e p q)
 
+    -- the same of the cases of a switch
     cases-follow : {cs cs′ ds ds′ : SwitchCases} → CasesExtended K cs cs′ → CasesReread cs ds → CasesReread cs′ ds′ → CasesExtended J ds ds′
     cases-follow {ds′} (CasesExtended.addedCases _) CasesReread.noCase q = CasesExtended.addedCases ds′
     cases-follow (CasesExtended.case _ _ e es) (CasesReread.case v xs p ps) (CasesReread.case _ _ q qs) = CasesExtended.case (held v) xs (node-follows e p q) (cases-follow es ps qs)
@@ -46,6 +49,7 @@ data Looked : Outcome (ℕ × TypeIr) → Outcome (ℕ × TypeIr) → Type 0 whe
   found : {t u : TypeIr} (i : ℕ) → TypeReread t u → Looked (done (i, t)) (done (i, u))
   missing : (r : Refusal) → Looked (refused r) (refused r)
 
+-- a name is looked up in a layout before and after it is written: the same place, or neither has it
 looked : {ts us : List TypeIr} → LayoutReread ts us → (i : ℕ) (n : Name) → Looked (lookup-type i n ts) (lookup-type i n us)
 unfolding lookup-type
 looked LayoutReread.empty i n = Looked.missing (plain UnknownType)
@@ -65,6 +69,7 @@ back : {o p : Outcome (ℕ × TypeIr)} (x : ℕ × TypeIr) → Looked o p → p 
 back x (Looked.found {t} {u} i r) e = rw (← done-one e) (t, refl, r)
 back x (Looked.missing r) e = absurd (not-done e)
 
+-- a name that a layout has, it has when it is read
 pub found-read : {ts us : List TypeIr} → LayoutReread ts us → (n : Name) → Found ts n → Found us n
 found-read p n k = let g = forth (k .place, k .type) (looked p 0 n) (k .found) in record { place = k .place; type = g .0; found = g .1 }
 

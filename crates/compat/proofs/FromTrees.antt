@@ -22,6 +22,7 @@ use Rattle.compat.proofs.Kept.{number-kept, text-kept, offset-kept, exp
 
 -- ---- parts and entries; the flag: entries may have been added behind the last
 
+-- entries that became others; where the flag is set, more may stand behind them
 data Longer : Bool → Tree → Tree → Type 0 where
   kept : {es es′ : Tree} (v : Bool) → Grown es es′ → Longer v es es′
   grown : {es es′ : Tree} → GrownEntries es es′ → Longer true es es′
@@ -32,11 +33,13 @@ data Parts : Bool → Tree → Tree → Type 0 where
   more : {v : Bool} {a a′ t t′ : Tree} → Grown a a′ → Parts v t t′ → Parts v (Tree.cons a t) (Tree.cons a′ t′)
   last : {n n′ es es′ : Tree} → GrownEntries es es′ → Parts true (Tree.cons (Tree.cons n es) Tree.nil) (Tree.cons (Tree.cons n′ es′) Tree.nil)
 
+-- parts none of which was added to
 parts-kept : (v : Bool) (B : InBlocks) (e : Earlier) (ps : List Part) {t t′ : Tree} → PartsFits B e ps t → Grown t t′ → Parts v t t′
 unfolding PartsFits
 parts-kept v B e [] nothing Grown.nil = none v
 parts-kept v B e (p ∷ ps) (both x y) (Grown.cons g h) = more g (parts-kept v B e ps y h)
 
+-- parts of which the last was added to
 parts-grown : {t t′ : Tree} → GrownLast t t′ → Parts true t t′
 parts-grown (GrownLast.last n n′ h) = last h
 parts-grown (GrownLast.before g l) = more g (parts-grown l)
@@ -58,22 +61,27 @@ data Entered (i : ℕ) : Tree → Tree → Type 0 where
 abbrev TypesGrow : InBlocks → Type 0
 TypesGrow B = (e : Earlier) (b b′ : Tree) → B e 1 7 b → Grown b b′ → TypeGrown (typeOf b) (typeOf b′)
 
+-- the same of fields and variants
 abbrev EntriesGrow : InBlocks → Type 0
 EntriesGrow B = (i : ℕ) → within 33 35 i ≡ true → (e : Earlier) (b b′ : Tree) → B e i i b → Grown b b′ → Entered i b b′
 
+-- what a block of a field or variant stands for
 abbrev thing : Tree → Thing
 thing b = itemOr Thing.nothing (view thingOf b)
 
+-- a field that became another, in front of fields that did
 with-field : {v : Bool} {b b′ : Tree} {fs fs′ : Fields} → Entered 33 b b′ → FieldsGrown v fs fs′ → FieldsGrown v (withField (thing b) fs) (withField (thing b′) fs′)
 unfolding view thingOf makeThing formOf part partOr typeOf
 with-field (entered a b c) h = rw (text-kept a, offset-kept b) (FieldsGrown.field _ _ c h)
 
+-- a variant that became another, in front of variants that did
 with-variant : {i : ℕ} {v : Bool} {b b′ : Tree} {vs vs′ : Variants} → formOf i ≡ Form.variant → Entered i b b′ → VariantsGrown v vs vs′ → VariantsGrown v (withVariant (thing b) vs) (withVariant (thing b′) vs′)
 unfolding view thingOf makeThing part partOr typeOf
 with-variant f (entered a b c) h = rw (f, text-kept a, number-kept b) (VariantsGrown.variant _ _ c h)
 
 -- lists of them
 module _ (B : InBlocks) (entry : EntriesGrow B) where
+  -- the fields of a list and those of what it became
   fields-grown : (n : ℕ) (e : Earlier) {v : Bool} {t t′ : Tree} → EntriesFits (λ f. B f 33 33) e n t → Longer v t t′ → FieldsGrown v (fieldsIn (view thingOf t)) (fieldsIn (view thingOf t′))
   unfolding EntriesFits fieldsIn view
   fields-grown zero e nothing (kept v Grown.nil) = FieldsGrown.noField v
@@ -82,6 +90,7 @@ module _ (B : InBlocks) (entry : EntriesGrow B) where
   fields-grown (suc n) e (both p ps) (grown (GrownEntries.entry g h)) = with-field (entry 33 refl e _ _ p g) (fields-grown n _ ps (grown h))
 
   module _ (i : ℕ) (w : within 33 35 i ≡ true) (f : formOf i ≡ Form.variant) where
+    -- the variants of a list and those of what it became
     variants-grown : (n : ℕ) (e : Earlier) {v : Bool} {t t′ : Tree} → EntriesFits (λ f. B f i i) e n t → Longer v t t′ → VariantsGrown v (variantsIn (view thingOf t)) (variantsIn (view thingOf t′))
     unfolding EntriesFits variantsIn view
     variants-grown zero e nothing (kept v Grown.nil) = VariantsGrown.noVariant v
@@ -104,8 +113,10 @@ module _ (room : ℕ) (e : Earlier) (type : TypesGrow (BlockFits room)) (entry :
   parts-type zero w p d g = TypeGrown.resolved _ (KindGrown.Primitive true)
   parts-type (suc zero) w (both n (both z (both a (both r nothing)))) d (more gn (more gz (more ga (more gr (none v))))) = made (head-kept room _ gn gz ga r gr) refl (KindGrown.Primitive _)
   parts-type (suc zero) w (both n (both z (both a (both r nothing)))) d (more gn (more gz (more ga (last h)))) = false-true d
-  parts-type (suc (suc zero)) w (both n (both z (both a (both r (both (both c q) nothing))))) d (more gn (more gz (more ga (more gr g)))) =
-      let x = ended g in made (head-kept room _ gn gz ga r gr) refl (KindGrown.Struct _ (rw (x .2, d) (fields-grown (BlockFits room) entry _ _ q (x .1))))
+  parts-type (suc (suc zero)) w {v} (both n (both z (both a (both r (both (both c q) nothing))))) d (more gn (more gz (more ga (more gr g)))) =
+      let still : false ≡ v = d in
+      let x = ended g in
+      made (head-kept room _ gn gz ga r gr) refl (KindGrown.Struct _ (rw (x .2, still) (fields-grown (BlockFits room) entry _ _ q (x .1))))
   parts-type (suc (suc (suc zero))) w (both n (both z (both a (both r (both (both c q) nothing))))) d (more gn (more gz (more ga (more gr g)))) =
       let x = ended g in made (head-kept room _ gn gz ga r gr) d (KindGrown.Union (rw (x .2) (fields-grown (BlockFits room) entry _ _ q (x .1))))
   parts-type (suc (suc (suc (suc zero)))) w (both n (both z (both a (both r (both y (both (both c q) nothing)))))) d (more gn (more gz (more ga (more gr (more gy g))))) =
@@ -119,6 +130,7 @@ module _ (room : ℕ) (e : Earlier) (type : TypesGrow (BlockFits room)) (entry :
       made (head-kept room _ gn gz ga r gr) refl (rw (text-kept gy) (KindGrown.TypeRef _ _))
   parts-type (suc (suc (suc (suc (suc (suc (suc (suc k)))))))) w p d g = absurd (omega arith)
 
+  -- a block of a type and what it became
   type-block : (b b′ : Tree) → BlockFits (suc room) e 1 7 b → Grown b b′ → TypeGrown (typeOf b) (typeOf b′)
   unfolding BlockFits typeOf view thingOf
   type-block b b′ (inside w _ _ p) (Grown.block at at′ k g) = parts-type k (bounds 1 7 k w .1) p refl (parts-kept _ _ e (partsOf k) p g)
@@ -130,10 +142,12 @@ module _ (room : ℕ) (e : Earlier) (type : TypesGrow (BlockFits room)) (entry :
 abbrev entryParts : ℕ → List Part
 entryParts k = Text ∷ cond (eqb k 33) OptNumber Number ∷ Block 1 7 ∷ []
 
+-- the parts of fields and variants, from the grammar
 entry-parts : (k : ℕ) → within 33 35 k ≡ true → partsOf k ≡ entryParts k
 unfolding table partsOf findRow grammar
 entry-parts = agree partsOf entryParts 33 2 refl
 
+-- a block of a field or variant and what it became
 enter : (B : InBlocks) (e : Earlier) → TypesGrow B → {b b′ : Tree} (i : ℕ) → within 33 35 i ≡ true → Opened (λ k. PartsFits B e (partsOf k)) i b b′ → Entered i b b′
 unfolding PartsFits PartFits
 enter B e type i w (opened {at} {at′} p g) = found (rw (entry-parts i w) at p) g
@@ -143,6 +157,7 @@ enter B e type i w (opened {at} {at′} p g) = found (rw (entry-parts i w) at p)
 
 -- ---- all blocks
 
+-- types, fields and variants at any depth
 blocks-grown : (room : ℕ) → TypesGrow (BlockFits room) × EntriesGrow (BlockFits room)
 unfolding BlockFits table
 blocks-grown zero = ((λ e b b′ p g. absurd p), (λ i w e b b′ p g. absurd p))
@@ -150,5 +165,6 @@ blocks-grown (suc room) =
     let r = blocks-grown room in
     ((λ e. type-block room e (r .0) (r .1)), (λ i w e b b′ p g. enter (BlockFits room) e (r .0) i w (open-kind i (agree growing (λ k. false) 33 2 refl i w) p g)))
 
+-- a type's block that grew stands for a type that grew: used for every type of the set
 pub type-grown : (room : ℕ) (e : Earlier) (b b′ : Tree) → BlockFits room e 1 7 b → Grown b b′ → TypeGrown (typeOf b) (typeOf b′)
 type-grown room = blocks-grown room .0

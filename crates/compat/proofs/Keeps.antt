@@ -8,19 +8,23 @@ use Rattle.errors.specs.Refusal.{done}
 use Rattle.errors.proofs.Laws.{done-one, not-done, bound}
 use Rattle.builder.specs.Registry.{Registry, Build, _>>=_, give, refuse, require, need, reads}
 
+-- m and m′ from one registry: where both give, R holds of their values, and the registries left are equal
 pub record Keeps {A A′ : Type 0} (R : A → A′ → Type 0) (m : Build A) (m′ : Build A′) : Type 0 where
   pub run : (s : Registry) (x : A × Registry) (x′ : A′ × Registry) → m s ≡ done x → m′ s ≡ done x′
       → R (x .0) (x′ .0) × (x .1 ≡ x′ .1)
 
 module _ {A A′ : Type 0} {R : A → A′ → Type 0} where
+  -- two values that are related
   pub gives : (a : A) (a′ : A′) → R a a′ → Keeps R (give a) (give a′)
   unfolding give
   gives a a′ r = record { run = λ s x x′ e e′. (rw (← done-one e, ← done-one e′) r, cc) }
 
+  -- the old action refuses: nothing is to be shown
   pub refuses : (q : ℕ) (m′ : Build A′) → Keeps R (refuse q) m′
   unfolding refuse
   refuses q m′ = record { run = λ s x x′ e e′. absurd (not-done e) }
 
+  -- the new action refuses: nothing is to be shown
   refuses-new : (m : Build A) (q : ℕ) → Keeps R m (refuse q)
   unfolding refuse
   refuses-new m q = record { run = λ s x x′ e e′. absurd (not-done e′) }
@@ -41,6 +45,7 @@ requires true false q = refuses-new _ q
 requires true true q = gives tt tt refl
 
 module _ {A A′ B B′ : Type 0} {R : A → A′ → Type 0} {S : B → B′ → Type 0} where
+  -- two actions that keep, and what is done with their values
   pub binds : {m : Build A} {m′ : Build A′} {k : A → Build B} {k′ : A′ → Build B′}
       → Keeps R m m′ → ((a : A) (a′ : A′) → R a a′ → Keeps S (k a) (k′ a′)) → Keeps S (m >>= k) (m′ >>= k′)
   unfolding _>>=_
@@ -66,28 +71,34 @@ pub record Still {A : Type 0} (m : Build A) : Type 0 where
   pub run : (s : Registry) (x : A × Registry) → m s ≡ done x → s ≡ x .1
 
 module _ {A : Type 0} where
+  -- a value that is given
   pub still-give : (a : A) → Still (give a)
   unfolding give
   still-give a = record { run = λ s x e. cc }
 
+  -- a refusal
   pub still-refuse : (q : ℕ) → Still (refuse {A = A} q)
   unfolding refuse
   still-refuse q = record { run = λ s x e. absurd (not-done e) }
 
+  -- a value that is needed
   pub still-need : (o : Option A) (q : ℕ) → Still (need o q)
   unfolding need
   still-need none q = still-refuse q
   still-need (some a) q = still-give a
 
+  -- a look at the registry
   pub still-reads : (f : Registry → A) → Still (reads f)
   unfolding reads
   still-reads f = record { run = λ s x e. cc }
 
+-- a question
 pub still-require : (b : Bool) (q : ℕ) → Still (require b q)
 unfolding require
 still-require true q = still-give tt
 still-require false q = still-refuse q
 
+-- two such actions
 pub still-binds : {A B : Type 0} {m : Build A} {k : A → Build B} → Still m → ((a : A) → Still (k a)) → Still (m >>= k)
 unfolding _>>=_
 still-binds {m} {k} h g = record { run = λ s x e. let (y, d, i) = bound (m s) _ x e in h .run s y d ∙ g (y .0) .run (y .1) x i }

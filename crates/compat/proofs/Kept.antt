@@ -16,43 +16,38 @@ use Rattle.roundtrip.specs.Fits.{nothing, both, EntriesFits, InBlocks, PartFits
 use Rattle.compat.specs.Grown.{Grown, growing}
 use Rattle.compat.proofs.Table.{table, agree, Opened, opened, open-kind}
 
+-- a number and a text are kept; the first part, and those behind it, may only have grown
+both-kept : {t t′ : Tree} → Grown t t′ → (number t ≡ number t′) × (text t ≡ text t′) × Grown (first t) (first t′) × Grown (rest t) (rest t′)
+both-kept (Grown.name n) = (refl, refl, Grown.nil, Grown.nil)
+both-kept (Grown.num w v) = (refl, refl, Grown.nil, Grown.nil)
+both-kept Grown.nil = (refl, refl, Grown.nil, Grown.nil)
+both-kept (Grown.cons g h) = (refl, refl, g, h)
+both-kept (Grown.block at at′ k g) = (refl, refl, Grown.nil, Grown.nil)
+both-kept (Grown.grows at at′ k w x l) = (refl, refl, Grown.nil, Grown.nil)
+
+-- a number is kept
 pub number-kept : {t t′ : Tree} → Grown t t′ → number t ≡ number t′
-number-kept (Grown.name n) = refl
-number-kept (Grown.num w v) = refl
-number-kept Grown.nil = refl
-number-kept (Grown.cons g h) = refl
-number-kept (Grown.block at at′ k g) = refl
-number-kept (Grown.grows at at′ k w x l) = refl
+number-kept g = both-kept g .0
 
+-- a text is kept
 pub text-kept : {t t′ : Tree} → Grown t t′ → text t ≡ text t′
-text-kept (Grown.name n) = refl
-text-kept (Grown.num w v) = refl
-text-kept Grown.nil = refl
-text-kept (Grown.cons g h) = refl
-text-kept (Grown.block at at′ k g) = refl
-text-kept (Grown.grows at at′ k w x l) = refl
+text-kept g = both-kept g .1
 
+-- the first part may only have grown
 first-kept : {t t′ : Tree} → Grown t t′ → Grown (first t) (first t′)
-first-kept (Grown.name n) = Grown.nil
-first-kept (Grown.num w v) = Grown.nil
-first-kept Grown.nil = Grown.nil
-first-kept (Grown.cons g h) = g
-first-kept (Grown.block at at′ k g) = Grown.nil
-first-kept (Grown.grows at at′ k w x l) = Grown.nil
+first-kept g = both-kept g .2
 
+-- so may the parts behind it
 rest-kept : {t t′ : Tree} → Grown t t′ → Grown (rest t) (rest t′)
-rest-kept (Grown.name n) = Grown.nil
-rest-kept (Grown.num w v) = Grown.nil
-rest-kept Grown.nil = Grown.nil
-rest-kept (Grown.cons g h) = h
-rest-kept (Grown.block at at′ k g) = Grown.nil
-rest-kept (Grown.grows at at′ k w x l) = Grown.nil
+rest-kept g = both-kept g .3
 
+-- so may any part
 pub part-kept : (i : ℕ) {t t′ : Tree} → Grown t t′ → Grown (part i t) (part i t′)
 unfolding part
 part-kept zero g = first-kept g
 part-kept (suc i) g = part-kept i (rest-kept g)
 
+-- a list of texts is kept
 texts-kept : {t t′ : Tree} → Grown t t′ → entries text t ≡ entries text t′
 unfolding entries
 texts-kept (Grown.name n) = refl
@@ -62,12 +57,15 @@ texts-kept (Grown.cons g h) = ap₂ _∷_ (text-kept g) (texts-kept h)
 texts-kept (Grown.block at at′ k g) = refl
 texts-kept (Grown.grows at at′ k w x l) = refl
 
+-- an optional number is kept
 pub offset-kept : {t t′ : Tree} → Grown t t′ → optional number t ≡ optional number t′
 offset-kept g = rw (number-kept (first-kept g), number-kept (rest-kept g))
 
+-- a size is kept
 size-kept : {t t′ : Tree} → Grown t t′ → sizeOf t ≡ sizeOf t′
 size-kept g = rw (number-kept (first-kept g), number-kept (rest-kept g))
 
+-- a literal is kept
 literal-kept : {t t′ : Tree} → Grown t t′ → literalOf t ≡ literalOf t′
 literal-kept g = rw (number-kept (first-kept g), number-kept (rest-kept g))
 
@@ -82,18 +80,22 @@ exprParts ExprForm.alignof = Text ∷ []
 exprParts ExprForm.unary = Block 64 91 ∷ []
 exprParts ExprForm.binary = Block 64 91 ∷ Block 64 91 ∷ []
 
+-- the parts of the expression kinds, from the grammar
 expr-parts : (k : ℕ) → within 64 91 k ≡ true → partsOf k ≡ exprParts (exprForm k)
 unfolding table partsOf findRow grammar exprParts exprForm
 expr-parts = agree partsOf (λ k. exprParts (exprForm k)) 64 27 refl
 
+-- no expression kind may have entries added
 expr-still : (k : ℕ) → within 64 91 k ≡ true → growing k ≡ false
 unfolding table
 expr-still = agree growing (λ k. false) 64 27 refl
 
+-- the expression of a block inside
 abbrev expr : Tree → View ExprKind → ExprKind
 expr b v = makeExpr (kind b) (exprForm (kind b)) (body b) v
 
 module _ (B : InBlocks) (h : (x x′ : Tree) → B Earlier.any 64 91 x → Grown x x′ → exprOf x ≡ exprOf x′) (k : ℕ) (e : Earlier) where
+  -- an expression is kept, if those inside it are
   made-kept : (f : ExprForm) {t t′ : Tree} → PartsFits B e (exprParts f) t → Grown t t′ → makeExpr k f t (view expr t) ≡ makeExpr k f t′ (view expr t′)
   unfolding makeExpr exprParts PartsFits PartFits view partOr exprOf
   made-kept ExprForm.literal p g = ap ExprKind.Literal (literal-kept (part-kept 0 g))
@@ -103,6 +105,7 @@ module _ (B : InBlocks) (h : (x x′ : Tree) → B Earlier.any 64 91 x → Grown
   made-kept ExprForm.unary (both p nothing) (Grown.cons g Grown.nil) = ap (ExprKind.Unary k) (h _ _ p g)
   made-kept ExprForm.binary (both p (both q nothing)) (Grown.cons g (Grown.cons l Grown.nil)) = ap₂ (ExprKind.Binary k) (h _ _ p g) (h _ _ q l)
 
+-- an expression is kept, at any depth
 pub expr-kept : (room : ℕ) (e : Earlier) (t t′ : Tree) → BlockFits room e 64 91 t → Grown t t′ → exprOf t ≡ exprOf t′
 unfolding BlockFits exprOf view
 expr-kept zero e t t′ p g = absurd p
@@ -112,6 +115,7 @@ expr-kept (suc room) e t t′ (inside w _ _ p) (Grown.grows at at′ k d x l) = 
 
 -- ---- references
 
+-- an owner is kept
 owner-kept : (room : ℕ) (e : Earlier) {t t′ : Tree} → BlockFits room e 37 37 t → Grown t t′ → ownerOf t ≡ ownerOf t′
 unfolding BlockFits
 owner-kept zero e p g = absurd p
@@ -120,11 +124,13 @@ owner-kept (suc room) e p g = found (open-kind 37 refl p g)
     found : {t t′ : Tree} → Opened (λ k. PartsFits (BlockFits room) e (partsOf k)) 37 t t′ → ownerOf t ≡ ownerOf t′
     found (opened q h) = rw (text-kept (part-kept 0 h), texts-kept (rest-kept (part-kept 1 h)))
 
+-- a list of owners is kept
 owners-kept : (room n : ℕ) (e : Earlier) {t t′ : Tree} → EntriesFits (λ f. BlockFits room f 37 37) e n t → Grown t t′ → entries ownerOf t ≡ entries ownerOf t′
 unfolding EntriesFits entries
 owners-kept room zero e nothing Grown.nil = refl
 owners-kept room (suc n) e (both p q) (Grown.cons g h) = ap₂ _∷_ (owner-kept room e p g) (owners-kept room n _ q h)
 
+-- the references of a type are kept
 references-kept : (room : ℕ) (e : Earlier) {t t′ : Tree} → BlockFits room e 32 32 t → Grown t t′ → listed ownerOf (part 0 (body t)) ≡ listed ownerOf (part 0 (body t′))
 unfolding BlockFits PartsFits PartFits partsOf findRow grammar part
 references-kept zero e p g = absurd p

@@ -29,11 +29,13 @@ either R false h g = g
 
 -- ---- building the cases of a switch leaves the registry as it is
 
+-- the sum of nodes
 still-combine : (ns : List IrNode) → Still (combine-checked-add ns)
 unfolding combine-checked-add
 still-combine [] = still-refuse _
 still-combine (n ∷ ns) = still-give _
 
+-- the references of an owner
 still-refs : (owner : Name) (paths : List Name) → Still (build-field-ref-nodes owner paths)
 unfolding build-field-ref-nodes
 still-refs owner [] = still-give _
@@ -43,10 +45,12 @@ still-refs owner (p ∷ ps) =
     still-binds (still-require _ _) (λ _.
     still-binds (still-refs owner ps) (λ nodes. still-give _))))
 
+-- their sum
 still-sum : (owner : Name) (paths : List Name) → Still (sum-refs owner paths)
 unfolding sum-refs
 still-sum owner paths = still-binds (still-refs owner paths) (λ nodes. still-combine nodes)
 
+-- one alternative
 still-alternative : (refs : List Owner) (n : Name) (s : Size) (a : ℕ) → Still (build-alternative refs n s a)
 unfolding build-alternative
 still-alternative refs n (Size.Const v) a = still-give _
@@ -54,6 +58,7 @@ still-alternative refs n Size.Variable a =
     still-binds (still-need (get n refs) _) (λ paths.
     still-binds (still-sum n paths) (λ sum. still-give _))
 
+-- all alternatives
 still-cases : (refs : List Owner) (xs : List Alternative) → Still (build-cases refs xs)
 unfolding build-cases
 still-cases refs [] = still-give _
@@ -74,6 +79,7 @@ module _ (Known : Name → Type 0) where
   abbrev pub Extends : Build IrNode → Build IrNode → Type 0
   Extends = Keeps (NodeExtended Known)
 
+  -- nodes, each with its extension
   pub data NodesExtended : List IrNode → List IrNode → Type 0 where
     noNode : NodesExtended [] []
     node : {n n′ : IrNode} {ns ns′ : List IrNode}
@@ -82,27 +88,32 @@ module _ (Known : Name → Type 0) where
 module _ {Known : Name → Type 0} where
   -- ---- small nodes
 
+  -- an AlignUp over a node
   pub align-extends : {n n′ : IrNode} (a : ℕ) → NodeExtended Known n n′ → NodeExtended Known (align-node n a) (align-node n′ a)
   align-extends a x = NodeExtended.AlignUp unplaced unplaced (aligned a) a x
 
+  -- a constant or ZeroSize is its own extension
   pub const-or-zero-extends : (v a : ℕ) → NodeExtended Known (const-or-zero v a) (const-or-zero v a)
   const-or-zero-extends v a =
       either (NodeExtended Known) (eqb v 0)
       (NodeExtended.ZeroSize unplaced unplaced (aligned a))
       (align-extends a (NodeExtended.Const unplaced unplaced (aligned a) v))
 
+  -- a sum from the left
   add-all-extends : {n n′ : IrNode} {ns ns′ : List IrNode} → NodeExtended Known n n′ → NodesExtended Known ns ns′
       → NodeExtended Known (add-all n ns) (add-all n′ ns′)
   unfolding add-all
   add-all-extends x NodesExtended.noNode = x
   add-all-extends x (NodesExtended.node y ys) = add-all-extends (NodeExtended.Binary _ _ _ _ x y) ys
 
+  -- a sum of nodes, as it is built
   pub combine-extends : {ns ns′ : List IrNode} → NodesExtended Known ns ns′
       → Extends Known (combine-checked-add ns) (combine-checked-add ns′)
   unfolding combine-checked-add
   combine-extends NodesExtended.noNode = refuses _ _
   combine-extends (NodesExtended.node x xs) = gives _ _ (add-all-extends x xs)
 
+  -- the references of an owner are built alike
   refs-extend : (owner : Name) (paths : List Name)
       → Keeps (NodesExtended Known) (build-field-ref-nodes owner paths) (build-field-ref-nodes owner paths)
   unfolding build-field-ref-nodes
@@ -114,12 +125,14 @@ module _ {Known : Name → Type 0} where
       binds (refs-extend owner ps) (λ ns ns′ xs.
       gives _ _ (NodesExtended.node (NodeExtended.FieldRef _ _ _ _ _) xs)))))
 
+  -- so is their sum
   pub sum-extends : (owner : Name) (paths : List Name) → Extends Known (sum-refs owner paths) (sum-refs owner paths)
   unfolding sum-refs
   sum-extends owner paths = binds (refs-extend owner paths) (λ ns ns′ xs. combine-extends xs)
 
   -- ---- size expressions
 
+  -- a field reference of an expression
   path-extends : (owner path : Name) → Extends Known (build-path owner path) (build-path owner path)
   unfolding build-path
   path-extends owner path =
@@ -128,6 +141,7 @@ module _ {Known : Name → Type 0} where
       first _ (λ _.
       gives _ _ (NodeExtended.FieldRef _ _ _ _ _))))
 
+  -- an expression is built alike
   pub expr-extends : (owner prefix : Name) (e : ExprKind)
       → Extends Known (build-expr-ir owner prefix e) (build-expr-ir owner prefix e)
   unfolding build-expr-ir
@@ -147,6 +161,7 @@ module _ {Known : Name → Type 0} where
 
   -- ---- switches
 
+  -- the node of an alternative is built alike
   alternative-extends : (refs : List Owner) (n : Name) (s : Size) (a : ℕ)
       → Extends Known (build-alternative refs n s a) (build-alternative refs n s a)
   unfolding build-alternative
@@ -156,6 +171,7 @@ module _ {Known : Name → Type 0} where
       binds (sum-extends n paths) (λ m m′ x.
       gives _ _ (align-extends a x)))
 
+  -- the cases of alternatives, with more behind
   cases-extend : (refs : List Owner) {xs ys : List Alternative} → Added xs ys
       → Keeps (CasesExtended Known) (build-cases refs xs) (build-cases refs ys)
   unfolding build-cases
@@ -166,6 +182,7 @@ module _ {Known : Name → Type 0} where
       binds (cases-extend refs xs) (λ cs cs′ z.
       gives _ _ (CasesExtended.case _ parameters y z))))
 
+  -- so a switch is built to its extension
   pub switch-extends : (h : Head) (tag : Name) {xs ys : List Alternative} → Added xs ys
       → Extends Known (build-switch h tag xs) (build-switch h tag ys)
   unfolding build-switch
@@ -173,11 +190,13 @@ module _ {Known : Name → Type 0} where
 
   -- ---- a struct's padding
 
+  -- two lists of nodes, one behind the other
   append-extends : {ms ms′ ns ns′ : List IrNode} → NodesExtended Known ms ms′ → NodesExtended Known ns ns′
       → NodesExtended Known (ms ++ ns) (ms′ ++ ns′)
   append-extends NodesExtended.noNode ys = ys
   append-extends (NodesExtended.node x xs) ys = NodesExtended.node x (append-extends xs ys)
 
+  -- the padding before a field is built alike
   padding-itself : (end : ℕ) (o : Option ℕ) → NodesExtended Known (padding end o) (padding end o)
   unfolding padding
   padding-itself end none = NodesExtended.noNode
@@ -186,6 +205,7 @@ module _ {Known : Name → Type 0} where
       (NodesExtended.node (const-or-zero-extends (o - end) 1) NodesExtended.noNode)
       NodesExtended.noNode
 
+  -- padding in front of a struct's other nodes
   pub padding-extends : (end : ℕ) (o : Option ℕ) {ns ns′ : List IrNode} → NodesExtended Known ns ns′
       → NodesExtended Known (padding end o ++ ns) (padding end o ++ ns′)
   padding-extends end o xs = append-extends (padding-itself end o) xs

@@ -37,9 +37,11 @@ pub record Built (tree : Tree) (layout : List ℕ) : Type 0 where
   pub written : write (layoutTree types) ≡ layout
   pub short : length layout ≤ 65536
 
+-- said of the same tree under another name
 moved : (t u : Tree) (o : Outcome (List TypeIr)) → t ≡ u → build-types (typesOf t) 0 (typesOf t) ≡ o → build-types (typesOf u) 0 (typesOf u) ≡ o
 moved t u o e h = rw e at h
 
+-- a set that builds: its type trees, written, are the layout, of at most 65,536 bytes
 built-set : (words out : ℕ) (set layout : List ℕ) (tree : Tree) → readSet set ≡ done tree → build-set words out set ≡ done layout → Built tree layout
 unfolding build-set enough small write-layout
 built-set words out set layout tree read e =
@@ -65,6 +67,7 @@ unfolding _>>=_
 same-values old new f g (Unread.given t) h = h t
 same-values old new f g (Unread.at-offset q o) h = Agree.refusal _ _ refl refl SamePlace.none
 
+-- the same question on both sides, whose refusal has no place
 same-asked : (old new : List TypeIr) (f g : Unit → Outcome ℕ) (b : Bool) (r : Refusal) → r .place ≡ nowhere
     → Agree old new (f tt) (g tt) → Agree old new (ask b r >>= f) (ask b r >>= g)
 unfolding _>>=_ ask
@@ -91,12 +94,15 @@ module _ (p : Pair) (extends : Extends (p .oldTree) (p .newTree)) where
   old : Built (p .oldTree) (p .oldLayout)
   old = built-set _ _ _ _ _ (p .oldRead) (p .oldBuilt)
 
+  -- the new set's
   new : Built (p .newTree) (p .newLayout)
   new = built-set _ _ _ _ _ (p .newRead) (p .newBuilt)
 
+  -- the old layout is read from what was written
   old-layout : readLayout (write (layoutTree (old .types))) ≡ done (p .oldLayoutTree)
   old-layout = rw (old .written) (p .oldLayoutRead)
 
+  -- the new layout is
   new-layout : readLayout (write (layoutTree (new .types))) ≡ done (p .newLayoutTree)
   new-layout = rw (new .written) (p .newLayoutRead)
 

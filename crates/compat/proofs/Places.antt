@@ -28,6 +28,7 @@ found-from i n (u ∷ us) j t e = first (same n (u .type-name)) e (found-from (s
         (0, omega arith, subst (λ x. At 0 x (u ∷ us)) (ap (λ x. x .1) p) At.here)
     first false e later = let f = later e in (suc (f .0), omega (arith, f .1), At.there (f .2))
 
+-- a type that is found by name stands at its place
 pub found-at : (n : Name) (types : List TypeIr) (j : ℕ) (t : TypeIr) → lookup-type 0 n types ≡ done (j, t) → At j t types
 found-at n types j t e = let f = found-from 0 n types j t e in
     let q : f .0 ≡ j = omega (arith, f .1) in
@@ -57,6 +58,7 @@ pub record Stand (old new : List TypeIr) (p q : ℕ) (n n′ : IrNode) : Type 0 
   pub newWay : Reached (newType .root) way n′
 
 module _ {old new : List TypeIr} {p q : ℕ} where
+  -- the roots of two same-named types
   pub roots : {t t′ : TypeIr} → At p t old → At q t′ new → t .type-name ≡ t′ .type-name → Stand old new p q (t .root) (t′ .root)
   roots {t} {t′} a b e = record {
     oldType = t;
@@ -83,5 +85,6 @@ module _ {old new : List TypeIr} {p q : ℕ} where
       newWay = behind (s .newWay) r′;
     }
 
+    -- such nodes have the same place, by name
     pub same-place : Stand old new p q n n′ → SamePlace old new p q
     same-place s = SamePlace.named (s .oldThere) (s .newThere) (s .named)

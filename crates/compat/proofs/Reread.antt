@@ -25,10 +25,12 @@ use Rattle.compat.proofs.Shapes.{operation, shaped}
 abbrev pub held : ℕ → ℕ
 held v = v % 256 ^ 8
 
+-- what is read of metadata
 abbrev pub heldMeta : NodeMetadata → NodeMetadata
 heldMeta m = record { alignment = held (m .alignment); size-expr = m .size-expr }
 
 mutual
+  -- a node that was written, and what is read of it
   pub data NodeReread : IrNode → IrNode → Type 0 where
     ZeroSize : (a b : ℕ) (m : NodeMetadata) → NodeReread (IrNode.ZeroSize a m) (IrNode.ZeroSize b (heldMeta m))
     Const : (a b : ℕ) (m : NodeMetadata) (v : ℕ) → NodeReread (IrNode.Const a m v) (IrNode.Const b (heldMeta m) (held v))
@@ -39,20 +41,24 @@ mutual
     Binary : {l l′ r r′ : IrNode} (a b : ℕ) (m : NodeMetadata) (o : BinaryOp) → NodeReread l l′ → NodeReread r r′ → NodeReread (IrNode.Binary a m o l r) (IrNode.Binary b (heldMeta m) o l′ r′)
     SumOverArray : {c c′ : IrNode} (a b : ℕ) (m : NodeMetadata) (t f : Name) → NodeReread c c′ → NodeReread (IrNode.SumOverArray a m c t f) (IrNode.SumOverArray b (heldMeta m) c′ t f)
 
+  -- the same of cases
   pub data CasesReread : SwitchCases → SwitchCases → Type 0 where
     noCase : CasesReread SwitchCases.noCase SwitchCases.noCase
     case : {n n′ : IrNode} {cs cs′ : SwitchCases} (v : ℕ) (ps : List IrParameter) → NodeReread n n′ → CasesReread cs cs′ → CasesReread (SwitchCases.case v n ps cs) (SwitchCases.case (held v) n′ ps cs′)
 
+  -- and of a default node
   pub data DefaultReread : DefaultNode → DefaultNode → Type 0 where
     noDefault : DefaultReread DefaultNode.noDefault DefaultNode.noDefault
     orElse : {n n′ : IrNode} → NodeReread n n′ → DefaultReread (DefaultNode.orElse n) (DefaultNode.orElse n′)
 
+-- a type tree that was written, and what is read of it
 pub record TypeReread (t u : TypeIr) : Type 0 where
   pub named : u .type-name ≡ t .type-name
   pub alignment : u .alignment ≡ held (t .alignment)
   pub root : NodeReread (t .root) (u .root)
   pub parameters : u .parameters ≡ t .parameters
 
+-- type trees, each with what is read of it
 pub data LayoutReread : List TypeIr → List TypeIr → Type 0 where
   empty : LayoutReread [] []
   more : {t u : TypeIr} {ts us : List TypeIr} → TypeReread t u → LayoutReread ts us → LayoutReread (t ∷ ts) (u ∷ us)
@@ -63,25 +69,30 @@ pub data LayoutReread : List TypeIr → List TypeIr → Type 0 where
 abbrev back : ℕ → Tree → Tree
 back at t = placed at (cut t)
 
+-- an optional text is read back
 text-back : (x : Option Name) (at : ℕ) → optional text (back at (optionalTree name x)) ≡ x
 unfolding placed cut
 text-back (some n) at = refl
 text-back none at = refl
 
+-- a flag is read back
 flag-back : (b : Bool) (at : ℕ) → flag (back at (flagTree b)) ≡ b
 unfolding placed cut
 flag-back true at = refl
 flag-back false at = refl
 
+-- a parameter is read back
 parameter-back : (p : IrParameter) (at : ℕ) → parameterOf (back at (parameterTree p)) ≡ p
 unfolding placed cut part
 parameter-back p at = rw (text-back, flag-back)
 
+-- so is a list of them
 parameters-back : (ps : List IrParameter) (at : ℕ) → entries parameterOf (back at (entriesTree parameterTree ps)) ≡ ps
 unfolding placed cut entries entriesTree
 parameters-back [] at = refl
 parameters-back (p ∷ ps) at = ap₂ (λ (x : IrParameter) (xs : List IrParameter). x ∷ xs) (parameter-back p _) (parameters-back ps _)
 
+-- arguments are read back, but for their offsets
 arguments-back : (xs : List IrArgument) (at : ℕ) → SameArguments xs (entries argumentOf (back at (entriesTree argumentTree xs)))
 unfolding placed cut entries entriesTree part
 arguments-back [] at = SameArguments.none
@@ -92,6 +103,7 @@ arguments-back (x ∷ xs) at = SameArguments.more _ _ (x .name) (x .value) (argu
 mutual
   unfolding placed cut part view partOr partView casesIn formOf makeThing thingOf nodeOf nodeTree
 
+  -- a node is read back
   node-back : (n : IrNode) (at : ℕ) → NodeReread n (nodeOf (back at (nodeTree n)))
   node-back (IrNode.ZeroSize a m) at = rw text-back (NodeReread.ZeroSize a at m)
   node-back (IrNode.Const a m v) at = rw text-back (NodeReread.Const a at m v)
@@ -102,21 +114,25 @@ mutual
   node-back (IrNode.Binary a m o l r) at = rw (operation o .2, text-back) (NodeReread.Binary a at m o (node-back l _) (node-back r _))
   node-back (IrNode.SumOverArray a m c t f) at = rw text-back (NodeReread.SumOverArray a at m t f (node-back c _))
 
+  -- so are the cases of a switch
   cases-back : (cs : SwitchCases) (at : ℕ) → CasesReread cs (casesIn (view thingOf (back at (casesTree cs))))
   cases-back SwitchCases.noCase at = CasesReread.noCase
   cases-back (SwitchCases.case v n ps cs) at = rw parameters-back (CasesReread.case v ps (node-back n _) (cases-back cs _))
 
+  -- and its default node
   default-back : (d : DefaultNode) (at : ℕ) → DefaultReread d (defaultIn (back at (defaultTree d)) (view thingOf (back at (defaultTree d))))
   default-back DefaultNode.noDefault at = DefaultReread.noDefault
   default-back (DefaultNode.orElse n) at = DefaultReread.orElse (node-back n _)
 
 -- ---- layouts
 
+-- and the type trees of a layout
 types-back : (ts : List TypeIr) (at : ℕ) → LayoutReread ts (entries typeIrOf (back at (entriesTree typeIrTree ts)))
 unfolding placed cut part entries entriesTree
 types-back [] at = LayoutReread.empty
 types-back (t ∷ ts) at = LayoutReread.more (record { named = refl; alignment = refl; root = node-back (t .root) _; parameters = parameters-back (t .parameters) _ }) (types-back ts _)
 
+-- and the layout
 pub read-back : (ts : List TypeIr) → LayoutReread ts (layoutOf (placed 0 (cut (layoutTree ts))))
 unfolding placed cut part layoutOf layoutTree
 read-back ts = types-back ts _

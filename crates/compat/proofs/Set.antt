@@ -25,10 +25,12 @@ use Rattle.compat.proofs.FromTrees.{type-grown}
 
 -- ---- one type
 
+-- a type's head is read from its parts alike for every kind
 type-head : (t : Tree) (v : View Thing) (k : ℕ) → within 1 7 k ≡ true → head (asType (makeThing (formOf k) t v)) ≡ headOf t
 unfolding table makeThing formOf
 type-head t v = agree (λ i. head (asType (makeThing (formOf i) t v))) (λ i. headOf t) 1 6 refl
 
+-- a type begins with its name
 type-parts : (k : ℕ) → within 1 7 k ≡ true → partsOf k ≡ Key ∷ drop 1 (partsOf k)
 unfolding table partsOf findRow grammar
 type-parts = agree partsOf (λ i. Key ∷ drop 1 (partsOf i)) 1 6 refl
@@ -44,9 +46,11 @@ named (suc room) e b (inside {at} {k} w _ _ p) = found (rw (type-parts k w) at p
 
 -- ---- the types of a set
 
+-- n entries that are types within the limits, of names that e allows
 abbrev Types : Earlier → ℕ → Tree → Type 0
 Types = EntriesFits (λ f. BlockFits 31 f 1 7)
 
+-- a set that was read has such a list of types
 types-read : (s : List ℕ) → ((i : ℕ) → getD s i 0 < 256) → (t : Tree) → readSet s ≡ done t → (n : ℕ) × Types (Earlier.distinct []) n (rest (part 0 (body t)))
 unfolding BlockFits PartsFits PartFits partsOf findRow grammar part
 types-read s small t e = found t (accepted 32 36 s small t e .1)
@@ -57,12 +61,14 @@ types-read s small t e = found t (accepted 32 36 s small t e .1)
     found : (t : Tree) → BlockFits 32 Earlier.any 36 36 t → (n : ℕ) × Types (Earlier.distinct []) n (rest (part 0 (body t)))
     found t (inside {k} w _ _ p) = listed (rw (only 36 k w) at p)
 
+-- a type of the set is within the limits
 entry-fits : (n : ℕ) (e : Earlier) {t b : Tree} → Types e n t → Entry b t → (f : Earlier) × BlockFits 31 f 1 7 b
 unfolding EntriesFits
 entry-fits zero e nothing i = elim i [ ]
 entry-fits (suc n) e (both p q) Entry.here = (e, p)
 entry-fits (suc n) e (both p q) (Entry.there i) = entry-fits n _ q i
 
+-- a test of two that fails: both fail
 neither : (a b : Bool) → (a || b) ≡ false → (a ≡ false) × (b ≡ false)
 neither true b h = false-true (sym h)
 neither false b h = (refl, h)
@@ -88,6 +94,7 @@ record Found (n : Name) (t : Tree) (ty : ResolvedType) : Type 0 where
   type : typeOf block ≡ ty
   name : n ≡ head (typeOf block) .name
 
+-- a name that a set has is that of one of its blocks
 lookup : (m : ℕ) (e : Earlier) (n : Name) (t : Tree) (ty : ResolvedType) → Types e m t → get-type-info n (entries typeOf t) ≡ some ty → Found n t ty
 unfolding EntriesFits entries get-type-info
 lookup zero e n t ty nothing d = let z : _≡_ {A = ℕ} 0 1 = cc in absurd (omega arith)
@@ -104,6 +111,7 @@ type-found s small t b e i = entry-found _ [] (types-read s small t e .1) i
 
 -- ---- two sets
 
+-- growing keeps a type's name
 name-kept : {t t′ : ResolvedType} → TypeGrown t t′ → head t .name ≡ head t′ .name
 name-kept (TypeGrown.resolved h k) = refl
 

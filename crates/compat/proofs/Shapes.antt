@@ -15,23 +15,28 @@ use Rattle.ir.specs.Layout.{flagTree, optionalTree, entriesTree, parameterTree,
 
 -- ---- parts
 
+-- an optional text
 text-shaped : (x : Option Name) → Shaped (Form.optional Form.text 1) (optionalTree name x)
 text-shaped (some n) = Shaped.optional {v = 1} (omega arith) Shaped.text
 text-shaped none = Shaped.optional {v = 0} (omega arith) Shaped.nothing
 
+-- a flag
 flag-shaped : (b : Bool) → Shaped (Form.number 1) (flagTree b)
 flag-shaped true = Shaped.number
 flag-shaped false = Shaped.number
 
+-- a list of blocks, if each is shaped
 entries-shaped : {A : Type 0} (f : A → Tree) → ((a : A) → BlockShaped (f a)) → (xs : List A) → Shaped (times (length xs) Form.block) (entriesTree f xs)
 unfolding times entriesTree
 entries-shaped f h [] = Shaped.nothing
 entries-shaped f h (x ∷ xs) = Shaped.both (h x) (entries-shaped f h xs)
 
+-- a parameter
 parameter-shaped : (p : IrParameter) → BlockShaped (parameterTree p)
 unfolding formOf formsOf partsOf findRow grammar
 parameter-shaped p = Shaped.block {k = 162} (omega arith) (Shaped.both Shaped.text (Shaped.both (text-shaped (p .description)) (Shaped.both (flag-shaped (p .derived)) Shaped.nothing)))
 
+-- an argument
 argument-shaped : (x : IrArgument) → BlockShaped (argumentTree x)
 unfolding formOf formsOf partsOf findRow grammar
 argument-shaped x = Shaped.block {k = 164} (omega arith) (Shaped.both Shaped.text (Shaped.both Shaped.text Shaped.nothing))
@@ -63,6 +68,7 @@ operation BinaryOp.RightShift = (omega arith, refl, refl)
 mutual
   unfolding formOf formsOf partsOf findRow grammar nodeTable times nodeTree
 
+  -- a node
   node-shaped : (n : IrNode) → BlockShaped (nodeTree n)
   node-shaped (IrNode.ZeroSize at m) = Shaped.block {k = 128} (omega arith) (meta-shaped m Shaped.nothing)
   node-shaped (IrNode.Const at m v) = Shaped.block {k = 129} (omega arith) (meta-shaped m (Shaped.both Shaped.number Shaped.nothing))
@@ -73,22 +79,26 @@ mutual
   node-shaped (IrNode.Binary at m o l r) = Shaped.block (operation o .0) (rw (operation o .1) at (meta-shaped m (Shaped.both (node-shaped l) (Shaped.both (node-shaped r) Shaped.nothing))))
   node-shaped (IrNode.SumOverArray at m c t f) = Shaped.block {k = 144} (omega arith) (meta-shaped m (Shaped.both (node-shaped c) (Shaped.both Shaped.text (Shaped.both Shaped.text Shaped.nothing))))
 
+  -- the cases of a switch
   cases-shaped : (cs : SwitchCases) → Shaped (times (caseCount cs) Form.block) (casesTree cs)
   cases-shaped SwitchCases.noCase = Shaped.nothing
   cases-shaped (SwitchCases.case v n ps cs) =
       let e : 1 + caseCount cs ≡ suc (caseCount cs) = omega arith in
       rw e (Shaped.both (Shaped.block {k = 163} (omega arith) (Shaped.both Shaped.number (Shaped.both (node-shaped n) (Shaped.both (Shaped.list (entries-shaped parameterTree parameter-shaped ps)) Shaped.nothing)))) (cases-shaped cs))
 
+  -- its default node
   default-shaped : (d : DefaultNode) → Shaped (Form.optional Form.block 1) (defaultTree d)
   default-shaped DefaultNode.noDefault = Shaped.optional {v = 0} (omega arith) Shaped.nothing
   default-shaped (DefaultNode.orElse n) = Shaped.optional {v = 1} (omega arith) (node-shaped n)
 
 -- ---- layouts
 
+-- a type tree
 type-shaped : (t : TypeIr) → BlockShaped (typeIrTree t)
 unfolding formOf formsOf partsOf findRow grammar
 type-shaped t = Shaped.block {k = 161} (omega arith) (Shaped.both Shaped.text (Shaped.both Shaped.number (Shaped.both (node-shaped (t .root)) (Shaped.both (Shaped.list (entries-shaped parameterTree parameter-shaped (t .parameters))) Shaped.nothing))))
 
+-- a layout has the grammar's shape: so what is read of its writing is the layout itself
 pub shaped : (ts : List TypeIr) → BlockShaped (layoutTree ts)
 unfolding formOf formsOf partsOf findRow grammar layoutTree
 shaped ts = Shaped.block {k = 160} (omega arith) (Shaped.both (Shaped.list (entries-shaped typeIrTree type-shaped ts)) Shaped.nothing)

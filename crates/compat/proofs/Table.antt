@@ -12,9 +12,11 @@ use Rattle.blocks.proofs.Name.{and-left, and-right, false-true}
 use Rattle.roundtrip.specs.Fits.{Limits, Inside, inside}
 use Rattle.compat.specs.Grown.{Grown, growing}
 
+-- a kind from lo to hi lies between them
 pub bounds : (lo hi k : ℕ) → within lo hi k ≡ true → (lo ≤ k) × (k ≤ hi)
 bounds lo hi k w = (leb-true lo k (and-left _ _ w), leb-true k hi (and-right (leb lo k) _ w))
 
+-- a kind from i to i is i
 pub only : (i k : ℕ) → within i i k ≡ true → k ≡ i
 only i k w = let b = bounds i i k w in omega arith
 
@@ -24,6 +26,7 @@ table f lo zero = f lo ∷ []
 table f lo (suc n) = f lo ∷ table f (suc lo) n
 
 module _ {A : Type 0} (f g : ℕ → A) where
+  -- the same of every number of the table
   from : (n lo k : ℕ) → table f lo n ≡ table g lo n → lo ≤ k → k ≤ lo + n → f k ≡ g k
   unfolding table
   from zero lo k e l u = let q : k ≡ lo = omega arith in rw q (cc)
@@ -41,6 +44,7 @@ module _ {A : Type 0} (f g : ℕ → A) where
 pub data Opened (P : ℕ → Limits) (i : ℕ) : Tree → Tree → Type 0 where
   opened : {at at′ : ℕ} {t t′ : Tree} → P i t → Grown t t′ → Opened P i (Tree.block at i t) (Tree.block at′ i t′)
 
+-- a block of one kind that may not grow is opened on both sides
 pub open-kind : {P : ℕ → Limits} {b b′ : Tree} (i : ℕ) → growing i ≡ false → Inside P i i b → Grown b b′ → Opened P i b b′
 open-kind i c (inside w _ _ p) (Grown.block at at′ k g) = rw (only i k w) (opened (rw (only i k w) at p) g)
 open-kind i c (inside w _ _ p) (Grown.grows at at′ k d x l) = false-true (sym c ∙ rw (only i k w) at d)

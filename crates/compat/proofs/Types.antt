@@ -6,6 +6,7 @@ use mathlib.Core.Option.{Option, some, none}
 use Prim.Native.Nat.{ℕ, suc}
 use Rattle.blocks.specs.Name.{Name}
 use Rattle.expr.specs.Expr.{ExprKind}
+use Rattle.resolved.proofs.Lookup.{some-one}
 use Rattle.resolved.specs.Resolved.{Owner, Size, Head, ResolvedType, ResolvedTypeKind, Fields, Variants}
 use Rattle.resolved.specs.Resolved.{head, kindOf, fields, variants, get, get-type-info, targetOf, jaggedOf}
 use Rattle.ir.specs.Ir.{IrNode}
@@ -23,31 +24,21 @@ use Rattle.compat.proofs.Keeps.{Keeps, gives, refuses, needs, requires,
 use Rattle.compat.proofs.Nodes.{same-arguments, Added, Extends, NodesExtended, align-extends, const-or-zero-extends}
 use Rattle.compat.proofs.Nodes.{combine-extends, sum-extends, expr-extends, switch-extends, padding-extends}
 
-pub some-one : {A : Type 0} {x y : A} → some x ≡ some y → x ≡ y
-some-one e = cc
-
 -- ---- what growing keeps
 
+-- its head
 head-kept : {t t′ : ResolvedType} → TypeGrown t t′ → head t ≡ head t′
 head-kept (TypeGrown.resolved h g) = refl
 
-target-kept : {v : Bool} {k k′ : ResolvedTypeKind} → KindGrown v k k′ → targetOf k ≡ targetOf k′
-target-kept (KindGrown.Primitive v) = refl
-target-kept (KindGrown.Struct v g) = refl
-target-kept (KindGrown.Union g) = refl
-target-kept (KindGrown.Enum e g) = refl
-target-kept (KindGrown.Array v e j g) = refl
-target-kept (KindGrown.SizeDiscriminatedUnion g) = refl
-target-kept (KindGrown.TypeRef v n) = refl
-
-pub jagged-kept : {v : Bool} {k k′ : ResolvedTypeKind} → KindGrown v k k′ → jaggedOf k ≡ jaggedOf k′
-jagged-kept (KindGrown.Primitive v) = refl
-jagged-kept (KindGrown.Struct v g) = refl
-jagged-kept (KindGrown.Union g) = refl
-jagged-kept (KindGrown.Enum e g) = refl
-jagged-kept (KindGrown.Array v e j g) = refl
-jagged-kept (KindGrown.SizeDiscriminatedUnion g) = refl
-jagged-kept (KindGrown.TypeRef v n) = refl
+-- the name that a type reference has, and whether the type is a jagged array
+pub kind-kept : {v : Bool} {k k′ : ResolvedTypeKind} → KindGrown v k k′ → (targetOf k ≡ targetOf k′) × (jaggedOf k ≡ jaggedOf k′)
+kind-kept (KindGrown.Primitive v) = (refl, refl)
+kind-kept (KindGrown.Struct v g) = (refl, refl)
+kind-kept (KindGrown.Union g) = (refl, refl)
+kind-kept (KindGrown.Enum e g) = (refl, refl)
+kind-kept (KindGrown.Array v e j g) = (refl, refl)
+kind-kept (KindGrown.SizeDiscriminatedUnion g) = (refl, refl)
+kind-kept (KindGrown.TypeRef v n) = (refl, refl)
 
 -- The alternatives of a union, enum or sized union stay, since of a nested type they show its head alone; more may stand
 -- behind them.
@@ -58,6 +49,7 @@ union-added i (FieldsGrown.noField v) = Added.last _
 union-added i (FieldsGrown.addedFields fs) = Added.last _
 union-added i (FieldsGrown.field n o (TypeGrown.resolved h k) g) = Added.more _ (union-added (suc i) g)
 
+-- the alternatives of an enum
 enum-added : {v : Bool} {vs vs′ : Variants} → VariantsGrown v vs vs′
     → Added (enum-alternatives (variants vs)) (enum-alternatives (variants vs′))
 unfolding enum-alternatives variants
@@ -65,6 +57,7 @@ enum-added (VariantsGrown.noVariant v) = Added.last _
 enum-added (VariantsGrown.addedVariants vs) = Added.last _
 enum-added (VariantsGrown.variant n x (TypeGrown.resolved h k) g) = Added.more _ (enum-added g)
 
+-- those of a sized union
 sized-added : {v : Bool} {vs vs′ : Variants} → VariantsGrown v vs vs′
     → Added (sized-alternatives (variants vs)) (sized-alternatives (variants vs′))
 unfolding sized-alternatives variants
@@ -75,22 +68,25 @@ sized-added (VariantsGrown.variant n x (TypeGrown.resolved h k) g) = Added.more 
 module _ {Known : Name → Type 0} where
   -- ---- arrays
 
+  -- a sum over an array, with an extended count
   sum-over-array-extends : (h : Head) (owner : Name) {v : Bool} {k k′ : ResolvedTypeKind} {c c′ : IrNode}
       → NodeExtended Known c c′ → KindGrown v k k′
       → Extends Known (sum-over-array h owner c k) (sum-over-array h owner c′ k′)
   unfolding sum-over-array
   sum-over-array-extends h owner x g =
-      rw (target-kept g)
+      rw (kind-kept g .0)
       (first _ (λ target.
       gives _ _ (align-extends (h .alignment) (NodeExtended.SumOverArray _ _ _ target owner x))))
 
   module _ {inside inside′ : Build IrNode} (inner : Extends Known inside inside′) where
+    -- the node of an array's element
     element-extends : (s : Size) (a : ℕ) {v : Bool} {k k′ : ResolvedTypeKind} → KindGrown v k k′
         → Extends Known (build-element inside s a k) (build-element inside′ s a k′)
     unfolding build-element
     element-extends (Size.Const v) a g = gives _ _ (NodeExtended.Const _ _ _ v)
-    element-extends Size.Variable a g = rw (jagged-kept g) (first _ (λ _. inner))
+    element-extends Size.Variable a g = rw (kind-kept g .1) (first _ (λ _. inner))
 
+    -- an array's count and elements
     elements-extend : (h : Head) (owner : Name) (b : Bool) (eh : Head) {v : Bool} {k k′ : ResolvedTypeKind} {c c′ : IrNode}
         → NodeExtended Known c c′ → KindGrown v k k′
         → Extends Known (build-elements inside h owner c b eh k) (build-elements inside′ h owner c′ b eh k′)
@@ -112,10 +108,12 @@ module _ {Known : Name → Type 0} where
   mutual
     unfolding build-array-node-with-prefix build-array-kind
 
+    -- an array inside another
     array-extends : {t t′ : ResolvedType} → TypeGrown t t′ → (owner prefix : Name)
         → Extends Known (build-array-node-with-prefix owner prefix t) (build-array-node-with-prefix owner prefix t′)
     array-extends (TypeGrown.resolved h g) owner prefix = array-kind-extends g owner prefix h
 
+    -- the same by the element's kind
     array-kind-extends : {v : Bool} {k k′ : ResolvedTypeKind} → KindGrown v k k′ → (owner prefix : Name) (h : Head)
         → Extends Known (build-array-kind owner prefix h k) (build-array-kind owner prefix h k′)
     array-kind-extends (KindGrown.Primitive v) owner prefix h = refuses _ _
@@ -128,22 +126,26 @@ module _ {Known : Name → Type 0} where
     array-kind-extends (KindGrown.SizeDiscriminatedUnion g) owner prefix h = refuses _ _
     array-kind-extends (KindGrown.TypeRef v n) owner prefix h = refuses _ _
 
+  -- an array that is the root
   array-root-extends : {t t′ : ResolvedType} → TypeGrown t t′ → Extends Known (build-array-node t) (build-array-node t′)
   unfolding build-array-node
   array-root-extends (TypeGrown.resolved h g) = first _ (λ owner. array-extends (TypeGrown.resolved h g) owner [])
 
   -- ---- switches
 
+  -- a union
   union-extends : (h : Head) {v : Bool} {fs fs′ : Fields} → FieldsGrown v fs fs′
       → Extends Known (build-union-node h fs) (build-union-node h fs′)
   unfolding build-union-node
   union-extends h g = first _ (λ _. first _ (λ tag. switch-extends h tag (union-added 0 g)))
 
+  -- an enum
   enum-extends : (h : Head) (e : ExprKind) {v : Bool} {vs vs′ : Variants} → VariantsGrown v vs vs′
       → Extends Known (build-enum-node h e vs) (build-enum-node h e vs′)
   unfolding build-enum-node
   enum-extends h e g = first _ (λ _. first _ (λ tag. switch-extends h tag (enum-added g)))
 
+  -- a sized union
   sized-extends : (h : Head) {v : Bool} {vs vs′ : Variants} → VariantsGrown v vs vs′
       → Extends Known (build-size-discriminated-union-node h vs) (build-size-discriminated-union-node h vs′)
   unfolding build-size-discriminated-union-node
@@ -154,11 +156,13 @@ module _ {Known : Name → Type 0} where
 
   -- ---- fields that look up no type
 
+  -- a field by its references
   field-refs-extend : (refs : List Owner) (n : Name) (h : Head)
       → Extends Known (build-field-refs refs n h) (build-field-refs refs n h)
   unfolding build-field-refs
   field-refs-extend refs n h = first _ (λ paths. binds (sum-extends n paths) (λ m m′ x. first _ (λ _. gives _ _ x)))
 
+  -- a field that is an enum of references
   field-enum-extends : (paths : List Name) (n : Name) (h : Head) (e : ExprKind) {v : Bool} {vs vs′ : Variants}
       → VariantsGrown v vs vs′ → Extends Known (build-field-enum paths n h e vs) (build-field-enum paths n h e vs′)
   unfolding build-field-enum
@@ -181,6 +185,7 @@ module _ (Known : Name → Type 0) (old new : List ResolvedType) (grown : TypesG
       let i : g .type ≡ t′ = some-one (sym (g .found) ∙ e′) in
       (head-kept (g .grown) ∙ ap head i, known n t e)
 
+  -- a type reference
   typeref-extends : (h : Head) (target : Name)
       → Extends Known (build-typeref-node old h target) (build-typeref-node new h target)
   unfolding build-typeref-node
@@ -190,6 +195,7 @@ module _ (Known : Name → Type 0) (old new : List ResolvedType) (grown : TypesG
       (first _ (λ xs.
       gives _ _ (NodeExtended.CallNested _ _ _ target (x .1) (same-arguments xs)))))
 
+  -- a field of variable size, by its kind
   variable-field-extends : (refs : List Owner) (n : Name) (h : Head) {v : Bool} {k k′ : ResolvedTypeKind} → KindGrown v k k′
       → Extends Known (build-variable-field old refs n h k) (build-variable-field new refs n h k′)
   unfolding build-variable-field
@@ -207,6 +213,7 @@ module _ (Known : Name → Type 0) (old new : List ResolvedType) (grown : TypesG
       binds (typeref-extends h target) (λ m m′ x.
       gives _ _ (align-extends (h .alignment) x))
 
+  -- a field
   field-extends : (refs : List Owner) (n : Name) (s : Size) (h : Head) {v : Bool} {k k′ : ResolvedTypeKind} → KindGrown v k k′
       → Extends Known (build-field old refs n s h k) (build-field new refs n s h k′)
   unfolding build-field
@@ -224,6 +231,7 @@ module _ (Known : Name → Type 0) (old new : List ResolvedType) (grown : TypesG
       binds (fields-extend refs next g) (λ ns ns′ xs.
       gives _ _ (padding-extends end o (NodesExtended.node x xs)))))
 
+  -- a struct, field by field
   struct-extends : (h : Head) {fs fs′ : Fields} → FieldsGrown false fs fs′
       → Extends Known (build-variable-struct old h fs) (build-variable-struct new h fs′)
   unfolding build-variable-struct
@@ -232,6 +240,7 @@ module _ (Known : Name → Type 0) (old new : List ResolvedType) (grown : TypesG
       binds (combine-extends xs) (λ m m′ x.
       gives _ _ (align-extends (h .alignment) x)))
 
+  -- a type of variable size, by its kind
   variable-extends : (h : Head) {v : Bool} {k k′ : ResolvedTypeKind} → KindGrown v k k′
       → Extends Known (build-variable old h k) (build-variable new h k′)
   unfolding build-variable
@@ -252,6 +261,7 @@ module _ (Known : Name → Type 0) (old new : List ResolvedType) (grown : TypesG
   kind-extends h g none (Size.Const v) e e′ i = rw (e, e′, i) (gives _ _ (NodeExtended.Const _ _ _ v))
   kind-extends h g none Size.Variable e e′ i = rw (e, e′, i) (variable-extends _ g)
 
+  -- every type: its root and the root of what it has grown to
   pub root-extends : {t t′ : ResolvedType} → TypeGrown t t′
       → Extends Known (node-from-resolved old t) (node-from-resolved new t′)
-  root-extends (TypeGrown.resolved {k} h g) = kind-extends h g (targetOf k) (h .size) refl (sym (target-kept g)) refl
+  root-extends (TypeGrown.resolved {k} h g) = kind-extends h g (targetOf k) (h .size) refl (sym (kind-kept g .0)) refl

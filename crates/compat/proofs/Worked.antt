@@ -27,6 +27,7 @@ use Rattle.compat.specs.Grown.{NoOwner, AllAdded, Grown, GrownLast, Grow
 use Rattle.compat.specs.Statement.{Agree, Pair}
 use Rattle.compat.proofs.OldAndNew.{parameters-follow, old-and-new}
 
+-- the old set: an enum with one variant
 abbrev pub old-set : List ℕ
 old-set =
     130 ∷ 0 ∷ 0 ∷ 0 ∷ 36 ∷ 0 ∷ 1 ∷ 0 ∷ 122 ∷ 0 ∷ 0 ∷ 0 ∷ 4 ∷ 0 ∷ 4 ∷ 0 ∷ 70 ∷ 97 ∷ 114 ∷ 101 ∷ 1 ∷ 1 ∷ 0 ∷ 0 ∷ 0 ∷ 0 ∷
@@ -36,6 +37,7 @@ old-set =
     6 ∷ 0 ∷ 115 ∷ 105 ∷ 110 ∷ 103 ∷ 108 ∷ 101 ∷ 0 ∷ 4 ∷ 0 ∷ 0 ∷ 0 ∷ 0 ∷ 0 ∷ 0 ∷ 0 ∷ 1 ∷ 0 ∷ 0 ∷ 0 ∷ 0 ∷ 0 ∷ 0 ∷ 0 ∷
     4 ∷ 0 ∷ 0 ∷ 0 ∷ 32 ∷ 0 ∷ 0 ∷ 0 ∷ []
 
+-- the new one: a variant behind it
 abbrev pub new-set : List ℕ
 new-set =
     185 ∷ 0 ∷ 0 ∷ 0 ∷ 36 ∷ 0 ∷ 1 ∷ 0 ∷ 177 ∷ 0 ∷ 0 ∷ 0 ∷ 4 ∷ 0 ∷ 4 ∷ 0 ∷ 70 ∷ 97 ∷ 114 ∷ 101 ∷ 1 ∷ 1 ∷ 0 ∷ 0 ∷ 0 ∷ 0 ∷
@@ -47,6 +49,7 @@ new-set =
     0 ∷ 32 ∷ 0 ∷ 0 ∷ 0 ∷ 1 ∷ 0 ∷ 3 ∷ 0 ∷ 100 ∷ 97 ∷ 121 ∷ 0 ∷ 8 ∷ 0 ∷ 0 ∷ 0 ∷ 0 ∷ 0 ∷ 0 ∷ 0 ∷ 1 ∷ 0 ∷ 0 ∷ 0 ∷ 0 ∷ 0 ∷
     0 ∷ 0 ∷ 4 ∷ 0 ∷ 0 ∷ 0 ∷ 32 ∷ 0 ∷ 0 ∷ 0 ∷ []
 
+-- the layout of the old set
 abbrev pub old-layout : List ℕ
 old-layout =
     136 ∷ 0 ∷ 0 ∷ 0 ∷ 160 ∷ 0 ∷ 1 ∷ 0 ∷ 128 ∷ 0 ∷ 0 ∷ 0 ∷ 161 ∷ 0 ∷ 4 ∷ 0 ∷ 70 ∷ 97 ∷ 114 ∷ 101 ∷ 1 ∷ 0 ∷ 0 ∷ 0 ∷ 0 ∷
@@ -56,6 +59,7 @@ old-layout =
     0 ∷ 0 ∷ 0 ∷ 0 ∷ 0 ∷ 4 ∷ 0 ∷ 0 ∷ 0 ∷ 0 ∷ 0 ∷ 0 ∷ 0 ∷ 0 ∷ 0 ∷ 0 ∷ 1 ∷ 0 ∷ 15 ∷ 0 ∷ 0 ∷ 0 ∷ 162 ∷ 0 ∷ 9 ∷ 0 ∷ 70 ∷
     97 ∷ 114 ∷ 101 ∷ 46 ∷ 122 ∷ 111 ∷ 110 ∷ 101 ∷ 0 ∷ 0 ∷ []
 
+-- the layout of the new one
 abbrev pub new-layout : List ℕ
 new-layout =
     198 ∷ 0 ∷ 0 ∷ 0 ∷ 160 ∷ 0 ∷ 1 ∷ 0 ∷ 190 ∷ 0 ∷ 0 ∷ 0 ∷ 161 ∷ 0 ∷ 4 ∷ 0 ∷ 70 ∷ 97 ∷ 114 ∷ 101 ∷ 1 ∷ 0 ∷ 0 ∷ 0 ∷ 0 ∷
@@ -73,6 +77,7 @@ zone-0 =
     23 ∷ 0 ∷ 0 ∷ 0 ∷ 192 ∷ 0 ∷ 1 ∷ 0 ∷ 9 ∷ 0 ∷ 70 ∷ 97 ∷ 114 ∷ 101 ∷ 46 ∷ 122 ∷ 111 ∷ 110 ∷ 101 ∷ 0 ∷ 0 ∷ 0 ∷ 0 ∷ 0 ∷
     0 ∷ 0 ∷ 0 ∷ []
 
+-- and where the zone is 1
 abbrev pub zone-1 : List ℕ
 zone-1 =
     23 ∷ 0 ∷ 0 ∷ 0 ∷ 192 ∷ 0 ∷ 1 ∷ 0 ∷ 9 ∷ 0 ∷ 70 ∷ 97 ∷ 114 ∷ 101 ∷ 46 ∷ 122 ∷ 111 ∷ 110 ∷ 101 ∷ 1 ∷ 0 ∷ 0 ∷ 0 ∷ 0 ∷
@@ -80,30 +85,39 @@ zone-1 =
 
 -- ---- their trees
 
+-- the first variant
 abbrev single : Tree
 single = (block 73 34 (cons (name (ascii "single")) (cons (num 8 0) (cons (block 95 1 (cons (name (ascii "single")) (cons (cons (num 1 0) (num 8 4)) (cons (num 8 1) (cons (block 126 32 (cons (cons (num 2 0) nil) nil)) nil))))) nil))))
 
+-- the added one
 abbrev day : Tree
 day = (block 134 34 (cons (name (ascii "day")) (cons (num 8 1) (cons (block 153 1 (cons (name (ascii "day")) (cons (cons (num 1 0) (num 8 8)) (cons (num 8 1) (cons (block 181 32 (cons (cons (num 2 0) nil) nil)) nil))))) nil))))
 
+-- the enum's references
 abbrev references : Tree
 references = (block 29 32 (cons (cons (num 2 1) (cons (block 37 37 (cons (name (ascii "Fare")) (cons (cons (num 2 1) (cons (name (ascii "zone")) nil)) nil))) nil)) nil))
 
+-- the enum's tag expression
 abbrev tag : Tree
 tag = (block 57 65 (cons (cons (num 2 1) (cons (name (ascii "zone")) nil)) nil))
 
+-- the enum, with n variants
 abbrev fare : ℕ → Tree → Tree
 fare n variants = block 8 4 (cons (name (ascii "Fare")) (cons (cons (num 1 1) nil) (cons (num 8 1) (cons references (cons tag (cons (cons (num 2 n) variants) nil))))))
 
+-- a set of one type
 abbrev set : Tree → Tree
 set type = block 0 36 (cons (cons (num 2 1) (cons type nil)) nil)
 
+-- the enum in the old set
 abbrev old-fare : Tree
 old-fare = fare 1 (cons single nil)
 
+-- the enum in the new one
 abbrev new-fare : Tree
 new-fare = fare 2 (cons single (cons day nil))
 
+-- the tree of an answer
 abbrev treeIn : Outcome Tree → Tree
 treeIn (done t) = t
 treeIn (refused r) = nil
@@ -113,11 +127,13 @@ abbrev all-below : List ℕ → Bool
 all-below [] = true
 all-below (x ∷ xs) = ltb x 256 && all-below xs
 
+-- a list that passes the test has bytes only
 below : (s : List ℕ) → all-below s ≡ true → (i : ℕ) → getD s i 0 < 256
 below [] e i = lit< tt
 below (x ∷ xs) e zero = ltb-true x 256 (and-left _ _ e)
 below (x ∷ xs) e (suc i) = below xs (and-right (ltb x 256) _ e) i
 
+-- the two sets, built and read by computation
 pub pair : Pair
 unfolding errors blocks expr resolved ir builder interpreter
 pair = record {
@@ -153,10 +169,12 @@ grown (block at k t) = Grown.block at at k (grown t)
 grown nil = Grown.nil
 grown (cons a b) = Grown.cons (grown a) (grown b)
 
+-- the added variant is of constant size and has no owner
 day-added : AllAdded (cons day nil)
 unfolding NoOwner blocks
 day-added = AllAdded.more {b = day} (record { constant = refl; ownerless = (refl, (tt, ((tt, tt), (tt, ((refl, ((tt, tt), tt)), tt))))) }) AllAdded.none
 
+-- the enum has grown by it
 fare-grown : Grown old-fare new-fare
 unfolding blocks
 fare-grown =

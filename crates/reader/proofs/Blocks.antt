@@ -21,15 +21,18 @@ use Rattle.reader_grammar.specs.Parts.{Coded, Keyed}
 use Rattle.reader_grammar.proofs.Laws.{column}
 
 module _ (rb : Reader) (s : List ℕ) (e : Earlier) (start end : ℕ) where
+  -- no part is left: the body ends here
   pub parts-none : {ps : List Part} (at : ℕ) → ps ≡ [] → forget (readParts rb s e start end ps at) ≡ Ok at
   unfolding readParts forget
   parts-none at h = rw h
 
   module _ {ps qs : List Part} {p : Part} (h : ps ≡ p ∷ qs) (at : ℕ) where
+    -- a refused part refuses the block
     pub parts-stop : {q o : ℕ} → forget (readPart rb s e start end p at) ≡ Refused q o → forget (readParts rb s e start end ps at) ≡ Refused q o
     unfolding readParts
     parts-stop d = rw h (stopped (readPart rb s e start end p at) _ d)
 
+    -- a part that was read: those behind it decide
     pub parts-go : {m : ℕ} → forget (readPart rb s e start end p at) ≡ Ok m → forget (readParts rb s e start end ps at) ≡ forget (readParts rb s e start end qs m)
     unfolding readParts
     parts-go d = rw h (goes (readPart rb s e start end p at) (readParts rb s e start end qs) d)
@@ -43,6 +46,7 @@ found (done h) k {a} {b} e =
     ap₂ (λ (x y : ℕ). forget (k (x, y))) e0 e1
 found (refused r) k e = let z : _≡_ {A = ℕ} 0 1 = cc in absurd (omega arith)
 
+-- a refused header refuses what stands behind it
 none : (o : Outcome (ℕ × ℕ)) (k : (ℕ × ℕ) → Step) {q x : ℕ} → headOf o ≡ No q x → forget (o >>= k) ≡ Refused q x
 unfolding headOf _>>=_ forget
 none (done h) k e = let z : _≡_ {A = ℕ} 0 1 = cc in absurd (omega arith)
@@ -53,42 +57,51 @@ last : ℕ → ℕ → ℕ → (Tree × ℕ) → Step
 last at kind stop x = ask (eqb (x .1) stop) (unread 2 at) >>= (λ u. done (block at kind (x .0), stop))
 
 module _ (at kind stop : ℕ) {n : ℕ} where
+  -- the body is used up: the block is read
   last-ok : (x : Step) → forget x ≡ Ok n → n ≡ stop → forget (x >>= last at kind stop) ≡ Ok stop
   unfolding last forget _>>=_ ask
   last-ok (done p) e h = let e1 : p .1 ≡ stop = cc in rw (eq-eqb (p .1) stop e1)
   last-ok (refused r) e h = let z : _≡_ {A = ℕ} 0 1 = cc in absurd (omega arith)
 
+  -- the body is not used up: question 2 refuses the block
   last-rest : (x : Step) → forget x ≡ Ok n → (n ≡ stop → ⊥) → forget (x >>= last at kind stop) ≡ Refused 2 at
   unfolding last forget _>>=_ ask
   last-rest (done p) e h = let e1 : n ≡ p .1 = cc in rw (ne-eqb (p .1) stop (λ g. h (e1 ∙ g)))
   last-rest (refused r) e h = let z : _≡_ {A = ℕ} 0 1 = cc in absurd (omega arith)
 
 module _ (s : List ℕ) (e : Earlier) (lo hi at end : ℕ) where
+  -- a refused header refuses the block
   pub block-no : (room : ℕ) {q o : ℕ} → headOf (readHeader s lo hi at end) ≡ No q o → forget (readBlock room s e lo hi at end) ≡ Refused q o
   unfolding readBlock
   block-no zero d = none (readHeader s lo hi at end) _ d
   block-no (suc room) d = none (readHeader s lo hi at end) _ d
 
   module _ {k stop : ℕ} (d : headOf (readHeader s lo hi at end) ≡ Found k stop) where
+    -- no more block may be open: question 4 refuses it
     pub block-full : (room : ℕ) → room ≡ 0 → forget (readBlock room s e lo hi at end) ≡ Refused 4 at
     unfolding readBlock forget
     block-full room h = rw h (found (readHeader s lo hi at end) _ d)
 
+    -- its parts, read with this many blocks that may still be open
     abbrev inner : ℕ → Step
     inner room = readParts (readBlock room s) s e at stop (partsOf k) (at + 6)
 
+    -- where a block may be open, its parts and its end decide
     opened : (room : ℕ) → (room ≡ 0 → ⊥) → forget (readBlock room s e lo hi at end) ≡ forget (inner (room - 1) >>= last at k stop)
     unfolding readBlock last
     opened zero h = absurd (h refl)
     opened (suc room) h = rw sub-one (found (readHeader s lo hi at end) _ d)
 
     module _ (room : ℕ) (h : room ≡ 0 → ⊥) where
+      -- refused parts refuse the block
       pub block-stop : {q o : ℕ} → forget (inner (room - 1)) ≡ Refused q o → forget (readBlock room s e lo hi at end) ≡ Refused q o
       block-stop g = opened room h ∙ stopped (inner (room - 1)) (last at k stop) g
 
+      -- parts that end where the block ends: it is read
       pub block-ok : {n : ℕ} → forget (inner (room - 1)) ≡ Ok n → n ≡ stop → forget (readBlock room s e lo hi at end) ≡ Ok stop
       block-ok g x = opened room h ∙ last-ok at k stop (inner (room - 1)) g x
 
+      -- parts that end before it: question 2 refuses it
       pub block-rest : {n : ℕ} → forget (inner (room - 1)) ≡ Ok n → (n ≡ stop → ⊥) → forget (readBlock room s e lo hi at end) ≡ Refused 2 at
       block-rest g x = opened room h ∙ last-rest at k stop (inner (room - 1)) g x
 
@@ -100,6 +113,7 @@ pub record Decoded (kind i : ℕ) (p : Part) : Type 0 where
   pub rest : drop i (partsOf kind) ≡ p ∷ drop (i + 1) (partsOf kind)
   pub below : i < 7
 
+-- the code found a part's code there: the part it makes is the kind's next one
 pub decoded : (kind i code : ℕ) (r : Part) → code ≡ codeAt kind i → (code ≡ 0 → ⊥) → ((p : Part) → Coded p → code ≡ codeOf p → r ≡ p) → Decoded kind i r
 decoded kind i code r e h g =
     let c = column kind i (λ z. h (e ∙ z)) in

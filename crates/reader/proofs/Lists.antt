@@ -44,6 +44,7 @@ pub record Opened (room : ℕ) (s : List ℕ) (e : Earlier) (lo hi at end : ℕ)
   pub parts : readParts rb s e at (at + 4 + le4 s at) (partsOf (le2 s (at + 4))) (at + 6) ≡ done tree
   pub same : (block at (le2 s (at + 4)) (tree .0), at + 4 + le4 s at) ≡ x
 
+-- a block that was read is opened: header, parts and end
 pub opened : (room : ℕ) (s : List ℕ) (e : Earlier) (lo hi at end : ℕ) (x : Tree × ℕ) → readBlock room s e lo hi at end ≡ done x → Opened room s e lo hi at end x
 unfolding readBlock
 opened zero s e lo hi at end x d = absurd (not-done (bound (readHeader s lo hi at end) _ _ d .2))
@@ -63,6 +64,7 @@ record Headed (rb : Reader) (s : List ℕ) (e : Earlier) (start end : ℕ) (ps :
   others : readParts rb s e start end ps (at + 2 + le2 s at) ≡ done behind-name
   same : cons (name (nameAt s at)) (behind-name .0) ≡ y .0
 
+-- parts of which the first is a name: name and others
 headed : (rb : Reader) (s : List ℕ) (e : Earlier) (start end : ℕ) (ps : List Part) (at : ℕ) (y : Tree × ℕ) → readParts rb s e start end (Key ∷ ps) at ≡ done y → Headed rb s e start end ps at y
 unfolding readParts readPart
 headed rb s e start end ps at y d =
@@ -83,9 +85,10 @@ record Counted (s : List ℕ) (e : Earlier) (end at : ℕ) (y : Tree × ℕ) : T
   entries : Tree
   none : Tree
   inside : at + 2 ≤ end
-  few : le2 s at ≤ 64 - pathsBefore e
+  bounded : le2 s at ≤ 64 - pathsBefore e
   same : cons (cons (num 2 (le2 s at)) entries) none ≡ y .0
 
+-- the paths that were read: their count, within what the owners before leave
 counted : (rb : Reader) (s : List ℕ) (e : Earlier) (start end at : ℕ) (y : Tree × ℕ) → readParts rb s e start end (Paths 64 ∷ []) at ≡ done y → Counted s e end at y
 unfolding readParts readPart readList readCount _>>=_
 counted rb s e start end at y d =
@@ -101,7 +104,7 @@ counted rb s e start end at y d =
       entries = m .0 .0;
       none = nil;
       inside = leb-true _ _ (q1 .0);
-      few = leb-true _ _ (q2 .0);
+      bounded = leb-true _ _ (q2 .0);
       same = ap (λ (t : Tree). cons (cons t (m .0 .0)) nil) f ∙ ap (λ (t : Tree). cons t nil) g ∙ ap (λ (z : Tree × ℕ). z .0) (done-one (a .2));
     }
 
@@ -113,6 +116,7 @@ record Met (s : List ℕ) (at end : ℕ) (x : Tree × ℕ) : Type 0 where
   stop : x .1 ≡ at + 4 + le4 s at
   inside : at + 6 + 2 + le2 s (at + 6) ≤ end
 
+-- a block that begins with a name has what a list needs
 type-met : {room : ℕ} {s : List ℕ} {e : Earlier} {lo hi at end : ℕ} {x : Tree × ℕ} → Opened room s e lo hi at end x → (ps : List Part) → partsOf (le2 s (at + 4)) ≡ Key ∷ ps → Met s at end x
 unfolding nameOf
 type-met {s = s} {e} {at = at} o ps h =
@@ -126,12 +130,14 @@ type-met {s = s} {e} {at = at} o ps h =
 -- and of an owner
 record OwnerMet (s : List ℕ) (e : Earlier) (at end : ℕ) (x : Tree × ℕ) : Type 0 where
   paths : pathsOf (x .0) ≡ le2 s (at + 6 + 2 + le2 s (at + 6))
-  few : le2 s (at + 6 + 2 + le2 s (at + 6)) ≤ 64 - pathsBefore e
+  bounded : le2 s (at + 6 + 2 + le2 s (at + 6)) ≤ 64 - pathsBefore e
   inside : at + 6 + 2 + le2 s (at + 6) + 2 ≤ end
 
+-- a kind from 37 to 37 is 37
 only : (lo hi k : ℕ) → lo ≡ 37 → hi ≡ 37 → within lo hi k ≡ true → k ≡ 37
 only lo hi k f g h = omega (arith, leb-true lo k (and-left (leb lo k) (leb k hi) h), leb-true k hi (and-right (leb lo k) (leb k hi) h))
 
+-- an owner is a name and paths
 owner-parts : partsOf 37 ≡ Key ∷ Paths 64 ∷ []
 unfolding partsOf findRow grammar
 owner-parts = refl
@@ -141,6 +147,7 @@ shaped : (at k c : ℕ) (n : Tree) (t u : Tree) → k ≡ 37 → pathsOf (block 
 unfolding part
 shaped at k c n t u h = rw h
 
+-- an owner's paths are counted where the code counts them
 owner-met : {room : ℕ} {s : List ℕ} {e : Earlier} {lo hi at end : ℕ} {x : Tree × ℕ} → Opened room s e lo hi at end x → le2 s (at + 4) ≡ 37 → OwnerMet s e at end x
 owner-met {s = s} {e} {at = at} {x = x} o h =
     let g = headed (o .rb) s e at (at + 4 + le4 s at) (Paths 64 ∷ []) (at + 6) (o .tree) (rw (h, owner-parts) at (o .parts)) in
@@ -149,7 +156,7 @@ owner-met {s = s} {e} {at = at} {x = x} o h =
     let b : block at (le2 s (at + 4)) (o .tree .0) ≡ x .0 = ap (λ (z : Tree × ℕ). z .0) (o .same) in
     record {
       paths = rw (← b, ← t) (shaped at (le2 s (at + 4)) _ _ _ _ h);
-      few = n .few;
+      bounded = n .bounded;
       inside = omega (arith, n .inside, o .high);
     }
 
@@ -160,6 +167,7 @@ behind-count s first zero = omega arith
 behind-count s first (suc n) = omega (arith, behind-count s first n)
 
 module _ (s : List ℕ) (first count at : ℕ) (h : at ≡ behind s first count) where
+  -- one name more lies inside
   stand-more : Stand s first count → NameIn s (at + 6) → Stand s first (count + 1)
   unfolding Stand
   stand-more d g k l = go (leb (k + 1) count) refl
@@ -168,14 +176,17 @@ module _ (s : List ℕ) (first count at : ℕ) (h : at ≡ behind s first count)
       go true e = d k (omega (arith, leb-true (k + 1) count e))
       go false e = let z : k ≡ count = omega (arith, leb-false (k + 1) count e) in rw (z, ← h) g
 
+  -- the next block begins where this one ends
   behind-more : {m : ℕ} → m ≡ at + 4 + le4 s at → m ≡ behind s first (count + 1)
   unfolding behind
   behind-more e = rw (e, add-one count, ← h)
 
+  -- one name more stands before
   names-more : {n : Name} → n ≡ nameAt s (at + 6) → _≡_ {A = List Name} (n ∷ namesBefore s first count) (namesBefore s first (count + 1))
   unfolding namesBefore
   names-more e = rw (e, add-one count, ← h)
 
+  -- the last name is now this block's
   last-more : at + 6 ≡ lastOf s first (count + 1)
   unfolding lastOf
   last-more = rw (add-one count, ← h)
@@ -187,6 +198,7 @@ pub record Next (s : List ℕ) (seen : Seen) (lo hi at : ℕ) (x : Tree × ℕ) 
   pub before : Before s (grownOf s seen at) lo hi (x .1)
 
 module _ (room : ℕ) (s : List ℕ) (lo hi at end : ℕ) (fits : end ≤ length s) (x : Tree × ℕ) where
+  -- a type or a type tree was read: what is kept of the names grows by one
   types-next : (first count : ℕ) → Before s (Types first count) lo hi at → readBlock room s (earlierOf s (Types first count)) lo hi at end ≡ done x → Next s (Types first count) lo hi at x
   unfolding earlierOf grownOf Grows Valid Here Suits
   types-next first count b d =
@@ -203,6 +215,7 @@ module _ (room : ℕ) (s : List ℕ) (lo hi at end : ℕ) (fits : end ≤ length
         };
       }
 
+  -- an owner was read: names and paths grow
   owners-next : (first count last paths : ℕ) → Before s (Owners first count last paths) lo hi at → readBlock room s (earlierOf s (Owners first count last paths)) lo hi at end ≡ done x → Next s (Owners first count last paths) lo hi at x
   unfolding earlierOf grownOf Grows Valid Here Suits
   owners-next first count last paths b d =
@@ -214,12 +227,13 @@ module _ (room : ℕ) (s : List ℕ) (lo hi at end : ℕ) (fits : end ≤ length
         grows = (omega (arith, behind-count s first count, b .here), omega (arith, w .inside), b .valid .2);
         same = ap₂ (λ (ns : List Name) (p : ℕ). Earlier.ascending ns (paths + p)) (names-more s first count at (b .here) (m .named)) (w .paths);
         before = record {
-          valid = (stand-more s first count at (b .here) (b .valid .0) (omega (arith, m .inside)), last-more s first count at (b .here), omega (arith, w .few, b .valid .2));
+          valid = (stand-more s first count at (b .here) (b .valid .0) (omega (arith, m .inside)), last-more s first count at (b .here), omega (arith, w .bounded, b .valid .2));
           here = behind-more s first count at (b .here) (m .stop);
           suits = b .suits;
         };
       }
 
+  -- a block was read: what is kept grows as the definition's does
   pub next : (seen : Seen) → Before s seen lo hi at → readBlock room s (earlierOf s seen) lo hi at end ≡ done x → Next s seen lo hi at x
   unfolding earlierOf grownOf Grows Valid Here Suits
   next Nothing b d = record { grows = tt; same = refl; before = record { valid = tt; here = tt; suits = tt } }
@@ -235,9 +249,11 @@ module _ (room : ℕ) (s : List ℕ) (lo hi end : ℕ) where
   entry f a = readBlock room s f lo hi a end
 
   module _ (fits : end ≤ length s) {seen : Seen} {at m : ℕ} (b : Before s seen lo hi at) (d : forget (readBlock room s (earlierOf s seen) lo hi at end) ≡ Ok m) where
+    -- so the code may add the block to what it keeps
     pub list-grows : Grows s seen at
     list-grows = let t = taken (readBlock room s (earlierOf s seen) lo hi at end) d in next room s lo hi at end fits (t .0) seen b (t .1) .grows
 
+    -- and the blocks left behind it decide
     pub list-go : (left : ℕ) {r : Seen} → 0 < left → r ≡ grownOf s seen at →
         Before s r lo hi m × (forget (readEntries entry (earlierOf s seen) left at) ≡ forget (readEntries entry (earlierOf s r) (left - 1) m))
     list-go left h g =
@@ -248,22 +264,27 @@ module _ (room : ℕ) (s : List ℕ) (lo hi end : ℕ) where
 -- ---- where a list begins
 
 module _ (s : List ℕ) (lo hi at : ℕ) where
+  -- of a list with no order nothing is kept
   pub nothing-before : Before s Nothing lo hi at
   unfolding Valid Here Suits
   nothing-before = record { valid = tt; here = tt; suits = tt }
 
+  -- and nothing is asked of what is kept
   pub nothing-valid : Valid s Nothing
   unfolding Valid
   nothing-valid = tt
 
+  -- no name stands before the first block
   stand-none : Stand s at 0
   unfolding Stand
   stand-none k l = absurd (omega arith)
 
+  -- at the start of a list of owners
   pub owners-before : (lo ≡ 37) × (hi ≡ 37) → Before s (Owners at 0 0 0) lo hi at
   unfolding Valid Here Suits behind lastOf
   owners-before h = record { valid = (stand-none, refl, omega arith); here = refl; suits = h }
 
+  -- at the start of a list of types or of type trees
   pub types-before : ((lo ≡ 1) × (hi ≡ 7)) ⊎ ((lo ≡ 161) × (hi ≡ 161)) → Before s (Types at 0) lo hi at
   unfolding Valid Here Suits behind
   types-before h = record { valid = stand-none; here = refl; suits = λ k w. begins k (leb-true lo k (and-left (leb lo k) (leb k hi) w)) (leb-true k hi (and-right (leb lo k) (leb k hi) w)) h }
@@ -274,9 +295,11 @@ module _ (s : List ℕ) (lo hi at : ℕ) where
 
 -- ---- the parts that hold no block, as places in `Part`
 
+-- their places in `Part`
 abbrev pub others : List ℕ
 others = 0 ∷ 1 ∷ 2 ∷ 3 ∷ 4 ∷ 5 ∷ 6 ∷ 7 ∷ 13 ∷ 14 ∷ 15 ∷ []
 
+-- a part that the match leaves to the last arm holds no block
 pub plain : (p : Part) → OneOf others (tagOf the-type p) → Plain p
 unfolding Plain
 plain Text h = tt

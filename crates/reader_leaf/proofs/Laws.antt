@@ -44,6 +44,7 @@ unfolding forget _>>=_
 then t (done z) = refl
 then t (refused r) = refl
 
+-- where the first of two was read, the second decides
 pub goes : (o : Step) (k : ℕ → Step) {m : ℕ} → forget o ≡ Ok m → forget (o >>= (λ x. k (x .1) >>= (λ y. done (cons (x .0) (y .0), y .1)))) ≡ forget (k m)
 unfolding forget _>>=_
 goes (done x) k {m} e = let h : x .1 ≡ m = cc in then (x .0) (k (x .1)) ∙ ap (λ (i : ℕ). forget (k i)) h
@@ -59,6 +60,7 @@ module _ (s : List ℕ) (start end at : ℕ) where
   -- ---- a text
 
   module _ (n : ℕ) (l : n ≡ le2 s at) (h : at + 2 ≤ end) (g : at + 2 + n ≤ end) where
+    -- a text whose bytes lie inside: question 3 decides
     pub text-is : (b : Bool) → b ≡ isText (take (at + 2 + n - (at + 2)) (drop (at + 2) s)) →
         forget (readText s start end at) ≡ forget (ask b (unread 3 start) >>= (λ u. done (name (nameAt s at), at + 2 + n)))
     unfolding readText _>>=_ ask
@@ -67,6 +69,7 @@ module _ (s : List ℕ) (start end at : ℕ) where
         let d : at + 2 + le2 s at ≤ end = omega arith in
         rw (l, le-leb _ _ h, le-leb _ _ d, f)
 
+  -- a text that the code accepts: the definition's tree and end
   pub text-done : {n : ℕ} → forget (readText s start end at) ≡ Ok n → readText s start end at ≡ done (name (nameAt s at), at + 2 + le2 s at)
   unfolding readText
   text-done e =
@@ -78,6 +81,7 @@ module _ (s : List ℕ) (start end at : ℕ) where
 
   -- ---- a flag, and what it announces
 
+  -- a flag that the code accepts: the same
   pub flag-done : {n : ℕ} → forget (readFlag s start end at) ≡ Ok n → (readFlag s start end at ≡ done (num 1 (getD s at 0), at + 1)) × (at + 1 ≡ n)
   unfolding readFlag
   flag-done e =
@@ -88,30 +92,36 @@ module _ (s : List ℕ) (start end at : ℕ) where
       (t .1 ∙ sym (q2 .1), d ∙ t .2)
 
   module _ (f : ℕ → Step) (on : ℕ) where
+    -- a flag that is refused refuses the optional part
     pub optional-stop : {q o : ℕ} → forget (readFlag s start end at) ≡ Refused q o → forget (readOptional f on s start end at) ≡ Refused q o
     unfolding readOptional
     optional-stop e = stopped (readFlag s start end at) _ e
 
     module _ {n : ℕ} (e : forget (readFlag s start end at) ≡ Ok n) where
+      -- behind a flag that was read, its value decides
       optional-if : forget (readOptional f on s start end at) ≡ forget (readIf (eqb (getD s at 0) on) f n)
       unfolding readOptional _>>=_
       optional-if = let d = flag-done e in rw (d .0, d .1) (then (num 1 (getD s at 0)) (readIf (eqb (getD s at 0) on) f n))
 
+      -- the flag says that the part is there: it decides
       pub optional-on : getD s at 0 ≡ on → forget (readOptional f on s start end at) ≡ forget (f n)
       unfolding readIf
       optional-on h = optional-if ∙ rw (eq-eqb (getD s at 0) on h)
 
+      -- the flag says that it is not: the part ends behind the flag
       pub optional-off : (getD s at 0 ≡ on → ⊥) → forget (readOptional f on s start end at) ≡ Ok n
       unfolding readIf forget
       optional-off h = optional-if ∙ rw (ne-eqb (getD s at 0) on h)
 
   -- ---- a name that something is asked of
 
+  -- a name that is no text is refused as that text
   pub key-stop : (e : Earlier) {q o : ℕ} → forget (readText s start end at) ≡ Refused q o → forget (readKey s start end e at) ≡ Refused q o
   unfolding readKey
   key-stop e d = stopped (readText s start end at) _ d
 
   module _ (e : Earlier) {n : ℕ} (d : forget (readText s start end at) ≡ Ok n) where
+    -- a name that is a text: question 6 decides
     key-is : forget (readKey s start end e at) ≡ forget (ask (inOrder e (nameAt s at)) (unread 6 start) >>= (λ u. done (name (nameAt s at), n)))
     unfolding readKey _>>=_ nameOf
     key-is =
@@ -120,24 +130,29 @@ module _ (s : List ℕ) (start end at : ℕ) where
         let g : at + 2 + le2 s at ≡ n = cc in
         rw (f, g)
 
+    -- a name in its order is accepted
     pub key-yes : inOrder e (nameAt s at) ≡ true → forget (readKey s start end e at) ≡ Ok n
     unfolding forget _>>=_ ask
     key-yes h = key-is ∙ rw h
 
+    -- a name out of its order is refused by question 6
     pub key-no : inOrder e (nameAt s at) ≡ false → forget (readKey s start end e at) ≡ Refused 6 start
     unfolding forget _>>=_ ask
     key-no h = key-is ∙ rw h
 
 -- ---- what was read lies inside
 
+-- a text that was read ends inside
 pub text-inside : (r : Read) (s : List ℕ) (at end : ℕ) → TextIn r s at end → Inside r end
 text-inside (Ok n) s at end h = h .1
 text-inside (Refused q o) s at end h = tt
 
+-- so does a number or a flag
 pub wide-inside : (r : Read) (width at end : ℕ) → WideIn r width at end → Inside r end
 wide-inside (Ok n) width at end h = h .1
 wide-inside (Refused q o) width at end h = tt
 
+-- so does a name with a number
 pub pair-inside : (r : Read) (s : List ℕ) (at mid end : ℕ) → (mid ≡ at + 2 + le2 s at) × (mid ≤ end) → WideIn r 8 mid end → EntryIn r s at end
 pair-inside (Ok n) s at mid end e h = (omega arith, h .1)
 pair-inside (Refused q o) s at mid end e h = tt
@@ -148,21 +163,25 @@ pair-inside (Refused q o) s at mid end e h = tt
 pub past : (k x : ℕ) → k ≤ x → (x ≡ k → ⊥) → (x ≡ k + 1 → ⊥) → (x ≡ k + 2 → ⊥) → (x ≡ k + 3 → ⊥) → k + 4 ≤ x
 past k x h a b c d = omega arith
 
+-- a code above 7 has no type: no number lies in it
 pub no-type : (code v : ℕ) → 8 ≤ code → inType code v ≡ false
 unfolding inType
 no-type code v h = List·getD-eq-default (true ∷ ltb v (2 ^ 32) ∷ ltb v (2 ^ 16) ∷ ltb v (2 ^ 8) ∷ signedIn 64 v ∷ signedIn 32 v ∷ signedIn 16 v ∷ signedIn 8 v ∷ []) false h
 
 -- ---- names in order
 
+-- one of two tests holds, since the second does
 or-right : (b : Bool) {c : Bool} → c ≡ true → (b || c) ≡ true
 or-right true e = refl
 or-right false e = e
 
 module _ (s : List ℕ) where
+  -- the first name of a list is in order
   pub first-ascends : (last p : ℕ) (n : Name) → last ≡ 0 → inOrder (Earlier.ascending (lastName s last) p) n ≡ true
   unfolding inOrder lastName
   first-ascends last p n h = rw (eq-eqb last 0 h)
 
+  -- another name is in order if the last one is less
   pub next-ascends : (last p : ℕ) (n : Name) → (last ≡ 0 → ⊥) → inOrder (Earlier.ascending (lastName s last) p) n ≡ less (nameAt s last) n
   unfolding inOrder lastName
   next-ascends last p n h = rw (ne-eqb last 0 h)
@@ -173,14 +192,17 @@ module _ (s : List ℕ) where
   owners-ascend first zero p n = refl
   owners-ascend first (suc k) p n = rw (ne-eqb (behind s first k + 6) 0 (λ e. omega arith))
 
+  -- a comparison with the last owner's name decides the order of owners
   pub owners-order : (first count last p : ℕ) (n : Name) → last ≡ lastOf s first count → inOrder (Earlier.ascending (lastName s last) 0) n ≡ inOrder (Earlier.ascending (namesBefore s first count) p) n
   owners-order first count last p n e = rw e (sym (owners-ascend first count p n))
 
+  -- the name of the last owner lies inside
   pub owners-last : (first count : ℕ) → Stand s first count → LastIn s (lastOf s first count)
   unfolding Stand lastOf
   owners-last first zero h l = absurd (omega arith)
   owners-last first (suc k) h l = h k (omega arith)
 
+  -- a name found among the first k is among more of them
   pub among-later : (n : Name) (first k m : ℕ) → k ≤ m → among n (namesBefore s first k) ≡ true → among n (namesBefore s first m) ≡ true
   unfolding among namesBefore
   among-later n first k zero h e = let z : k ≡ 0 = omega arith in rw z at e
@@ -191,18 +213,22 @@ module _ (s : List ℕ) where
       go ih false l = let z : k ≡ suc m = omega (arith, leb-false k m l) in rw z at e
 
   module _ (first count i k : ℕ) (e : i ≡ behind s first k) where
+    -- a name that is not the next one either is not among one more
     pub among-not : (n : Name) {b : Bool} → b ≡ same n (nameAt s (i + 6)) → b ≡ false → among n (namesBefore s first k) ≡ false → among n (namesBefore s first (k + 1)) ≡ false
     unfolding among namesBefore
     among-not n h g d = rw (add-one, ← e, ← h, g) d
 
+    -- a name that is the next one is among them all
     pub among-here : (n : Name) {b : Bool} → b ≡ same n (nameAt s (i + 6)) → b ≡ true → k < count → among n (namesBefore s first count) ≡ true
     unfolding among namesBefore
     among-here n h g l = among-later n first (k + 1) count (omega arith) (rw (add-one, ← e, ← h, g))
 
+    -- the name of the next block lies inside
     pub stands : Stand s first count → k < count → NameIn s (i + 6)
     unfolding Stand
     stands h l = rw e (h k l)
 
+    -- where the block behind the next one begins
     pub behind-next : (n : ℕ) → n ≡ le4 s i → i + 4 + n ≡ behind s first (k + 1)
     unfolding behind
     behind-next n h = rw (add-one, ← e, ← h)
@@ -233,6 +259,7 @@ last-plain (Names limit) h v = absurd (miss left 13 tt h)
 last-plain (Paths limit) h v = absurd (miss left 14 tt h)
 last-plain (Values limit) h v = absurd (miss left 15 tt h)
 
+-- how many paths the owners before have, as the code keeps it
 pub paths-before : (s : List ℕ) (seen : Seen) → pathsBefore (earlierOf s seen) ≡ seenPaths seen
 unfolding earlierOf seenPaths
 paths-before s Nothing = refl

@@ -23,11 +23,13 @@ use Rattle.reader_leaf.proofs.Laws.{taken, stopped, then, goes}
 -- ---- the count
 
 module _ (limit : ℕ) (s : List ℕ) (start end at : ℕ) where
+  -- a count that the code accepts was read
   count-taken : (o : Step) {n : ℕ} → countOf o ≡ Of n → (x : Tree × ℕ) × (o ≡ done x) × (number (x .0) ≡ n)
   unfolding countOf
   count-taken (done x) e = (x, refl, cc)
   count-taken (refused r) e = let z : _≡_ {A = ℕ} 0 1 = cc in absurd (omega arith)
 
+  -- it is the definition's, and the list begins behind it
   count-done : {n : ℕ} → countOf (readCount limit s start end at) ≡ Of n → readCount limit s start end at ≡ done (num 2 n, at + 2)
   unfolding readCount
   count-done {n} e =
@@ -39,15 +41,18 @@ module _ (limit : ℕ) (s : List ℕ) (start end at : ℕ) where
       t .1 ∙ sym (q2 .1) ∙ ap (λ (m : ℕ). done (num 2 m, at + 2)) f
 
   module _ (F : Earlier → ℕ → Step) (e : Earlier) where
+    -- behind its count a list is its entries
     pub list-of : {n : ℕ} → countOf (readCount limit s start end at) ≡ Of n → forget (readList F e limit s start end at) ≡ forget (readEntries F e n (at + 2))
     unfolding readList _>>=_
     list-of {n} d = rw (count-done d) (then (num 2 n) (readEntries F e n (at + 2)))
 
+    -- a refused count refuses what stands behind it
     bad : (o : Step) (k : (Tree × ℕ) → Step) {q p : ℕ} → countOf o ≡ Bad q p → forget (o >>= k) ≡ Refused q p
     unfolding countOf forget _>>=_
     bad (done x) k g = let z : _≡_ {A = ℕ} 0 1 = cc in absurd (omega arith)
     bad (refused r) k g = cc
 
+    -- a refused count refuses the list
     pub list-bad : {q o : ℕ} → countOf (readCount limit s start end at) ≡ Bad q o → forget (readList F e limit s start end at) ≡ Refused q o
     unfolding readList
     list-bad d = bad (readCount limit s start end at) _ d
@@ -55,21 +60,25 @@ module _ (limit : ℕ) (s : List ℕ) (start end at : ℕ) where
 -- ---- the entries
 
 module _ (F : Earlier → ℕ → Step) (e : Earlier) where
+  -- no entry is left: the list ends here
   pub entries-none : (n at : ℕ) → n ≤ 0 → forget (readEntries F e n at) ≡ Ok at
   unfolding readEntries forget
   entries-none zero at h = refl
   entries-none (suc n) at h = absurd (omega arith)
 
+  -- a refused entry refuses the list
   pub entries-stop : (n at : ℕ) {q o : ℕ} → 0 < n → forget (F e at) ≡ Refused q o → forget (readEntries F e n at) ≡ Refused q o
   unfolding readEntries
   entries-stop zero at h d = absurd (omega arith)
   entries-stop (suc n) at h d = stopped (F e at) _ d
 
+  -- an entry that was read: those behind it decide
   pub entries-go : (n at : ℕ) (x : Tree × ℕ) → 0 < n → F e at ≡ done x → forget (readEntries F e n at) ≡ forget (readEntries F (met e (x .0)) (n - 1) (x .1))
   unfolding readEntries _>>=_
   entries-go zero at x h d = absurd (omega arith)
   entries-go (suc n) at x h d = rw (d, sub-one) (then (x .0) (readEntries F (met e (x .0)) n (x .1)))
 
+-- the same where nothing is asked of the entries before
 pub any-go : (F : Earlier → ℕ → Step) (n at : ℕ) {m : ℕ} → 0 < n → forget (F Earlier.any at) ≡ Ok m → forget (readEntries F Earlier.any n at) ≡ forget (readEntries F Earlier.any (n - 1) m)
 any-go F n at h d =
     let t = taken (F Earlier.any at) d in
@@ -78,11 +87,13 @@ any-go F n at h d =
 -- ---- names
 
 module _ (s : List ℕ) (start end : ℕ) where
+  -- a question that is always answered "yes" changes nothing
   passed : (o : Step) → forget (o >>= (λ x. ask true (unread 6 start) >>= (λ u. done x))) ≡ forget o
   unfolding _>>=_ ask
   passed (done x) = refl
   passed (refused r) = refl
 
+  -- a name of which no order is asked is a text
   pub key-any : (at : ℕ) → forget (readKey s start end Earlier.any at) ≡ forget (readText s start end at)
   unfolding readKey inOrder
   key-any at = passed (readText s start end at)
@@ -96,15 +107,18 @@ module _ (s : List ℕ) (start end : ℕ) where
       go (done x) = rw (h (nameOf (x .0)))
       go (refused r) = refl
 
+  -- the same of names with a number
   value-agrees : (e f : Earlier) → ((n : Name) → inOrder e n ≡ inOrder f n) → (at : ℕ) → readValue s start end e at ≡ readValue s start end f at
   unfolding readValue
   value-agrees e f h at = rw (key-agrees e f h at)
 
   module _ (e : Earlier) (at : ℕ) where
+    -- a refused name refuses the value
     value-stop : {q o : ℕ} → forget (readKey s start end e at) ≡ Refused q o → forget (readValue s start end e at) ≡ Refused q o
     unfolding readValue
     value-stop d = stopped (readKey s start end e at) _ d
 
+    -- behind its name the value's number decides
     pub value-then : {m : ℕ} → forget (readKey s start end e at) ≡ Ok m → forget (readValue s start end e at) ≡ forget (readNumber s start end m)
     unfolding readValue
     value-then d = goes (readKey s start end e at) (readNumber s start end) d
@@ -120,10 +134,12 @@ module _ (s : List ℕ) (start end : ℕ) where
         let q = asked (inOrder e (nameOf (b .0 .0))) _ _ _ (b .2) in
         (done-one (q3 .1) ∙ done-one (q .1), leb-true _ _ (q2 .0))
 
+    -- the tree of a name is the name that stands there
     key-named : (x : Tree × ℕ) → readKey s start end e at ≡ done x → nameOf (x .0) ≡ nameAt s at
     unfolding nameOf
     key-named x d = ap (λ (y : Tree × ℕ). nameOf (y .0)) (sym (key-done x d .0))
 
+    -- so it is of a name with a number
     value-named : (x : Tree × ℕ) → readValue s start end e at ≡ done x → nameOf (x .0) ≡ nameAt s at
     unfolding readValue nameOf
     value-named x d =
@@ -131,6 +147,7 @@ module _ (s : List ℕ) (start end : ℕ) where
         let a = bound (readNumber s start end (b .0 .1)) _ _ (b .2) in
         ap (λ (y : Tree × ℕ). nameOf (y .0)) (sym (done-one (a .2))) ∙ key-named (b .0) (b .1)
 
+-- a refused name refuses the entry, with a number or without
 pub entry-stop : (pairs : Bool) (s : List ℕ) (start end : ℕ) (e : Earlier) (at : ℕ) {q o : ℕ} → forget (readKey s start end e at) ≡ Refused q o → forget (readEntry pairs s start end e at) ≡ Refused q o
 unfolding readEntry
 entry-stop true s start end e at d = value-stop s start end e at d
@@ -150,27 +167,33 @@ pub record Named (s : List ℕ) (F : Earlier → ℕ → Step) : Type 0 where
   pub agrees : (e f : Earlier) → ((n : Name) → inOrder e n ≡ inOrder f n) → (at : ℕ) → F e at ≡ F f at
   pub named : (e : Earlier) (at : ℕ) (x : Tree × ℕ) → F e at ≡ done x → nameOf (x .0) ≡ nameAt s at
 
+-- both readers of entries ask no more than their order
 pub entry-named : (pairs : Bool) (s : List ℕ) (start end : ℕ) → Named s (readEntry pairs s start end)
 unfolding readEntry
 entry-named true s start end = record { agrees = value-agrees s start end; named = value-named s start end }
 entry-named false s start end = record { agrees = key-agrees s start end; named = key-named s start end }
 
 module _ {s : List ℕ} {F : Earlier → ℕ → Step} (N : Named s F) {whole : Read} where
+  -- before the first entry the whole list is left
   pub going : {left at : ℕ} → whole ≡ forget (readEntries F (Earlier.ascending [] 0) left at) → Going s F whole 0 left at
   unfolding inOrder lastName
   going e = record { names = []; paths = 0; same = e; order = λ n. refl }
 
   module _ {last left at : ℕ} (g : Going s F whole last left at) where
+    -- no entry is left: the list ends here
     pub going-none : left ≤ 0 → whole ≡ Ok at
     going-none h = g .same ∙ entries-none F _ left at h
 
     module _ (h : 0 < left) where
+      -- the next entry, read with the name before it alone
       here : forget (F (Earlier.ascending (lastName s last) 0) at) ≡ forget (F (Earlier.ascending (g .names) (g .paths)) at)
       here = ap forget (sym (N .agrees _ _ (g .order) at))
 
+      -- a refused entry refuses the list
       pub going-stop : {q o : ℕ} → forget (F (Earlier.ascending (lastName s last) 0) at) ≡ Refused q o → whole ≡ Refused q o
       going-stop d = g .same ∙ entries-stop F _ left at h (sym here ∙ d)
 
+      -- an entry that was read: what is left of the list behind it
       pub going-go : {m : ℕ} → 0 < at → forget (F (Earlier.ascending (lastName s last) 0) at) ≡ Ok m → Going s F whole at (left - 1) m
       unfolding inOrder lastName
       going-go l d =

@@ -27,37 +27,45 @@ use Rattle.reader_quick.specs.Quick.{Reads, Sized, Begun, Body}
 -- ---- parts
 
 module _ (s : List ℕ) (end at : ℕ) where
+  -- a text that lies inside and may stand there is read
   pub text-yes : (n : ℕ) → n ≡ le2 s at → at + 2 ≤ end → at + 2 + n ≤ end → (b : Bool) → b ≡ isText (take (at + 2 + n - (at + 2)) (drop (at + 2) s)) → b ≡ true
       → (start : ℕ) → Reads (at + 2 + n) (readText s start end at)
   unfolding forget _>>=_ ask
   text-yes n l h g b e t start z = text-is s start end at n l h g b e ∙ rw t
 
+  -- a flag of 0 or 1 is read
   pub flag-yes : at + 1 ≤ end → getD s at 0 ≤ 1 → (start : ℕ) → Reads (at + 1) (readFlag s start end at)
   unfolding readFlag forget _>>=_ ask
   flag-yes h g start z = rw (le-leb _ _ h, le-leb _ _ g)
 
+  -- a number that lies inside is read
   pub number-yes : at + 8 ≤ end → (start : ℕ) → Reads (at + 8) (readNumber s start end at)
   unfolding readNumber forget _>>=_ ask
   number-yes h start z = rw (le-leb _ _ h)
 
   -- a flag, and what it announces
   module _ (f : ℕ → ℕ → Step) (h : at + 1 ≤ end) where
+    -- where the flag is 0, nothing stands behind it
     pub off-yes : getD s at 0 ≡ 0 → (start : ℕ) → Reads (at + 1) (readOptional (f start) 1 s start end at)
     off-yes g start z = optional-off s start end at (f start) 1 (flag-yes h (omega arith) start z) (λ o. omega arith)
 
+    -- where the flag is 1, what stands behind it is read
     pub on-yes : (getD s at 0 ≡ 0 → ⊥) → getD s at 0 ≤ 1 → (r : ℕ) → ((start : ℕ) → Reads r (f start (at + 1))) → (start : ℕ) → Reads r (readOptional (f start) 1 s start end at)
     on-yes g k r d start z = optional-on s start end at (f start) 1 (flag-yes h k start (omega arith)) (omega arith) ∙ d start z
 
 module _ (rb : Reader) (s : List ℕ) (e : Earlier) (start end : ℕ) where
+  -- a part that was read, and then the others
   pub part-then : (p : Part) (ps : List Part) (at : ℕ) {m n : ℕ} → forget (readPart rb s e start end p at) ≡ Ok m → forget (readParts rb s e start end ps m) ≡ Ok n → forget (readParts rb s e start end (p ∷ ps) at) ≡ Ok n
   part-then p ps at d h = parts-go rb s e start end refl at d ∙ h
 
+  -- the last part
   pub part-last : (p : Part) (at : ℕ) {n : ℕ} → forget (readPart rb s e start end p at) ≡ Ok n → forget (readParts rb s e start end (p ∷ []) at) ≡ Ok n
   part-last p at d = part-then p [] at d (parts-none rb s e start end _ refl)
 
 -- ---- blocks
 
 module _ (s : List ℕ) (at end stop : ℕ) (z : 0 < stop) (g : Sized s at end stop) where
+  -- a length that ends inside, and a kind that may stand there: the header is read
   header-yes : (lo hi k : ℕ) → k ≡ le2 s (at + 4) → lo ≤ k → k ≤ hi → headOf (readHeader s lo hi at end) ≡ Found k stop
   unfolding readHeader headOf _>>=_ ask
   header-yes lo hi k q l h =
@@ -65,6 +73,7 @@ module _ (s : List ℕ) (at end stop : ℕ) (z : 0 < stop) (g : Sized s at end s
       let u : at + 4 + le4 s at ≤ end = omega (arith, w .2, w .3) in
       rw (le-leb _ _ (w .0), le-leb _ _ (w .1), le-leb _ _ u, ← q, le-leb _ _ l, le-leb _ _ h, w .2)
 
+  -- a block whose parts are read up to its end is read
   pub block-yes : (room : ℕ) (e : Earlier) (lo hi k : ℕ) → k ≡ le2 s (at + 4) → lo ≤ k → k ≤ hi → 0 < room
       → {n : ℕ} → forget (readParts (readBlock (room - 1) s) s e at stop (partsOf k) (at + 6)) ≡ Ok n → n ≡ stop → forget (readBlock room s e lo hi at end) ≡ Ok stop
   block-yes room e lo hi k q l h r d x = block-ok s e lo hi at end (header-yes lo hi k q l h) room (λ o. omega arith) d x
@@ -80,39 +89,47 @@ fills-yes s at stop h q e z = (omega arith, omega arith, omega arith, omega arit
 -- ---- lists
 
 module _ (s : List ℕ) (limit at end : ℕ) where
+  -- a count within its limit is read
   count-yes : (start n : ℕ) → at + 2 ≤ end → n ≡ le2 s at → n ≤ limit → countOf (readCount limit s start end at) ≡ Of n
   unfolding readCount countOf _>>=_ ask
   count-yes start n h q l = rw (← q, le-leb _ _ h, le-leb _ _ l)
 
+  -- so the list reads as its entries
   pub list-yes : (F : Earlier → ℕ → Step) (e : Earlier) (start n : ℕ) → at + 2 ≤ end → n ≡ le2 s at → n ≤ limit → forget (readList F e limit s start end at) ≡ forget (readEntries F e n (at + 2))
   list-yes F e start n h q l = list-of limit s start end at F e (count-yes start n h q l)
 
 -- ---- parameters and arguments
 
+-- the parts of a parameter, from the grammar
 parameter-parts : partsOf 162 ≡ Text ∷ OptText ∷ Flag ∷ []
 unfolding partsOf findRow grammar
 parameter-parts = refl
 
+-- the parts of an argument
 argument-parts : partsOf 164 ≡ Text ∷ Text ∷ []
 unfolding partsOf findRow grammar
 argument-parts = refl
 
 module _ (s : List ℕ) (at end : ℕ) where
+  -- a parameter's description and flag are read
   pub described-yes : {i r : ℕ} → 0 < i → ((start : ℕ) → Reads i (readOptional (readText s start end) 1 s start end at)) → ((start : ℕ) → Reads r (readFlag s start end i))
       → (rb : Reader) (e : Earlier) (start : ℕ) → Reads r (readParts rb s e start end (OptText ∷ Flag ∷ []) at)
   unfolding readPart
   described-yes {i} z d h rb e start y = part-then rb s e start end OptText (Flag ∷ []) at (d start z) (part-last rb s e start end Flag i (h start y))
 
 module _ (s : List ℕ) (kind at end stop i : ℕ) (y : 0 < stop) (g : Sized s at end stop) (w : le2 s (at + 4) ≡ kind) (x : 0 < i) (d : (start : ℕ) → Reads i (readText s start stop (at + 6))) where
+  -- a block that begins with a text, which was read: the other parts decide
   begun : (room : ℕ) (e : Earlier) (ps : List Part) → partsOf kind ≡ Text ∷ ps → 0 < room
       → {n : ℕ} → forget (readParts (readBlock (room - 1) s) s e at stop ps i) ≡ Ok n → n ≡ stop → forget (readBlock room s e kind kind at end) ≡ Ok stop
   unfolding readPart
   begun room e ps h l f q = block-yes s at end stop y g room e kind kind kind (sym w) (omega arith) (omega arith) l (rw h (part-then _ s e at stop Text ps (at + 6) (d at x) f)) q
 
+  -- a parameter is read
   pub parameter-yes : kind ≡ 162 → {j r : ℕ} → ((rb : Reader) (e : Earlier) (start : ℕ) → Reads j (readParts rb s e start stop (OptText ∷ Flag ∷ []) i)) → (0 < r → (r ≡ stop) × (j ≡ stop))
       → (room : ℕ) (e : Earlier) → 0 < room → Reads r (readBlock room s e kind kind at end)
   parameter-yes k f c room e l z = let q = c z in rw (q .0) (begun room e (OptText ∷ Flag ∷ []) (rw k parameter-parts) l (f _ e at (omega arith)) (q .1))
 
+  -- an argument is read
   pub argument-yes : kind ≡ 164 → {j r : ℕ} → ((start : ℕ) → Reads j (readText s start stop i)) → (0 < r → (r ≡ stop) × (j ≡ stop))
       → (room : ℕ) (e : Earlier) → 0 < room → Reads r (readBlock room s e kind kind at end)
   unfolding readPart
@@ -120,15 +137,18 @@ module _ (s : List ℕ) (kind at end stop i : ℕ) (y : 0 < stop) (g : Sized s a
 
 -- ---- values and runs
 
+-- the parts of a block of values
 values-parts : partsOf 192 ≡ Values 512 ∷ []
 unfolding partsOf findRow grammar
 values-parts = refl
 
+-- the parts of a run
 run-parts : partsOf 193 ≡ Text ∷ Number ∷ Block 192 192 ∷ []
 unfolding partsOf findRow grammar
 run-parts = refl
 
 module _ (s : List ℕ) (at end stop : ℕ) (y : 0 < stop) (g : Sized s at end stop) where
+  -- a block of values is read
   pub values-yes : (room k : ℕ) → k ≡ le2 s (at + 4) → k ≡ 192 → 0 < room → {x : Read} → x ≡ forget (readList (readEntry true s at stop) (Earlier.ascending [] 0) 512 s at stop (at + 6)) → {i r : ℕ} → x ≡ Ok i → (0 < r → (r ≡ stop) × (i ≡ stop))
       → (e : Earlier) → Reads r (readBlock room s e 192 192 at end)
   unfolding readPart readEntry
@@ -136,6 +156,7 @@ module _ (s : List ℕ) (at end stop : ℕ) (y : 0 < stop) (g : Sized s at end s
       let q = c z in
       rw (q .0) (block-yes s at end stop y g room e 192 192 k w (omega arith) (omega arith) l (rw (u, values-parts) (part-last (readBlock (room - 1) s) s e at stop (Values 512) (at + 6) (sym f ∙ d))) (q .1))
 
+  -- a run is read
   pub run-yes : (room : ℕ) → le2 s (at + 4) ≡ 193 → 2 ≤ room → {i : ℕ} → 0 < i → ((start : ℕ) → Reads i (readText s start stop (at + 6))) → i + 8 ≤ stop → {j r : ℕ} → ((e : Earlier) → Reads j (readBlock (room - 1) s e 192 192 (i + 8) stop)) → (0 < r → (r ≡ stop) × (j ≡ stop))
       → (e : Earlier) → Reads r (readBlock room s e 193 193 at end)
   unfolding readPart
@@ -147,6 +168,7 @@ module _ (s : List ℕ) (at end stop : ℕ) (y : 0 < stop) (g : Sized s at end s
 
 -- ---- cases
 
+-- the parts of a case
 case-parts : partsOf 163 ≡ Number ∷ node ∷ Blocks 162 162 512 ∷ []
 unfolding partsOf findRow grammar
 case-parts = refl
@@ -156,6 +178,7 @@ number-first : (s : List ℕ) (at stop start : ℕ) → at + 14 ≤ stop → for
 number-first s at stop start h = let e : at + 6 + 8 ≡ at + 14 = omega arith in rw e at (number-yes s stop (at + 6) (omega arith) start (omega arith))
 
 module _ (room : ℕ) (s : List ℕ) (at end stop : ℕ) (g : Sized s at end stop) (h : at + 14 ≤ stop) where
+  -- a case is read
   pub case-yes : {k i j r : ℕ} → k ≡ le2 s (at + 4) → k ≡ 163 → 2 ≤ room → 0 < i → ((e : Earlier) → Reads i (readBlock (room - 1) s e 128 144 (at + 14) stop))
       → ((most start : ℕ) → 0 < most → Reads j (readList (λ f a. readBlock most s f 162 162 a stop) Earlier.any 512 s start stop i)) → (0 < r → (r ≡ stop) × (j ≡ stop))
       → (e : Earlier) → Reads r (readBlock room s e 163 163 at end)
@@ -170,60 +193,74 @@ module _ (room : ℕ) (s : List ℕ) (at end stop : ℕ) (g : Sized s at end sto
 -- ---- the part of a digit
 
 module _ (room : ℕ) (s : List ℕ) (digit at end : ℕ) where
+  -- the part that this digit of a row stands for is read, up to r
   abbrev Piece : ℕ → Type 0
   Piece r = (e : Earlier) (start : ℕ) → Reads r (readPart (readBlock room s) s e start end (partOf digit) at)
 
+  -- digit 1: a number
   pub number-part : digit ≡ 1 → at + 8 ≤ end → Piece (at + 8)
   unfolding readPart
   number-part k h e start z = rw k (number-yes s end at h start z)
 
+  -- digit 2: a name
   pub text-part : digit ≡ 2 → {r : ℕ} → ((start : ℕ) → Reads r (readText s start end at)) → Piece r
   unfolding readPart
   text-part k d e start z = rw k (d start z)
 
+  -- digit 3: an optional name
   pub optional-part : digit ≡ 3 → {r : ℕ} → ((start : ℕ) → Reads r (readOptional (readText s start end) 1 s start end at)) → Piece r
   unfolding readPart
   optional-part k d e start z = rw k (d start z)
 
+  -- digit 4: a node
   pub node-part : digit ≡ 4 → {r : ℕ} → ((e : Earlier) → Reads r (readBlock room s e 128 144 at end)) → Piece r
   unfolding readPart
   node-part k d e start z = rw k (d Earlier.any z)
 
+  -- digit 5: cases
   pub cases-part : digit ≡ 5 → {r : ℕ} → ((start : ℕ) → Reads r (readList (λ f a. readBlock room s f 163 163 a end) Earlier.any 64 s start end at)) → Piece r
   unfolding readPart
   cases-part k d e start z = rw k (d start z)
 
+  -- digit 6: arguments
   pub arguments-part : digit ≡ 6 → 0 < room → {r : ℕ} → ((most start : ℕ) → 0 < most → Reads r (readList (λ f a. readBlock most s f 164 164 a end) Earlier.any 512 s start end at)) → Piece r
   unfolding readPart
   arguments-part k h d e start z = rw k (d room start h z)
 
   module _ (k : digit ≡ 7) {i : ℕ} (q : (i ≡ at + 1) × (getD s at 0 ≤ 1)) (h : i ≤ end) where
+    -- digit 7: a default node that is not there
     pub default-off : getD s at 0 ≡ 0 → Piece i
     unfolding readPart
     default-off g e start z = rw (k, q .0) (off-yes s end at (λ t a. readBlock room s Earlier.any 128 144 a end) (omega arith) g start (omega arith))
 
+    -- digit 7: one that is
     pub default-on : (getD s at 0 ≡ 0 → ⊥) → {r : ℕ} → ((e : Earlier) → Reads r (readBlock room s e 128 144 i end)) → Piece r
     unfolding readPart
     default-on g {r} d e start z = rw k (on-yes s end at (λ t a. readBlock room s Earlier.any 128 144 a end) (omega arith) g (q .1) r (λ t y. rw (q .0) at (d Earlier.any y)) start z)
 
 -- ---- rows
 
+-- a row that is not 0 has a first digit
 step : (row : ℕ) (qs : List Part) → Row row qs → (row ≡ 0 → ⊥) → (ps : List Part) × (qs ≡ partOf (row % 8) ∷ ps) × Row (row / 8) ps
 step row qs Row.none h = absurd (h refl)
 step row qs (Row.more c ps l r) h = (ps, refl, r)
 
+-- the row 0 has no part
 last : (row : ℕ) (qs : List Part) → Row row qs → row ≡ 0 → qs ≡ []
 last row qs Row.none h = refl
 last row qs (Row.more c ps l r) h = let z : row % 8 ≡ 0 = rw h in absurd (omega (arith, l, z))
 
 module _ (room : ℕ) (s : List ℕ) (stop : ℕ) where
+  -- no part is left: the body ends here
   pub row-none : {row at : ℕ} → row ≡ 0 → at ≡ stop → Body room s row at stop
   row-none {row} {at} h q ps r e start = parts-none (readBlock room s) s e start stop at (last row ps r h) ∙ ap Ok q
 
   module _ (at : ℕ) {row i : ℕ} (h : row ≡ 0 → ⊥) (z : 0 < i) (d : Piece room s (row % 8) at stop i) where
+    -- a part that was read, and those of the digits behind it
     pub row-go : Body room s (row / 8) i stop → Body room s row at stop
     row-go b ps r e start = let w = step row ps r h in parts-go (readBlock room s) s e start stop (w .1) at (d e start z) ∙ b (w .0) (w .2) e start
 
+    -- the last part, where it ends the body
     row-last : row / 8 ≡ 0 → i ≡ stop → Body room s row at stop
     row-last k q = row-go (row-none k q)
 
@@ -233,19 +270,23 @@ module _ (room : ℕ) (s : List ℕ) (stop : ℕ) where
 
   -- the rows that are met most
   module _ (at : ℕ) {row j r : ℕ} (c : 0 < r → (r ≡ stop) × (j ≡ stop)) where
+    -- the row of a constant
     pub const-row : row ≡ 1 → j ≡ at + 8 → 0 < r → (r ≡ stop) × Body room s row at stop
     const-row k h z = let q = c z in (q .0, row-last at (λ y. omega arith) (omega arith) (number-part room s (row % 8) at stop (rw k) (omega arith)) (rw k) (sym h ∙ q .1))
 
     module _ {i : ℕ} (x : 0 < i) (d : (start : ℕ) → Reads i (readText s start stop at)) where
+      -- the row of a call
       pub call-row : row ≡ 50 → 0 < room → ((most start : ℕ) → 0 < most → Reads j (readList (λ f a. readBlock most s f 164 164 a stop) Earlier.any 512 s start stop i)) → 0 < r → (r ≡ stop) × Body room s row at stop
       call-row k h f z = let q = c z in (q .0, row-go at (λ y. omega arith) x (text-part room s (row % 8) at stop (rw k) d) (row-last i (λ y. omega arith) (omega arith) (arguments-part room s (row / 8 % 8) i stop (rw k) h f) (rw k) (q .1)))
 
+      -- the row of a field reference
       pub field-row : row ≡ 26 → ((start : ℕ) → Reads j (readOptional (readText s start stop) 1 s start stop i)) → 0 < r → (r ≡ stop) × Body room s row at stop
       field-row k f z = let q = c z in (q .0, row-go at (λ y. omega arith) x (text-part room s (row % 8) at stop (rw k) d) (row-last i (λ y. omega arith) (omega arith) (optional-part room s (row / 8 % 8) i stop (rw k) f) (rw k) (q .1)))
 
 -- ---- nodes
 
 module _ (s : List ℕ) (at end stop : ℕ) (y : 0 < stop) (g : Sized s at end stop) where
+  -- a node is read: its head and metadata, then its row
   pub node-yes : {room k row i : ℕ} → 0 < i → Begun s room at stop i → k ≡ le2 s (at + 4) → ((ps : List Part) × (partsOf k ≡ metadata ++ ps) × Row row ps) → Body (room - 1) s row i stop
       → (e : Earlier) → forget (readBlock room s e 128 144 at end) ≡ Ok stop
   unfolding readPart

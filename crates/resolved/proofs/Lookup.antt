@@ -9,8 +9,8 @@ use Rattle.blocks.specs.Name.{Name, same}
 use Rattle.blocks.proofs.Name.{same-eq}
 use Rattle.resolved.specs.Resolved.{ResolvedType, head, get-type-info}
 
--- what was found is one type only
-some-one : {x y : ResolvedType} → some x ≡ some y → x ≡ y
+-- what was found is one thing only
+pub some-one : {A : Type 0} {x y : A} → some x ≡ some y → x ≡ y
 some-one e = cc
 
 -- the type that is found under a name has it

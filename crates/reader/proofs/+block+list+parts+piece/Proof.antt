@@ -78,13 +78,36 @@ abbrev block-with : ℕ → block-lts.Claims
 block-with t = (heading-reads.Asked, heading-reads.Learnt, parts-below t, parts.Post)
 
 abbrev list-with : ℕ → list-lts.Claims
-list-with t = (counted-reads.Asked, counted-reads.Learnt, block-below t, block.Post, grown-reads.Asked, grown-reads.Learnt)
+list-with t = (
+  counted-reads.Asked,
+  counted-reads.Learnt,
+  block-below t,
+  block.Post,
+  grown-reads.Asked,
+  grown-reads.Learnt,
+)
 
 abbrev parts-with : ℕ → parts-lts.Claims
-parts-with t = (code-at-reads.Asked, code-at-reads.Learnt, part-of-reads.Asked, part-of-reads.Learnt, piece-below t, piece.Post)
+parts-with t = (
+  code-at-reads.Asked,
+  code-at-reads.Learnt,
+  part-of-reads.Asked,
+  part-of-reads.Learnt,
+  piece-below t,
+  piece.Post,
+)
 
 abbrev piece-with : ℕ → piece-lts.Claims
-piece-with t = (block-below t, block.Post, flag-reads.Asked, flag-reads.Learnt, list-below t, list.Post, plain-reads.Asked, plain-reads.Learnt)
+piece-with t = (
+  block-below t,
+  block.Post,
+  flag-reads.Asked,
+  flag-reads.Learnt,
+  list-below t,
+  list.Post,
+  plain-reads.Asked,
+  plain-reads.Learnt,
+)
 
 block-heading-requires : (t : ℕ) → block-lts.Need-heading-requires (block-with t) (block-at t) block.Post
 block-heading-requires t c κs = omega arith
@@ -96,7 +119,15 @@ block-enum-known-k : (t : ℕ) → block-lts.Need-enum-known-k (block-with t) (b
 block-enum-known-k t c = search needs
 
 block-returns : (t : ℕ) → block-lts.Need-returns (block-with t) (block-at t) block.Post
-block-returns t c = (sym (block-full _ _ _ _ _ _ (sym (c .before .before .before .before .heading .ensures .0) ∙ c .before .before .k .given .1) _ (c .if1 .taken)), tt)
+block-returns t c =
+    let at-k = c .before .before in
+    let at-heading = at-k .before .before in (
+      sym
+          (block-full _ _ _ _ _ _
+          (sym (at-heading .heading .ensures .0) ∙ at-k .k .given .1) _
+          (c .if1 .taken)),
+      tt,
+    )
 
 block-sub-parts : (t : ℕ) → block-lts.Need-sub-parts (block-with t) (block-at t) block.Post
 block-sub-parts t c = omega arith
@@ -105,7 +136,12 @@ block-add-parts : (t : ℕ) → block-lts.Need-add-parts (block-with t) (block-a
 block-add-parts t c = omega arith
 
 block-parts-requires : (t : ℕ) → block-lts.Need-parts-requires (block-with t) (block-at t) block.Post
-block-parts-requires t c κs = let h = rw (c .before .before .k .given .1) at (c .before .before .before .before .heading .ensures .1) in (omega arith, (omega arith, omega arith, c .before .before .before .before .before .before .pre .1 .2))
+block-parts-requires t c κs =
+    let at-k = c .before .before in
+    let at-heading = at-k .before .before in
+    let at-start = at-heading .before .before in
+    let h = rw (at-k .k .given .1) at (at-heading .heading .ensures .1) in
+    (omega arith, (omega arith, omega arith, at-start .pre .1 .2))
 
 block-enum-known-q-2 : (t : ℕ) → block-lts.Need-enum-known-q-2 (block-with t) (block-at t) block.Post
 block-enum-known-q-2 t c = search needs
@@ -114,19 +150,65 @@ block-enum-known-next : (t : ℕ) → block-lts.Need-enum-known-next (block-with
 block-enum-known-next t c = search needs
 
 block-returns-2 : (t : ℕ) → block-lts.Need-returns-2 (block-with t) (block-at t) block.Post
-block-returns-2 t c = (sym (block-no _ _ _ _ _ _ _ (sym (c .before .before .before .heading .ensures .0) ∙ c .before .q .given .1)), tt)
+block-returns-2 t c =
+    let at-heading = c .before .before .before in (
+      sym (block-no _ _ _ _ _ _ _ (sym (at-heading .heading .ensures .0) ∙ c .before .q .given .1)),
+      tt,
+    )
 
 block-returns-3 : (t : ℕ) → block-lts.Need-returns-3 (block-with t) (block-at t) block.Post
-block-returns-3 t c = (sym (block-stop _ _ _ _ _ _ (sym (c .before .before .before .before .before .before .before .before .heading .ensures .0) ∙ c .before .before .before .before .before .before .k .given .1) _ (c .before .before .before .before .if1 .left) (sym (c .before .before .before .parts .ensures .0) ∙ c .before .q2 .given .1)), tt)
+block-returns-3 t c =
+    let at-parts = c .before .before .before in
+    let at-else1 = at-parts .before in
+    let at-k = at-else1 .before .before in
+    let at-heading = at-k .before .before in (
+      sym
+          (block-stop _ _ _ _ _ _
+          (sym (at-heading .heading .ensures .0) ∙ at-k .k .given .1) _
+          (at-else1 .if1 .left)
+          (sym (at-parts .parts .ensures .0) ∙ c .before .q2 .given .1)),
+      tt,
+    )
 
 block-returns-4 : (t : ℕ) → block-lts.Need-returns-4 (block-with t) (block-at t) block.Post
-block-returns-4 t c = (sym (block-ok _ _ _ _ _ _ (sym (c .before .before .before .before .before .before .before .before .before .heading .ensures .0) ∙ c .before .before .before .before .before .before .before .k .given .1) _ (c .before .before .before .before .before .if1 .left) (sym (c .before .before .before .before .parts .ensures .0) ∙ c .before .before .next .given .1) (c .if2 .taken)), (rw (c .before .before .before .before .before .before .before .k .given .1) at (c .before .before .before .before .before .before .before .before .before .heading .ensures .1)) .1)
+block-returns-4 t c =
+    let at-next = c .before .before in
+    let at-parts = at-next .before .before in
+    let at-else1 = at-parts .before in
+    let at-k = at-else1 .before .before in
+    let at-heading = at-k .before .before in (
+      sym
+          (block-ok _ _ _ _ _ _
+          (sym (at-heading .heading .ensures .0) ∙ at-k .k .given .1) _
+          (at-else1 .if1 .left)
+          (sym (at-parts .parts .ensures .0) ∙ at-next .next .given .1)
+          (c .if2 .taken)),
+      (rw (at-k .k .given .1) at (at-heading .heading .ensures .1)) .1,
+    )
 
 block-returns-5 : (t : ℕ) → block-lts.Need-returns-5 (block-with t) (block-at t) block.Post
-block-returns-5 t c = (sym (block-rest _ _ _ _ _ _ (sym (c .before .before .before .before .before .before .before .before .before .heading .ensures .0) ∙ c .before .before .before .before .before .before .before .k .given .1) _ (c .before .before .before .before .before .if1 .left) (sym (c .before .before .before .before .parts .ensures .0) ∙ c .before .before .next .given .1) (c .if2 .left)), tt)
+block-returns-5 t c =
+    let at-next = c .before .before in
+    let at-parts = at-next .before .before in
+    let at-else1 = at-parts .before in
+    let at-k = at-else1 .before .before in
+    let at-heading = at-k .before .before in (
+      sym
+          (block-rest _ _ _ _ _ _
+          (sym (at-heading .heading .ensures .0) ∙ at-k .k .given .1) _
+          (at-else1 .if1 .left)
+          (sym (at-parts .parts .ensures .0) ∙ at-next .next .given .1)
+          (c .if2 .left)),
+      tt,
+    )
 
 abbrev list-Inv-loop : list-lts.InvT-loop
-list-Inv-loop s room lo hi limit start at end n i₀ before₀ left₀ i before left = (i ≤ end) × Before s before lo hi i × (forget (readList (λ f a. readBlock room s f lo hi a end) (earlierOf s before₀) limit s start end at) ≡ forget (readEntries (λ f a. readBlock room s f lo hi a end) (earlierOf s before) left i))
+list-Inv-loop s room lo hi limit start at end n i₀ before₀ left₀ i before left =
+    (i ≤ end) × Before s before lo hi i ×
+    (forget
+    (readList (λ f a. readBlock room s f lo hi a end) (earlierOf s before₀) limit s start end at) ≡
+    forget
+    (readEntries (λ f a. readBlock room s f lo hi a end) (earlierOf s before) left i))
 
 abbrev list-μ-loop : list-lts.MeasureT-loop
 list-μ-loop s room lo hi limit start at end n i₀ before₀ left₀ i before left = left
@@ -144,22 +226,48 @@ list-add-i : (t : ℕ) → list-lts.Need-add-i (list-with t) (list-at t) list.Po
 list-add-i t c = omega arith
 
 list-loop-holds : (t : ℕ) → list-lts.Need-loop-holds (list-with t) (list-at t) list.Post list-Inv-loop list-μ-loop
-list-loop-holds t c = (rw (c .before .n .given .1) at (c .before .before .before .counted .ensures .1), c .before .before .before .before .before .pre .1 .2, list-of _ _ _ _ _ _ _ (sym (c .before .before .before .counted .ensures .0) ∙ c .before .n .given .1))
+list-loop-holds t c =
+    let at-counted = c .before .before .before in
+    let at-start = at-counted .before .before in (
+      rw (c .before .n .given .1) at (at-counted .counted .ensures .1),
+      at-start .pre .1 .2,
+      list-of _ _ _ _ _ _ _ (sym (at-counted .counted .ensures .0) ∙ c .before .n .given .1),
+    )
 
 list-block-requires : (t : ℕ) → list-lts.Need-block-requires (list-with t) (list-at t) list.Post list-Inv-loop list-μ-loop
-list-block-requires t c κs = (omega arith, (c .before .loop .inv .0, omega arith, c .before .loop .inv .1 .valid))
+list-block-requires t c κs = (
+  omega arith,
+  (c .before .loop .inv .0, omega arith, c .before .loop .inv .1 .valid),
+)
 
 list-enum-known-next : (t : ℕ) → list-lts.Need-enum-known-next (list-with t) (list-at t) list.Post list-Inv-loop list-μ-loop
 list-enum-known-next t c = search needs
 
 list-grown-requires : (t : ℕ) → list-lts.Need-grown-requires (list-with t) (list-at t) list.Post list-Inv-loop list-μ-loop
-list-grown-requires t c κs = list-grows _ _ _ _ _ (c .before .before .before .before .before .before .before .before .before .before .before .pre .1 .1) (c .before .before .before .before .before .loop .inv .1) (sym (c .before .before .before .block .ensures .0) ∙ c .before .next .given .1)
+list-grown-requires t c κs =
+    let at-block = c .before .before .before in
+    let at-loop = at-block .before .before in
+    let at-start = at-loop .before .before .before .before .before .before in
+    list-grows _ _ _ _ _
+    (at-start .pre .1 .1)
+    (at-loop .loop .inv .1)
+    (sym (at-block .block .ensures .0) ∙ c .before .next .given .1)
 
 list-enum-known-q-2 : (t : ℕ) → list-lts.Need-enum-known-q-2 (list-with t) (list-at t) list.Post list-Inv-loop list-μ-loop
 list-enum-known-q-2 t c = search needs
 
 list-returns : (t : ℕ) → list-lts.Need-returns (list-with t) (list-at t) list.Post list-Inv-loop list-μ-loop
-list-returns t c = (sym (c .before .before .before .before .before .loop .inv .2 ∙ entries-stop _ _ _ _ (c .before .before .before .before .loop-test .taken) (sym (c .before .before .before .block .ensures .0) ∙ c .before .q2 .given .1)), tt)
+list-returns t c =
+    let at-block = c .before .before .before in
+    let in-loop = at-block .before in
+    let at-loop = in-loop .before in (
+      sym
+          (at-loop .loop .inv .2
+          ∙ entries-stop _ _ _ _
+          (in-loop .loop-test .taken)
+          (sym (at-block .block .ensures .0) ∙ c .before .q2 .given .1)),
+      tt,
+    )
 
 list-sub-left : (t : ℕ) → list-lts.Need-sub-left (list-with t) (list-at t) list.Post list-Inv-loop list-μ-loop
 list-sub-left t c = omega arith
@@ -168,16 +276,43 @@ list-loop-less : (t : ℕ) → list-lts.Need-loop-less (list-with t) (list-at t)
 list-loop-less t c = omega arith
 
 list-loop-again : (t : ℕ) → list-lts.Need-loop-again (list-with t) (list-at t) list.Post list-Inv-loop list-μ-loop
-list-loop-again t c = let g = list-go _ _ _ _ _ (c .before .before .before .before .before .before .before .before .before .before .before .before .pre .1 .1) (c .before .before .before .before .before .before .loop .inv .1) (sym (c .before .before .before .before .block .ensures .0) ∙ c .before .before .next .given .1) _ (c .before .before .before .before .before .loop-test .taken) (c .grown .ensures) in (rw (c .before .before .next .given .1) at (c .before .before .before .before .block .ensures .1), g .0, c .before .before .before .before .before .before .loop .inv .2 ∙ g .1)
+list-loop-again t c =
+    let at-next = c .before .before in
+    let at-block = at-next .before .before in
+    let in-loop = at-block .before in
+    let at-loop = in-loop .before in
+    let at-start = at-loop .before .before .before .before .before .before in
+    let g = list-go _ _ _ _ _
+    (at-start .pre .1 .1)
+    (at-loop .loop .inv .1)
+    (sym (at-block .block .ensures .0) ∙ at-next .next .given .1) _
+    (in-loop .loop-test .taken)
+    (c .grown .ensures) in (
+      rw (at-next .next .given .1) at (at-block .block .ensures .1),
+      g .0,
+      at-loop .loop .inv .2 ∙ g .1,
+    )
 
 list-returns-2 : (t : ℕ) → list-lts.Need-returns-2 (list-with t) (list-at t) list.Post list-Inv-loop list-μ-loop
-list-returns-2 t c = (sym (list-bad _ _ _ _ _ _ _ (sym (c .before .before .before .counted .ensures .0) ∙ c .before .q .given .1)), tt)
+list-returns-2 t c =
+    let at-counted = c .before .before .before in (
+      sym (list-bad _ _ _ _ _ _ _ (sym (at-counted .counted .ensures .0) ∙ c .before .q .given .1)),
+      tt,
+    )
 
 list-returns-3 : (t : ℕ) → list-lts.Need-returns-3 (list-with t) (list-at t) list.Post list-Inv-loop list-μ-loop
-list-returns-3 t c = (sym (c .before .loop .inv .2 ∙ entries-none _ _ _ _ (c .loop-test .left)), c .before .loop .inv .0)
+list-returns-3 t c = (
+  sym (c .before .loop .inv .2 ∙ entries-none _ _ _ _ (c .loop-test .left)),
+  c .before .loop .inv .0,
+)
 
 abbrev parts-Inv-loop : parts-lts.InvT-loop
-parts-Inv-loop s room seen kind start at end i₀ here₀ i here = (i ≤ 7) × (here ≤ end) × (forget (readParts (readBlock room s) s (earlierOf s seen) start end (partsOf kind) at) ≡ forget (readParts (readBlock room s) s (earlierOf s seen) start end (drop i (partsOf kind)) here))
+parts-Inv-loop s room seen kind start at end i₀ here₀ i here =
+    (i ≤ 7) ×
+    (here ≤ end) ×
+    (forget
+    (readParts (readBlock room s) s (earlierOf s seen) start end (partsOf kind) at) ≡ forget
+    (readParts (readBlock room s) s (earlierOf s seen) start end (drop i (partsOf kind)) here))
 
 abbrev parts-μ-loop : parts-lts.MeasureT-loop
 parts-μ-loop s room seen kind start at end i₀ here₀ i here = 8 - i
@@ -189,13 +324,33 @@ parts-code-at-requires : (t : ℕ) → parts-lts.Need-code-at-requires (parts-wi
 parts-code-at-requires t c κs = omega arith
 
 parts-returns : (t : ℕ) → parts-lts.Need-returns (parts-with t) (parts-at t) parts.Post parts-Inv-loop parts-μ-loop
-parts-returns t c = (sym (c .before .before .loop .inv .2 ∙ parts-none _ _ _ _ _ _ (ended _ _ (sym (c .before .code-at .ensures) ∙ c .if1 .taken))), c .before .before .loop .inv .1)
+parts-returns t c =
+    let at-loop = c .before .before in (
+      sym
+          (at-loop .loop .inv .2
+          ∙ parts-none _ _ _ _ _ _ (ended _ _ (sym (c .before .code-at .ensures) ∙ c .if1 .taken))),
+      at-loop .loop .inv .1,
+    )
 
 parts-part-of-requires : (t : ℕ) → parts-lts.Need-part-of-requires (parts-with t) (parts-at t) parts.Post parts-Inv-loop parts-μ-loop
 parts-part-of-requires t c κs = search needs
 
 parts-piece-requires : (t : ℕ) → parts-lts.Need-piece-requires (parts-with t) (parts-at t) parts.Post parts-Inv-loop parts-μ-loop
-parts-piece-requires t c κs = (omega arith, (c .before .before .before .loop .inv .1, omega arith, c .before .before .before .before .before .pre .1 .2, decoded _ _ _ _ (c .before .before .code-at .ensures) (c .before .if1 .left) (c .part-of .ensures .0) .keyed))
+parts-piece-requires t c κs =
+    let at-code-at = c .before .before in
+    let at-loop = at-code-at .before in
+    let at-start = at-loop .before .before in (
+      omega arith,
+      (
+        at-loop .loop .inv .1,
+        omega arith,
+        at-start .pre .1 .2,
+        decoded _ _ _ _
+            (at-code-at .code-at .ensures)
+            (c .before .if1 .left)
+            (c .part-of .ensures .0) .keyed,
+      ),
+    )
 
 parts-enum-known-next : (t : ℕ) → parts-lts.Need-enum-known-next (parts-with t) (parts-at t) parts.Post parts-Inv-loop parts-μ-loop
 parts-enum-known-next t c = search needs
@@ -204,7 +359,22 @@ parts-enum-known-q : (t : ℕ) → parts-lts.Need-enum-known-q (parts-with t) (p
 parts-enum-known-q t c = search needs
 
 parts-returns-2 : (t : ℕ) → parts-lts.Need-returns-2 (parts-with t) (parts-at t) parts.Post parts-Inv-loop parts-μ-loop
-parts-returns-2 t c = (sym (c .before .before .before .before .before .before .before .loop .inv .2 ∙ parts-stop _ _ _ _ _ (decoded _ _ _ _ (c .before .before .before .before .before .before .code-at .ensures) (c .before .before .before .before .before .if1 .left) (c .before .before .before .before .part-of .ensures .0) .rest) _ (sym (c .before .before .before .piece .ensures .0) ∙ c .before .q .given .1)), tt)
+parts-returns-2 t c =
+    let at-piece = c .before .before .before in
+    let at-part-of = at-piece .before in
+    let at-else1 = at-part-of .before in
+    let at-code-at = at-else1 .before in
+    let at-loop = at-code-at .before in (
+      sym
+          (at-loop .loop .inv .2
+          ∙ parts-stop _ _ _ _ _
+          (decoded _ _ _ _
+          (at-code-at .code-at .ensures)
+          (at-else1 .if1 .left)
+          (at-part-of .part-of .ensures .0) .rest) _
+          (sym (at-piece .piece .ensures .0) ∙ c .before .q .given .1)),
+      tt,
+    )
 
 parts-add-i : (t : ℕ) → parts-lts.Need-add-i (parts-with t) (parts-at t) parts.Post parts-Inv-loop parts-μ-loop
 parts-add-i t c = omega arith
@@ -213,7 +383,23 @@ parts-loop-less : (t : ℕ) → parts-lts.Need-loop-less (parts-with t) (parts-a
 parts-loop-less t c = omega arith
 
 parts-loop-again : (t : ℕ) → parts-lts.Need-loop-again (parts-with t) (parts-at t) parts.Post parts-Inv-loop parts-μ-loop
-parts-loop-again t c = let p = decoded _ _ _ _ (c .before .before .before .before .before .before .code-at .ensures) (c .before .before .before .before .before .if1 .left) (c .before .before .before .before .part-of .ensures .0) in (omega (arith, p .below), rw (c .before .next .given .1) at (c .before .before .before .piece .ensures .1), c .before .before .before .before .before .before .before .loop .inv .2 ∙ parts-go _ _ _ _ _ (p .rest) _ (sym (c .before .before .before .piece .ensures .0) ∙ c .before .next .given .1))
+parts-loop-again t c =
+    let at-piece = c .before .before .before in
+    let at-part-of = at-piece .before in
+    let at-else1 = at-part-of .before in
+    let at-code-at = at-else1 .before in
+    let at-loop = at-code-at .before in
+    let p = decoded _ _ _ _
+    (at-code-at .code-at .ensures)
+    (at-else1 .if1 .left)
+    (at-part-of .part-of .ensures .0) in (
+      omega (arith, p .below),
+      rw (c .before .next .given .1) at (at-piece .piece .ensures .1),
+      at-loop .loop .inv .2
+          ∙ parts-go _ _ _ _ _
+          (p .rest) _
+          (sym (at-piece .piece .ensures .0) ∙ c .before .next .given .1),
+    )
 
 piece-enum-known-p : (t : ℕ) → piece-lts.Need-enum-known-p (piece-with t) (piece-at t) piece.Post
 piece-enum-known-p t c = search needs
@@ -234,10 +420,18 @@ piece-enum-known-next : (t : ℕ) → piece-lts.Need-enum-known-next (piece-with
 piece-enum-known-next t c = search needs
 
 piece-shared-slice-read-if1 : (t : ℕ) → piece-lts.Need-shared-slice-read-if1 (piece-with t) (piece-at t) piece.Post
-piece-shared-slice-read-if1 t c = let h = rw (c .before .before .next .given .1) at (c .before .before .before .before .flag .ensures .1) in omega arith
+piece-shared-slice-read-if1 t c =
+    let at-next = c .before .before in
+    let at-flag = at-next .before .before in
+    let h = rw (at-next .next .given .1) at (at-flag .flag .ensures .1) in
+    omega arith
 
 piece-block-requires-2 : (t : ℕ) → piece-lts.Need-block-requires-2 (piece-with t) (piece-at t) piece.Post
-piece-block-requires-2 t c κs = let h = rw (c .before .before .before .next .given .1) at (c .before .before .before .before .before .flag .ensures .1) in (omega arith, (omega arith, omega arith, nothing-valid _ 0 0 0))
+piece-block-requires-2 t c κs =
+    let at-next = c .before .before .before in
+    let at-flag = at-next .before .before in
+    let h = rw (at-next .next .given .1) at (at-flag .flag .ensures .1) in
+    (omega arith, (omega arith, omega arith, nothing-valid _ 0 0 0))
 
 piece-enum-known-p-3 : (t : ℕ) → piece-lts.Need-enum-known-p-3 (piece-with t) (piece-at t) piece.Post
 piece-enum-known-p-3 t c = search needs
@@ -252,7 +446,15 @@ piece-add-first : (t : ℕ) → piece-lts.Need-add-first (piece-with t) (piece-a
 piece-add-first t c = omega arith
 
 piece-list-requires-2 : (t : ℕ) → piece-lts.Need-list-requires-2 (piece-with t) (piece-at t) piece.Post
-piece-list-requires-2 t c κs = (omega arith, (omega arith, omega arith, owners-before _ _ _ _ (c .before .before .before .before .pre .1 .3 .ascending _ _ _ (c .before .p4 .given .1))))
+piece-list-requires-2 t c κs =
+    let at-start = c .before .before .before .before in (
+      omega arith,
+      (
+        omega arith,
+        omega arith,
+        owners-before _ _ _ _ (at-start .pre .1 .3 .ascending _ _ _ (c .before .p4 .given .1)),
+      ),
+    )
 
 piece-enum-known-p-5 : (t : ℕ) → piece-lts.Need-enum-known-p-5 (piece-with t) (piece-at t) piece.Post
 piece-enum-known-p-5 t c = search needs
@@ -261,38 +463,94 @@ piece-add-first-2 : (t : ℕ) → piece-lts.Need-add-first-2 (piece-with t) (pie
 piece-add-first-2 t c = omega arith
 
 piece-list-requires-3 : (t : ℕ) → piece-lts.Need-list-requires-3 (piece-with t) (piece-at t) piece.Post
-piece-list-requires-3 t c κs = (omega arith, (omega arith, omega arith, types-before _ _ _ _ (c .before .before .before .before .pre .1 .3 .distinct _ _ _ (c .before .p5 .given .1))))
+piece-list-requires-3 t c κs =
+    let at-start = c .before .before .before .before in (
+      omega arith,
+      (
+        omega arith,
+        omega arith,
+        types-before _ _ _ _ (at-start .pre .1 .3 .distinct _ _ _ (c .before .p5 .given .1)),
+      ),
+    )
 
 piece-plain-requires : (t : ℕ) → piece-lts.Need-plain-requires (piece-with t) (piece-at t) piece.Post
-piece-plain-requires t c κs = (omega arith, omega arith, c .before .before .pre .1 .2, plain _ (c .match .keys6))
+piece-plain-requires t c κs = (
+  omega arith,
+  omega arith,
+  c .before .before .pre .1 .2,
+  plain _ (c .match .keys6),
+)
 
 piece-returns : (t : ℕ) → piece-lts.Need-returns (piece-with t) (piece-at t) piece.Post
 unfolding readPart earlierOf
-piece-returns t c = (rw (c .before .before .p .given .1) (c .block .ensures .0), c .block .ensures .1)
+piece-returns t c = (
+  rw (c .before .before .p .given .1) (c .block .ensures .0),
+  c .block .ensures .1,
+)
 
 piece-returns-2 : (t : ℕ) → piece-lts.Need-returns-2 (piece-with t) (piece-at t) piece.Post
 unfolding readPart
-piece-returns-2 t c = (rw (c .before .before .before .before .before .p2 .given .1) (sym (optional-stop _ _ _ _ _ _ (sym (c .before .before .before .flag .ensures .0) ∙ c .before .q .given .1))), tt)
+piece-returns-2 t c =
+    let at-flag = c .before .before .before in
+    let at-p2 = at-flag .before .before in (
+      rw
+          (at-p2 .p2 .given .1)
+          (sym
+          (optional-stop _ _ _ _ _ _ (sym (at-flag .flag .ensures .0) ∙ c .before .q .given .1))),
+      tt,
+    )
 
 piece-returns-3 : (t : ℕ) → piece-lts.Need-returns-3 (piece-with t) (piece-at t) piece.Post
 unfolding readPart earlierOf
-piece-returns-3 t c = (rw (c .before .before .before .before .before .before .before .before .p2 .given .1) (c .block2 .ensures .0 ∙ sym (optional-on _ _ _ _ _ _ (sym (c .before .before .before .before .before .before .flag .ensures .0) ∙ c .before .before .before .before .next .given .1) (c .before .if1 .taken))), c .block2 .ensures .1)
+piece-returns-3 t c =
+    let at-next = c .before .before .before .before in
+    let at-flag = at-next .before .before in
+    let at-p2 = at-flag .before .before in (
+      rw
+          (at-p2 .p2 .given .1)
+          (c .block2 .ensures .0
+          ∙ sym
+          (optional-on _ _ _ _ _ _
+          (sym (at-flag .flag .ensures .0) ∙ at-next .next .given .1)
+          (c .before .if1 .taken))),
+      c .block2 .ensures .1,
+    )
 
 piece-returns-4 : (t : ℕ) → piece-lts.Need-returns-4 (piece-with t) (piece-at t) piece.Post
 unfolding readPart
-piece-returns-4 t c = (rw (c .before .before .before .before .before .before .before .p2 .given .1) (sym (optional-off _ _ _ _ _ _ (sym (c .before .before .before .before .before .flag .ensures .0) ∙ c .before .before .before .next .given .1) (c .if1 .left))), (rw (c .before .before .before .next .given .1) at (c .before .before .before .before .before .flag .ensures .1)) .1)
+piece-returns-4 t c =
+    let at-next = c .before .before .before in
+    let at-flag = at-next .before .before in
+    let at-p2 = at-flag .before .before in (
+      rw
+          (at-p2 .p2 .given .1)
+          (sym
+          (optional-off _ _ _ _ _ _
+          (sym (at-flag .flag .ensures .0) ∙ at-next .next .given .1)
+          (c .if1 .left))),
+      (rw (at-next .next .given .1) at (at-flag .flag .ensures .1)) .1,
+    )
 
 piece-returns-5 : (t : ℕ) → piece-lts.Need-returns-5 (piece-with t) (piece-at t) piece.Post
 unfolding readPart earlierOf
-piece-returns-5 t c = (rw (c .before .before .p3 .given .1) (c .list .ensures .0), c .list .ensures .1)
+piece-returns-5 t c = (
+  rw (c .before .before .p3 .given .1) (c .list .ensures .0),
+  c .list .ensures .1,
+)
 
 piece-returns-6 : (t : ℕ) → piece-lts.Need-returns-6 (piece-with t) (piece-at t) piece.Post
 unfolding readPart earlierOf namesBefore
-piece-returns-6 t c = (rw (c .before .before .p4 .given .1) (c .list2 .ensures .0), c .list2 .ensures .1)
+piece-returns-6 t c = (
+  rw (c .before .before .p4 .given .1) (c .list2 .ensures .0),
+  c .list2 .ensures .1,
+)
 
 piece-returns-7 : (t : ℕ) → piece-lts.Need-returns-7 (piece-with t) (piece-at t) piece.Post
 unfolding readPart earlierOf namesBefore
-piece-returns-7 t c = (rw (c .before .before .p5 .given .1) (c .list3 .ensures .0), c .list3 .ensures .1)
+piece-returns-7 t c = (
+  rw (c .before .before .p5 .given .1) (c .list3 .ensures .0),
+  c .list3 .ensures .1,
+)
 
 piece-returns-8 : (t : ℕ) → piece-lts.Need-returns-8 (piece-with t) (piece-at t) piece.Post
 piece-returns-8 t c = (c .plain .ensures .0 _, c .plain .ensures .1)
@@ -300,7 +558,24 @@ piece-returns-8 t c = (c .plain .ensures .0 _, c .plain .ensures .1)
 pub +block+list+parts+piece-spec : {M : Type 1} → statement M
 +block+list+parts+piece-spec =
     close μ-block μ-list μ-parts μ-piece
-    (λ t. block-lts.spec (block-with t) (block-at t) block.Post (block-heading-requires t) (block-enum-known-q t) (block-enum-known-k t) (block-returns t) (block-sub-parts t) (block-add-parts t) (block-parts-requires t) (block-enum-known-q-2 t) (block-enum-known-next t) (block-returns-2 t) (block-returns-3 t) (block-returns-4 t) (block-returns-5 t))
-    (λ t. list-lts.spec (list-with t) (list-at t) list.Post list-Inv-loop list-μ-loop (list-counted-requires t) (list-enum-known-q t) (list-enum-known-n t) (list-add-i t) (list-loop-holds t) (list-block-requires t) (list-enum-known-next t) (list-grown-requires t) (list-enum-known-q-2 t) (list-returns t) (list-sub-left t) (list-loop-less t) (list-loop-again t) (list-returns-2 t) (list-returns-3 t))
-    (λ t. parts-lts.spec (parts-with t) (parts-at t) parts.Post parts-Inv-loop parts-μ-loop (parts-loop-holds t) (parts-code-at-requires t) (parts-returns t) (parts-part-of-requires t) (parts-piece-requires t) (parts-enum-known-next t) (parts-enum-known-q t) (parts-returns-2 t) (parts-add-i t) (parts-loop-less t) (parts-loop-again t))
-    (λ t. piece-lts.spec (piece-with t) (piece-at t) piece.Post (piece-enum-known-p t) (piece-block-requires t) (piece-enum-known-p-2 t) (piece-flag-requires t) (piece-enum-known-q t) (piece-enum-known-next t) (piece-shared-slice-read-if1 t) (piece-block-requires-2 t) (piece-enum-known-p-3 t) (piece-list-requires t) (piece-enum-known-p-4 t) (piece-add-first t) (piece-list-requires-2 t) (piece-enum-known-p-5 t) (piece-add-first-2 t) (piece-list-requires-3 t) (piece-plain-requires t) (piece-returns t) (piece-returns-2 t) (piece-returns-3 t) (piece-returns-4 t) (piece-returns-5 t) (piece-returns-6 t) (piece-returns-7 t) (piece-returns-8 t))
+    (λ t. block-lts.spec (block-with t) (block-at t) block.Post (block-heading-requires t)
+    (block-enum-known-q t) (block-enum-known-k t) (block-returns t) (block-sub-parts t)
+    (block-add-parts t) (block-parts-requires t) (block-enum-known-q-2 t) (block-enum-known-next t)
+    (block-returns-2 t) (block-returns-3 t) (block-returns-4 t) (block-returns-5 t))
+    (λ t. list-lts.spec (list-with t) (list-at t) list.Post list-Inv-loop list-μ-loop
+    (list-counted-requires t) (list-enum-known-q t) (list-enum-known-n t) (list-add-i t)
+    (list-loop-holds t) (list-block-requires t) (list-enum-known-next t) (list-grown-requires t)
+    (list-enum-known-q-2 t) (list-returns t) (list-sub-left t) (list-loop-less t)
+    (list-loop-again t) (list-returns-2 t) (list-returns-3 t))
+    (λ t. parts-lts.spec (parts-with t) (parts-at t) parts.Post parts-Inv-loop parts-μ-loop
+    (parts-loop-holds t) (parts-code-at-requires t) (parts-returns t) (parts-part-of-requires t)
+    (parts-piece-requires t) (parts-enum-known-next t) (parts-enum-known-q t) (parts-returns-2 t)
+    (parts-add-i t) (parts-loop-less t) (parts-loop-again t))
+    (λ t. piece-lts.spec (piece-with t) (piece-at t) piece.Post (piece-enum-known-p t)
+    (piece-block-requires t) (piece-enum-known-p-2 t) (piece-flag-requires t) (piece-enum-known-q t)
+    (piece-enum-known-next t) (piece-shared-slice-read-if1 t) (piece-block-requires-2 t)
+    (piece-enum-known-p-3 t) (piece-list-requires t) (piece-enum-known-p-4 t) (piece-add-first t)
+    (piece-list-requires-2 t) (piece-enum-known-p-5 t) (piece-add-first-2 t)
+    (piece-list-requires-3 t) (piece-plain-requires t) (piece-returns t) (piece-returns-2 t)
+    (piece-returns-3 t) (piece-returns-4 t) (piece-returns-5 t) (piece-returns-6 t)
+    (piece-returns-7 t) (piece-returns-8 t))

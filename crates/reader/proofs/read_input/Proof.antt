@@ -17,17 +17,33 @@ enum-known-q c = search needs
 enum-known-next : tie.Need-enum-known-next
 enum-known-next c = search needs
 
+-- The places, each seen from a later one: what was known there.
+abbrev at-block : tie.At-match-keys2 → tie.After-block
+at-block r = r .before
+
 returns : tie.Need-returns
 unfolding earlierOf
-returns c = sym (input-stop _ _ _ (sym (c .before .before .before .block .ensures .0) ∙ c .before .q .given .1))
+returns c =
+    let at-block = c .before .before .before in
+    sym (input-stop _ _ _ (sym (at-block .block .ensures .0) ∙ c .before .q .given .1))
 
 returns-2 : tie.Need-returns-2
 unfolding earlierOf
-returns-2 c = sym (input-ok _ _ _ (sym (c .before .before .before .before .block .ensures .0) ∙ c .before .before .next .given .1) (c .if1 .taken))
+returns-2 c =
+    sym
+    (input-ok _ _ _
+    (sym (at-block (c .before .before .before) .block .ensures .0)
+    ∙ c .before .before .next .given .1)
+    (c .if1 .taken))
 
 returns-3 : tie.Need-returns-3
 unfolding earlierOf
-returns-3 c = sym (input-rest _ _ _ (sym (c .before .before .before .before .block .ensures .0) ∙ c .before .before .next .given .1) (c .if1 .left))
+returns-3 c =
+    sym
+    (input-rest _ _ _
+    (sym (at-block (c .before .before .before) .block .ensures .0)
+    ∙ c .before .before .next .given .1)
+    (c .if1 .left))
 
 pub read-input-spec : {M : Type 1} → statement M
 read-input-spec =

@@ -21,10 +21,26 @@ enum-told : tie.Need-enum-told
 enum-told c = search needs
 
 returns-3 : tie.Need-returns-3
-returns-3 c = sym (call-no _ _ _ _ (c .before .before .before .before .before .if1 .left) (c .before .before .before .before .if2 .left) (sym (c .before .before .before .read-input .ensures) ∙ c .before .q .given .1))
+returns-3 c =
+    let at-read-input = c .before .before .before in
+    let at-else2 = at-read-input .before in
+    let at-else1 = at-else2 .before in
+    sym
+    (call-no _ _ _ _
+    (at-else1 .if1 .left)
+    (at-else2 .if2 .left)
+    (sym (at-read-input .read-input .ensures) ∙ c .before .q .given .1))
 
 returns-4 : tie.Need-returns-4
-returns-4 c = sym (call-yes _ _ _ _ (c .before .before .before .before .if1 .left) (c .before .before .before .if2 .left) (sym (c .before .before .read-input .ensures) ∙ c .enum-told .given .1))
+returns-4 c =
+    let at-read-input = c .before .before in
+    let at-else2 = at-read-input .before in
+    let at-else1 = at-else2 .before in
+    sym
+    (call-yes _ _ _ _
+    (at-else1 .if1 .left)
+    (at-else2 .if2 .left)
+    (sym (at-read-input .read-input .ensures) ∙ c .enum-told .given .1))
 
 pub judged-spec : {M : Type 1} → statement M
 judged-spec =

@@ -42,27 +42,38 @@ returns-8 c = named 32 3 (c .before .before .args .i) (c .before .match .keys8) 
 
 returns-9 : tie.Need-returns-9
 unfolding findRow grammar
-returns-9 c = named 33 1 (c .before .before .args .i) (c .before .match .keys9) (c .row-of2 .ensures)
+returns-9 c =
+    named 33 1 (c .before .before .args .i) (c .before .match .keys9) (c .row-of2 .ensures)
 
 returns-10 : tie.Need-returns-10
 unfolding findRow grammar
-returns-10 c = named 34 1 (c .before .before .args .i) (c .before .match .keys10) (c .row-of3 .ensures)
+returns-10 c =
+    named 34 1 (c .before .before .args .i) (c .before .match .keys10) (c .row-of3 .ensures)
 
 returns-11 : tie.Need-returns-11
 unfolding findRow grammar
-returns-11 c = named 35 1 (c .before .before .args .i) (c .before .match .keys11) (c .row-of4 .ensures)
+returns-11 c =
+    named 35 1 (c .before .before .args .i) (c .before .match .keys11) (c .row-of4 .ensures)
 
 returns-12 : tie.Need-returns-12
 unfolding findRow grammar
-returns-12 c = named 36 3 (c .before .before .args .i) (c .before .match .keys12) (c .row-of5 .ensures)
+returns-12 c =
+    named 36 3 (c .before .before .args .i) (c .before .match .keys12) (c .row-of5 .ensures)
 
 returns-13 : tie.Need-returns-13
 unfolding findRow grammar
-returns-13 c = named 37 2 (c .before .before .args .i) (c .before .match .keys13) (c .row-of6 .ensures)
+returns-13 c =
+    named 37 2 (c .before .before .args .i) (c .before .match .keys13) (c .row-of6 .ensures)
 
 returns-14 : tie.Need-returns-14
 unfolding findRow grammar
-returns-14 c = missing (37 ∷ 36 ∷ 35 ∷ 34 ∷ 33 ∷ 32 ∷ 7 ∷ 6 ∷ 5 ∷ 4 ∷ 3 ∷ 2 ∷ 1 ∷ []) 0 64 (c .before .args .i) refl (c .match .rest) (omega arith) (omega arith)
+returns-14 c =
+    missing
+    (37 ∷ 36 ∷ 35 ∷ 34 ∷ 33 ∷ 32 ∷ 7 ∷ 6 ∷ 5 ∷ 4 ∷ 3 ∷ 2 ∷ 1 ∷ []) 0 64
+    (c .before .args .i) refl
+    (c .match .rest)
+    (omega arith)
+    (omega arith)
 
 pub type-code-spec : {M : Type 1} → statement M
 type-code-spec =

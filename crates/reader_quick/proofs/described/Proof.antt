@@ -15,7 +15,10 @@ flag-requires : tie.Need-flag-requires
 flag-requires c κs = search needs
 
 returns-2 : tie.Need-returns-2
-returns-2 c = (described-yes _ _ _ (omega arith) (c .before .before .optional .ensures .0) (c .flag .ensures .0), c .flag .ensures .1)
+returns-2 c = (
+  described-yes _ _ _ (omega arith) (c .before .before .optional .ensures .0) (c .flag .ensures .0),
+  c .flag .ensures .1,
+)
 
 pub described-spec : {M : Type 1} → statement M
 described-spec = tie.close (tie.spec optional-requires returns flag-requires returns-2)

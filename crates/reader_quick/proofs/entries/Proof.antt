@@ -10,7 +10,11 @@ use Rattle.reader_quick.proofs.entries.Statement.{statement}
 use Rattle.reader_quick.proofs.entries.Tie as tie
 
 abbrev Inv-loop : tie.InvT-loop
-Inv-loop s kind at end n i₀ left₀ i left = (i ≤ end) × ((room start : ℕ) → 0 < room → forget (readList (λ f a. readBlock room s f kind kind a end) Earlier.any 512 s start end at) ≡ forget (readEntries (λ f a. readBlock room s f kind kind a end) Earlier.any left i))
+Inv-loop s kind at end n i₀ left₀ i left =
+    (i ≤ end) ×
+    ((room start : ℕ) → 0 < room → forget
+    (readList (λ f a. readBlock room s f kind kind a end) Earlier.any 512 s start end at) ≡ forget
+    (readEntries (λ f a. readBlock room s f kind kind a end) Earlier.any left i))
 
 abbrev μ-loop : tie.MeasureT-loop
 μ-loop s kind at end n i₀ left₀ i left = left
@@ -28,7 +32,15 @@ add-result : tie.Need-add-result Inv-loop μ-loop
 add-result c = omega arith
 
 returns-2 : tie.Need-returns-2 Inv-loop μ-loop
-returns-2 c = (λ room start h z. list-yes _ _ _ _ _ _ start _ (c .before .before .if1 .left) (c .before .read2 .ensures .0) (omega (arith, c .if2 .taken)) ∙ entries-none _ _ _ _ (omega (arith, c .if2 .taken)), c .before .before .if1 .left)
+returns-2 c =
+    let at-else1 = c .before .before in (
+      λ room start h z. list-yes _ _ _ _ _ _ start _
+          (at-else1 .if1 .left)
+          (c .before .read2 .ensures .0)
+          (omega (arith, c .if2 .taken))
+          ∙ entries-none _ _ _ _ (omega (arith, c .if2 .taken)),
+      at-else1 .if1 .left,
+    )
 
 returns-3 : tie.Need-returns-3 Inv-loop μ-loop
 returns-3 c = (λ room start h z. absurd (omega arith), omega arith)
@@ -37,7 +49,15 @@ add-i : tie.Need-add-i Inv-loop μ-loop
 add-i c = omega arith
 
 loop-holds : tie.Need-loop-holds Inv-loop μ-loop
-loop-holds c = (omega arith, λ room start h. list-yes _ _ _ _ _ _ start _ (c .before .before .before .if1 .left) (c .before .before .read2 .ensures .0) (c .if3 .left))
+loop-holds c =
+    let at-read2 = c .before .before in
+    let at-else1 = at-read2 .before in (
+      omega arith,
+      λ room start h. list-yes _ _ _ _ _ _ start _
+          (at-else1 .if1 .left)
+          (at-read2 .read2 .ensures .0)
+          (c .if3 .left),
+    )
 
 entry-requires : tie.Need-entry-requires Inv-loop μ-loop
 entry-requires c κs = (c .before .loop .inv .0, omega arith)
@@ -52,10 +72,22 @@ loop-less : tie.Need-loop-less Inv-loop μ-loop
 loop-less c = omega arith
 
 loop-again : tie.Need-loop-again Inv-loop μ-loop
-loop-again c = (c .before .entry .ensures .1, λ room start h. c .before .before .before .loop .inv .1 room start h ∙ any-go _ _ _ (c .before .before .loop-test .taken) (c .before .entry .ensures .0 room Earlier.any h (omega (arith, c .if4 .left))))
+loop-again c =
+    let in-loop = c .before .before in
+    let at-loop = in-loop .before in (
+      c .before .entry .ensures .1,
+      λ room start h. at-loop .loop .inv .1 room start h
+          ∙ any-go _ _ _
+          (in-loop .loop-test .taken)
+          (c .before .entry .ensures .0 room Earlier.any h (omega (arith, c .if4 .left))),
+    )
 
 returns-5 : tie.Need-returns-5 Inv-loop μ-loop
-returns-5 c = (λ room start h z. c .before .loop .inv .1 room start h ∙ entries-none _ _ _ _ (c .loop-test .left), c .before .loop .inv .0)
+returns-5 c = (
+  λ room start h z. c .before .loop .inv .1 room start h
+      ∙ entries-none _ _ _ _ (c .loop-test .left),
+  c .before .loop .inv .0,
+)
 
 pub entries-spec : {M : Type 1} → statement M
 entries-spec =

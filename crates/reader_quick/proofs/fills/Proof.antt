@@ -22,7 +22,13 @@ add-result-2 : tie.Need-add-result-2
 add-result-2 c = search needs
 
 returns-2 : tie.Need-returns-2
-returns-2 c = λ z. fills-yes (c .before .before .before .args .s .now) _ _ (c .before .if1 .left) (c .read4 .ensures .0) (eqb-true _ _ z)
+returns-2 c =
+    let at-start = c .before .before .before in
+    λ z. fills-yes
+    (at-start .args .s .now) _ _
+    (c .before .if1 .left)
+    (c .read4 .ensures .0)
+    (eqb-true _ _ z)
 
 pub fills-spec : {M : Type 1} → statement M
 fills-spec = tie.close (tie.spec add-if1 returns add-result read4-requires add-result-2 returns-2)

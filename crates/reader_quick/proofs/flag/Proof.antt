@@ -22,7 +22,11 @@ add-result : tie.Need-add-result
 add-result c = search needs
 
 returns-3 : tie.Need-returns-3
-returns-3 c = (flag-yes _ _ _ (c .before .before .if1 .left) (c .if2 .left), omega arith, λ z. (refl, c .if2 .left))
+returns-3 c = (
+  flag-yes _ _ _ (c .before .before .if1 .left) (c .if2 .left),
+  omega arith,
+  λ z. (refl, c .if2 .left),
+)
 
 pub flag-spec : {M : Type 1} → statement M
 flag-spec = tie.close (tie.spec add-if1 returns shared-slice-read-b returns-2 add-result returns-3)

@@ -36,13 +36,41 @@ element-write-marks : tie.Need-element-write-marks
 element-write-marks c = omega (arith, c .before .place .ensures .1)
 
 returns : tie.Need-returns
-returns c = (λ z. fresh-new (c .before .before .before .before .before .before .args .marks .now) (c .before .before .before .before .before .before .args .s .now) _ _ _ (c .before .before .before .before .read2 .ensures .0) (c .before .before .place .ensures .0) _ _ (c .before .before .before .before .before .before .pre .2) (c .if1 .taken), fresh-mark (c .before .before .before .before .before .before .args .marks .now) (c .before .before .before .before .before .before .args .s .now) _ _ _ (c .before .before .before .before .read2 .ensures .0) (c .before .before .place .ensures .0))
+returns c =
+    let at-place = c .before .before in
+    let at-read2 = at-place .before .before in
+    let at-start = at-read2 .before .before in (
+      λ z. fresh-new
+          (at-start .args .marks .now)
+          (at-start .args .s .now) _ _ _
+          (at-read2 .read2 .ensures .0)
+          (at-place .place .ensures .0) _ _
+          (at-start .pre .2)
+          (c .if1 .taken),
+      fresh-mark
+          (at-start .args .marks .now)
+          (at-start .args .s .now) _ _ _
+          (at-read2 .read2 .ensures .0)
+          (at-place .place .ensures .0),
+    )
 
 differs-requires : tie.Need-differs-requires
-differs-requires c κs = (c .before .before .before .before .before .before .pre .0, c .before .before .before .before .before .before .pre .1)
+differs-requires c κs =
+    let at-start = c .before .before .before .before .before .before in
+    (at-start .pre .0, at-start .pre .1)
 
 returns-2 : tie.Need-returns-2
-returns-2 c = (λ z. fresh-asked _ _ (c .differs .ensures) z, fresh-mark (c .before .before .before .before .before .before .before .args .marks .now) (c .before .before .before .before .before .before .before .args .s .now) _ _ _ (c .before .before .before .before .before .read2 .ensures .0) (c .before .before .before .place .ensures .0))
+returns-2 c =
+    let at-place = c .before .before .before in
+    let at-read2 = at-place .before .before in
+    let at-start = at-read2 .before .before in (
+      λ z. fresh-asked _ _ (c .differs .ensures) z,
+      fresh-mark
+          (at-start .args .marks .now)
+          (at-start .args .s .now) _ _ _
+          (at-read2 .read2 .ensures .0)
+          (at-place .place .ensures .0),
+    )
 
 pub fresh-spec : {M : Type 1} → statement M
 fresh-spec =

@@ -19,7 +19,10 @@ add-result : tie.Need-add-result
 add-result c = search needs
 
 returns-2 : tie.Need-returns-2
-returns-2 c = (off-yes _ _ _ (λ start. readText _ start _) (c .before .before .if1 .left) (c .if2 .taken), omega arith)
+returns-2 c = (
+  off-yes _ _ _ (λ start. readText _ start _) (c .before .before .if1 .left) (c .if2 .taken),
+  omega arith,
+)
 
 returns-3 : tie.Need-returns-3
 returns-3 c = (λ start z. absurd (omega arith), omega arith)
@@ -31,7 +34,17 @@ text-requires : tie.Need-text-requires
 text-requires c κs = search needs
 
 returns-4 : tie.Need-returns-4
-returns-4 c = (on-yes _ _ _ (λ start. readText _ start _) (c .before .before .before .before .if1 .left) (c .before .before .if2 .left) (c .before .if3 .left) _ (c .text .ensures .0), c .text .ensures .1)
+returns-4 c =
+    let at-else2 = c .before .before in
+    let at-else1 = at-else2 .before .before in (
+      on-yes _ _ _
+          (λ start. readText _ start _)
+          (at-else1 .if1 .left)
+          (at-else2 .if2 .left)
+          (c .before .if3 .left) _
+          (c .text .ensures .0),
+      c .text .ensures .1,
+    )
 
 pub optional-spec : {M : Type 1} → statement M
 optional-spec =

@@ -37,7 +37,16 @@ add-result-2 : tie.Need-add-result-2 Inv-loop μ-loop
 add-result-2 c = omega arith
 
 returns : tie.Need-returns Inv-loop μ-loop
-returns c = (place-long _ _ _ _ (c .before .before .before .if1 .taken) (c .before .before .read8 .ensures) (c .before .read82 .ensures) (c .read83 .ensures), omega arith)
+returns c =
+    let at-read8 = c .before .before in
+    let at-then1 = at-read8 .before in (
+      place-long _ _ _ _
+          (at-then1 .if1 .taken)
+          (at-read8 .read8 .ensures)
+          (c .before .read82 .ensures)
+          (c .read83 .ensures),
+      omega arith,
+    )
 
 loop-holds : tie.Need-loop-holds Inv-loop μ-loop
 loop-holds c = (omega arith, fold-first (c .before .before .args .name .now))
@@ -49,7 +58,11 @@ mul-h : tie.Need-mul-h Inv-loop μ-loop
 mul-h c = omega arith
 
 shared-slice-read-wide : tie.Need-shared-slice-read-wide Inv-loop μ-loop
-shared-slice-read-wide c = omega (arith, c .before .loop-test .taken, c .before .before .loop .inv .0)
+shared-slice-read-wide c = omega (
+  arith,
+  c .before .loop-test .taken,
+  c .before .before .loop .inv .0,
+)
 
 wide-requires : tie.Need-wide-requires Inv-loop μ-loop
 wide-requires c κs = search needs
@@ -61,10 +74,23 @@ loop-less : tie.Need-loop-less Inv-loop μ-loop
 loop-less c = omega arith
 
 loop-again : tie.Need-loop-again Inv-loop μ-loop
-loop-again c = (omega (arith, c .before .before .before .loop .inv .0), fold-more _ _ _ _ (c .before .before .loop-test .taken) (c .before .before .before .loop .inv .0) (c .before .before .before .loop .inv .1) (c .wide .ensures .0))
+loop-again c =
+    let in-loop = c .before .before in
+    let at-loop = in-loop .before in (
+      omega (arith, at-loop .loop .inv .0),
+      fold-more _ _ _ _
+          (in-loop .loop-test .taken)
+          (at-loop .loop .inv .0)
+          (at-loop .loop .inv .1)
+          (c .wide .ensures .0),
+    )
 
 returns-2 : tie.Need-returns-2 Inv-loop μ-loop
-returns-2 c = let z : c .before .loop .i ≡ 0 = omega (arith, c .loop-test .left) in (place-short _ _ (c .before .before .if1 .left) (rw z at (c .before .loop .inv .1)), omega arith)
+returns-2 c =
+    let z : c .before .loop .i ≡ 0 = omega (arith, c .loop-test .left) in (
+      place-short _ _ (c .before .before .if1 .left) (rw z at (c .before .loop .inv .1)),
+      omega arith,
+    )
 
 pub place-spec : {M : Type 1} → statement M
 place-spec =

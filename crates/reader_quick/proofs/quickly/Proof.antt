@@ -24,10 +24,18 @@ returns : tie.Need-returns
 returns c = λ z. layout-is _ _ (c .before .match .keys1) (c .layout .ensures z)
 
 returns-2 : tie.Need-returns-2
-returns-2 c = λ z. all-yes _ _ (c .before .before .match .keys2) (c .before .values .ensures .0) (c .all-read .ensures z)
+returns-2 c =
+    λ z. all-yes _ _
+    (c .before .before .match .keys2)
+    (c .before .values .ensures .0)
+    (c .all-read .ensures z)
 
 returns-3 : tie.Need-returns-3
-returns-3 c = λ z. all-yes _ _ (c .before .before .match .keys3) (c .before .run .ensures .0) (c .all-read2 .ensures z)
+returns-3 c =
+    λ z. all-yes _ _
+    (c .before .before .match .keys3)
+    (c .before .run .ensures .0)
+    (c .all-read2 .ensures z)
 
 returns-4 : tie.Need-returns-4
 returns-4 c = λ z. false-true z

@@ -45,7 +45,18 @@ is-text-requires : tie.Need-is-text-requires
 is-text-requires c κs = search needs
 
 returns-3 : tie.Need-returns-3
-returns-3 c = (text-yes _ _ _ _ (c .before .before .before .before .read2 .ensures .0) (c .before .before .before .before .before .if1 .left) (c .before .before .before .if2 .left) _ (c .before .is-text .ensures) (c .if3 .taken), omega arith)
+returns-3 c =
+    let at-else2 = c .before .before .before in
+    let at-read2 = at-else2 .before in
+    let at-else1 = at-read2 .before in (
+      text-yes _ _ _ _
+          (at-read2 .read2 .ensures .0)
+          (at-else1 .if1 .left)
+          (at-else2 .if2 .left) _
+          (c .before .is-text .ensures)
+          (c .if3 .taken),
+      omega arith,
+    )
 
 returns-4 : tie.Need-returns-4
 returns-4 c = (λ start z. absurd (omega arith), omega arith)
