@@ -149,12 +149,12 @@ run-parts = refl
 
 module _ (s : List ℕ) (at end stop : ℕ) (y : 0 < stop) (g : Sized s at end stop) where
   -- a block of values is read
-  pub values-yes : (room k : ℕ) → k ≡ le2 s (at + 4) → k ≡ 192 → 0 < room → {x : Read} → x ≡ forget (readList (readEntry true s at stop) (Earlier.ascending [] 0) 512 s at stop (at + 6)) → {i r : ℕ} → x ≡ Ok i → (0 < r → (r ≡ stop) × (i ≡ stop))
+  pub values-yes : (room : ℕ) → le2 s (at + 4) ≡ 192 → 0 < room → {x : Read} → x ≡ forget (readList (readEntry true s at stop) (Earlier.ascending [] 0) 512 s at stop (at + 6)) → {i r : ℕ} → x ≡ Ok i → (0 < r → (r ≡ stop) × (i ≡ stop))
       → (e : Earlier) → Reads r (readBlock room s e 192 192 at end)
   unfolding readPart readEntry
-  values-yes room k w u l f d c e z =
+  values-yes room w l f d c e z =
       let q = c z in
-      rw (q .0) (block-yes s at end stop y g room e 192 192 k w (omega arith) (omega arith) l (rw (u, values-parts) (part-last (readBlock (room - 1) s) s e at stop (Values 512) (at + 6) (sym f ∙ d))) (q .1))
+      rw (q .0) (block-yes s at end stop y g room e 192 192 192 (sym w) (omega arith) (omega arith) l (rw values-parts (part-last (readBlock (room - 1) s) s e at stop (Values 512) (at + 6) (sym f ∙ d))) (q .1))
 
   -- a run is read
   pub run-yes : (room : ℕ) → le2 s (at + 4) ≡ 193 → 2 ≤ room → {i : ℕ} → 0 < i → ((start : ℕ) → Reads i (readText s start stop (at + 6))) → i + 8 ≤ stop → {j r : ℕ} → ((e : Earlier) → Reads j (readBlock (room - 1) s e 192 192 (i + 8) stop)) → (0 < r → (r ≡ stop) × (j ≡ stop))

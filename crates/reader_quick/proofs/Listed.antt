@@ -145,19 +145,19 @@ name-in s at stop {i} z d h =
 
 module _ (room : ℕ) (s : List ℕ) (at end stop : ℕ) (g : Sized s at end stop) (y : 0 < stop) where
   -- a type tree is read, if its name is in order
-  pub tree-yes : {k i j m r : ℕ} → k ≡ le2 s (at + 4) → k ≡ 161 → 2 ≤ room → 0 < i → ((start : ℕ) → Reads i (readText s start stop (at + 6))) → i + 8 ≤ stop
+  pub tree-yes : {i j m r : ℕ} → le2 s (at + 4) ≡ 161 → 2 ≤ room → 0 < i → ((start : ℕ) → Reads i (readText s start stop (at + 6))) → i + 8 ≤ stop
       → 0 < j → ((e : Earlier) → Reads j (readBlock (room - 1) s e 128 144 (i + 8) stop))
       → ((most start : ℕ) → 0 < most → Reads m (readList (λ f a. readBlock most s f 162 162 a stop) Earlier.any 512 s start stop j)) → (0 < r → (r ≡ stop) × (m ≡ stop))
       → (e : Earlier) → inOrder e (nameAt s (at + 6)) ≡ true → Reads r (readBlock room s e 161 161 at end)
   unfolding readPart
-  tree-yes {k} {i} {j} w x l a d h b n p c e o z =
+  tree-yes {i} {j} w l a d h b n p c e o z =
       let q = c z in
       let rb = readBlock (room - 1) s in
       let params = part-last rb s e at stop (Blocks 162 162 512) j (p (room - 1) at (omega arith) (omega arith)) in
       let root = part-then rb s e at stop node (Blocks 162 162 512 ∷ []) (i + 8) (n Earlier.any b) params in
       let align = part-then rb s e at stop Number (node ∷ Blocks 162 162 512 ∷ []) i (number-yes s stop i h at (omega arith)) root in
       let all = part-then rb s e at stop Key (Number ∷ node ∷ Blocks 162 162 512 ∷ []) (at + 6) (key-yes s at stop (at + 6) e (d at a) o) align in
-      rw (q .0) (block-yes s at end stop y g room e 161 161 k w (omega arith) (omega arith) (omega arith) (rw (x, tree-parts) all) (q .1))
+      rw (q .0) (block-yes s at end stop y g room e 161 161 161 (sym w) (omega arith) (omega arith) (omega arith) (rw tree-parts all) (q .1))
 
 -- ---- the list of trees
 
@@ -224,13 +224,13 @@ unfolding partsOf findRow grammar
 layout-parts = refl
 
 -- a layout is read
-pub layout-yes : (room : ℕ) (s : List ℕ) (end stop k : ℕ) {r : ℕ} → Sized s 0 end stop → 0 < stop → stop ≡ end → k ≡ le2 s 4 → k ≡ 160 → 0 < room
+pub layout-yes : (room : ℕ) (s : List ℕ) (end stop : ℕ) {r : ℕ} → Sized s 0 end stop → 0 < stop → stop ≡ end → le2 s 4 ≡ 160 → 0 < room
     → ((start : ℕ) → Reads r (readList (λ f a. readBlock (room - 1) s f 161 161 a end) (Earlier.distinct []) 256 s start end 6)) → r ≡ end → forget (readBlock room s Earlier.any 160 160 0 end) ≡ Ok end
 unfolding readPart
-layout-yes room s end stop k g y e w x l d f =
-    let b = block-yes s 0 end stop y g room Earlier.any 160 160 k w (omega arith) (omega arith) l in
+layout-yes room s end stop g y e w l d f =
+    let b = block-yes s 0 end stop y g room Earlier.any 160 160 160 (sym w) (omega arith) (omega arith) l in
     let p = part-last (readBlock (room - 1) s) s Earlier.any 0 end (Distinct 161 161 256) 6 (d 0 (omega arith)) in
-    rw e at (b (rw (x, layout-parts, e) p) (f ∙ sym e))
+    rw e at (b (rw (layout-parts, e) p) (f ∙ sym e))
 
 -- a block that is the whole input: the input is read
 pub input-yes : (room kind : ℕ) (s : List ℕ) → forget (readBlock room s Earlier.any kind kind 0 (length s)) ≡ Ok (length s) → Ok (length s) ≡ inputOf (length s) (readInput room kind s)

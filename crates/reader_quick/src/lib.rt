@@ -7,6 +7,7 @@ ghost use mathlib.Core.List.{[], _∷_};
 ghost use Prim.Native.Nat.{ℕ, _+_, _≤_, _<_};
 ghost use lib.ListN.{length, getD, set};
 ghost use Rattle.blocks.specs.declared.Part.the-variants.{OptText, Flag};
+ghost use Rattle.blocks.specs.Bytes.{le2};
 ghost use Rattle.blocks.specs.Name.{among};
 ghost use Rattle.blocks.specs.Read.{Earlier, Reader, inOrder, readText, readFlag, readOptional, readList, readPart, readParts, readBlock, readInput};
 ghost use Rattle.reader_leaf.specs.declared.Read.the-variants.{Ok};
@@ -84,6 +85,21 @@ fn sized(s: &[u8], at: usize, end: usize) -> usize
         return 0;
     }
     at + 4 + n
+}
+
+// The same of a block that has to be of one kind.
+fn of_kind(s: &[u8], kind: usize, at: usize, end: usize) -> usize
+    requires { ⌜ (at ≤ end) × (end ≤ length (now s)) ⌝ }
+    ensures { λ r. ⌜ (Sized (now (s .entry)) at end r) × (0 < r → (le2 (now (s .entry)) (at + 4) ≡ kind) × (at + 6 ≤ r)) × (r ≤ end) ⌝ }
+{
+    let stop = sized(s, at, end);
+    if stop == 0 {
+        return 0;
+    }
+    if wire::read2(s, at + 4) != kind {
+        return 0;
+    }
+    stop
 }
 
 // The end of a block whose parts end at i.
@@ -413,11 +429,8 @@ fn tree(s: &[u8], room: usize, at: usize, end: usize) -> usize
     requires { ⌜ (at ≤ end) × (end ≤ length (now s)) ⌝ }
     ensures { λ r. ⌜ ((e : Earlier) → inOrder e (nameAt (now (s .entry)) (at + 6)) ≡ true → Reads r (readBlock room (now (s .entry)) e 161 161 at end)) × (r ≤ end) × (0 < r → NameIn (now (s .entry)) (at + 6)) ⌝ }
 {
-    let stop = sized(s, at, end);
+    let stop = of_kind(s, 161, at, end);
     if stop == 0 {
-        return 0;
-    }
-    if wire::read2(s, at + 4) != 161 {
         return 0;
     }
     if room < 2 {
@@ -505,14 +518,11 @@ fn layout(s: &[u8], room: usize) -> bool
     ensures { λ r. ⌜ (r ≡ true → forget (readBlock room (now (s .entry)) Earlier.any 160 160 0 (length (now (s .entry)))) ≡ Ok (length (now (s .entry)))) ⌝ }
 {
     let n = s.len();
-    let stop = sized(s, 0, n);
+    let stop = of_kind(s, 160, 0, n);
     if stop == 0 {
         return false;
     }
     if stop != n {
-        return false;
-    }
-    if wire::read2(s, 4) != 160 {
         return false;
     }
     if room == 0 {
@@ -526,11 +536,8 @@ fn values(s: &[u8], room: usize, at: usize, end: usize) -> usize
     requires { ⌜ (at ≤ end) × (end ≤ length (now s)) ⌝ }
     ensures { λ r. ⌜ ((e : Earlier) → Reads r (readBlock room (now (s .entry)) e 192 192 at end)) × (r ≤ end) ⌝ }
 {
-    let stop = sized(s, at, end);
+    let stop = of_kind(s, 192, at, end);
     if stop == 0 {
-        return 0;
-    }
-    if wire::read2(s, at + 4) != 192 {
         return 0;
     }
     if room == 0 {
@@ -547,11 +554,8 @@ fn run(s: &[u8], room: usize, at: usize, end: usize) -> usize
     requires { ⌜ (at ≤ end) × (end ≤ length (now s)) ⌝ }
     ensures { λ r. ⌜ ((e : Earlier) → Reads r (readBlock room (now (s .entry)) e 193 193 at end)) × (r ≤ end) ⌝ }
 {
-    let stop = sized(s, at, end);
+    let stop = of_kind(s, 193, at, end);
     if stop == 0 {
-        return 0;
-    }
-    if wire::read2(s, at + 4) != 193 {
         return 0;
     }
     if room < 2 {
