@@ -129,11 +129,8 @@ fn entry(s: &[u8], kind: usize, at: usize, end: usize) -> usize
     requires { ⌜ (at ≤ end) × (end ≤ length (now s)) ⌝ }
     ensures { λ r. ⌜ ((room : ℕ) (e : Earlier) → 0 < room → Reads r (readBlock room (now (s .entry)) e kind kind at end)) × (r ≤ end) ⌝ }
 {
-    let stop = sized(s, at, end);
+    let stop = of_kind(s, kind, at, end);
     if stop == 0 {
-        return 0;
-    }
-    if wire::read2(s, at + 4) != kind {
         return 0;
     }
     let i = text(s, at + 6, stop);
