@@ -72,7 +72,7 @@ fn optional(s: &[u8], at: usize, end: usize) -> usize
 // Where the block at `at` ends, by its length.
 fn sized(s: &[u8], at: usize, end: usize) -> usize
     requires { ⌜ (at ≤ end) × (end ≤ length (now s)) ⌝ }
-    ensures { λ r. ⌜ Sized (now (s .entry)) at end r ⌝ }
+    ensures { λ r. ⌜ (Sized (now (s .entry)) at end r) × (r ≤ end) ⌝ }
 {
     if end < at + 6 {
         return 0;

@@ -282,7 +282,7 @@ case-read2-requires t c κs =
     let at-start = c .before .before .before in
     let w = ends
     (at-start .args .s .now) _ _ _
-    (c .before .sized .ensures)
+    (c .before .sized .ensures .0)
     (λ z. omega (arith, z, c .if1 .left)) in
     omega (arith, w .0, w .1)
 
@@ -304,26 +304,15 @@ case-node-requires : (t : ℕ) → case-lts.Need-node-requires (case-with t) (ca
 case-node-requires t c κs =
     let at-else1 = c .before .before .before in
     let at-sized = at-else1 .before in
-    let at-start = at-sized .before .before in
-    let w = ends
-    (at-start .args .s .now) _ _ _
-    (at-sized .sized .ensures)
-    (λ z. omega (arith, z, at-else1 .if1 .left)) in
-    (omega (arith, c .if3 .left), (at-else1 .if1 .left, omega (arith, w .1)))
+    (omega (arith, c .if3 .left), (at-else1 .if1 .left, omega (arith, at-sized .sized .ensures .1)))
 
 case-returns-4 : (t : ℕ) → case-lts.Need-returns-4 (case-with t) (case-at t) case.Post
 case-returns-4 t c = (λ e z. absurd (omega arith), omega arith)
 
 case-entries-requires : (t : ℕ) → case-lts.Need-entries-requires (case-with t) (case-at t) case.Post
 case-entries-requires t c κs =
-    let at-else1 = c .before .before .before .before .before in
-    let at-sized = at-else1 .before in
-    let at-start = at-sized .before .before in
-    let w = ends
-    (at-start .args .s .now) _ _ _
-    (at-sized .sized .ensures)
-    (λ z. omega (arith, z, at-else1 .if1 .left)) in
-    (c .before .node .ensures .1, omega (arith, w .1))
+    let at-sized = c .before .before .before .before .before .before in
+    (c .before .node .ensures .1, omega (arith, at-sized .sized .ensures .1))
 
 case-closed-requires : (t : ℕ) → case-lts.Need-closed-requires (case-with t) (case-at t) case.Post
 case-closed-requires t c κs = search needs
@@ -336,14 +325,9 @@ case-returns-5 t c =
     let at-else2 = at-else3 .before in
     let at-read2 = at-else2 .before in
     let at-else1 = at-read2 .before in
-    let at-sized = at-else1 .before in
-    let at-start = at-sized .before .before in
-    let w = ends
-    (at-start .args .s .now) _ _ _
-    (at-sized .sized .ensures)
-    (λ z. omega (arith, z, at-else1 .if1 .left)) in (
+    let at-sized = at-else1 .before in (
       case-yes _ _ _ _ _
-          (at-sized .sized .ensures)
+          (at-sized .sized .ensures .0)
           (at-else1 .if1 .left)
           (at-read2 .read2 .ensures .0)
           (at-else2 .if2 .left)
@@ -352,7 +336,7 @@ case-returns-5 t c =
           (at-node .node .ensures .0)
           (c .before .entries .ensures .0)
           (c .closed .ensures .0),
-      omega (arith, w .1, c .closed .ensures .1),
+      omega (arith, at-sized .sized .ensures .1, c .closed .ensures .1),
     )
 
 abbrev cases-Inv-loop : cases-lts.InvT-loop
@@ -467,7 +451,7 @@ node-returns t c = (λ e z. absurd (omega arith), omega arith)
 node-begun-requires : (t : ℕ) → node-lts.Need-begun-requires (node-with t) (node-at t) node.Post node-Inv-loop node-μ-loop
 node-begun-requires t c κs =
     let at-start = c .before .before .before in
-    let w = ends (at-start .args .s .now) _ _ _ (c .before .sized .ensures) (c .if1 .left) in
+    let w = ends (at-start .args .s .now) _ _ _ (c .before .sized .ensures .0) (c .if1 .left) in
     (omega (arith, w .0), omega (arith, w .1))
 
 node-returns-2 : (t : ℕ) → node-lts.Need-returns-2 (node-with t) (node-at t) node.Post node-Inv-loop node-μ-loop
@@ -483,12 +467,9 @@ node-add-read2 t c = search needs
 
 node-read2-requires : (t : ℕ) → node-lts.Need-read2-requires (node-with t) (node-at t) node.Post node-Inv-loop node-μ-loop
 node-read2-requires t c κs =
-    let at-else1 = c .before .before in
-    let at-sized = at-else1 .before in
-    let at-start = at-sized .before .before in
+    let at-sized = c .before .before .before in
     let b = c .before .begun .ensures .0 (omega (arith, c .if2 .left)) in
-    let w = ends (at-start .args .s .now) _ _ _ (at-sized .sized .ensures) (at-else1 .if1 .left) in
-    omega (arith, b .inside, w .1)
+    omega (arith, b .inside, at-sized .sized .ensures .1)
 
 node-node-row-requires : (t : ℕ) → node-lts.Need-node-row-requires (node-with t) (node-at t) node.Post node-Inv-loop node-μ-loop
 node-node-row-requires t c κs =
@@ -506,7 +487,7 @@ node-loop-holds t c =
       omega (arith, b .allowed),
       node-yes _ _ _ _
           (omega (arith, at-else1 .if1 .left))
-          (at-sized .sized .ensures)
+          (at-sized .sized .ensures .0)
           (omega (arith, at-else2 .if2 .left)) b
           (c .before .read2 .ensures .0)
           (c .node-row .ensures),
@@ -514,22 +495,16 @@ node-loop-holds t c =
 
 node-leading-requires : (t : ℕ) → node-lts.Need-leading-requires (node-with t) (node-at t) node.Post node-Inv-loop node-μ-loop
 node-leading-requires t c κs =
-    let at-else1 = c .before .before .before .before .before .before in
-    let at-sized = at-else1 .before in
-    let at-start = at-sized .before .before in
-    let w = ends (at-start .args .s .now) _ _ _ (at-sized .sized .ensures) (at-else1 .if1 .left) in
-    (omega (arith, c .before .loop .inv .1), (c .before .loop .inv .0, omega (arith, w .1)))
+    let at-sized = c .before .before .before .before .before .before .before in
+    (omega (arith, c .before .loop .inv .1), (c .before .loop .inv .0, omega (arith, at-sized .sized .ensures .1)))
 
 node-returns-3 : (t : ℕ) → node-lts.Need-returns-3 (node-with t) (node-at t) node.Post node-Inv-loop node-μ-loop
 node-returns-3 t c = (λ e z. absurd (omega arith), omega arith)
 
 node-fills-requires : (t : ℕ) → node-lts.Need-fills-requires (node-with t) (node-at t) node.Post node-Inv-loop node-μ-loop
 node-fills-requires t c κs =
-    let at-else1 = c .before .before .before .before .before .before .before .before in
-    let at-sized = at-else1 .before in
-    let at-start = at-sized .before .before in
-    let w = ends (at-start .args .s .now) _ _ _ (at-sized .sized .ensures) (at-else1 .if1 .left) in
-    (c .before .leading .ensures .1, omega (arith, w .1))
+    let at-sized = c .before .before .before .before .before .before .before .before .before in
+    (c .before .leading .ensures .1, omega (arith, at-sized .sized .ensures .1))
 
 node-returns-4 : (t : ℕ) → node-lts.Need-returns-4 (node-with t) (node-at t) node.Post node-Inv-loop node-μ-loop
 node-returns-4 t c = (λ e z. absurd (omega arith), omega arith)
@@ -537,11 +512,8 @@ node-returns-4 t c = (λ e z. absurd (omega arith), omega arith)
 node-begun-requires-2 : (t : ℕ) → node-lts.Need-begun-requires-2 (node-with t) (node-at t) node.Post node-Inv-loop node-μ-loop
 node-begun-requires-2 t c κs =
     let at-leading = c .before .before .before in
-    let at-else1 = at-leading .before .before .before .before .before .before .before in
-    let at-sized = at-else1 .before in
-    let at-start = at-sized .before .before in
-    let w = ends (at-start .args .s .now) _ _ _ (at-sized .sized .ensures) (at-else1 .if1 .left) in
-    (at-leading .leading .ensures .1, omega (arith, w .1))
+    let at-sized = at-leading .before .before .before .before .before .before .before .before in
+    (at-leading .leading .ensures .1, omega (arith, at-sized .sized .ensures .1))
 
 node-returns-5 : (t : ℕ) → node-lts.Need-returns-5 (node-with t) (node-at t) node.Post node-Inv-loop node-μ-loop
 node-returns-5 t c = (λ e z. absurd (omega arith), omega arith)
@@ -558,12 +530,9 @@ node-add-read2-2 t c =
 
 node-read2-requires-2 : (t : ℕ) → node-lts.Need-read2-requires-2 (node-with t) (node-at t) node.Post node-Inv-loop node-μ-loop
 node-read2-requires-2 t c κs =
-    let at-else1 = c .before .before .before .before .before .before .before .before .before .before .before .before in
-    let at-sized = at-else1 .before in
-    let at-start = at-sized .before .before in
+    let at-sized = c .before .before .before .before .before .before .before .before .before .before .before .before .before in
     let b = c .before .begun2 .ensures .0 (omega (arith, c .if5 .left)) in
-    let w = ends (at-start .args .s .now) _ _ _ (at-sized .sized .ensures) (at-else1 .if1 .left) in
-    omega (arith, b .inside, w .1)
+    omega (arith, b .inside, at-sized .sized .ensures .1)
 
 node-node-row-requires-2 : (t : ℕ) → node-lts.Need-node-row-requires-2 (node-with t) (node-at t) node.Post node-Inv-loop node-μ-loop
 node-node-row-requires-2 t c κs =
@@ -607,21 +576,15 @@ node-loop-again t c =
 
 node-body-requires : (t : ℕ) → node-lts.Need-body-requires (node-with t) (node-at t) node.Post node-Inv-loop node-μ-loop
 node-body-requires t c κs =
-    let at-else1 = c .before .before .before .before .before .before in
-    let at-sized = at-else1 .before in
-    let at-start = at-sized .before .before in
-    let w = ends (at-start .args .s .now) _ _ _ (at-sized .sized .ensures) (at-else1 .if1 .left) in
-    (omega (arith, c .before .loop .inv .1), (c .before .loop .inv .0, omega (arith, w .1)))
+    let at-sized = c .before .before .before .before .before .before .before in
+    (omega (arith, c .before .loop .inv .1), (c .before .loop .inv .0, omega (arith, at-sized .sized .ensures .1)))
 
 node-returns-6 : (t : ℕ) → node-lts.Need-returns-6 (node-with t) (node-at t) node.Post node-Inv-loop node-μ-loop
 node-returns-6 t c =
     let at-loop = c .before .before in
-    let at-else1 = at-loop .before .before .before .before .before in
-    let at-sized = at-else1 .before in
-    let at-start = at-sized .before .before in
-    let w = ends (at-start .args .s .now) _ _ _ (at-sized .sized .ensures) (at-else1 .if1 .left) in (
+    let at-sized = at-loop .before .before .before .before .before .before in (
       λ e z. let q = c .body .ensures .0 z in rw (q .0) (at-loop .loop .inv .2 (q .1) e),
-      omega (arith, w .1, c .body .ensures .1),
+      omega (arith, at-sized .sized .ensures .1, c .body .ensures .1),
     )
 
 piece-add-if1 : (t : ℕ) → piece-lts.Need-add-if1 (piece-with t) (piece-at t) piece.Post
