@@ -51,7 +51,8 @@ opened-suc s lo hi at k ps room e end got fits read ek ep =
     let q = asked (eqb (b .0 .1) (at + 4 + n)) _ _ _ (b .2) in
     let g : got ≡ (block at (le2 s (at + 4)) (b .0 .0), at + 4 + n) = sym (done-one (q .1)) in
     let w : within lo hi k ≡ true = ap (within lo hi) (sym ek) ∙ h .known in
-    let r : readParts (readBlock room s) s e at (at + 4 + n) ps (at + 6) ≡ done (b .0) = subst (λ (l : List Part). readParts (readBlock room s) s e at (at + 4 + n) l (at + 6) ≡ done (b .0)) (ap partsOf ek ∙ ep) (b .1) in
+    let r : readParts (readBlock room s) s e at (at + 4 + n) ps (at + 6) ≡ done (b .0) =
+    subst (λ (l : List Part). readParts (readBlock room s) s e at (at + 4 + n) l (at + 6) ≡ done (b .0)) (ap partsOf ek ∙ ep) (b .1) in
     record {
       parts = record { room = room; earlier = e; start = at; end = at + 4 + n; got = b .0; fits = omega (arith, h .high); read = r };
       long = h .long;
@@ -123,7 +124,15 @@ pub behind : {s : List ℕ} {p : Part} {ps : List Part} {at q : ℕ} {t : Tree} 
 behind {ps} c e h =
     let b = chained c in
     record {
-      rest = record { room = c .room; earlier = c .earlier; start = c .start; end = c .end; got = b .more; fits = c .fits; read = subst (λ (z : Tree × ℕ). partsAt c ps (z .1) ≡ done (b .more)) e (b .more-read) };
+      rest = record {
+        room = c .room;
+        earlier = c .earlier;
+        start = c .start;
+        end = c .end;
+        got = b .more;
+        fits = c .fits;
+        read = subst (λ (z : Tree × ℕ). partsAt c ps (z .1) ≡ done (b .more)) e (b .more-read);
+      };
       inside = h;
       tree = ap (λ (z : Tree × ℕ). z .0) (b .is) ∙ ap (λ (z : Tree × ℕ). cons (z .0) (b .more .0)) e;
       stop = ap (λ (z : Tree × ℕ). z .1) (b .is);
@@ -194,7 +203,8 @@ pub record Announced {s : List ℕ} {p : Part} {ps : List Part} {at : ℕ} (c : 
   pub absent : (getD s at 0 ≡ on → ⊥) → Behind c (cons (num 1 (getD s at 0)) nil) (at + 1)
 
 -- the four optional parts are read alike
-optional-as : {p inner : Part} {on : ℕ} → Optional p on inner → (rb : Reader) (s : List ℕ) (e : Earlier) (start end at : ℕ) → readPart rb s e start end p at ≡ readOptional (readPart rb s e start end inner) on s start end at
+optional-as : {p inner : Part} {on : ℕ} → Optional p on inner → (rb : Reader) (s : List ℕ) (e : Earlier) (start end at : ℕ)
+    → readPart rb s e start end p at ≡ readOptional (readPart rb s e start end inner) on s start end at
 unfolding readPart
 optional-as Optional.size rb s e start end at = refl
 optional-as Optional.number rb s e start end at = refl
@@ -295,7 +305,15 @@ pub after : {s : List ℕ} {i : Item} {n at q : ℕ} {t : Tree} (l : Entries s i
 after {n} l h e f =
     let b = entered l h in
     record {
-      rest = record { room = l .room; earlier = met (l .earlier) (b .one .0); start = l .start; end = l .end; got = b .more; fits = l .fits; read = subst (λ (z : ℕ). readEntries (itemAt l) (met (l .earlier) (b .one .0)) (n - 1) z ≡ done (b .more)) (ap (λ (z : Tree × ℕ). z .1) e) (b .more-read) };
+      rest = record {
+        room = l .room;
+        earlier = met (l .earlier) (b .one .0);
+        start = l .start;
+        end = l .end;
+        got = b .more;
+        fits = l .fits;
+        read = subst (λ (z : ℕ). readEntries (itemAt l) (met (l .earlier) (b .one .0)) (n - 1) z ≡ done (b .more)) (ap (λ (z : Tree × ℕ). z .1) e) (b .more-read);
+      };
       inside = f;
       tree = ap (λ (z : Tree × ℕ). z .0) (b .is) ∙ ap (λ (z : Tree × ℕ). cons (z .0) (b .more .0)) e;
       stop = ap (λ (z : Tree × ℕ). z .1) (b .is);

@@ -121,7 +121,8 @@ optional-read f on s start end at {x} e =
     let b = both (readFlag s start end at) (λ x. readIf (eqb (number (x .0)) on) f (x .1)) e in
     go (b .one) (b .more) (flag-read s start end at (b .one-read)) (b .more-read) (b .is)
   where
-    go : (o y : Tree × ℕ) → (at + 1 ≤ end) × (getD s at 0 ≤ 1) × (o ≡ (num 1 (getD s at 0), at + 1)) → readIf (eqb (number (o .0)) on) f (o .1) ≡ done y → x ≡ (cons (o .0) (y .0), y .1) → Flagged f on s end at x
+    go : (o y : Tree × ℕ) → (at + 1 ≤ end) × (getD s at 0 ≤ 1) × (o ≡ (num 1 (getD s at 0), at + 1))
+        → readIf (eqb (number (o .0)) on) f (o .1) ≡ done y → x ≡ (cons (o .0) (y .0), y .1) → Flagged f on s end at x
     go o y h d i =
         let d′ : readIf (eqb (getD s at 0) on) f (at + 1) ≡ done y = subst (λ (z : Tree × ℕ). readIf (eqb (number (z .0)) on) f (z .1) ≡ done y) (h .2) d in
         let r = if-read f on (getD s at 0) (at + 1) (eqb (getD s at 0) on) y x refl d′ (i ∙ ap (λ (z : Tree × ℕ). (cons (z .0) (y .0), y .1)) (h .2)) in

@@ -32,10 +32,13 @@ module _ {K J : Name → Type 0} (know : (n : Name) → K n → J n) where
     node-follows (NodeExtended.Const _ _ _ _) (NodeReread.Const _ a m v) (NodeReread.Const _ b _ _) = NodeExtended.Const a b (heldMeta m) (held v)
     node-follows (NodeExtended.FieldRef _ _ _ _ _) (NodeReread.FieldRef _ a m p x) (NodeReread.FieldRef _ b _ _ _) = NodeExtended.FieldRef a b (heldMeta m) p x
     node-follows (NodeExtended.AlignUp _ _ _ _ e) (NodeReread.AlignUp _ a m v p) (NodeReread.AlignUp _ b _ _ q) = NodeExtended.AlignUp a b (heldMeta m) (held v) (node-follows e p q)
-    node-follows (NodeExtended.Switch _ _ _ _ e) (NodeReread.Switch _ a m t p DefaultReread.noDefault) (NodeReread.Switch _ b _ _ q DefaultReread.noDefault) = NodeExtended.Switch a b (heldMeta m) t (cases-follow e p q)
-    node-follows (NodeExtended.CallNested _ _ _ _ k e) (NodeReread.CallNested _ a m n p) (NodeReread.CallNested _ b _ _ q) = NodeExtended.CallNested a b (heldMeta m) n (know n k) (arguments-follow e p q)
+    node-follows (NodeExtended.Switch _ _ _ _ e) (NodeReread.Switch _ a m t p DefaultReread.noDefault) (NodeReread.Switch _ b _ _ q DefaultReread.noDefault) =
+        NodeExtended.Switch a b (heldMeta m) t (cases-follow e p q)
+    node-follows (NodeExtended.CallNested _ _ _ _ k e) (NodeReread.CallNested _ a m n p) (NodeReread.CallNested _ b _ _ q) =
+        NodeExtended.CallNested a b (heldMeta m) n (know n k) (arguments-follow e p q)
     node-follows (NodeExtended.Binary _ _ _ _ e f) (NodeReread.Binary _ a m o p r) (NodeReread.Binary _ b _ _ q s) = NodeExtended.Binary a b (heldMeta m) o (node-follows e p q) (node-follows f r s)
-    node-follows (NodeExtended.SumOverArray _ _ _ _ _ e) (NodeReread.SumOverArray _ a m t f p) (NodeReread.SumOverArray _ b _ _ _ q) = NodeExtended.SumOverArray a b (heldMeta m) t f (node-follows e p q)
+    node-follows (NodeExtended.SumOverArray _ _ _ _ _ e) (NodeReread.SumOverArray _ a m t f p) (NodeReread.SumOverArray _ b _ _ _ q) =
+        NodeExtended.SumOverArray a b (heldMeta m) t f (node-follows e p q)
 
     -- the same of the cases of a switch
     cases-follow : {cs cs′ ds ds′ : SwitchCases} → CasesExtended K cs cs′ → CasesReread cs ds → CasesReread cs′ ds′ → CasesExtended J ds ds′

@@ -75,7 +75,8 @@ unfolding view thingOf makeThing formOf part partOr typeOf
 with-field (entered a b c) h = rw (text-kept a, offset-kept b) (FieldsGrown.field _ _ c h)
 
 -- a variant that became another, in front of variants that did
-with-variant : {i : ℕ} {v : Bool} {b b′ : Tree} {vs vs′ : Variants} → formOf i ≡ Form.variant → Entered i b b′ → VariantsGrown v vs vs′ → VariantsGrown v (withVariant (thing b) vs) (withVariant (thing b′) vs′)
+with-variant : {i : ℕ} {v : Bool} {b b′ : Tree} {vs vs′ : Variants} → formOf i ≡ Form.variant → Entered i b b′ → VariantsGrown v vs vs′
+    → VariantsGrown v (withVariant (thing b) vs) (withVariant (thing b′) vs′)
 unfolding view thingOf makeThing part partOr typeOf
 with-variant f (entered a b c) h = rw (f, text-kept a, number-kept b) (VariantsGrown.variant _ _ c h)
 
@@ -123,7 +124,8 @@ module _ (room : ℕ) (e : Earlier) (type : TypesGrow (BlockFits room)) (entry :
       let x = ended g in made (head-kept room _ gn gz ga r gr) d (rw (expr-kept room _ _ _ y gy, x .2) (KindGrown.Enum _ (variants-grown (BlockFits room) entry 34 refl refl _ _ q (x .1))))
   parts-type (suc (suc (suc (suc (suc zero))))) w (both n (both z (both a (both r (both j (both t (both y nothing))))))) d (more gn (more gz (more ga (more gr (more gj (more gt (more gy (none v)))))))) =
       made (head-kept room _ gn gz ga r gr) refl (rw (expr-kept room _ _ _ y gy, number-kept gj) (KindGrown.Array _ _ _ (type _ _ _ t gt)))
-  parts-type (suc (suc (suc (suc (suc zero))))) w (both n (both z (both a (both r (both j (both t (both y nothing))))))) d (more gn (more gz (more ga (more gr (more gj (more gt (last h))))))) = false-true d
+  parts-type (suc (suc (suc (suc (suc zero))))) w (both n (both z (both a (both r (both j (both t (both y nothing))))))) d (more gn (more gz (more ga (more gr (more gj (more gt (last h))))))) =
+      false-true d
   parts-type (suc (suc (suc (suc (suc (suc zero)))))) w (both n (both z (both a (both r (both (both c q) nothing))))) d (more gn (more gz (more ga (more gr g)))) =
       let x = ended g in made (head-kept room _ gn gz ga r gr) d (KindGrown.SizeDiscriminatedUnion (rw (x .2) (variants-grown (BlockFits room) entry 35 refl refl _ _ q (x .1))))
   parts-type (suc (suc (suc (suc (suc (suc (suc zero))))))) w (both n (both z (both a (both r (both (text y) nothing))))) d (more gn (more gz (more ga (more gr (more gy (none v)))))) =

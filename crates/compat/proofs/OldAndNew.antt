@@ -51,7 +51,8 @@ built-set words out set layout tree read e =
     let x = bound (build-types (typesOf (t .0)) 0 (typesOf (t .0))) _ _ (t .2) in
     let w = asked (holds out (write (layoutTree (x .0)))) _ _ _ (x .2) in
     let q : write (layoutTree (x .0)) ≡ layout = done-one (w .1) in
-    let fits : leb (length (write (layoutTree (x .0)))) 65536 ≡ true = and-right (leb (length (write (layoutTree (x .0)))) out) _ (and-left _ (answered (readLayout (write (layoutTree (x .0))))) (w .0)) in
+    let fits : leb (length (write (layoutTree (x .0)))) 65536 ≡ true =
+    and-right (leb (length (write (layoutTree (x .0)))) out) _ (and-left _ (answered (readLayout (write (layoutTree (x .0))))) (w .0)) in
     let l : length (write (layoutTree (x .0))) ≤ 65536 = leb-true _ _ fits in
     record {
       types = x .0;

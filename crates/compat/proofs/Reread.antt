@@ -36,7 +36,8 @@ mutual
     Const : (a b : ℕ) (m : NodeMetadata) (v : ℕ) → NodeReread (IrNode.Const a m v) (IrNode.Const b (heldMeta m) (held v))
     FieldRef : (a b : ℕ) (m : NodeMetadata) (p : Name) (x : Option Name) → NodeReread (IrNode.FieldRef a m p x) (IrNode.FieldRef b (heldMeta m) p x)
     AlignUp : {n n′ : IrNode} (a b : ℕ) (m : NodeMetadata) (v : ℕ) → NodeReread n n′ → NodeReread (IrNode.AlignUp a m v n) (IrNode.AlignUp b (heldMeta m) (held v) n′)
-    Switch : {cs cs′ : SwitchCases} {d d′ : DefaultNode} (a b : ℕ) (m : NodeMetadata) (t : Name) → CasesReread cs cs′ → DefaultReread d d′ → NodeReread (IrNode.Switch a m t cs d) (IrNode.Switch b (heldMeta m) t cs′ d′)
+    Switch : {cs cs′ : SwitchCases} {d d′ : DefaultNode} (a b : ℕ) (m : NodeMetadata) (t : Name) → CasesReread cs cs′ → DefaultReread d d′
+        → NodeReread (IrNode.Switch a m t cs d) (IrNode.Switch b (heldMeta m) t cs′ d′)
     CallNested : {xs ys : List IrArgument} (a b : ℕ) (m : NodeMetadata) (n : Name) → SameArguments xs ys → NodeReread (IrNode.CallNested a m n xs) (IrNode.CallNested b (heldMeta m) n ys)
     Binary : {l l′ r r′ : IrNode} (a b : ℕ) (m : NodeMetadata) (o : BinaryOp) → NodeReread l l′ → NodeReread r r′ → NodeReread (IrNode.Binary a m o l r) (IrNode.Binary b (heldMeta m) o l′ r′)
     SumOverArray : {c c′ : IrNode} (a b : ℕ) (m : NodeMetadata) (t f : Name) → NodeReread c c′ → NodeReread (IrNode.SumOverArray a m c t f) (IrNode.SumOverArray b (heldMeta m) c′ t f)
@@ -44,7 +45,8 @@ mutual
   -- the same of cases
   pub data CasesReread : SwitchCases → SwitchCases → Type 0 where
     noCase : CasesReread SwitchCases.noCase SwitchCases.noCase
-    case : {n n′ : IrNode} {cs cs′ : SwitchCases} (v : ℕ) (ps : List IrParameter) → NodeReread n n′ → CasesReread cs cs′ → CasesReread (SwitchCases.case v n ps cs) (SwitchCases.case (held v) n′ ps cs′)
+    case : {n n′ : IrNode} {cs cs′ : SwitchCases} (v : ℕ) (ps : List IrParameter) → NodeReread n n′ → CasesReread cs cs′
+        → CasesReread (SwitchCases.case v n ps cs) (SwitchCases.case (held v) n′ ps cs′)
 
   -- and of a default node
   pub data DefaultReread : DefaultNode → DefaultNode → Type 0 where

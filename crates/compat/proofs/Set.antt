@@ -100,7 +100,8 @@ unfolding EntriesFits entries get-type-info
 lookup zero e n t ty nothing d = let z : _≡_ {A = ℕ} 0 1 = cc in absurd (omega arith)
 lookup (suc m) e n t ty (both {a} {b} p q) d = split (same n (head (typeOf a) .name)) refl d (lookup m _ n b ty q)
   where
-    split : (x : Bool) → same n (head (typeOf a) .name) ≡ x → cond x (some (typeOf a)) (get-type-info n (entries typeOf b)) ≡ some ty → (get-type-info n (entries typeOf b) ≡ some ty → Found n b ty) → Found n (Tree.cons a b) ty
+    split : (x : Bool) → same n (head (typeOf a) .name) ≡ x → cond x (some (typeOf a)) (get-type-info n (entries typeOf b)) ≡ some ty
+        → (get-type-info n (entries typeOf b) ≡ some ty → Found n b ty) → Found n (Tree.cons a b) ty
     split true q d r = record { block = a; entry = Entry.here; type = cc; name = same-eq n (head (typeOf a) .name) q }
     split false q d r = let f = r d in record { block = f .block; entry = Entry.there (f .entry); type = f .type; name = f .name }
 
@@ -116,7 +117,8 @@ name-kept : {t t′ : ResolvedType} → TypeGrown t t′ → head t .name ≡ he
 name-kept (TypeGrown.resolved h k) = refl
 
 -- every name that the old set has, the new set has, grown
-pub types-grown : (old new : List ℕ) → ((i : ℕ) → getD old i 0 < 256) → ((i : ℕ) → getD new i 0 < 256) → (t t′ : Tree) → readSet old ≡ done t → readSet new ≡ done t′ → Extends t t′ → TypesGrown (typesOf t) (typesOf t′)
+pub types-grown : (old new : List ℕ) → ((i : ℕ) → getD old i 0 < 256) → ((i : ℕ) → getD new i 0 < 256) → (t t′ : Tree) → readSet old ≡ done t
+    → readSet new ≡ done t′ → Extends t t′ → TypesGrown (typesOf t) (typesOf t′)
 unfolding typesOf
 types-grown old new small small′ t t′ e e′ x n ty d =
     let r = types-read old small t e in

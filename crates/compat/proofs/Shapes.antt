@@ -44,7 +44,8 @@ argument-shaped x = Shaped.block {k = 164} (omega arith) (Shaped.both Shaped.tex
 -- ---- nodes
 
 -- the metadata, then the other parts
-meta-shaped : (m : NodeMetadata) {f : Form} {t : Tree} → Shaped f t → Shaped (Form.both (Form.number 8) (Form.both (Form.optional Form.text 1) f)) (cons (num 8 (m .alignment)) (cons (optionalTree name (m .size-expr)) t))
+meta-shaped : (m : NodeMetadata) {f : Form} {t : Tree} → Shaped f t
+    → Shaped (Form.both (Form.number 8) (Form.both (Form.optional Form.text 1) f)) (cons (num 8 (m .alignment)) (cons (optionalTree name (m .size-expr)) t))
 meta-shaped m p = Shaped.both Shaped.number (Shaped.both (text-shaped (m .size-expr)) p)
 
 -- the metadata, then two operands
@@ -74,8 +75,10 @@ mutual
   node-shaped (IrNode.Const at m v) = Shaped.block {k = 129} (omega arith) (meta-shaped m (Shaped.both Shaped.number Shaped.nothing))
   node-shaped (IrNode.FieldRef at m p x) = Shaped.block {k = 130} (omega arith) (meta-shaped m (Shaped.both Shaped.text (Shaped.both (text-shaped x) Shaped.nothing)))
   node-shaped (IrNode.AlignUp at m a n) = Shaped.block {k = 131} (omega arith) (meta-shaped m (Shaped.both Shaped.number (Shaped.both (node-shaped n) Shaped.nothing)))
-  node-shaped (IrNode.Switch at m t cs d) = Shaped.block {k = 132} (omega arith) (meta-shaped m (Shaped.both Shaped.text (Shaped.both (Shaped.list (cases-shaped cs)) (Shaped.both (default-shaped d) Shaped.nothing))))
-  node-shaped (IrNode.CallNested at m t xs) = Shaped.block {k = 133} (omega arith) (meta-shaped m (Shaped.both Shaped.text (Shaped.both (Shaped.list (entries-shaped argumentTree argument-shaped xs)) Shaped.nothing)))
+  node-shaped (IrNode.Switch at m t cs d) =
+      Shaped.block {k = 132} (omega arith) (meta-shaped m (Shaped.both Shaped.text (Shaped.both (Shaped.list (cases-shaped cs)) (Shaped.both (default-shaped d) Shaped.nothing))))
+  node-shaped (IrNode.CallNested at m t xs) =
+      Shaped.block {k = 133} (omega arith) (meta-shaped m (Shaped.both Shaped.text (Shaped.both (Shaped.list (entries-shaped argumentTree argument-shaped xs)) Shaped.nothing)))
   node-shaped (IrNode.Binary at m o l r) = Shaped.block (operation o .0) (rw (operation o .1) at (meta-shaped m (Shaped.both (node-shaped l) (Shaped.both (node-shaped r) Shaped.nothing))))
   node-shaped (IrNode.SumOverArray at m c t f) = Shaped.block {k = 144} (omega arith) (meta-shaped m (Shaped.both (node-shaped c) (Shaped.both Shaped.text (Shaped.both Shaped.text Shaped.nothing))))
 
@@ -96,7 +99,8 @@ mutual
 -- a type tree
 type-shaped : (t : TypeIr) → BlockShaped (typeIrTree t)
 unfolding formOf formsOf partsOf findRow grammar
-type-shaped t = Shaped.block {k = 161} (omega arith) (Shaped.both Shaped.text (Shaped.both Shaped.number (Shaped.both (node-shaped (t .root)) (Shaped.both (Shaped.list (entries-shaped parameterTree parameter-shaped (t .parameters))) Shaped.nothing))))
+type-shaped t =
+    Shaped.block {k = 161} (omega arith) (Shaped.both Shaped.text (Shaped.both Shaped.number (Shaped.both (node-shaped (t .root)) (Shaped.both (Shaped.list (entries-shaped parameterTree parameter-shaped (t .parameters))) Shaped.nothing))))
 
 -- a layout has the grammar's shape: so what is read of its writing is the layout itself
 pub shaped : (ts : List TypeIr) → BlockShaped (layoutTree ts)

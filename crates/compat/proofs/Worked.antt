@@ -87,11 +87,13 @@ zone-1 =
 
 -- the first variant
 abbrev single : Tree
-single = (block 73 34 (cons (name (ascii "single")) (cons (num 8 0) (cons (block 95 1 (cons (name (ascii "single")) (cons (cons (num 1 0) (num 8 4)) (cons (num 8 1) (cons (block 126 32 (cons (cons (num 2 0) nil) nil)) nil))))) nil))))
+single =
+    (block 73 34 (cons (name (ascii "single")) (cons (num 8 0) (cons (block 95 1 (cons (name (ascii "single")) (cons (cons (num 1 0) (num 8 4)) (cons (num 8 1) (cons (block 126 32 (cons (cons (num 2 0) nil) nil)) nil))))) nil))))
 
 -- the added one
 abbrev day : Tree
-day = (block 134 34 (cons (name (ascii "day")) (cons (num 8 1) (cons (block 153 1 (cons (name (ascii "day")) (cons (cons (num 1 0) (num 8 8)) (cons (num 8 1) (cons (block 181 32 (cons (cons (num 2 0) nil) nil)) nil))))) nil))))
+day =
+    (block 134 34 (cons (name (ascii "day")) (cons (num 8 1) (cons (block 153 1 (cons (name (ascii "day")) (cons (cons (num 1 0) (num 8 8)) (cons (num 8 1) (cons (block 181 32 (cons (cons (num 2 0) nil) nil)) nil))))) nil))))
 
 -- the enum's references
 abbrev references : Tree

@@ -216,7 +216,8 @@ module _ (room : ℕ) (s : List ℕ) (lo hi at end : ℕ) (fits : end ≤ length
       }
 
   -- an owner was read: names and paths grow
-  owners-next : (first count last paths : ℕ) → Before s (Owners first count last paths) lo hi at → readBlock room s (earlierOf s (Owners first count last paths)) lo hi at end ≡ done x → Next s (Owners first count last paths) lo hi at x
+  owners-next : (first count last paths : ℕ) → Before s (Owners first count last paths) lo hi at
+      → readBlock room s (earlierOf s (Owners first count last paths)) lo hi at end ≡ done x → Next s (Owners first count last paths) lo hi at x
   unfolding earlierOf grownOf Grows Valid Here Suits
   owners-next first count last paths b d =
       let o = opened room s _ lo hi at end x d in

@@ -44,7 +44,8 @@ steady {A = A} f a lo n k e l h =
     rw q at (sym (entry n (λ j. f (lo + j)) (k - lo) a g) ∙ ap (λ (xs : List A). getD xs (k - lo) a) e ∙ getD-replicate n (k - lo) a a g)
 
 -- the m kinds from k on have one row
-pub ranged : (k n m i : ℕ) {kind r : ℕ} → tabulate m (λ j. findRow (k + j) grammar) ≡ replicate m (findRow k grammar) → k ≤ kind → kind < k + m → r ≡ getD (map codeOf (findRow k grammar) ++ replicate n 0) i 0 → r ≡ getD (map codeOf (findRow kind grammar)) i 0
+pub ranged : (k n m i : ℕ) {kind r : ℕ} → tabulate m (λ j. findRow (k + j) grammar) ≡ replicate m (findRow k grammar) → k ≤ kind → kind < k + m
+    → r ≡ getD (map codeOf (findRow k grammar) ++ replicate n 0) i 0 → r ≡ getD (map codeOf (findRow kind grammar)) i 0
 ranged k n m i {kind} e l h = same-row k n kind i (steady (λ j. findRow j grammar) (findRow k grammar) k m kind e l h)
 
 -- ---- no row
@@ -65,7 +66,8 @@ apart [] k h = refl
 apart (j ∷ js) k h = rw (ne-eqb k j (h .1)) (apart js k (h .0))
 
 -- of the n kinds from lo on only these have a row
-pub missing : (js : List ℕ) (lo n i : ℕ) {kind : ℕ} → tabulate n (λ j. cond (member (lo + j) js) [] (findRow (lo + j) grammar)) ≡ replicate n [] → NoneOf js kind → lo ≤ kind → kind < lo + n → 0 ≡ getD (map codeOf (findRow kind grammar)) i 0
+pub missing : (js : List ℕ) (lo n i : ℕ) {kind : ℕ} → tabulate n (λ j. cond (member (lo + j) js) [] (findRow (lo + j) grammar)) ≡ replicate n []
+    → NoneOf js kind → lo ≤ kind → kind < lo + n → 0 ≡ getD (map codeOf (findRow kind grammar)) i 0
 missing js lo n i {kind} e h l g =
     let z : cond (member kind js) [] (findRow kind grammar) ≡ [] = steady (λ j. cond (member j js) [] (findRow j grammar)) [] lo n kind e l g in
     let y : findRow kind grammar ≡ [] = rw (apart js kind h) at z in
@@ -94,7 +96,8 @@ unfolding grammar
 none k h = beyond k 194 grammar h refl
 
 -- of all kinds above 144 only these have a row
-pub missing-above : (js : List ℕ) (i : ℕ) {kind : ℕ} → tabulate 49 (λ j. cond (member (145 + j) js) [] (findRow (145 + j) grammar)) ≡ replicate 49 [] → NoneOf js kind → 144 < kind → 0 ≡ getD (map codeOf (findRow kind grammar)) i 0
+pub missing-above : (js : List ℕ) (i : ℕ) {kind : ℕ} → tabulate 49 (λ j. cond (member (145 + j) js) [] (findRow (145 + j) grammar)) ≡ replicate 49 []
+    → NoneOf js kind → 144 < kind → 0 ≡ getD (map codeOf (findRow kind grammar)) i 0
 missing-above js i {kind} e h l = go (leb 194 kind) refl
   where
     go : (b : Bool) → leb 194 kind ≡ b → 0 ≡ getD (map codeOf (findRow kind grammar)) i 0

@@ -148,7 +148,8 @@ module _ (s : List ℕ) (start end : ℕ) where
         ap (λ (y : Tree × ℕ). nameOf (y .0)) (sym (done-one (a .2))) ∙ key-named (b .0) (b .1)
 
 -- a refused name refuses the entry, with a number or without
-pub entry-stop : (pairs : Bool) (s : List ℕ) (start end : ℕ) (e : Earlier) (at : ℕ) {q o : ℕ} → forget (readKey s start end e at) ≡ Refused q o → forget (readEntry pairs s start end e at) ≡ Refused q o
+pub entry-stop : (pairs : Bool) (s : List ℕ) (start end : ℕ) (e : Earlier) (at : ℕ) {q o : ℕ} → forget (readKey s start end e at) ≡ Refused q o
+    → forget (readEntry pairs s start end e at) ≡ Refused q o
 unfolding readEntry
 entry-stop true s start end e at d = value-stop s start end e at d
 entry-stop false s start end e at d = d

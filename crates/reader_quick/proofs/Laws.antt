@@ -55,7 +55,8 @@ module _ (s : List ℕ) (end at : ℕ) where
 
 module _ (rb : Reader) (s : List ℕ) (e : Earlier) (start end : ℕ) where
   -- a part that was read, and then the others
-  pub part-then : (p : Part) (ps : List Part) (at : ℕ) {m n : ℕ} → forget (readPart rb s e start end p at) ≡ Ok m → forget (readParts rb s e start end ps m) ≡ Ok n → forget (readParts rb s e start end (p ∷ ps) at) ≡ Ok n
+  pub part-then : (p : Part) (ps : List Part) (at : ℕ) {m n : ℕ} → forget (readPart rb s e start end p at) ≡ Ok m
+      → forget (readParts rb s e start end ps m) ≡ Ok n → forget (readParts rb s e start end (p ∷ ps) at) ≡ Ok n
   part-then p ps at d h = parts-go rb s e start end refl at d ∙ h
 
   -- the last part
@@ -149,15 +150,19 @@ run-parts = refl
 
 module _ (s : List ℕ) (at end stop : ℕ) (y : 0 < stop) (g : Sized s at end stop) where
   -- a block of values is read
-  pub values-yes : (room : ℕ) → le2 s (at + 4) ≡ 192 → 0 < room → {x : Read} → x ≡ forget (readList (readEntry true s at stop) (Earlier.ascending [] 0) 512 s at stop (at + 6)) → {i r : ℕ} → x ≡ Ok i → (0 < r → (r ≡ stop) × (i ≡ stop))
+  pub values-yes : (room : ℕ) → le2 s (at + 4) ≡ 192 → 0 < room → {x : Read}
+      → x ≡ forget (readList (readEntry true s at stop) (Earlier.ascending [] 0) 512 s at stop (at + 6)) → {i r : ℕ} → x ≡ Ok i
+      → (0 < r → (r ≡ stop) × (i ≡ stop))
       → (e : Earlier) → Reads r (readBlock room s e 192 192 at end)
   unfolding readPart readEntry
   values-yes room w l f d c e z =
       let q = c z in
-      rw (q .0) (block-yes s at end stop y g room e 192 192 192 (sym w) (omega arith) (omega arith) l (rw values-parts (part-last (readBlock (room - 1) s) s e at stop (Values 512) (at + 6) (sym f ∙ d))) (q .1))
+      rw (q .0)
+      (block-yes s at end stop y g room e 192 192 192 (sym w) (omega arith) (omega arith) l (rw values-parts (part-last (readBlock (room - 1) s) s e at stop (Values 512) (at + 6) (sym f ∙ d))) (q .1))
 
   -- a run is read
-  pub run-yes : (room : ℕ) → le2 s (at + 4) ≡ 193 → 2 ≤ room → {i : ℕ} → 0 < i → ((start : ℕ) → Reads i (readText s start stop (at + 6))) → i + 8 ≤ stop → {j r : ℕ} → ((e : Earlier) → Reads j (readBlock (room - 1) s e 192 192 (i + 8) stop)) → (0 < r → (r ≡ stop) × (j ≡ stop))
+  pub run-yes : (room : ℕ) → le2 s (at + 4) ≡ 193 → 2 ≤ room → {i : ℕ} → 0 < i → ((start : ℕ) → Reads i (readText s start stop (at + 6)))
+      → i + 8 ≤ stop → {j r : ℕ} → ((e : Earlier) → Reads j (readBlock (room - 1) s e 192 192 (i + 8) stop)) → (0 < r → (r ≡ stop) × (j ≡ stop))
       → (e : Earlier) → Reads r (readBlock room s e 193 193 at end)
   unfolding readPart
   run-yes room w l {i} x d h v c e z =
@@ -186,7 +191,8 @@ module _ (room : ℕ) (s : List ℕ) (at end stop : ℕ) (g : Sized s at end sto
   case-yes {k} {i} w x l y n p c e z =
       let q = c z in
       let rb = readBlock (room - 1) s in
-      let behind = part-then rb s e at stop node (Blocks 162 162 512 ∷ []) (at + 14) (n Earlier.any y) (part-last rb s e at stop (Blocks 162 162 512) i (p (room - 1) at (omega arith) (omega arith))) in
+      let behind =
+      part-then rb s e at stop node (Blocks 162 162 512 ∷ []) (at + 14) (n Earlier.any y) (part-last rb s e at stop (Blocks 162 162 512) i (p (room - 1) at (omega arith) (omega arith))) in
       let all = part-then rb s e at stop Number (node ∷ Blocks 162 162 512 ∷ []) (at + 6) (number-first s at stop at h) behind in
       rw (q .0) (block-yes s at end stop (omega arith) g room e 163 163 k w (omega arith) (omega arith) (omega arith) (rw (x, case-parts) all) (q .1))
 
@@ -265,7 +271,8 @@ module _ (room : ℕ) (s : List ℕ) (stop : ℕ) where
     row-last k q = row-go (row-none k q)
 
   -- two parts, the last of them a node
-  pub row-child : (at : ℕ) {row i : ℕ} → row / 8 ≡ 4 → 0 < i → 0 < stop → Piece room s (row % 8) at stop i → ((e : Earlier) → forget (readBlock room s e 128 144 i stop) ≡ Ok stop) → Body room s row at stop
+  pub row-child : (at : ℕ) {row i : ℕ} → row / 8 ≡ 4 → 0 < i → 0 < stop → Piece room s (row % 8) at stop i
+      → ((e : Earlier) → forget (readBlock room s e 128 144 i stop) ≡ Ok stop) → Body room s row at stop
   row-child at {row} {i} k z y d n = row-go at (λ h. omega arith) z d (row-last i (λ h. omega arith) y (node-part room s (row / 8 % 8) i stop (rw k) (λ e x. n e)) (rw k) refl)
 
   -- the rows that are met most
@@ -276,12 +283,22 @@ module _ (room : ℕ) (s : List ℕ) (stop : ℕ) where
 
     module _ {i : ℕ} (x : 0 < i) (d : (start : ℕ) → Reads i (readText s start stop at)) where
       -- the row of a call
-      pub call-row : row ≡ 50 → 0 < room → ((most start : ℕ) → 0 < most → Reads j (readList (λ f a. readBlock most s f 164 164 a stop) Earlier.any 512 s start stop i)) → 0 < r → (r ≡ stop) × Body room s row at stop
-      call-row k h f z = let q = c z in (q .0, row-go at (λ y. omega arith) x (text-part room s (row % 8) at stop (rw k) d) (row-last i (λ y. omega arith) (omega arith) (arguments-part room s (row / 8 % 8) i stop (rw k) h f) (rw k) (q .1)))
+      pub call-row : row ≡ 50 → 0 < room
+          → ((most start : ℕ) → 0 < most → Reads j (readList (λ f a. readBlock most s f 164 164 a stop) Earlier.any 512 s start stop i)) → 0 < r
+          → (r ≡ stop) × Body room s row at stop
+      call-row k h f z =
+          let q = c z in (
+            q .0,
+            row-go at (λ y. omega arith) x (text-part room s (row % 8) at stop (rw k) d) (row-last i (λ y. omega arith) (omega arith) (arguments-part room s (row / 8 % 8) i stop (rw k) h f) (rw k) (q .1)),
+          )
 
       -- the row of a field reference
       pub field-row : row ≡ 26 → ((start : ℕ) → Reads j (readOptional (readText s start stop) 1 s start stop i)) → 0 < r → (r ≡ stop) × Body room s row at stop
-      field-row k f z = let q = c z in (q .0, row-go at (λ y. omega arith) x (text-part room s (row % 8) at stop (rw k) d) (row-last i (λ y. omega arith) (omega arith) (optional-part room s (row / 8 % 8) i stop (rw k) f) (rw k) (q .1)))
+      field-row k f z =
+          let q = c z in (
+            q .0,
+            row-go at (λ y. omega arith) x (text-part room s (row % 8) at stop (rw k) d) (row-last i (λ y. omega arith) (omega arith) (optional-part room s (row / 8 % 8) i stop (rw k) f) (rw k) (q .1)),
+          )
 
 -- ---- nodes
 

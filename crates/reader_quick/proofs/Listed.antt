@@ -81,7 +81,8 @@ kept l p q h e = go (eqb q p) refl
 
 module _ (marks s : List ℕ) (first count i : ℕ) where
   -- where a name's mark is set, one name more is marked
-  pub marked-more : {after : List ℕ} → after ≡ set marks (placeOf (nameAt s (i + 6))) 1 → placeOf (nameAt s (i + 6)) < length marks → i ≡ behind s first count → Marked marks s first count → Marked after s first (count + 1)
+  pub marked-more : {after : List ℕ} → after ≡ set marks (placeOf (nameAt s (i + 6))) 1 → placeOf (nameAt s (i + 6)) < length marks
+      → i ≡ behind s first count → Marked marks s first count → Marked after s first (count + 1)
   marked-more f l e h k g = rw f (go (eqb k count) refl)
     where
       go : (b : Bool) → eqb k count ≡ b → getD (set marks (placeOf (nameAt s (i + 6))) 1) (placeOf (nameAt s (behind s first k + 6))) 0 ≡ 1
@@ -225,7 +226,8 @@ layout-parts = refl
 
 -- a layout is read
 pub layout-yes : (room : ℕ) (s : List ℕ) (end stop : ℕ) {r : ℕ} → Sized s 0 end stop → 0 < stop → stop ≡ end → le2 s 4 ≡ 160 → 0 < room
-    → ((start : ℕ) → Reads r (readList (λ f a. readBlock (room - 1) s f 161 161 a end) (Earlier.distinct []) 256 s start end 6)) → r ≡ end → forget (readBlock room s Earlier.any 160 160 0 end) ≡ Ok end
+    → ((start : ℕ) → Reads r (readList (λ f a. readBlock (room - 1) s f 161 161 a end) (Earlier.distinct []) 256 s start end 6)) → r ≡ end
+    → forget (readBlock room s Earlier.any 160 160 0 end) ≡ Ok end
 unfolding readPart
 layout-yes room s end stop g y e w l d f =
     let b = block-yes s 0 end stop y g room Earlier.any 160 160 160 (sym w) (omega arith) (omega arith) l in
@@ -237,9 +239,11 @@ pub input-yes : (room kind : ℕ) (s : List ℕ) → forget (readBlock room s Ea
 input-yes room kind s d = sym (input-ok room kind s d refl)
 
 -- a kind, as the code's match has it
-pub layout-is : (room : ℕ) (s : List ℕ) {kind : ℕ} → kind ≡ 160 → forget (readBlock room s Earlier.any 160 160 0 (length s)) ≡ Ok (length s) → forget (readBlock room s Earlier.any kind kind 0 (length s)) ≡ Ok (length s)
+pub layout-is : (room : ℕ) (s : List ℕ) {kind : ℕ} → kind ≡ 160 → forget (readBlock room s Earlier.any 160 160 0 (length s)) ≡ Ok (length s)
+    → forget (readBlock room s Earlier.any kind kind 0 (length s)) ≡ Ok (length s)
 layout-is room s h d = rw h d
 
 -- all of an input was read
-pub all-yes : (room : ℕ) (s : List ℕ) {kind k r : ℕ} → kind ≡ k → ((e : Earlier) → Reads r (readBlock room s e k k 0 (length s))) → (0 < r) × (r ≡ length s) → forget (readBlock room s Earlier.any kind kind 0 (length s)) ≡ Ok (length s)
+pub all-yes : (room : ℕ) (s : List ℕ) {kind k r : ℕ} → kind ≡ k → ((e : Earlier) → Reads r (readBlock room s e k k 0 (length s)))
+    → (0 < r) × (r ≡ length s) → forget (readBlock room s Earlier.any kind kind 0 (length s)) ≡ Ok (length s)
 all-yes room s h d q = rw h (d Earlier.any (q .0) ∙ ap Ok (q .1))

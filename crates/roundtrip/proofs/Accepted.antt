@@ -172,7 +172,8 @@ module _ (s : List ℕ) (small : (i : ℕ) → getD s i 0 < 256) (end : ℕ) (fi
       moved (more h (h .fits, leb-true _ _ (q2 .0))) (q2 .1)
 
   -- of a list's entries
-  entries-got : {f : Earlier → ℕ → Step} {P : Earlier → Limits} → ((e : Earlier) → Meets (f e) (P e)) → (n : ℕ) (e : Earlier) (at : ℕ) (x : Tree × ℕ) → at ≤ end → readEntries f e n at ≡ done x → Got s (EntriesFits P e n) at end x
+  entries-got : {f : Earlier → ℕ → Step} {P : Earlier → Limits} → ((e : Earlier) → Meets (f e) (P e)) → (n : ℕ) (e : Earlier) (at : ℕ) (x : Tree × ℕ)
+      → at ≤ end → readEntries f e n at ≡ done x → Got s (EntriesFits P e n) at end x
   unfolding readEntries EntriesFits
   entries-got hf zero e at x h d = moved (none-got s at end h) d
   entries-got {f} hf (suc n) e at z h d =

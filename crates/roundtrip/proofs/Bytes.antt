@@ -91,7 +91,8 @@ text-back s at n r l h =
     (k, ap (λ (j : ℕ). bytesAt s (at + 2) j) k ∙ ap (take (length n)) (behind s 2 (length n) (n ++ r) at h1) ∙ take-append-seam n r)
 
 -- a header that is written is read back, and the body stands behind it
-pub block-back : (s : List ℕ) (at n k : ℕ) (b r : List ℕ) → n < 256 ^ 4 → k < 256 ^ 2 → drop at s ≡ bytes 4 n ++ (bytes 2 k ++ b) ++ r → (le4 s at ≡ n) × (le2 s (at + 4) ≡ k) × (drop (at + 6) s ≡ b ++ r)
+pub block-back : (s : List ℕ) (at n k : ℕ) (b r : List ℕ) → n < 256 ^ 4 → k < 256 ^ 2 → drop at s ≡ bytes 4 n ++ (bytes 2 k ++ b) ++ r
+    → (le4 s at ≡ n) × (le2 s (at + 4) ≡ k) × (drop (at + 6) s ≡ b ++ r)
 block-back s at n k b r hn hk h =
     let h0 : drop at s ≡ bytes 4 n ++ (bytes 2 k ++ (b ++ r)) = h ∙ simp append-assoc in
     let h4 : drop (at + 4) s ≡ bytes 2 k ++ (b ++ r) = behind s 4 n (bytes 2 k ++ (b ++ r)) at h0 in

@@ -176,7 +176,8 @@ module _ (s : List ℕ) (end start : ℕ) where
       chain s (f e at) (λ x. readEntries f (met e (x .0)) n (x .1)) a b at (hf e a p at) (entries-finds hf n (met e (placed at (cut a))) b q (at + length (write a)))
 
   -- of a list
-  list-finds : {f : Earlier → ℕ → Step} {F : Form} → ((t : Tree) → Shaped F t → 2 ≤ length (write t)) → ((e : Earlier) → FindsAll s (f e) F) → (o : Earlier) (limit : ℕ) → FindsAll s (readList f o limit s start end) (Form.list F)
+  list-finds : {f : Earlier → ℕ → Step} {F : Form} → ((t : Tree) → Shaped F t → 2 ≤ length (write t)) → ((e : Earlier) → FindsAll s (f e) F)
+      → (o : Earlier) (limit : ℕ) → FindsAll s (readList f o limit s start end) (Form.list F)
   unfolding readList write placed cut
   list-finds {f} w hf o limit t (Shaped.list {n} {t = a} p) at =
       chain s (readCount limit s start end at) (λ k. readEntries f o (number (k .0)) (k .1)) (num 2 n) a at (count-finds limit (num 2 n) Shaped.number at)
@@ -233,7 +234,8 @@ module _ (s : List ℕ) where
       let y = bound (readParts (readBlock room s) s e at (at + 4 + le4 s at) (partsOf (le2 s (at + 4))) (at + 6)) _ _ (sym (bound-done _ (g .read)) ∙ d) in
       let q = asked (eqb (y .0 .1) (at + 4 + le4 s at)) _ _ _ (y .2) in
       let ps = subst (λ (j : ℕ). Shaped (formsOf (partsOf j)) b) (sym (c .1)) p in
-      let i : y .0 ≡ put (at + 6) b = parts-finds s (at + 4 + le4 s at) at (readBlock room s) (block-finds room (at + 4 + le4 s at)) (partsOf (le2 s (at + 4))) e b ps (at + 6) r (c .2) (omega arith) (y .0) (y .1) in
+      let i : y .0 ≡ put (at + 6) b =
+      parts-finds s (at + 4 + le4 s at) at (readBlock room s) (block-finds room (at + 4 + le4 s at)) (partsOf (le2 s (at + 4))) e b ps (at + 6) r (c .2) (omega arith) (y .0) (y .1) in
       sym (done-one (q .1)) ∙ pair (ap₂ (block at) (c .1) (ap (λ (z : Tree × ℕ). z .0) i)) (omega (arith, c .0))
 
 -- If the writing of a tree of the grammar's shape is accepted, it is read as that tree, each number modulo what its bytes

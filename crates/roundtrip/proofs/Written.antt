@@ -179,7 +179,8 @@ module _ (s : List ℕ) (end : ℕ) where
       (λ a at. rw (met-placed e at a) (entries-read hf n (met e a)))
 
   -- of a list
-  list-read : {f : Earlier → ℕ → Step} {P : Earlier → Limits} → ((e : Earlier) → Reads s end (f e) (P e)) → (o : Earlier) (limit start : ℕ) → Reads s end (readList f o limit s start end) (ListFits P o limit)
+  list-read : {f : Earlier → ℕ → Step} {P : Earlier → Limits} → ((e : Earlier) → Reads s end (f e) (P e)) → (o : Earlier) (limit start : ℕ)
+      → Reads s end (readList f o limit s start end) (ListFits P o limit)
   unfolding readList
   list-read {f} hf o limit start =
       both-read (readCount limit s start end) (λ n. readEntries f o (number (n .0)) (n .1)) (count-read limit start)

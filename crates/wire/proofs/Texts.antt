@@ -112,7 +112,8 @@ module _ (s : List ℕ) where
 
     -- the last eight decide, where all before them are clear
     pub all-last : (last : ℕ) → last ≡ length s - 8 → 8 ≤ length s → last ≤ i → {r : Bool} → r ≡ clear8 s last → r ≡ printable s
-    all-last last q h l {r} e = decided s r (λ t k a b. joined 0 i last (last + 8) l c (eight .says last (sym e ∙ t)) k a (omega arith)) (λ d. e ∙ eight .holds last (λ k x y. d k (omega arith) (omega arith)))
+    all-last last q h l {r} e =
+        decided s r (λ t k a b. joined 0 i last (last + 8) l c (eight .says last (sym e ∙ t)) k a (omega arith)) (λ d. e ∙ eight .holds last (λ k x y. d k (omega arith) (omega arith)))
 
   -- ---- all
 

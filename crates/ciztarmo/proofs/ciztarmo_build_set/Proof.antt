@@ -1,4 +1,4 @@
--- `ciztarmo::ciztarmo_build_set` meets its contract. Assumes nothing.
+-- `ciztarmo::ciztarmo_build_set` meets its contract: the builder's answer, as four words; output and words are the builder's.
 use borrow.Author.Needs.{needs}
 use Rattle.ciztarmo.proofs.ciztarmo_build_set.Statement.{statement}
 use Rattle.ciztarmo.proofs.ciztarmo_build_set.Tie as tie

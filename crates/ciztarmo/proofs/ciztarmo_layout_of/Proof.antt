@@ -1,4 +1,4 @@
--- `ciztarmo::ciztarmo_layout_of` meets its contract. Assumes nothing.
+-- `ciztarmo::ciztarmo_layout_of` meets its contract: the builder's answer, as four words; the output is the builder's.
 use borrow.Author.Needs.{needs}
 use Rattle.ciztarmo.proofs.ciztarmo_layout_of.Statement.{statement}
 use Rattle.ciztarmo.proofs.ciztarmo_layout_of.Tie as tie

@@ -1,4 +1,4 @@
--- `ciztarmo::ciztarmo_validate_runs` meets its contract. Assumes nothing.
+-- `ciztarmo::ciztarmo_validate_runs` meets its contract, which is that of the call it makes.
 use borrow.Author.Needs.{needs}
 use Rattle.ciztarmo.proofs.ciztarmo_validate_runs.Statement.{statement}
 use Rattle.ciztarmo.proofs.ciztarmo_validate_runs.Tie as tie

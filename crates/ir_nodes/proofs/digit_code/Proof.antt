@@ -1,4 +1,4 @@
--- `ir::digit_code` meets its contract, digit by digit. Assumes nothing.
+-- `ir_nodes::digit_code` meets its contract, digit by digit. Assumes nothing.
 use Rattle.ir_nodes.proofs.Rows.{last-digit}
 use Rattle.ir_nodes.proofs.digit_code.Statement.{statement}
 use Rattle.ir_nodes.proofs.digit_code.Tie as tie

@@ -1,4 +1,4 @@
--- `ir::node_part` meets its contract: the metadata, then the digits of the row. Assumes nothing.
+-- `ir_nodes::node_part` meets its contract: two parts of metadata, then the digits of the row. Assumes nothing.
 use Rattle.ir_nodes.proofs.Rows.{part-0, part-1, part-on}
 use native.Mathlib.Omega.{arith}
 use borrow.Author.Needs.{needs}

@@ -1,4 +1,4 @@
--- `ir::node_row` meets its contract: an entry of the table. Assumes nothing.
+-- `ir_nodes::node_row` meets its contract: an entry of the table. Assumes nothing.
 use Rattle.ir_nodes.proofs.Rows.{rowed}
 use borrow.Author.Needs.{needs}
 use Rattle.ir_nodes.proofs.node_row.Statement.{statement}

@@ -1,4 +1,4 @@
--- `lengths::print` is safe. Assumes nothing.
+-- `lengths::print` is safe: it hands the bytes on. Assumes nothing.
 use Rattle.io.proofs.Counting.{front}
 use borrow.Author.Needs.{needs}
 use Rattle.lengths.proofs.print.Statement.{statement}

@@ -1,4 +1,6 @@
--- The members of the cycle meet their contracts. The measure is four times the room, and a member's rank. A list's invariant: the whole reads as what is left of it, behind what the code keeps of the blocks before; that of the parts: all parts read as those from column i on.
+-- The members of the cycle meet their contracts. The measure is four times the room, and a member's rank. A list's invariant:
+-- the whole reads as what is left of it, behind what the code keeps of the blocks before; that of the parts: all parts read
+-- as those from column i on.
 use mathlib.Core.Path.{_≡_, refl, sym, _∙_}
 use Prim.Native.Nat.{_≤_, ℕ, _<_, _+_, _*_, _-_}
 use native.Mathlib.Omega.{arith}

@@ -1,4 +1,4 @@
--- `reader::read_input` meets its contract: the block, and its end.
+-- `reader::read_input` meets its contract: the outermost block decides, and it has to end where the input ends.
 use mathlib.Core.Path.{sym, _∙_}
 use native.Mathlib.Omega.{arith}
 use borrow.Author.Needs.{needs}

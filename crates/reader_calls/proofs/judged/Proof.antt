@@ -1,4 +1,4 @@
--- `reader_calls::judged` meets its contract: question by question.
+-- `reader_calls::judged` meets its contract: question 19, question 1, and then the reader's answer.
 use mathlib.Core.Path.{sym, _∙_}
 use borrow.Author.Needs.{needs}
 use Rattle.reader_calls.proofs.Laws.{call-19, call-1, call-no, call-yes}

@@ -1,4 +1,4 @@
--- `reader_grammar::row_of` meets its contract.
+-- `reader_grammar::row_of` meets its contract: each arm is the entry at its number.
 use mathlib.Core.List.{[], _∷_}
 use Prim.Native.Nat.{_≤_}
 use native.Mathlib.Omega.{arith}

@@ -1,4 +1,4 @@
--- `reader_grammar::typed` meets its contract.
+-- `reader_grammar::typed` meets its contract: the four parts that every type begins with, then the entry at its number.
 use mathlib.Core.List.{[], _∷_, _++_, map}
 use Prim.Native.Nat.{_≤_}
 use native.Mathlib.Omega.{arith}

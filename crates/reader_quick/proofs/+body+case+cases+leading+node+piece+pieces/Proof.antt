@@ -1,7 +1,6 @@
--- The members of the cycle meet their contracts. The measure is eight times the room, and a
--- member's rank. A list's invariant: the whole reads as what is left of it; that of a row's
--- parts, and of a node: if the parts of the digits that are left read to the end, then so does
--- the whole. Assumes nothing.
+-- The members of the cycle meet their contracts. The measure is eight times the room, and a member's rank. A list's
+-- invariant: the whole reads as what is left of it; that of a row's parts, and of a node: if the parts of the digits that
+-- are left read to the end, then so does the whole. Assumes nothing.
 use borrow.Author.Needs.{needs}
 use native.Mathlib.Omega.{arith}
 use Prim.Native.Nat.{ℕ, _<_, _≤_, _+_, _*_}

@@ -1,4 +1,4 @@
--- `reader_quick::all_read` meets its contract. Assumes nothing.
+-- `reader_quick::all_read` meets its contract: both tests hold. Assumes nothing.
 use native.Mathlib.Omega.{arith}
 use borrow.Author.Tests.{eqb-true}
 use Rattle.blocks.proofs.Name.{false-true}

@@ -1,4 +1,4 @@
--- `reader_quick::begun` meets its contract. Assumes nothing.
+-- `reader_quick::begun` meets its contract: the kind is a node's, and its metadata is read. Assumes nothing.
 use native.Mathlib.Omega.{arith}
 use borrow.Author.Needs.{needs}
 use Rattle.reader_quick.proofs.begun.Statement.{statement}

@@ -1,4 +1,4 @@
--- `reader_quick::described` meets its contract. Assumes nothing.
+-- `reader_quick::described` meets its contract: an optional text, then a flag. Assumes nothing.
 use native.Mathlib.Omega.{arith}
 use Rattle.reader_quick.proofs.Laws.{described-yes}
 use borrow.Author.Needs.{needs}

@@ -1,4 +1,4 @@
--- `reader_quick::fills` meets its contract. Assumes nothing.
+-- `reader_quick::fills` meets its contract: a length that ends the block at `stop` lies inside. Assumes nothing.
 use borrow.Author.Needs.{needs}
 use borrow.Author.Tests.{eqb-true}
 use Rattle.blocks.proofs.Name.{false-true}

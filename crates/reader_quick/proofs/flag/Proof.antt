@@ -1,4 +1,4 @@
--- `reader_quick::flag` meets its contract. Assumes nothing.
+-- `reader_quick::flag` meets its contract: a byte inside that is 0 or 1. Assumes nothing.
 use mathlib.Core.Path.{refl}
 use native.Mathlib.Omega.{arith}
 use Rattle.reader_quick.proofs.Laws.{flag-yes}

@@ -1,4 +1,5 @@
--- `reader_quick::fresh` meets its contract. Assumes nothing.
+-- `reader_quick::fresh` meets its contract: a name whose mark is missing is new, since all before have theirs; else it is
+-- compared with all before. Assumes nothing.
 use native.Mathlib.Omega.{arith}
 use borrow.Author.Needs.{needs}
 use Rattle.reader_quick.proofs.Listed.{fresh-mark, fresh-new, fresh-asked}

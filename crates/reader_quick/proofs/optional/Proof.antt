@@ -1,4 +1,4 @@
--- `reader_quick::optional` meets its contract. Assumes nothing.
+-- `reader_quick::optional` meets its contract: a flag of 0 ends the part, behind a flag of 1 a text is read. Assumes nothing.
 use native.Mathlib.Omega.{arith}
 use Rattle.blocks.specs.Read.{readText}
 use Rattle.reader_quick.proofs.Laws.{off-yes, on-yes}

@@ -1,4 +1,4 @@
--- `reader_quick::quickly` meets its contract. Assumes nothing.
+-- `reader_quick::quickly` meets its contract: kind by kind. Assumes nothing.
 use borrow.Author.Needs.{needs}
 use Rattle.blocks.proofs.Name.{false-true}
 use Rattle.reader_quick.proofs.Listed.{layout-is, all-yes}

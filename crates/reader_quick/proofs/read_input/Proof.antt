@@ -1,4 +1,4 @@
--- `reader_quick::read_input` meets its contract. Assumes nothing.
+-- `reader_quick::read_input` meets its contract: a quick yes is the reader's answer, else the reader is asked. Assumes nothing.
 use borrow.Author.Needs.{needs}
 use Rattle.reader_quick.proofs.Listed.{input-yes}
 use Rattle.reader_quick.proofs.read_input.Statement.{statement}

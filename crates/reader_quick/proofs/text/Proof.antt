@@ -1,4 +1,4 @@
--- `reader_quick::text` meets its contract. Assumes nothing.
+-- `reader_quick::text` meets its contract: length and bytes lie inside, and the bytes may stand in a text. Assumes nothing.
 use native.Mathlib.Omega.{arith}
 use Rattle.reader_quick.proofs.Laws.{text-yes}
 use borrow.Author.Needs.{needs}

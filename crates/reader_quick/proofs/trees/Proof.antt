@@ -1,4 +1,4 @@
--- `reader_quick::trees` meets its contract. Assumes nothing.
+-- `reader_quick::trees` meets its contract: both ways to see that names are new give it. Assumes nothing.
 use native.Mathlib.Omega.{arith}
 use borrow.Author.Needs.{needs}
 use Rattle.reader_quick.proofs.trees.Statement.{statement}

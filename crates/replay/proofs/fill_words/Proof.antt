@@ -1,4 +1,4 @@
--- `replay::fill_words` is safe and ends. Assumes nothing.
+-- `replay::fill_words` is safe and ends: the measure is the number of words left. Assumes nothing.
 use Prim.Native.Nat.{_≤_, _-_}
 use mathlib.Core.Path.{_≡_}
 use borrow.Author.Needs.{needs}

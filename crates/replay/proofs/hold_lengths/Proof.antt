@@ -1,4 +1,4 @@
--- `replay::hold_lengths` is safe. Assumes nothing.
+-- `replay::hold_lengths` is safe: parts of the record and of the arrays lie inside them. Assumes nothing.
 use native.Mathlib.Omega.{arith}
 use Rattle.io.proofs.Counting.{front}
 use borrow.Author.Needs.{needs}

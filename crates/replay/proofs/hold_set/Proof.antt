@@ -1,4 +1,4 @@
--- `replay::hold_set` is safe. Assumes nothing.
+-- `replay::hold_set` is safe: parts of the record and of the arrays lie inside them. Assumes nothing.
 use native.Mathlib.Omega.{arith}
 use borrow.Author.Needs.{needs}
 use Rattle.replay.proofs.hold_set.Statement.{statement}

@@ -1,4 +1,4 @@
--- `replay::is_all` is safe and ends. Assumes nothing.
+-- `replay::is_all` is safe and ends: the measure is the number of bytes left. Assumes nothing.
 use Prim.Native.Nat.{_≤_, _-_}
 use borrow.Author.Needs.{needs}
 use lib.ListN.{length}

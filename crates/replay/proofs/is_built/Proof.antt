@@ -1,4 +1,4 @@
--- `replay::is_built` is safe. Assumes nothing.
+-- `replay::is_built` is safe: what is compared lies inside record and output. Assumes nothing.
 use mathlib.Core.Path.{sym}
 use native.Mathlib.Omega.{arith}
 use lib.Seq.{length-take-le}

@@ -1,4 +1,4 @@
--- `replay::lines_of` is safe. Assumes nothing.
+-- `replay::lines_of` is safe: the set, and the runs behind it, lie inside the record. Assumes nothing.
 use Rattle.io.proofs.Counting.{front}
 use Rattle.lengths_lines.proofs.Runs.{block-inside}
 use borrow.Author.Needs.{needs}

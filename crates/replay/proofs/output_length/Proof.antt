@@ -1,4 +1,4 @@
--- `replay::output_length` meets its contract. Assumes nothing.
+-- `replay::output_length` meets its contract: what the record says, or all. Assumes nothing.
 use native.Mathlib.Omega.{arith}
 use lib.ListN.{length-take}
 use borrow.Author.Needs.{needs}

@@ -1,4 +1,4 @@
--- `replay::word_count` meets its contract. Assumes nothing.
+-- `replay::word_count` meets its contract: what the record says, or all. Assumes nothing.
 use native.Mathlib.Omega.{arith}
 use lib.ListN.{length-take}
 use borrow.Author.Needs.{needs}

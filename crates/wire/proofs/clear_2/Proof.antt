@@ -1,4 +1,4 @@
--- `wire::clear_2` meets its contract. Assumes nothing.
+-- `wire::clear_2` meets its contract: two tests of one byte. Assumes nothing.
 use mathlib.Core.Path.{ap₂}
 use mathlib.Core.Bool.{_&&_}
 use borrow.Author.Needs.{needs}

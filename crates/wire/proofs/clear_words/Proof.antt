@@ -1,4 +1,4 @@
--- `wire::clear_words` meets its contract. Assumes nothing.
+-- `wire::clear_words` meets its contract: words whose or is 0 are zeros already. Assumes nothing.
 use native.Mathlib.Omega.{arith}
 use borrow.Author.Needs.{needs}
 use Rattle.wire.proofs.clear_words.Statement.{statement}

@@ -1,4 +1,4 @@
--- `wire::put_flag` meets its contract. Assumes nothing.
+-- `wire::put_flag` meets its contract: a 1 or a 0. Assumes nothing.
 use Rattle.wire.proofs.Laws.{writes}
 use borrow.Author.Needs.{needs}
 use Rattle.wire.proofs.put_flag.Statement.{statement}
