@@ -121,7 +121,7 @@ pub extern "C" fn ciztarmo_build_set(
     put_length(a, answer);
 }
 
-// The same with no words lent: the call has those that it needs.
+// The same with no words of the caller: the call has those that it needs.
 #[no_mangle]
 pub extern "C" fn ciztarmo_layout_of(set: &[u8], out: &mut [u8], answer: &mut [u64; 4])
     ensures { λ _. ⌜ now (answer .exit) ≡ answerWords (built (build-set 8192 (length (now (out .entry))) (now (set .entry)))) ⌝ }
@@ -163,7 +163,7 @@ pub extern "C" fn ciztarmo_validate_run(
     put_count(a, answer);
 }
 
-// The count of a type's bytes, with no words lent: the call has those that it needs.
+// The count of a type's bytes, with no words of the caller: the call has those that it needs.
 #[no_mangle]
 pub extern "C" fn ciztarmo_length_of(
     layout: &[u8],
@@ -178,7 +178,7 @@ pub extern "C" fn ciztarmo_length_of(
     put_count(a, answer);
 }
 
-// The count of the bytes that a run asks for, with no words lent.
+// The count of the bytes that a run asks for, with no words of the caller.
 #[no_mangle]
 pub extern "C" fn ciztarmo_length_of_run(layout: &[u8], run: &[u8], answer: &mut [u64; 4])
     ensures { λ _. ⌜ now (answer .exit) ≡ answerWords (validate-run 8192 (now (layout .entry)) (now (run .entry))) ⌝ }

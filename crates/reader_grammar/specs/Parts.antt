@@ -8,7 +8,7 @@ use Rattle.blocks.specs.declared.Part.{Part}
 use Rattle.blocks.specs.declared.Part.the-variants.{Text, Key, Number, Flag, Size, OptNumber, OptText, Literal, Block, OptBlock, Blocks, Ascending, Distinct, Names, Paths, Values}
 use Rattle.ir_nodes.specs.Codes.{fieldsOf}
 
--- the part is told by its code
+-- the part is found again from its code
 pub record Coded (p : Part) : Type 0 where
   pub lo : fieldsOf p .lo < 256
   pub hi : fieldsOf p .hi < 256

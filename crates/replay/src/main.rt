@@ -57,7 +57,7 @@ fn bump(tally: &mut [u64; 62], i: usize) {
     }
 }
 
-// How many of the words a record's call is lent: as many as its first four bytes say, or all.
+// How many of the words a record's call gets: as many as its first four bytes say, or all.
 fn word_count(s: &[u8], words: &[u64]) -> usize
     ensures { λ r. ⌜ Counts r (now (words .entry)) ⌝ }
 {
@@ -71,7 +71,7 @@ fn word_count(s: &[u8], words: &[u64]) -> usize
     words.len()
 }
 
-// Puts something into every word.
+// Puts something into every word, so that a call has to clear them all.
 fn fill_words(words: &mut [u64]) {
     let mut i = 0;
     while i < words.len() {
@@ -198,7 +198,7 @@ fn verdict(same: bool) -> Held {
     Held::Differs
 }
 
-// Puts something into every byte.
+// Puts something into every byte, so that it is seen which of them a call writes.
 fn fill_bytes(out: &mut [u8]) {
     let mut i = 0;
     while i < out.len() {
@@ -219,7 +219,7 @@ fn is_all(out: &[u8], b: u8) -> bool {
     true
 }
 
-// How much of the output a record's call is lent: as many bytes as it says, or all.
+// How much of the output a record's call gets: as many bytes as it says, or all.
 fn output_length(s: &[u8], out: &[u8]) -> usize
     ensures { λ r. ⌜ Counts r (now (out .entry)) ⌝ }
 {

@@ -149,7 +149,7 @@ pub fn less_name(a: &[u8], b: &[u8]) -> bool
     a.len() < b.len()
 }
 
-// Bytes written into a slice that the caller lends, at a cursor that goes on counting where the slice is full.
+// Bytes written into a slice of the caller, at a cursor that goes on counting where the slice is full.
 
 pub fn put_byte(out: &mut [u8], at: usize, b: u8) -> usize
     requires { ⌜ at < 2 ^ 62 ⌝ }
@@ -290,7 +290,7 @@ fn zero_words(words: &mut [u64])
     }
 }
 
-// Every word is 0 after it. Most callers lend zeros, and these are read faster than they are written.
+// Every word is 0 after it. Most callers pass zeros, and these are read faster than they are written.
 pub fn clear_words(words: &mut [u64])
     ensures { λ _. ⌜ now (words .exit) ≡ replicate (length (now (words .entry))) 0 ⌝ }
 {

@@ -49,8 +49,8 @@ same-length c = search needs
 returns-3 : tie.Need-returns-3
 returns-3 c = search needs
 
-slice-aggregate-lent-output : tie.Need-slice-aggregate-lent-output
-slice-aggregate-lent-output c = search needs
+slice-aggregate-output-length : tie.Need-slice-aggregate-output-length
+slice-aggregate-output-length c = search needs
 
 output-length-requires : tie.Need-output-length-requires
 output-length-requires c κs = search needs
@@ -92,7 +92,7 @@ hold-set-spec =
     is-read-requires
     same-length
     returns-3
-    slice-aggregate-lent-output
+    slice-aggregate-output-length
     output-length-requires
     array-borrow-prefix-out
     slice-aggregate-same-build
