@@ -108,12 +108,12 @@ module _ {Known : Name → Type 0} where
   mutual
     unfolding build-array-node-with-prefix build-array-kind
 
-    -- an array inside another
+    -- the node of an array
     array-extends : {t t′ : ResolvedType} → TypeGrown t t′ → (owner prefix : Name)
         → Extends Known (build-array-node-with-prefix owner prefix t) (build-array-node-with-prefix owner prefix t′)
     array-extends (TypeGrown.resolved h g) owner prefix = array-kind-extends g owner prefix h
 
-    -- the same by the element's kind
+    -- the same by the type's kind: only an array has such a node
     array-kind-extends : {v : Bool} {k k′ : ResolvedTypeKind} → KindGrown v k k′ → (owner prefix : Name) (h : Head)
         → Extends Known (build-array-kind owner prefix h k) (build-array-kind owner prefix h k′)
     array-kind-extends (KindGrown.Primitive v) owner prefix h = refuses _ _
@@ -126,7 +126,7 @@ module _ {Known : Name → Type 0} where
     array-kind-extends (KindGrown.SizeDiscriminatedUnion g) owner prefix h = refuses _ _
     array-kind-extends (KindGrown.TypeRef v n) owner prefix h = refuses _ _
 
-  -- an array that is the root
+  -- an array that is a root
   array-root-extends : {t t′ : ResolvedType} → TypeGrown t t′ → Extends Known (build-array-node t) (build-array-node t′)
   unfolding build-array-node
   array-root-extends (TypeGrown.resolved h g) = first _ (λ owner. array-extends (TypeGrown.resolved h g) owner [])
@@ -162,7 +162,7 @@ module _ {Known : Name → Type 0} where
   unfolding build-field-refs
   field-refs-extend refs n h = first _ (λ paths. binds (sum-extends n paths) (λ m m′ x. first _ (λ _. gives _ _ x)))
 
-  -- a field that is an enum of references
+  -- a field that is an enum: the sum of its own paths, or its switch
   field-enum-extends : (paths : List Name) (n : Name) (h : Head) (e : ExprKind) {v : Bool} {vs vs′ : Variants}
       → VariantsGrown v vs vs′ → Extends Known (build-field-enum paths n h e vs) (build-field-enum paths n h e vs′)
   unfolding build-field-enum

@@ -24,10 +24,17 @@ enum-known-n : tie.Need-enum-known-n
 enum-known-n c = search needs
 
 slice-reshare-prefix-answer-run : tie.Need-slice-reshare-prefix-answer-run
-slice-reshare-prefix-answer-run c = omega (arith, ap lengthOf (c .before .n .given .1), c .before .before .before .before .before .read-block .ensures, c .before .before .before .before .before .read-block .kept .0, c .before .before .before .before .before .before .before .before .before .before .pre)
+slice-reshare-prefix-answer-run c =
+    let at-read-block = c .before .before .before .before .before in
+    let at-start = at-read-block .before .before .before .before .before in
+    omega (arith, ap lengthOf (c .before .n .given .1), at-read-block .read-block .ensures, at-read-block .read-block .kept .0, at-start .pre)
 
 slice-aggregate-answer-run : tie.Need-slice-aggregate-answer-run
-slice-aggregate-answer-run c = front _ _ (omega (arith, ap lengthOf (c .before .before .n .given .1), c .before .before .before .before .before .before .read-block .ensures, c .before .before .before .before .before .before .read-block .kept .0, c .before .before .before .before .before .before .before .before .before .before .before .pre))
+slice-aggregate-answer-run c =
+    let at-n = c .before .before in
+    let at-read-block = at-n .before .before .before .before in
+    let at-start = at-read-block .before .before .before .before .before in
+    front _ _ (omega (arith, ap lengthOf (at-n .n .given .1), at-read-block .read-block .ensures, at-read-block .read-block .kept .0, at-start .pre))
 
 slice-aggregate-answer-run-2 : tie.Need-slice-aggregate-answer-run-2
 slice-aggregate-answer-run-2 c = search needs
@@ -42,7 +49,9 @@ slice-aggregate-print : tie.Need-slice-aggregate-print
 slice-aggregate-print c = search needs
 
 print-requires : tie.Need-print-requires
-print-requires c κs = omega (arith, ap bytesOf (c .before .before .end .given .1), c .before .before .before .before .before .before .before .answer-run .ensures .1 .1, c .before .before .before .before .before .before .before .answer-run .kept .1 .1 .1 .1 .0)
+print-requires c κs =
+    let at-answer-run = c .before .before .before .before .before .before .before in
+    omega (arith, ap bytesOf (c .before .before .end .given .1), at-answer-run .answer-run .ensures .1 .1, at-answer-run .answer-run .kept .1 .1 .1 .1 .0)
 
 enum-known-end-2 : tie.Need-enum-known-end-2
 enum-known-end-2 c = search needs
@@ -51,7 +60,9 @@ slice-aggregate-print-2 : tie.Need-slice-aggregate-print-2
 slice-aggregate-print-2 c = search needs
 
 print-requires-2 : tie.Need-print-requires-2
-print-requires-2 c κs = omega (arith, ap bytesOf (c .before .before .end2 .given .1), c .before .before .before .before .before .before .before .answer-run .ensures .1 .1, c .before .before .before .before .before .before .before .answer-run .kept .1 .1 .1 .1 .0)
+print-requires-2 c κs =
+    let at-answer-run = c .before .before .before .before .before .before .before in
+    omega (arith, ap bytesOf (c .before .before .end2 .given .1), at-answer-run .answer-run .ensures .1 .1, at-answer-run .answer-run .kept .1 .1 .1 .1 .0)
 
 same-length : tie.Need-same-length
 same-length c = search needs

@@ -29,10 +29,15 @@ enum-known-n : tie.Need-enum-known-n
 enum-known-n c = search needs
 
 array-share-prefix-block : tie.Need-array-share-prefix-block
-array-share-prefix-block c = omega (arith, ap lengthOf (c .before .n .given .1), c .before .before .before .before .read-block .ensures, c .before .before .before .before .read-block .kept .0)
+array-share-prefix-block c =
+    let at-read-block = c .before .before .before .before in
+    omega (arith, ap lengthOf (c .before .n .given .1), at-read-block .read-block .ensures, at-read-block .read-block .kept .0)
 
 slice-aggregate-build-set : tie.Need-slice-aggregate-build-set
-slice-aggregate-build-set c = front _ _ (omega (arith, ap lengthOf (c .before .before .n .given .1), c .before .before .before .before .before .read-block .ensures, c .before .before .before .before .before .read-block .kept .0))
+slice-aggregate-build-set c =
+    let at-n = c .before .before in
+    let at-read-block = at-n .before .before .before in
+    front _ _ (omega (arith, ap lengthOf (at-n .n .given .1), at-read-block .read-block .ensures, at-read-block .read-block .kept .0))
 
 slice-aggregate-build-set-2 : tie.Need-slice-aggregate-build-set-2
 slice-aggregate-build-set-2 c = search needs
@@ -56,7 +61,9 @@ array-share-prefix-layout : tie.Need-array-share-prefix-layout
 array-share-prefix-layout c = search needs
 
 slice-aggregate-answer-runs : tie.Need-slice-aggregate-answer-runs
-slice-aggregate-answer-runs c = front _ _ (omega (arith, c .before .if1 .taken, c .before .before .before .before .before .before .before .build-set .kept .1 .0))
+slice-aggregate-answer-runs c =
+    let at-build-set = c .before .before .before .before .before .before .before in
+    front _ _ (omega (arith, c .before .if1 .taken, at-build-set .build-set .kept .1 .0))
 
 slice-aggregate-answer-runs-2 : tie.Need-slice-aggregate-answer-runs-2
 slice-aggregate-answer-runs-2 c = search needs

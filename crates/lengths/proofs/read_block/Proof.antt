@@ -12,7 +12,9 @@ slice-relend-prefix-read-full : tie.Need-slice-relend-prefix-read-full
 slice-relend-prefix-read-full c = search needs
 
 slice-aggregate-read-full : tie.Need-slice-aggregate-read-full
-slice-aggregate-read-full c = front 4 (c .before .before .args .block .now) (omega (arith, c .before .before .pre))
+slice-aggregate-read-full c =
+    let at-start = c .before .before in
+    front 4 (at-start .args .block .now) (omega (arith, at-start .pre))
 
 read-full-requires : tie.Need-read-full-requires
 read-full-requires c κs = search needs
@@ -24,10 +26,14 @@ returns : tie.Need-returns
 returns c = search needs
 
 slice-reshare-prefix-block-length : tie.Need-slice-reshare-prefix-block-length
-slice-reshare-prefix-block-length c = simp length-append (omega (arith, c .before .before .before .read-full .ensures .0, c .before .before .before .read-full .kept .1 .0))
+slice-reshare-prefix-block-length c =
+    let at-read-full = c .before .before .before in
+    simp length-append (omega (arith, at-read-full .read-full .ensures .0, at-read-full .read-full .kept .1 .0))
 
 slice-aggregate-block-length : tie.Need-slice-aggregate-block-length
-slice-aggregate-block-length c = front _ _ (simp length-append (omega (arith, c .before .before .before .before .read-full .ensures .0, c .before .before .before .before .read-full .kept .1 .0)))
+slice-aggregate-block-length c =
+    let at-read-full = c .before .before .before .before in
+    front _ _ (simp length-append (omega (arith, at-read-full .read-full .ensures .0, at-read-full .read-full .kept .1 .0)))
 
 block-length-requires : tie.Need-block-length-requires
 block-length-requires c κs = search needs
@@ -45,13 +51,24 @@ part-read-full-start : tie.Need-part-read-full-start
 part-read-full-start c = header-within (c .before .before .before .block-length .ensures .1) (c .before .n .given .1) .0
 
 part-read-full-end : tie.Need-part-read-full-end
-part-read-full-end c = refilled (c .before .before .before .before .before .before .before .before .read-full .last .1 .0) (c .before .before .before .before .before .before .before .before .before .before .before .args .block .now) (header-within (c .before .before .before .block-length .ensures .1) (c .before .n .given .1) .1) (c .before .before .before .before .before .before .before .before .read-full .kept .1 .0) (c .before .before .before .before .before .before .before .before .before .before .before .pre)
+part-read-full-end c =
+    let at-block-length = c .before .before .before in
+    let at-read-full = at-block-length .before .before .before .before .before in
+    let at-start = at-read-full .before .before .before in
+    refilled
+    (at-read-full .read-full .last .1 .0)
+    (at-start .args .block .now)
+    (header-within (at-block-length .block-length .ensures .1) (c .before .n .given .1) .1)
+    (at-read-full .read-full .kept .1 .0)
+    (at-start .pre)
 
 read-full-requires-2 : tie.Need-read-full-requires-2
 read-full-requires-2 c κs = search needs
 
 sub-if2 : tie.Need-sub-if2
-sub-if2 c = header-within (c .before .before .before .before .before .before .before .block-length .ensures .1) (c .before .before .before .before .before .n .given .1) .0
+sub-if2 c =
+    let at-n = c .before .before .before .before .before in
+    header-within (at-n .before .before .block-length .ensures .1) (at-n .n .given .1) .0
 
 same-length-2 : tie.Need-same-length-2
 same-length-2 c = search needs
@@ -69,7 +86,9 @@ same-length-4 : tie.Need-same-length-4
 same-length-4 c = search needs
 
 returns-4 : tie.Need-returns-4
-returns-4 c = header-within (c .before .before .before .before .before .before .before .before .block-length .ensures .1) (c .before .before .before .before .before .before .n .given .1) .1
+returns-4 c =
+    let at-n = c .before .before .before .before .before .before in
+    header-within (at-n .before .before .block-length .ensures .1) (at-n .n .given .1) .1
 
 pub read-block-spec : {M : Type 1} → statement M
 read-block-spec =

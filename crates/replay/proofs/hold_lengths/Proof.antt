@@ -51,7 +51,9 @@ array-share-prefix-out : tie.Need-array-share-prefix-out
 array-share-prefix-out c = search needs
 
 slice-aggregate-same-name : tie.Need-slice-aggregate-same-name
-slice-aggregate-same-name c = front _ _ (omega (arith, c .before .if5 .left, c .before .before .before .before .before .lines-of .kept))
+slice-aggregate-same-name c =
+    let at-lines-of = c .before .before .before .before .before in
+    front _ _ (omega (arith, c .before .if5 .left, at-lines-of .lines-of .kept))
 
 sub-same-name : tie.Need-sub-same-name
 sub-same-name c = search needs

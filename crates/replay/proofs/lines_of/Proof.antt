@@ -18,7 +18,9 @@ enum-known-n : tie.Need-enum-known-n
 enum-known-n c = search needs
 
 slice-aggregate-build-set : tie.Need-slice-aggregate-build-set
-slice-aggregate-build-set c = front _ _ (block-inside (c .before .before .before .before .whole-block .ensures .1) (c .before .before .n .given .1) .1)
+slice-aggregate-build-set c =
+    let at-n = c .before .before in
+    front _ _ (block-inside (at-n .before .before .whole-block .ensures .1) (at-n .n .given .1) .1)
 
 build-set-requires : tie.Need-build-set-requires
 build-set-requires c κs = search needs
@@ -48,10 +50,14 @@ slice-aggregate-run-lines : tie.Need-slice-aggregate-run-lines
 slice-aggregate-run-lines c = front _ _ (c .before .if1 .left)
 
 sub-run-lines : tie.Need-sub-run-lines
-sub-run-lines c = block-inside (c .before .before .before .before .before .before .before .before .before .before .before .before .before .before .before .before .whole-block .ensures .1) (c .before .before .before .before .before .before .before .before .before .before .before .before .before .before .n .given .1) .1
+sub-run-lines c =
+    let at-n = c .before .before .before .before .before .before .before .before .before .before .before .before .before .before in
+    block-inside (at-n .before .before .whole-block .ensures .1) (at-n .n .given .1) .1
 
 part-run-lines-start : tie.Need-part-run-lines-start
-part-run-lines-start c = block-inside (c .before .before .before .before .before .before .before .before .before .before .before .before .before .before .before .before .whole-block .ensures .1) (c .before .before .before .before .before .before .before .before .before .before .before .before .before .before .n .given .1) .1
+part-run-lines-start c =
+    let at-n = c .before .before .before .before .before .before .before .before .before .before .before .before .before .before in
+    block-inside (at-n .before .before .whole-block .ensures .1) (at-n .n .given .1) .1
 
 part-run-lines-end : tie.Need-part-run-lines-end
 part-run-lines-end c = search needs
