@@ -36,6 +36,10 @@ parameter-shaped : (p : IrParameter) → BlockShaped (parameterTree p)
 unfolding formOf formsOf partsOf findRow grammar
 parameter-shaped p = Shaped.block {k = 162} (omega arith) (Shaped.both Shaped.text (Shaped.both (text-shaped (p .description)) (Shaped.both (flag-shaped (p .derived)) Shaped.nothing)))
 
+-- a list of parameters, with which a case and a type tree end
+parameters-shaped : (ps : List IrParameter) → Shaped (Form.both (Form.list Form.block) Form.nothing) (cons (cons (num 2 (length ps)) (entriesTree parameterTree ps)) Tree.nil)
+parameters-shaped ps = Shaped.both (Shaped.list (entries-shaped parameterTree parameter-shaped ps)) Shaped.nothing
+
 -- an argument
 argument-shaped : (x : IrArgument) → BlockShaped (argumentTree x)
 unfolding formOf formsOf partsOf findRow grammar
@@ -87,7 +91,7 @@ mutual
   cases-shaped SwitchCases.noCase = Shaped.nothing
   cases-shaped (SwitchCases.case v n ps cs) =
       let e : 1 + caseCount cs ≡ suc (caseCount cs) = omega arith in
-      rw e (Shaped.both (Shaped.block {k = 163} (omega arith) (Shaped.both Shaped.number (Shaped.both (node-shaped n) (Shaped.both (Shaped.list (entries-shaped parameterTree parameter-shaped ps)) Shaped.nothing)))) (cases-shaped cs))
+      rw e (Shaped.both (Shaped.block {k = 163} (omega arith) (Shaped.both Shaped.number (Shaped.both (node-shaped n) (parameters-shaped ps)))) (cases-shaped cs))
 
   -- its default node
   default-shaped : (d : DefaultNode) → Shaped (Form.optional Form.block 1) (defaultTree d)
@@ -100,7 +104,7 @@ mutual
 type-shaped : (t : TypeIr) → BlockShaped (typeIrTree t)
 unfolding formOf formsOf partsOf findRow grammar
 type-shaped t =
-    Shaped.block {k = 161} (omega arith) (Shaped.both Shaped.text (Shaped.both Shaped.number (Shaped.both (node-shaped (t .root)) (Shaped.both (Shaped.list (entries-shaped parameterTree parameter-shaped (t .parameters))) Shaped.nothing))))
+    Shaped.block {k = 161} (omega arith) (Shaped.both Shaped.text (Shaped.both Shaped.number (Shaped.both (node-shaped (t .root)) (parameters-shaped (t .parameters)))))
 
 -- a layout has the grammar's shape: so what is read of its writing is the layout itself
 pub shaped : (ts : List TypeIr) → BlockShaped (layoutTree ts)
