@@ -2,4 +2,3 @@ pub mod Strip
 pub mod Canonical
 pub mod Colons
 pub mod Qualified
-pub mod Vectors

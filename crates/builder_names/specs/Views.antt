@@ -1,9 +1,10 @@
 -- What the code answers, said of the definitions of names.
 use Prim.Native.Nat.{_+_, _≤_}
 use mathlib.Core.Path.{_≡_}
-use mathlib.Core.Bool.{Bool, false, _||_}
+use mathlib.Core.Bool.{Bool, false, _&&_, _||_}
 use mathlib.Core.List.{List, [], _∷_, _++_}
 use mathlib.Core.Option.{Option, some, none}
+use lib.Dec.{eqb}
 use lib.ListN.{length, take, drop}
 use Rattle.blocks.specs.Name.{Name, ascii, same}
 use Rattle.builder.specs.Names.{isEmpty, normalize-path, rsplit-once, alternate-owner-aliases}
@@ -17,6 +18,12 @@ alone owner path = isEmpty path || same path owner
 -- two names with a dot between them
 unfoldable pub dotted : Name → Name → Name
 dotted a b = a ++ (ascii "." ++ b)
+
+-- whether a name begins with `::`
+abbrev pub colons : Name → Bool
+colons [] = false
+colons (x ∷ []) = false
+colons (x ∷ (y ∷ ys)) = eqb x 0x3A && eqb y 0x3A
 
 -- the place of the last `::` in what `rsplit-once` gives
 abbrev pub place : Option (Name × Name) → Split
@@ -35,11 +42,6 @@ first (n ∷ ns) = n
 
 unfoldable pub aliasOf : Name → Name → Name
 aliasOf path normal = first (alternate-owner-aliases path normal)
-
--- whether a qualified path, if there is one, is the name
-abbrev pub isName : Option Name → Name → Bool
-isName none n = false
-isName (some q) n = same q n
 
 -- whether a qualified path, if there is one, has the key in the registry of the owner
 abbrev pub isKey : Name → Option Name → Name → Bool

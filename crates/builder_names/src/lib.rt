@@ -1,14 +1,15 @@
 // The names of parameters, as parts of the caller's own paths.
 ghost use mathlib.Core.Path.{_≡_};
+ghost use mathlib.Core.Bool.{true};
 ghost use mathlib.Core.List.{_++_};
 ghost use Prim.Native.Nat.{_+_, _≤_, _<_, _^_};
 ghost use lib.ListN.{length, drop};
-ghost use Rattle.blocks.specs.Name.{ascii, same};
+ghost use Rattle.blocks.specs.Name.{same};
 ghost use Rattle.blocks.specs.Tree.{name};
 ghost use Rattle.blocks.specs.Write.{write};
 ghost use Rattle.wire.specs.Poke.{Wrote};
-ghost use Rattle.builder.specs.Names.{isSome, strip-prefix, strip-owner, normalize-path, canonical-name, rsplit-once, qualify-parent-path, ends-with};
-ghost use Rattle.builder_names.specs.Views.{alone, place, Parts, aliasOf, isKey};
+ghost use Rattle.builder.specs.Names.{isSome, strip-owner, normalize-path, canonical-name, rsplit-once, qualify-parent-path, ends-with};
+ghost use Rattle.builder_names.specs.Views.{alone, colons, place, Parts, aliasOf, isKey};
 
 // The place of a `::`, if there is one.
 pub enum Split {
@@ -91,21 +92,19 @@ pub fn put_canonical_name(out: &mut [u8], at: usize, owner: &[u8], path: &[u8]) 
 }
 
 // Whether `::` stands at i.
-fn colons_at(s: &[u8], i: usize) -> bool
+pub fn colons_at(s: &[u8], i: usize) -> bool
     requires { ⌜ i < length (now s) ⌝ }
-    ensures { λ r. ⌜ r ≡ isSome (strip-prefix (ascii "::") (drop i (now (s .entry)))) ⌝ }
+    ensures { λ r. ⌜ r ≡ colons (drop i (now (s .entry))) ⌝ }
+    ensures { λ r. ⌜ (r ≡ true → i + 2 ≤ length (now (s .entry))) ⌝ }
 {
     let j = i + 1;
     if s.len() <= j {
         return false;
     }
-    if s[i] != 0x3A {
+    if s[i] != b':' {
         return false;
     }
-    if s[j] != 0x3A {
-        return false;
-    }
-    true
+    s[j] == b':'
 }
 
 // Where the last `::` of a name stands.

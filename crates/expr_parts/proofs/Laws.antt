@@ -18,13 +18,18 @@ use Rattle.expr_parts.specs.Exprs.{LiteralAt, FieldRefAt, UnaryAt, Binar
 
 -- ---- an expression of a known form
 
+-- the typed view of the parts of an expression
 abbrev viewed : Tree → View ExprKind
 viewed t = view (λ b v. makeExpr (kind b) (formOf (kind b)) (body b) v) t
 
-expr-is : {s : List ℕ} {at k : ℕ} {ps : List Part} {f : Form} (a : Accepted s 64 91 at) (o : Opened k ps a) → formOf k ≡ f → (t : Tree) → o .parts .got .0 ≡ t → exprOf (tree a) ≡ makeExpr k f t (viewed t)
+-- an accepted expression is made from its parts by the form of its kind
+expr-is : {s : List ℕ} {at k : ℕ} {ps : List Part} {f : Form} (a : Accepted s 64 91 at) (o : Opened k ps a) → formOf k ≡ f →
+    (t : Tree) → o .parts .got .0 ≡ t → exprOf (tree a) ≡ makeExpr k f t (viewed t)
 unfolding exprOf view
-expr-is {at} {k} {f} a o ef t e = ap exprOf (o .tree) ∙ ap (λ (z : Tree). makeExpr k (formOf k) z (viewed z)) e ∙ ap (λ (g : Form). makeExpr k g t (viewed t)) ef
+expr-is {at} {k} {f} a o ef t e =
+    ap exprOf (o .tree) ∙ ap (λ (z : Tree). makeExpr k (formOf k) z (viewed z)) e ∙ ap (λ (g : Form). makeExpr k g t (viewed t)) ef
 
+-- kind 64, a literal
 pub literal-at : {s : List ℕ} {at : ℕ} (a : Accepted s 64 91 at) → le2 s (at + 4) ≡ 64 → LiteralAt a
 unfolding partsOf findRow grammar nodeTable formOf makeExpr part
 literal-at {s} {at} a e =
@@ -33,13 +38,25 @@ literal-at {s} {at} a e =
     record {
       inside = omega (arith, l .2 .inside, o .parts .fits);
       small = l .0;
-      is = expr-is a o refl _ (l .2 .tree) ∙ ap (λ (q : ℕ). ExprKind.Literal (getD literals (getD s (at + 6) 0) LiteralExpr.U64 (le8 s q))) (let e : at + 6 + 1 ≡ at + 7 = omega arith in e);
+      is =
+          expr-is a o refl _ (l .2 .tree) ∙
+          ap (λ (q : ℕ). ExprKind.Literal (getD literals (getD s (at + 6) 0) LiteralExpr.U64 (le8 s q))) (let e : at + 6 + 1 ≡ at + 7 = omega arith in e);
     }
 
 -- said of another offset that is the same
 abbrev entries-at : {s : List ℕ} {i : Item} {n q r : ℕ} → q ≡ r → Entries s i n q → Entries s i n r
-entries-at {s} {i} {n} e l = record { room = l .room; earlier = l .earlier; start = l .start; end = l .end; got = l .got; fits = l .fits; read = subst (λ (p : ℕ). readEntries (readItem i (l .room) s (l .start) (l .end)) (l .earlier) n p ≡ done (l .got)) e (l .read) }
+entries-at {s} {i} {n} e l =
+    record {
+      room = l .room;
+      earlier = l .earlier;
+      start = l .start;
+      end = l .end;
+      got = l .got;
+      fits = l .fits;
+      read = subst (λ (p : ℕ). readEntries (readItem i (l .room) s (l .start) (l .end)) (l .earlier) n p ≡ done (l .got)) e (l .read);
+    }
 
+-- kind 65, a field reference: its path is a list of names
 pub field-ref-at : {s : List ℕ} {at : ℕ} (a : Accepted s 64 91 at) → le2 s (at + 4) ≡ 65 → FieldRefAt a
 unfolding partsOf findRow grammar nodeTable formOf makeExpr part
 field-ref-at {s} {at} a e =
@@ -57,18 +74,22 @@ pub sizeof-at : {s : List ℕ} {at : ℕ} (a : Accepted s 64 91 at) → le2 s (a
 unfolding partsOf findRow grammar nodeTable formOf makeExpr part
 sizeof-at a e = let o = opened {ps = Text ∷ []} a e refl in expr-is a o refl _ (text-part (o .parts) .1 .tree)
 
+-- the same for `alignof`
 pub alignof-at : {s : List ℕ} {at : ℕ} (a : Accepted s 64 91 at) → le2 s (at + 4) ≡ 67 → exprOf (tree a) ≡ ExprKind.Alignof (nameAt s (at + 6))
 unfolding partsOf findRow grammar nodeTable formOf makeExpr part
 alignof-at a e = let o = opened {ps = Text ∷ []} a e refl in expr-is a o refl _ (text-part (o .parts) .1 .tree)
 
 -- ---- the kinds of one operand, and of two
 
+-- a kind whose one part is an expression
 abbrev One : ℕ → Type 0
 One k = (partsOf k ≡ expression ∷ []) × (formOf k ≡ Form.unary)
 
+-- a kind whose two parts are expressions
 abbrev Two : ℕ → Type 0
 Two k = (partsOf k ≡ expression ∷ expression ∷ []) × (formOf k ≡ Form.binary)
 
+-- 79 to 82
 one : (k : ℕ) → 79 ≤ k → k ≤ 82 → One k
 unfolding partsOf findRow grammar nodeTable formOf
 one k h l = each One 4 79 ((refl, refl), ((refl, refl), ((refl, refl), ((refl, refl), tt)))) k h (omega arith)
@@ -76,13 +97,18 @@ one k h l = each One 4 79 ((refl, refl), ((refl, refl), ((refl, refl), ((refl, r
 -- 68 to 78
 two-low : (k : ℕ) → 68 ≤ k → k ≤ 78 → Two k
 unfolding partsOf findRow grammar nodeTable formOf
-two-low k h l = each Two 11 68 ((refl, refl), ((refl, refl), ((refl, refl), ((refl, refl), ((refl, refl), ((refl, refl), ((refl, refl), ((refl, refl), ((refl, refl), ((refl, refl), ((refl, refl), tt))))))))))) k h (omega arith)
+two-low k h l =
+    each Two 11 68
+    ((refl, refl), ((refl, refl), ((refl, refl), ((refl, refl), ((refl, refl), ((refl, refl), ((refl, refl), ((refl, refl), ((refl, refl), ((refl, refl), ((refl, refl), tt)))))))))))
+    k h (omega arith)
 
 -- 83 to 91
 two-high : (k : ℕ) → 83 ≤ k → k ≤ 91 → Two k
 unfolding partsOf findRow grammar nodeTable formOf
-two-high k h l = each Two 9 83 ((refl, refl), ((refl, refl), ((refl, refl), ((refl, refl), ((refl, refl), ((refl, refl), ((refl, refl), ((refl, refl), ((refl, refl), tt))))))))) k h (omega arith)
+two-high k h l =
+    each Two 9 83 ((refl, refl), ((refl, refl), ((refl, refl), ((refl, refl), ((refl, refl), ((refl, refl), ((refl, refl), ((refl, refl), ((refl, refl), tt))))))))) k h (omega arith)
 
+-- 79 to 82: the operand stands behind the kind
 pub unary-at : {s : List ℕ} {at : ℕ} (a : Accepted s 64 91 at) → 79 ≤ le2 s (at + 4) → le2 s (at + 4) ≤ 82 → UnaryAt a
 unfolding makeExpr exprOf view partOr
 unary-at {s} {at} a h k =
@@ -95,6 +121,7 @@ unary-at {s} {at} a h k =
       is = expr-is a o (w .1) _ (c .behind .tree);
     }
 
+-- a kind of two operands: the second stands behind the first
 two-at : {s : List ℕ} {at : ℕ} (a : Accepted s 64 91 at) → Two (le2 s (at + 4)) → BinaryAt a
 unfolding makeExpr exprOf view partOr
 two-at {s} {at} a w =

@@ -22,11 +22,13 @@ use Rattle.resolved_parts.proofs.Laws.{named}
 use Rattle.resolved_parts.proofs.Head.{headTree, Headed, headed}
 
 -- the kind of a type whose parts behind its head are t
-kind-is : {s : List ℕ} {at k : ℕ} {ps : List Part} {a : Accepted s 1 7 at} {t : Tree} (h : Headed k ps a) → h .rest .got .0 ≡ t → kindOf (typeOf (tree a)) ≡ kindOf (typeOf (block at k (headTree s at (h .references .got .0) t)))
+kind-is : {s : List ℕ} {at k : ℕ} {ps : List Part} {a : Accepted s 1 7 at} {t : Tree} (h : Headed k ps a) → h .rest .got .0 ≡ t →
+    kindOf (typeOf (tree a)) ≡ kindOf (typeOf (block at k (headTree s at (h .references .got .0) t)))
 kind-is {s} {at} {k} h e = ap (λ (z : Tree). kindOf (typeOf z)) (h .is ∙ ap (λ (t : Tree). block at k (headTree s at (h .references .got .0) t)) e)
 
 -- ---- 5 array
 
+-- the parts of an array behind its head, where the element and the size expression stand
 record Array {s : List ℕ} {q : ℕ} (c : Parts s (Flag ∷ Block 1 7 ∷ Block 64 91 ∷ []) q) : Type 0 where
   element : Accepted s 1 7 (q + 1)
   size : Accepted s 64 91 (q + 1 + 4 + le4 s (q + 1))
@@ -34,6 +36,7 @@ record Array {s : List ℕ} {q : ℕ} (c : Parts s (Flag ∷ Block 1 7 ∷ Block
   last : Tree
   is : c .got .0 ≡ cons (num 1 (getD s q 0)) (cons (element .got .0) (cons (size .got .0) last))
 
+-- every accepted row of these parts is such
 array : {s : List ℕ} {q : ℕ} (c : Parts s (Flag ∷ Block 1 7 ∷ Block 64 91 ∷ []) q) → Array c
 array {s} {q} c =
     let f = flag-part c .1 in
@@ -47,6 +50,7 @@ array {s} {q} c =
       is = f .tree ∙ ap (λ (t : Tree). cons (num 1 (getD s q 0)) t) (e .behind .tree ∙ ap (λ (t : Tree). cons (e .child .got .0) t) (x .behind .tree));
     }
 
+-- a type of kind 5 has these parts behind its head
 array-headed : {s : List ℕ} {at : ℕ} (a : Accepted s 1 7 at) → le2 s (at + 4) ≡ 5 → Headed 5 (Flag ∷ Block 1 7 ∷ Block 64 91 ∷ []) a
 unfolding partsOf findRow grammar nodeTable
 array-headed a ek = headed a ek refl
@@ -59,10 +63,13 @@ array-inside {s} {at} a ek eq =
     rw eq (omega (arith, d .inside, h .rest .fits))
 
 module _ {s : List ℕ} {at : ℕ} {a : Accepted s 1 7 at} where
-  array-kind : (h : Headed 5 (Flag ∷ Block 1 7 ∷ Block 64 91 ∷ []) a) (d : Array (h .rest)) → kindOf (typeOf (tree a)) ≡ ResolvedTypeKind.Array (typeOf (d .element .got .0)) (exprOf (d .size .got .0)) (eqb (getD s (headEnd s at) 0) 1)
+  -- its kind is an array of the element and the size that stand there
+  array-kind : (h : Headed 5 (Flag ∷ Block 1 7 ∷ Block 64 91 ∷ []) a) (d : Array (h .rest)) →
+      kindOf (typeOf (tree a)) ≡ ResolvedTypeKind.Array (typeOf (d .element .got .0)) (exprOf (d .size .got .0)) (eqb (getD s (headEnd s at) 0) 1)
   unfolding typeOf view thingOf makeThing formOf part partOr
   array-kind h d = kind-is h (d .is)
 
+  -- the answer of `array_parts`, with the offsets counted from the end of the head
   array-found : {j : Bool} (h : Headed 5 (Flag ∷ Block 1 7 ∷ Block 64 91 ∷ []) a) → Array (h .rest) → j ≡ eqb (getD s (headEnd s at) 0) 1 →
       ArrayAt a (record { jagged = j; element = headEnd s at + 1; size = headEnd s at + 1 + 4 + le4 s (headEnd s at + 1) })
   array-found h d ej = record {
@@ -74,7 +81,9 @@ module _ {s : List ℕ} {at : ℕ} {a : Accepted s 1 7 at} where
     size-at = refl;
   }
 
-pub array-at : {s : List ℕ} {at q z : ℕ} {j : Bool} → le2 s (at + 4) ≡ 5 → q ≡ headEnd s at → j ≡ eqb (getD s q 0) 1 → z ≡ le4 s (q + 1) → (a : Accepted s 1 7 at) →
+-- the same with the offsets as the code computes them
+pub array-at : {s : List ℕ} {at q z : ℕ} {j : Bool} → le2 s (at + 4) ≡ 5 → q ≡ headEnd s at → j ≡ eqb (getD s q 0) 1 →
+    z ≡ le4 s (q + 1) → (a : Accepted s 1 7 at) →
     ArrayAt a (record { jagged = j; element = q + 1; size = q + 1 + 4 + z })
 array-at {s} {at} {q} {z} {j} ek eq ej ez a =
     let h = array-headed a ek in
@@ -84,6 +93,7 @@ array-at {s} {at} {q} {z} {j} ek eq ej ez a =
 
 -- ---- 4 enum
 
+-- the parts of an enum behind its head, where the tag expression and the list of variants stand
 record Enum {s : List ℕ} {q : ℕ} (c : Parts s (Block 64 91 ∷ Blocks 34 34 64 ∷ []) q) : Type 0 where
   tag : Accepted s 64 91 q
   inside : q + 4 + le4 s q + 2 ≤ c .end
@@ -92,6 +102,7 @@ record Enum {s : List ℕ} {q : ℕ} (c : Parts s (Block 64 91 ∷ Blocks 34 34 
   last : Tree
   is : c .got .0 ≡ cons (tag .got .0) (cons (cons (num 2 (le2 s (q + 4 + le4 s q))) (list .got .0)) last)
 
+-- every accepted row of these parts is such
 enum : {s : List ℕ} {q : ℕ} (c : Parts s (Block 64 91 ∷ Blocks 34 34 64 ∷ []) q) → Enum c
 enum {s} {q} c =
     let b = block-part c in
@@ -105,10 +116,12 @@ enum {s} {q} c =
       is = b .behind .tree ∙ ap (λ (t : Tree). cons (b .child .got .0) t) (l .behind .tree);
     }
 
+-- a type of kind 4 has these parts behind its head
 enum-headed : {s : List ℕ} {at : ℕ} (a : Accepted s 1 7 at) → le2 s (at + 4) ≡ 4 → Headed 4 (Block 64 91 ∷ Blocks 34 34 64 ∷ []) a
 unfolding partsOf findRow grammar nodeTable
 enum-headed a ek = headed a ek refl
 
+-- the offsets behind the head lie inside the bytes
 pub enum-inside : {s : List ℕ} {at q : ℕ} (a : Accepted s 1 7 at) → le2 s (at + 4) ≡ 4 → q ≡ headEnd s at → q + 4 + le4 s q + 2 ≤ length s
 enum-inside a ek eq =
     let h = enum-headed a ek in
@@ -116,14 +129,18 @@ enum-inside a ek eq =
     rw eq (omega (arith, d .inside, h .rest .fits))
 
 module _ {s : List ℕ} {at : ℕ} {a : Accepted s 1 7 at} where
-  enum-kind : (h : Headed 4 (Block 64 91 ∷ Blocks 34 34 64 ∷ []) a) (d : Enum (h .rest)) → kindOf (typeOf (tree a)) ≡ ResolvedTypeKind.Enum (exprOf (d .tag .got .0)) (variantsIn (view thingOf (d .list .got .0)))
+  -- its kind is an enum of the tag and the variants that stand there
+  enum-kind : (h : Headed 4 (Block 64 91 ∷ Blocks 34 34 64 ∷ []) a) (d : Enum (h .rest)) →
+      kindOf (typeOf (tree a)) ≡ ResolvedTypeKind.Enum (exprOf (d .tag .got .0)) (variantsIn (view thingOf (d .list .got .0)))
   unfolding typeOf view thingOf makeThing formOf part partView
   enum-kind h d = kind-is h (d .is)
 
+  -- the answer of `enum_parts`, with the offsets counted from the end of the head
   enum-found : (h : Headed 4 (Block 64 91 ∷ Blocks 34 34 64 ∷ []) a) → Enum (h .rest) →
       EnumAt a (record { tag = headEnd s at; count = le2 s (headEnd s at + 4 + le4 s (headEnd s at)); first = headEnd s at + 4 + le4 s (headEnd s at) + 2 })
   enum-found h d = record { tag = d .tag; few = d .few; list = d .list; is = enum-kind h d; tag-at = refl; first-at = refl }
 
+-- the same with the offsets as the code computes them
 pub enum-at : {s : List ℕ} {at q u c : ℕ} → le2 s (at + 4) ≡ 4 → q ≡ headEnd s at → u ≡ le4 s q → c ≡ le2 s (q + 4 + u) → (a : Accepted s 1 7 at) →
     EnumAt a (record { tag = q; count = c; first = q + 4 + u + 2 })
 enum-at {s} {at} {q} {u} {c} ek eq eu ec a =
@@ -143,6 +160,7 @@ pub record Holds {s : List ℕ} {at : ℕ} (a : Accepted s 1 7 at) (k : ℕ) : T
   pub last : Tree
   pub is : kindOf (typeOf (tree a)) ≡ kindOf (typeOf (block at (le2 s (at + 4)) (headTree s at references (cons (cons (num 2 (le2 s (headEnd s at))) (list .got .0)) last))))
 
+-- a type whose kind has a list behind its head is such
 holds : {s : List ℕ} {at k : ℕ} (a : Accepted s 1 7 at) → partsOf (le2 s (at + 4)) ≡ Key ∷ Size ∷ Number ∷ Block 32 32 ∷ Blocks k k 64 ∷ [] → Holds a k
 holds a ep =
     let h = headed a refl ep in
@@ -156,15 +174,19 @@ holds a ep =
       is = kind-is h (l .behind .tree);
     }
 
+-- a struct and a union hold fields (33)
 pub fields-held : {s : List ℕ} {at : ℕ} → 2 ≤ le2 s (at + 4) → le2 s (at + 4) ≤ 3 → (a : Accepted s 1 7 at) → Holds a 33
 unfolding partsOf findRow grammar nodeTable
-fields-held {s} {at} lo hi a = holds a (each (λ k. partsOf k ≡ Key ∷ Size ∷ Number ∷ Block 32 32 ∷ Blocks 33 33 64 ∷ []) 2 2 (refl, (refl, tt)) (le2 s (at + 4)) lo (omega arith))
+fields-held {s} {at} lo hi a =
+    holds a (each (λ k. partsOf k ≡ Key ∷ Size ∷ Number ∷ Block 32 32 ∷ Blocks 33 33 64 ∷ []) 2 2 (refl, (refl, tt)) (le2 s (at + 4)) lo (omega arith))
 
+-- a size-discriminated union holds variants (35)
 pub sized-held : {s : List ℕ} {at : ℕ} → le2 s (at + 4) ≡ 6 → (a : Accepted s 1 7 at) → Holds a 35
 unfolding partsOf findRow grammar nodeTable
 sized-held ek a = holds a (ap partsOf ek)
 
 module _ {s : List ℕ} {at q c : ℕ} (eq : q ≡ headEnd s at) (ec : c ≡ le2 s q) where
+  -- the answer of `field_list`
   pub fields-at : 2 ≤ le2 s (at + 4) → le2 s (at + 4) ≤ 3 → (a : Accepted s 1 7 at) → FieldsAt a (record { count = c; first = q + 2 })
   unfolding typeOf view thingOf makeThing formOf partView
   fields-at lo hi a =
@@ -179,6 +201,7 @@ module _ {s : List ℕ} {at q c : ℕ} (eq : q ≡ headEnd s at) (ec : c ≡ le2
         first-at = refl;
       }))
 
+  -- the answer of `sized_list`
   pub sized-at : le2 s (at + 4) ≡ 6 → (a : Accepted s 1 7 at) → SizedAt a (record { count = c; first = q + 2 })
   unfolding typeOf view thingOf makeThing formOf partView
   sized-at ek a =
@@ -194,6 +217,7 @@ module _ {s : List ℕ} {at q c : ℕ} (eq : q ≡ headEnd s at) (ec : c ≡ le2
 
 -- ---- 7 type reference
 
+-- the answer of `target`
 pub target-at : {s : List ℕ} {at q : ℕ} → q ≡ headEnd s at → le2 s (at + 4) ≡ 7 → (a : Accepted s 1 7 at) → TargetAt a q
 unfolding partsOf findRow grammar nodeTable typeOf view thingOf makeThing formOf part
 target-at {s} {at} eq ek a =

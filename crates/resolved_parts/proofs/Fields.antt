@@ -23,12 +23,14 @@ use Rattle.resolved_parts.proofs.Laws.{sole-kind, named}
 
 -- ---- 37 owner
 
+-- the parts of an owner: its name and its paths
 record Owned {s : List ℕ} {at : ℕ} (a : Accepted s 37 37 at) : Type 0 where
   named : Named s (at + 6)
   paths : PathsAt s (nameEnd s at)
   last : Tree
   is : a .got .0 ≡ block at 37 (cons (name (nameAt s (at + 6))) (cons (cons (num 2 (le2 s (nameEnd s at))) (paths .list .got .0)) last))
 
+-- every accepted owner is such
 owned : {s : List ℕ} {at : ℕ} (a : Accepted s 37 37 at) → Owned a
 unfolding partsOf findRow grammar nodeTable
 owned {s} {at} a =
@@ -42,9 +44,11 @@ owned {s} {at} a =
       is = o .tree ∙ ap (block at 37) (k .2 .tree ∙ ap (λ (t : Tree). cons (name (nameAt s (at + 6))) t) (l .behind .tree));
     }
 
+-- the name of an owner lies inside the bytes
 pub owner-named : {s : List ℕ} {at : ℕ} → Accepted s 37 37 at → Named s (at + 6)
 owner-named a = owned a .named
 
+-- the answer of `owner_paths`
 pub owner-at : {s : List ℕ} {at q : ℕ} → q ≡ nameEnd s at → (a : Accepted s 37 37 at) → OwnerAt a q
 unfolding part
 owner-at eq a =
@@ -53,6 +57,7 @@ owner-at eq a =
 
 -- ---- 34, 35 variant
 
+-- the parts of a variant: its name, its number and its type
 record Variant {s : List ℕ} {k at : ℕ} (a : Accepted s k k at) : Type 0 where
   named : Named s (at + 6)
   type : Accepted s 1 7 (nameEnd s at + 8)
@@ -60,6 +65,7 @@ record Variant {s : List ℕ} {k at : ℕ} (a : Accepted s k k at) : Type 0 wher
   last : Tree
   is : a .got .0 ≡ block at k (cons (name (nameAt s (at + 6))) (cons (num 8 (le8 s (nameEnd s at))) (cons (type .got .0) last)))
 
+-- every accepted block of these parts is such
 variant : {s : List ℕ} {k at : ℕ} (a : Accepted s k k at) → partsOf k ≡ Text ∷ Number ∷ Block 1 7 ∷ [] → Variant a
 variant {s} {k} {at} a ep =
     let o = opened a (sole-kind a) ep in
@@ -71,23 +77,33 @@ variant {s} {k} {at} a ep =
       type = b .child;
       inside = omega (arith, b .behind .inside, n .rest .fits);
       last = b .behind .rest .got .0;
-      is = o .tree ∙ ap (block at k) (t .1 .tree ∙ ap (λ (t : Tree). cons (name (nameAt s (at + 6))) t) (n .tree ∙ ap (λ (t : Tree). cons (num 8 (le8 s (nameEnd s at))) t) (b .behind .tree)));
+      is =
+          o .tree ∙
+          ap (block at k) (t .1 .tree ∙ ap (λ (t : Tree). cons (name (nameAt s (at + 6))) t) (n .tree ∙ ap (λ (t : Tree). cons (num 8 (le8 s (nameEnd s at))) t) (b .behind .tree)));
     }
 
+-- the kinds 34 and 35 have these parts
 variant-parts : (k : ℕ) → 34 ≤ k → k ≤ 35 → partsOf k ≡ Text ∷ Number ∷ Block 1 7 ∷ []
 unfolding partsOf findRow grammar nodeTable
 variant-parts k lo hi = each (λ k. partsOf k ≡ Text ∷ Number ∷ Block 1 7 ∷ []) 2 34 (refl, (refl, tt)) k lo (omega arith)
 
+-- the typed view of a block of these parts, before other variants
 variant-is : (at : ℕ) (n v t x u : Tree) (k : ℕ) → 34 ≤ k → k ≤ 35 →
-    variants (variantsIn (view thingOf (cons (block at k (cons n (cons v (cons t x)))) u))) ≡ record { name = text n; number = number v; variant-type = typeOf t } ∷ variants (variantsIn (view thingOf u))
+    variants (variantsIn (view thingOf (cons (block at k (cons n (cons v (cons t x)))) u))) ≡
+    record { name = text n; number = number v; variant-type = typeOf t } ∷ variants (variantsIn (view thingOf u))
 unfolding view thingOf makeThing formOf variants variantsIn typeOf part partOr
 variant-is at n v t x u k lo hi =
-    each (λ k. variants (variantsIn (view thingOf (cons (block at k (cons n (cons v (cons t x)))) u))) ≡ record { name = text n; number = number v; variant-type = typeOf t } ∷ variants (variantsIn (view thingOf u))) 2 34 (refl, (refl, tt)) k lo (omega arith)
+    each
+    (λ k. variants (variantsIn (view thingOf (cons (block at k (cons n (cons v (cons t x)))) u))) ≡
+    record { name = text n; number = number v; variant-type = typeOf t } ∷ variants (variantsIn (view thingOf u)))
+    2 34 (refl, (refl, tt)) k lo (omega arith)
 
 module _ {s : List ℕ} {k at : ℕ} (lo : 34 ≤ k) (hi : k ≤ 35) where
+  -- what the code reads of a variant lies inside the bytes
   pub variant-inside : Accepted s k k at → nameEnd s at + 8 + 4 ≤ length s
   variant-inside a = variant a (variant-parts k lo hi) .inside
 
+  -- the answer of `variant_parts`
   pub variant-at : {p v : ℕ} → p ≡ nameEnd s at → v ≡ le8 s p → (a : Accepted s k k at) → VariantAt a (record { number = v; kind = p + 8 })
   variant-at {p} ep ev a =
       let d = variant a (variant-parts k lo hi) in
@@ -110,6 +126,7 @@ record Field {s : List ℕ} {at : ℕ} (q : ℕ) (a : Accepted s 33 33 at) : Typ
   last : Tree
   is : a .got .0 ≡ block at 33 (cons (name (nameAt s (at + 6))) (cons (optionalTree s (nameEnd s at) 1 (num 8 (le8 s (nameEnd s at + 1)))) (cons (type .got .0) last)))
 
+-- every accepted field is such, where q is the offset behind its optional number
 field : {s : List ℕ} {at q : ℕ} (a : Accepted s 33 33 at) → cond (eqb (getD s (nameEnd s at) 0) 1) (nameEnd s at + 1 + 8) (nameEnd s at + 1) ≡ q → Field q a
 unfolding partsOf findRow grammar nodeTable
 field {s} {at} a eq =
@@ -122,7 +139,10 @@ field {s} {at} a eq =
       type = b .child;
       inside = omega (arith, b .behind .inside, n .rest .fits);
       last = b .behind .rest .got .0;
-      is = o .tree ∙ ap (block at 33) (t .1 .tree ∙ ap (λ (t : Tree). cons (name (nameAt s (at + 6))) t) (n .tree ∙ ap (λ (t : Tree). cons (optionalTree s (nameEnd s at) 1 (num 8 (le8 s (nameEnd s at + 1)))) t) (b .behind .tree)));
+      is =
+          o .tree ∙
+          ap (block at 33) (t .1 .tree ∙ ap (λ (t : Tree). cons (name (nameAt s (at + 6))) t) (n .tree ∙
+          ap (λ (t : Tree). cons (optionalTree s (nameEnd s at) 1 (num 8 (le8 s (nameEnd s at + 1)))) t) (b .behind .tree)));
     }
 
 module _ {s : List ℕ} {at : ℕ} where
@@ -130,22 +150,28 @@ module _ {s : List ℕ} {at : ℕ} where
   field-placed : (a : Accepted s 33 33 at) → getD s (nameEnd s at) 0 ≡ 1 → Field (nameEnd s at + 1 + 8) a
   field-placed a e = field a (ap (λ (b : Bool). cond b (nameEnd s at + 1 + 8) (nameEnd s at + 1)) (eq-eqb _ 1 e))
 
+  -- a field without an offset: its type stands behind the flag
   field-free : (a : Accepted s 33 33 at) → (getD s (nameEnd s at) 0 ≡ 1 → ⊥) → Field (nameEnd s at + 1) a
   field-free a e = field a (ap (λ (b : Bool). cond b (nameEnd s at + 1 + 8) (nameEnd s at + 1)) (ne-eqb _ 1 e))
 
-  field-is : {q : ℕ} {o : Option ℕ} (a : Accepted s 33 33 at) (d : Field q a) → optional number (optionalTree s (nameEnd s at) 1 (num 8 (le8 s (nameEnd s at + 1)))) ≡ o → (u : Tree) →
+  -- the typed view of a field, before other fields
+  field-is : {q : ℕ} {o : Option ℕ} (a : Accepted s 33 33 at) (d : Field q a) →
+      optional number (optionalTree s (nameEnd s at) 1 (num 8 (le8 s (nameEnd s at + 1)))) ≡ o → (u : Tree) →
       fields (fieldsIn (view thingOf (cons (tree a) u))) ≡ record { name = nameAt s (at + 6); offset = o; field-type = typeOf (d .type .got .0) } ∷ fields (fieldsIn (view thingOf u))
   unfolding view thingOf makeThing formOf fields fieldsIn typeOf part partOr
   field-is a d e u = ap (λ (t : Tree). fields (fieldsIn (view thingOf (cons t u)))) (d .is) ∙
       ap (λ (o : Option ℕ). record { name = nameAt s (at + 6); offset = o; field-type = typeOf (d .type .got .0) } ∷ fields (fieldsIn (view thingOf u))) e
 
+-- a flag of 1 gives the number behind it
 some-offset : (b w : ℕ) → b ≡ 1 → optional number (cons (num 1 b) (cond (eqb b 1) (num 8 w) nil)) ≡ some w
 some-offset b w e = rw e
 
+-- any other flag gives none
 no-offset : (b w : ℕ) → (b ≡ 1 → ⊥) → optional number (cons (num 1 b) (cond (eqb b 1) (num 8 w) nil)) ≡ none
 no-offset b w e = rw (ne-eqb b 1 e)
 
 module _ {s : List ℕ} {at p : ℕ} (ep : p ≡ nameEnd s at) where
+  -- what the code reads of a field lies inside the bytes
   pub field-inside : Accepted s 33 33 at → (p + 5 ≤ length s) × (getD s p 0 ≡ 1 → p + 13 ≤ length s)
   field-inside a = (low, λ e. omega (arith, ep, field-placed a (ap (λ (n : ℕ). getD s n 0) (sym ep) ∙ e) .inside))
     where
@@ -156,6 +182,7 @@ module _ {s : List ℕ} {at p : ℕ} (ep : p ≡ nameEnd s at) where
           go true h = omega arith
           go false h = omega arith
 
+  -- the answer of `field_parts` where there is an offset
   pub field-some : {v : ℕ} → getD s p 0 ≡ 1 → v ≡ le8 s (p + 1) → (a : Accepted s 33 33 at) → FieldAt a (record { placed = true; offset = v; kind = p + 1 + 8 })
   field-some {v} e ev a =
       let f : getD s (nameEnd s at) 0 ≡ 1 = ap (λ (n : ℕ). getD s n 0) (sym ep) ∙ e in
@@ -169,6 +196,7 @@ module _ {s : List ℕ} {at p : ℕ} (ep : p ≡ nameEnd s at) where
         is = field-is a d (some-offset _ _ f);
       }))
 
+  -- the answer where there is none
   pub field-none : (getD s p 0 ≡ 1 → ⊥) → (a : Accepted s 33 33 at) → FieldAt a (record { placed = false; offset = 0; kind = p + 1 })
   field-none e a =
       let f : getD s (nameEnd s at) 0 ≡ 1 → ⊥ = λ g. e (ap (λ (n : ℕ). getD s n 0) ep ∙ g) in

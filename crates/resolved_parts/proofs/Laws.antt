@@ -18,12 +18,15 @@ use Rattle.accepted.proofs.Laws.{opened}
 use Rattle.resolved_parts.specs.Types.{Named}
 
 module _ {s : List ℕ} {lo hi at : ℕ} (a : Accepted s lo hi at) where
+  -- an accepted block ends inside the bytes
   pub inside : at + 4 + le4 s at ≤ length s
   inside = omega (arith, opened a refl refl .high, a .fits)
 
+  -- its length counts at least its kind
   pub long : 2 ≤ le4 s at
   long = opened a refl refl .long
 
+  -- its kind is one of those that were asked for
   pub kind-of : (lo ≤ le2 s (at + 4)) × (le2 s (at + 4) ≤ hi)
   kind-of = let o = opened a refl refl in (o .least, o .most)
 
@@ -31,6 +34,7 @@ module _ {s : List ℕ} {lo hi at : ℕ} (a : Accepted s lo hi at) where
 pub sole-kind : {s : List ℕ} {k at : ℕ} (a : Accepted s k k at) → le2 s (at + 4) ≡ k
 sole-kind a = let o = kind-of a in omega (arith, o .0, o .1)
 
+-- a type of kind 1 is a primitive
 pub primitive : {s : List ℕ} {at : ℕ} (a : Accepted s 1 7 at) → le2 s (at + 4) ≡ 1 → kindOf (typeOf (tree a)) ≡ ResolvedTypeKind.Primitive
 unfolding typeOf view thingOf makeThing formOf
 primitive a e = ap (λ (z : Tree). kindOf (typeOf z)) (opened a e refl .tree)

@@ -1,13 +1,13 @@
 -- What stands in the accepted types of a set, and where: the head of a type, the parts of each kind, a field, a variant, an
 -- owner.
-use Prim.Native.Nat.{ℕ, _+_, _≤_}
+use Prim.Native.Nat.{ℕ, zero, suc, _+_, _≤_}
 use mathlib.Core.Path.{_≡_}
 use mathlib.Core.Bool.{Bool, true, false, cond}
 use mathlib.Core.List.{List, _∷_}
 use mathlib.Core.Option.{Option, some, none}
 use lib.ListN.{length}
 use Rattle.blocks.specs.Bytes.{le2, le4}
-use Rattle.blocks.specs.Name.{Name}
+use Rattle.blocks.specs.Name.{Name, same}
 use Rattle.blocks.specs.Tree.{Tree, cons, body, part, text, entries, listed, view}
 use Rattle.accepted.specs.Accepted.{Accepted, tree, nameAt, Item, Entries, Listed}
 use Rattle.expr.specs.Expr.{exprOf}
@@ -124,6 +124,15 @@ pub record OwnerAt {s : List ℕ} {at : ℕ} (a : Accepted s 37 37 at) (q : ℕ)
   pub paths : PathsAt s q
   pub is : ownerOf (tree a) ≡ record { name = nameAt s (at + 6); paths = textsOf (paths .list .got .0) }
   pub paths-at : q ≡ nameEnd s at
+
+-- where the paths of the first owner of a name stand, among some owners, one behind the other
+unfoldable pub pathsFrom : List ℕ → Name → ℕ → ℕ → Paths
+pathsFrom s n zero at = Missing
+pathsFrom s n (suc left) at = cond (same n (nameAt s (at + 6))) (At (nameEnd s at)) (pathsFrom s n left (at + 4 + le4 s at))
+
+-- the same in a references block
+abbrev pub pathsIn : List ℕ → Name → ℕ → Paths
+pathsIn s n references = pathsFrom s n (le2 s (references + 6)) (references + 6 + 2)
 
 -- the paths of an owner, by its name
 pub data PathsFound (s : List ℕ) (n : Name) (os : List Owner) : Paths → Type 0 where

@@ -5,7 +5,7 @@ ghost use lib.ListN.{length};
 ghost use Rattle.blocks.specs.Bytes.{le2};
 ghost use Rattle.accepted.specs.Accepted.{Accepted, tree, nameAt};
 ghost use Rattle.resolved_parts.specs.Places.{nameEnd, alignmentAt, headEnd};
-ghost use Rattle.resolved_parts.specs.Types.{Named, HeadAt, ArrayAt, EnumAt, FieldsAt, SizedAt, TargetAt, FieldAt, VariantAt, OwnerAt, PathsFound, ownersOf};
+ghost use Rattle.resolved_parts.specs.Types.{Named, HeadAt, ArrayAt, EnumAt, FieldsAt, SizedAt, TargetAt, FieldAt, VariantAt, OwnerAt, PathsFound, pathsIn, ownersOf};
 
 // What every type begins with: whether its size is variable, the constant size (0 where variable), the alignment, and the
 // offset of its references block. Its name stands 6 bytes behind the type's start.
@@ -66,13 +66,20 @@ pub fn name_at<'a>(s: &'a [u8], at: usize) -> &'a [u8]
     &s[from..to]
 }
 
+// The offset behind a name: where the next begins, in a list of names.
+pub fn next_name(s: &[u8], at: usize) -> usize
+    requires { ⌜ at + 2 + le2 (now s) at ≤ length (now s) ⌝ }
+    ensures { λ r. ⌜ r ≡ at + 2 + le2 (now (s .entry)) at ⌝ }
+{
+    at + 2 + wire::read2(s, at)
+}
+
 // The offset behind the name that a block begins with.
 fn behind_name(s: &[u8], at: usize) -> usize
     requires { ⌜ nameEnd (now s) at ≤ length (now s) ⌝ }
     ensures { λ r. ⌜ r ≡ nameEnd (now (s .entry)) at ⌝ }
 {
-    let p = at + 6;
-    p + 2 + wire::read2(s, p)
+    next_name(s, at + 6)
 }
 
 // The offset of a type's alignment, behind its size.
@@ -223,10 +230,11 @@ pub fn owner_paths(s: &[u8], at: usize) -> usize
     behind_name(s, at)
 }
 
-// `dynamic_params.get(name)`: the paths of an owner in a references block.
+// `dynamic_params.get(name)`: the paths of the first owner of the name in a references block.
 pub fn get(s: &[u8], references: usize, name: &[u8]) -> Paths
     requires { ⌜ Accepted (now s) 32 32 references ⌝ }
     ensures { λ r. ⌜ ((a : Accepted (now (s .entry)) 32 32 references) → PathsFound (now (s .entry)) (now (name .entry)) (ownersOf (tree a)) r) ⌝ }
+    ensures { λ r. ⌜ r ≡ pathsIn (now (s .entry)) (now (name .entry)) references ⌝ }
 {
     let mut left = wire::read2(s, references + 6);
     let mut at = references + 6 + 2;

@@ -14,7 +14,10 @@ enum-known-i : tie.Need-enum-known-i
 enum-known-i c = search needs
 
 add-a : tie.Need-add-a
-add-a c = let h : c .before .i .given .0 .0 + 2 ≤ length (c .before .before .before .before .before .before .args .path .now) = search parts-fit in omega arith
+add-a c =
+    let at-start = c .before .before .before .before .before .before in
+    let h : c .before .i .given .0 .0 + 2 ≤ length (at-start .args .path .now) = search parts-fit in
+    omega arith
 
 sub-same-name : tie.Need-sub-same-name
 sub-same-name c = search parts-fit

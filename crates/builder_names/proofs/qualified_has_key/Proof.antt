@@ -17,7 +17,11 @@ enum-known-i : tie.Need-enum-known-i
 enum-known-i c = search needs
 
 add-a : tie.Need-add-a
-add-a c = let h : c .before .i .given .0 .0 + 2 ≤ length (c .before .before .before .before .before .before .before .args .owner .now) = search parts-fit in omega arith
+add-a c =
+    let at-start = c .before .before .before .before .before .before .before in
+    let h : c .before .i .given .0 .0 + 2 ≤ length (at-start .args .owner .now) = search
+    parts-fit in
+    omega arith
 
 slice-aggregate-same-key : tie.Need-slice-aggregate-same-key
 slice-aggregate-same-key c = sym (length-take-le _ _ (search parts-fit))

@@ -10,22 +10,52 @@ behind-head-requires : tie.Need-behind-head-requires
 behind-head-requires c κs = search needs
 
 shared-slice-read-b : tie.Need-shared-slice-read-b
-shared-slice-read-b c = omega (arith, array-inside (c .before .before .before .pre .0) (c .before .before .before .pre .1) (c .before .behind-head .ensures))
+shared-slice-read-b c =
+    let at-start = c .before .before .before in
+    omega (
+      arith,
+      array-inside (at-start .pre .0) (at-start .pre .1) (c .before .behind-head .ensures),
+    )
 
 add-element : tie.Need-add-element
-add-element c = omega (arith, array-inside (c .before .before .before .pre .0) (c .before .before .before .pre .1) (c .before .behind-head .ensures))
+add-element c =
+    let at-start = c .before .before .before in
+    omega (
+      arith,
+      array-inside (at-start .pre .0) (at-start .pre .1) (c .before .behind-head .ensures),
+    )
 
 add-t9 : tie.Need-add-t9
-add-t9 c = omega (arith, array-inside (c .before .before .before .pre .0) (c .before .before .before .pre .1) (c .before .behind-head .ensures))
+add-t9 c =
+    let at-start = c .before .before .before in
+    omega (
+      arith,
+      array-inside (at-start .pre .0) (at-start .pre .1) (c .before .behind-head .ensures),
+    )
 
 read4-requires : tie.Need-read4-requires
-read4-requires c κs = omega (arith, array-inside (c .before .before .before .pre .0) (c .before .before .before .pre .1) (c .before .behind-head .ensures))
+read4-requires c κs =
+    let at-start = c .before .before .before in
+    omega (
+      arith,
+      array-inside (at-start .pre .0) (at-start .pre .1) (c .before .behind-head .ensures),
+    )
 
 add-t11 : tie.Need-add-t11
-add-t11 c = omega (arith, array-inside (c .before .before .before .before .pre .0) (c .before .before .before .before .pre .1) (c .before .before .behind-head .ensures), c .read4 .ensures .0)
+add-t11 c =
+    let at-behind-head = c .before .before in
+    let at-start = at-behind-head .before .before in
+    omega (
+      arith,
+      array-inside (at-start .pre .0) (at-start .pre .1) (at-behind-head .behind-head .ensures),
+      c .read4 .ensures .0,
+    )
 
 returns : tie.Need-returns
-returns c = array-at (c .before .before .before .before .pre .1) (c .before .before .behind-head .ensures) refl (c .read4 .ensures .0)
+returns c =
+    let at-behind-head = c .before .before in
+    let at-start = at-behind-head .before .before in
+    array-at (at-start .pre .1) (at-behind-head .behind-head .ensures) refl (c .read4 .ensures .0)
 
 pub array-parts-spec : {M : Type 1} → statement M
 array-parts-spec =

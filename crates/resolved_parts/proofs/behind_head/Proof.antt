@@ -15,10 +15,20 @@ add-result : tie.Need-add-result
 add-result c = omega (arith, c .alignment-at .ensures, bounds (c .before .before .pre) .alignment)
 
 read4-requires : tie.Need-read4-requires
-read4-requires c κs = omega (arith, c .alignment-at .ensures, bounds (c .before .before .pre) .alignment)
+read4-requires c κs = omega (
+  arith,
+  c .alignment-at .ensures,
+  bounds (c .before .before .pre) .alignment,
+)
 
 add-result-2 : tie.Need-add-result-2
-add-result-2 c = omega (arith, head-end _ _ (c .before .alignment-at .ensures) (c .read4 .ensures .0), bounds (c .before .before .before .pre) .end)
+add-result-2 c =
+    let at-start = c .before .before .before in
+    omega (
+      arith,
+      head-end _ _ (c .before .alignment-at .ensures) (c .read4 .ensures .0),
+      bounds (at-start .pre) .end,
+    )
 
 returns : tie.Need-returns
 returns c = head-end _ _ (c .before .alignment-at .ensures) (c .read4 .ensures .0)

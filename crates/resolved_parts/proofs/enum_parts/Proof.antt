@@ -9,22 +9,52 @@ behind-head-requires : tie.Need-behind-head-requires
 behind-head-requires c κs = search needs
 
 add-list : tie.Need-add-list
-add-list c = omega (arith, enum-inside (c .before .before .pre .0) (c .before .before .pre .1) (c .behind-head .ensures))
+add-list c =
+    let at-start = c .before .before in
+    omega (arith, enum-inside (at-start .pre .0) (at-start .pre .1) (c .behind-head .ensures))
 
 read4-requires : tie.Need-read4-requires
-read4-requires c κs = omega (arith, enum-inside (c .before .before .pre .0) (c .before .before .pre .1) (c .behind-head .ensures))
+read4-requires c κs =
+    let at-start = c .before .before in
+    omega (arith, enum-inside (at-start .pre .0) (at-start .pre .1) (c .behind-head .ensures))
 
 add-list-2 : tie.Need-add-list-2
-add-list-2 c = omega (arith, enum-inside (c .before .before .before .pre .0) (c .before .before .before .pre .1) (c .before .behind-head .ensures), c .read4 .ensures .0)
+add-list-2 c =
+    let at-start = c .before .before .before in
+    omega (
+      arith,
+      enum-inside (at-start .pre .0) (at-start .pre .1) (c .before .behind-head .ensures),
+      c .read4 .ensures .0,
+    )
 
 read2-requires : tie.Need-read2-requires
-read2-requires c κs = omega (arith, enum-inside (c .before .before .before .pre .0) (c .before .before .before .pre .1) (c .before .behind-head .ensures), c .read4 .ensures .0)
+read2-requires c κs =
+    let at-start = c .before .before .before in
+    omega (
+      arith,
+      enum-inside (at-start .pre .0) (at-start .pre .1) (c .before .behind-head .ensures),
+      c .read4 .ensures .0,
+    )
 
 add-t6 : tie.Need-add-t6
-add-t6 c = omega (arith, enum-inside (c .before .before .before .before .pre .0) (c .before .before .before .before .pre .1) (c .before .before .behind-head .ensures), c .before .read4 .ensures .0)
+add-t6 c =
+    let at-behind-head = c .before .before in
+    let at-start = at-behind-head .before .before in
+    omega (
+      arith,
+      enum-inside (at-start .pre .0) (at-start .pre .1) (at-behind-head .behind-head .ensures),
+      c .before .read4 .ensures .0,
+    )
 
 returns : tie.Need-returns
-returns c = enum-at (c .before .before .before .before .pre .1) (c .before .before .behind-head .ensures) (c .before .read4 .ensures .0) (c .read2 .ensures .0)
+returns c =
+    let at-behind-head = c .before .before in
+    let at-start = at-behind-head .before .before in
+    enum-at
+    (at-start .pre .1)
+    (at-behind-head .behind-head .ensures)
+    (c .before .read4 .ensures .0)
+    (c .read2 .ensures .0)
 
 pub enum-parts-spec : {M : Type 1} → statement M
 enum-parts-spec =

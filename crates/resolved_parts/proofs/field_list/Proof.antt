@@ -9,13 +9,31 @@ behind-head-requires : tie.Need-behind-head-requires
 behind-head-requires c κs = search needs
 
 read2-requires : tie.Need-read2-requires
-read2-requires c κs = omega (arith, fields-held (c .before .before .pre .1 .0) (c .before .before .pre .1 .1) (c .before .before .pre .0) .inside, c .behind-head .ensures)
+read2-requires c κs =
+    let at-start = c .before .before in
+    omega (
+      arith,
+      fields-held (at-start .pre .1 .0) (at-start .pre .1 .1) (at-start .pre .0) .inside,
+      c .behind-head .ensures,
+    )
 
 add-t5 : tie.Need-add-t5
-add-t5 c = omega (arith, fields-held (c .before .before .before .pre .1 .0) (c .before .before .before .pre .1 .1) (c .before .before .before .pre .0) .inside, c .before .behind-head .ensures)
+add-t5 c =
+    let at-start = c .before .before .before in
+    omega (
+      arith,
+      fields-held (at-start .pre .1 .0) (at-start .pre .1 .1) (at-start .pre .0) .inside,
+      c .before .behind-head .ensures,
+    )
 
 returns : tie.Need-returns
-returns c = fields-at (c .before .behind-head .ensures) (c .read2 .ensures .0) (c .before .before .before .pre .1 .0) (c .before .before .before .pre .1 .1)
+returns c =
+    let at-start = c .before .before .before in
+    fields-at
+    (c .before .behind-head .ensures)
+    (c .read2 .ensures .0)
+    (at-start .pre .1 .0)
+    (at-start .pre .1 .1)
 
 pub field-list-spec : {M : Type 1} → statement M
 field-list-spec = tie.close (tie.spec behind-head-requires read2-requires add-t5 returns)

@@ -13,6 +13,13 @@ Inv-loop s references name left₀ at₀ left at = Search s references name left
 abbrev μ-loop : tie.MeasureT-loop
 μ-loop s references name left₀ at₀ left at = left
 
+-- The places, each seen from a later one: what was known there.
+abbrev at-start : tie.After-read2 Inv-loop μ-loop → tie.Start Inv-loop μ-loop
+at-start r = r .before .before .before
+
+abbrev at-loop : tie.In-loop Inv-loop μ-loop → tie.At-loop Inv-loop μ-loop
+at-loop r = r .before
+
 add-read2 : tie.Need-add-read2 Inv-loop μ-loop
 add-read2 c = omega (arith, references-inside (c .before .before .pre))
 
@@ -20,37 +27,59 @@ read2-requires : tie.Need-read2-requires Inv-loop μ-loop
 read2-requires c κs = omega (arith, references-inside (c .before .before .pre))
 
 add-at : tie.Need-add-at Inv-loop μ-loop
-add-at c = omega (arith, references-inside (c .before .before .before .pre))
+add-at c = omega (arith, references-inside (at-start c .pre))
 
 add-at-2 : tie.Need-add-at-2 Inv-loop μ-loop
-add-at-2 c = omega (arith, references-inside (c .before .before .before .pre))
+add-at-2 c = omega (arith, references-inside (at-start c .pre))
 
 loop-holds : tie.Need-loop-holds Inv-loop μ-loop
-loop-holds c = begin (c .before .before .before .pre) (c .read2 .ensures .0)
+loop-holds c = begin (at-start c .pre) (c .read2 .ensures .0)
 
 add-name-at : tie.Need-add-name-at Inv-loop μ-loop
-add-name-at c = omega (arith, next-name _ (c .loop-test .taken) (c .before .loop .inv) .inside)
+add-name-at c = omega (arith, next-name _ (c .loop-test .taken) (at-loop c .loop .inv) .inside)
 
 name-at-requires : tie.Need-name-at-requires Inv-loop μ-loop
-name-at-requires c κs = next-name _ (c .loop-test .taken) (c .before .loop .inv)
+name-at-requires c κs = next-name _ (c .loop-test .taken) (at-loop c .loop .inv)
 
 same-name-requires : tie.Need-same-name-requires Inv-loop μ-loop
 same-name-requires c κs = search needs
 
 owner-paths-requires : tie.Need-owner-paths-requires Inv-loop μ-loop
-owner-paths-requires c κs = next-one _ (c .before .before .before .loop-test .taken) (c .before .before .before .before .loop .inv)
+owner-paths-requires c κs =
+    let in-loop = c .before .before .before in
+    next-one _ (in-loop .loop-test .taken) (at-loop in-loop .loop .inv)
 
 returns : tie.Need-returns Inv-loop μ-loop
-returns c = hit _ (c .before .before .before .before .loop-test .taken) (c .before .before .before .name-at .ensures) (c .before .before .same-name .ensures) (c .before .if1 .taken) (c .owner-paths .ensures) (c .before .before .before .before .before .loop .inv)
+returns c =
+    let at-same-name = c .before .before in
+    let at-name-at = at-same-name .before in
+    let in-loop = at-name-at .before in
+    hit _
+    (in-loop .loop-test .taken)
+    (at-name-at .name-at .ensures)
+    (at-same-name .same-name .ensures)
+    (c .before .if1 .taken)
+    (c .owner-paths .ensures)
+    (at-loop in-loop .loop .inv)
 
 add-at-3 : tie.Need-add-at-3 Inv-loop μ-loop
-add-at-3 c = omega (arith, inside (next-one _ (c .before .before .before .loop-test .taken) (c .before .before .before .before .loop .inv)))
+add-at-3 c =
+    let in-loop = c .before .before .before in
+    omega (arith, inside (next-one _ (in-loop .loop-test .taken) (at-loop in-loop .loop .inv)))
 
 read4-requires : tie.Need-read4-requires Inv-loop μ-loop
-read4-requires c κs = omega (arith, inside (next-one _ (c .before .before .before .loop-test .taken) (c .before .before .before .before .loop .inv)))
+read4-requires c κs =
+    let in-loop = c .before .before .before in
+    omega (arith, inside (next-one _ (in-loop .loop-test .taken) (at-loop in-loop .loop .inv)))
 
 add-at-4 : tie.Need-add-at-4 Inv-loop μ-loop
-add-at-4 c = omega (arith, inside (next-one _ (c .before .before .before .before .loop-test .taken) (c .before .before .before .before .before .loop .inv)), c .read4 .ensures .0)
+add-at-4 c =
+    let in-loop = c .before .before .before .before in
+    omega (
+      arith,
+      inside (next-one _ (in-loop .loop-test .taken) (at-loop in-loop .loop .inv)),
+      c .read4 .ensures .0,
+    )
 
 sub-left : tie.Need-sub-left Inv-loop μ-loop
 sub-left c = omega arith
@@ -59,7 +88,17 @@ loop-less : tie.Need-loop-less Inv-loop μ-loop
 loop-less c = omega arith
 
 loop-again : tie.Need-loop-again Inv-loop μ-loop
-loop-again c = go-on _ (c .before .before .before .before .loop-test .taken) (c .before .before .before .name-at .ensures) (c .before .before .same-name .ensures) (c .before .if1 .left) (c .read4 .ensures .0) (c .before .before .before .before .before .loop .inv)
+loop-again c =
+    let at-same-name = c .before .before in
+    let at-name-at = at-same-name .before in
+    let in-loop = at-name-at .before in
+    go-on _
+    (in-loop .loop-test .taken)
+    (at-name-at .name-at .ensures)
+    (at-same-name .same-name .ensures)
+    (c .before .if1 .left)
+    (c .read4 .ensures .0)
+    (at-loop in-loop .loop .inv)
 
 returns-2 : tie.Need-returns-2 Inv-loop μ-loop
 returns-2 c = no-more _ (c .loop-test .left) (c .before .loop .inv)
