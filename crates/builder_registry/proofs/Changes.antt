@@ -3,12 +3,13 @@ use Prim.Native.Nat.{ℕ, zero, suc, _+_, _*_, _/_, _%_, _≤_, _<_}
 use native.Mathlib.Omega.{arith}
 use native.Mathlib.Numerals.{add-one}
 use mathlib.Core.Path.{_≡_, refl, sym, ap, _∙_}
+use mathlib.Core.Bool.{Bool, true, false}
 use mathlib.Core.List.{List, [], _∷_, _++_, map}
 use mathlib.Core.Option.{some, none}
 use lib.Dec.{eqb}
 use lib.ListN.{length, take, getD, set}
 use lib.Seq.{take-suc-set, take-set-lt, set-getD, getD-set-same}
-use borrow.Author.Tests.{ne-eqb, lt-ltb, le-ltb, le-leb, lt-leb}
+use borrow.Author.Tests.{eq-eqb, ne-eqb, lt-ltb, le-ltb, le-leb, lt-leb}
 use Rattle.errors.specs.Refusal.{Outcome, done, refused, plain}
 use Rattle.errors.specs.Refusal.{_>>=_ as _andThen_}
 use Rattle.blocks.specs.Name.{Name}
@@ -16,8 +17,10 @@ use Rattle.ir.specs.Ir.{IrParameter}
 use Rattle.builder.specs.Names.{normalize-path}
 use Rattle.builder.specs.Registry.{Entry, Registry, _>>=_, give, refuse, require, reads, change, findKey, enter, ensure, add-synthetic, derivedEntry, mark-derived, entryOf as pathEntry}
 use Rattle.builder_registry.specs.declared.Held.{Held}
-use Rattle.builder_registry.specs.Words.{held, ownerAt, madeOf, derivedOf, madePath, madeParameter, madeEntry, entryOf, entriesOf, entryName, Kept, Tags}
+use Rattle.builder_registry.specs.Word.{ownerAt, madeOf, derivedOf, wordOf, derivedWord}
+use Rattle.builder_registry.specs.Words.{held, madePath, madeParameter, madeEntry, entryOf, entriesOf, entryName, Kept, Tags}
 use Rattle.builder_registry.specs.Place.{placeOf}
+use Rattle.builder_registry.proofs.Word.{word-owner, word-path, word-made, word-plain, still-owner, still-path, still-made, now-derived}
 use Rattle.builder_registry.proofs.Names.{made-flagged}
 use Rattle.builder_registry.proofs.Places.{entries-length, entry-at, found-at, found-none, marked-at, marked-none}
 
@@ -84,52 +87,58 @@ not-seventeen e = absurd (let z : ⊥ = omega arith in z)
 
 -- ---- a path
 
--- the word of a path
-packed : (s : List ℕ) (a b : ℕ) → a < 65536 → b < 65536 → entryOf s (a + 65536 * b) ≡ pathEntry (held s a) (held s b)
+-- the word of a path holds its entry
+packed : (s : List ℕ) (a b : ℕ) → a < 65536 → b < 65536 → entryOf s (wordOf a b 0) ≡ pathEntry (held s a) (held s b)
 unfolding entryOf
-packed s a b h k =
-    let e : (a + 65536 * b) % 65536 ≡ a = omega arith in
-    let f : (a + 65536 * b) / 65536 ≡ b = omega arith in
-    let g : b % 65536 ≡ b = omega arith in
-    let m : (a + 65536 * b) / 4294967296 ≡ 0 = omega arith in
-    let d : (a + 65536 * b) / 17179869184 ≡ 0 = omega arith in
-    rw (e, f, g, m, d)
+packed s a b h k = rw (word-owner a b 0 h k (omega arith), word-path a b 0 h k (omega arith), word-made a b 0 h k (omega arith), word-plain a b 0 h k (omega arith))
 
 module _ (s ws : List ℕ) (n owner path : ℕ) (fit : n ≤ length ws) (o p : Name) (f : o ≡ held s owner) (g : p ≡ held s path)
     (i : ℕ) (e : i ≡ placeOf o (some p) (entriesOf s ws n)) where
   pub ensure-has : i < n → Kept s ws (record { count = n; number = 0 }) (ensure (held s owner) (held s path) (entriesOf s ws n))
   ensure-has h = rw (← f, ← g, ensure-found o p (entriesOf s ws n) _ (found-at s ws n fit o i p e h)) (Kept.kept _ refl refl)
 
-  pub ensure-more : {us : List ℕ} {r : Held} → n ≤ i → owner < 65536 → path < 65536 → Kept s us r (enter (entryOf s (owner + 65536 * path)) (entriesOf s ws n)) →
-      Kept s us r (ensure (held s owner) (held s path) (entriesOf s ws n))
-  ensure-more h a b k =
-      rw (← f, ← g, ensure-new o p (entriesOf s ws n) (found-none s ws n fit o i p e h), f, g, ← packed s owner path a b) k
+  -- it is not: its word is entered
+  pub ensure-more : {us : List ℕ} {r : Held} {w : ℕ} → w ≡ wordOf owner path 0 → n ≤ i → owner < 65536 → path < 65536 →
+      Kept s us r (enter (entryOf s w) (entriesOf s ws n)) → Kept s us r (ensure (held s owner) (held s path) (entriesOf s ws n))
+  ensure-more ew h a b k =
+      rw (← f, ← g, ensure-new o p (entriesOf s ws n) (found-none s ws n fit o i p e h), f, g, ← packed s owner path a b, ← ew) k
 
 -- ---- a made parameter
 
--- the word of a made parameter
-module _ (s : List ℕ) (a m : ℕ) (h : a < 65536) where
-  made-is : (w : ℕ) → ownerAt w ≡ a → madeOf w ≡ m → (m ≡ 0 → ⊥) → derivedOf w ≡ eqb m 1 → entryOf s w ≡ madeEntry m (held s a)
-  unfolding entryOf
-  made-is w e f k g = rw (f, ne-eqb m 0 k, e, g) (made-flagged m (held s a))
+-- the word of a made parameter holds its entry, given its fields
+made-is : (s : List ℕ) {a m : ℕ} (w : ℕ) → ownerAt w ≡ a → madeOf w ≡ m → (m ≡ 0 → ⊥) → derivedOf w ≡ eqb m 1 → entryOf s w ≡ madeEntry m (held s a)
+unfolding entryOf
+made-is s {a} {m} w e f k g = rw (f, ne-eqb m 0 k, e, g) (made-flagged m (held s a))
 
-  pub made-one : m ≡ 1 → entryOf s (a + 4294967296 * m + 17179869184) ≡ madeEntry m (held s a)
-  made-one e =
-      let f : (a + 4294967296 * m + 17179869184) / 4294967296 ≡ 5 = omega arith in
-      let d : (a + 4294967296 * m + 17179869184) / 17179869184 ≡ 1 = omega arith in
-      made-is (a + 4294967296 * m + 17179869184) (omega arith) (rw (f, e)) (λ z. let y : ⊥ = omega arith in y) (rw (d, e))
+module _ (s : List ℕ) (a m : ℕ) (h : a < 65536) (l : 1 ≤ m) (u : m ≤ 3) (w : ℕ) (ew : w ≡ wordOf a 0 m) where
+  -- a computed tag, whose word is made a derived one
+  pub made-one : {r : ℕ} → r ≡ derivedWord w → m ≡ 1 → entryOf s r ≡ madeEntry m (held s a)
+  made-one er e = rw (er, ew) (made-is s (derivedWord (wordOf a 0 m))
+      (still-owner (wordOf a 0 m) ∙ word-owner a 0 m h (omega arith) u)
+      (still-made (wordOf a 0 m) ∙ word-made a 0 m h (omega arith) u)
+      (λ z. let y : ⊥ = omega arith in y)
+      (now-derived (wordOf a 0 m) (word-plain a 0 m h (omega arith) u) ∙ sym (eq-eqb m 1 e)))
 
-  pub made-other : (m ≡ 1 → ⊥) → 1 ≤ m → m ≤ 3 → entryOf s (a + 4294967296 * m) ≡ madeEntry m (held s a)
-  made-other k l u =
-      let f : (a + 4294967296 * m) / 4294967296 ≡ m = omega arith in
-      let g : m % 4 ≡ m = omega arith in
-      let d : (a + 4294967296 * m) / 17179869184 ≡ 0 = omega arith in
-      made-is (a + 4294967296 * m) (omega arith) (rw (f, g)) (λ z. let y : ⊥ = omega arith in y) (rw (d, ne-eqb m 1 k))
+  -- the others
+  pub made-other : (m ≡ 1 → ⊥) → entryOf s w ≡ madeEntry m (held s a)
+  made-other k = rw ew (made-is s (wordOf a 0 m)
+      (word-owner a 0 m h (omega arith) u)
+      (word-made a 0 m h (omega arith) u)
+      (λ z. let y : ⊥ = omega arith in y)
+      (word-plain a 0 m h (omega arith) u ∙ sym (ne-eqb m 1 k)))
 
 module _ (s ws : List ℕ) (n owner made : ℕ) (fit : n ≤ length ws) (o p : Name) (f : o ≡ held s owner) (g : p ≡ madePath made)
     (i : ℕ) (e : i ≡ placeOf o (some p) (entriesOf s ws n)) where
   pub synthetic-has : i < n → Tags s ws (record { at = i; count = n; number = 0 }) (add-synthetic (held s owner) (madePath made) (madeParameter made (held s owner)) (entriesOf s ws n))
   synthetic-has h = rw (← f, ← g, synthetic-found o p (entriesOf s ws n) (madeParameter made o) _ (found-at s ws n fit o i p e h)) (Tags.tags _ refl refl h)
+
+  -- the entry that is meant is the first that has the key
+  pub synthetic-at : i ≡ placeOf (held s owner) (some (madePath made)) (entriesOf s ws n)
+  synthetic-at = rw (← f, ← g) e
+
+  -- or, where none has it, the new one behind the others
+  pub synthetic-last : n ≤ i → i ≤ n → n ≡ placeOf (held s owner) (some (madePath made)) (entriesOf s ws n)
+  synthetic-last h l = let z : n ≡ i = omega arith in z ∙ synthetic-at
 
   -- the outcome of entering, with the name that is then answered
   tagged : {us : List ℕ} {r : Held} {x : Outcome (Unit × Registry)} (m : Name) → Kept s us r x → (r .number ≡ 0 → m ≡ entryName s (getD us n 0)) → (r .number ≡ 0 → r .count ≡ n + 1) →
@@ -151,22 +160,14 @@ module _ (s ws : List ℕ) (n owner made : ℕ) (fit : n ≤ length ws) (o p : N
 
 -- ---- a mark
 
-odd : (q : ℕ) → (q % 2 ≡ 1 → ⊥) → (q + 1) % 2 ≡ 1
-odd q h = omega (arith, h)
-
 module _ (s : List ℕ) (w : ℕ) where
-  mark-word : (w / 17179869184 % 2 ≡ 1 → ⊥) → entryOf s (w + 17179869184) ≡ derivedEntry (entryOf s w)
+  -- a word made a derived one holds the derived entry
+  mark-word : derivedOf w ≡ false → entryOf s (derivedWord w) ≡ derivedEntry (entryOf s w)
   unfolding entryOf
-  mark-word h =
-      let a : (w + 17179869184) % 65536 ≡ w % 65536 = omega arith in
-      let b : (w + 17179869184) / 65536 ≡ w / 65536 + 262144 = omega arith in
-      let c : (w / 65536 + 262144) % 65536 ≡ w / 65536 % 65536 = omega arith in
-      let d : (w + 17179869184) / 4294967296 ≡ w / 4294967296 + 4 = omega arith in
-      let e : (w / 4294967296 + 4) % 4 ≡ w / 4294967296 % 4 = omega arith in
-      let f : (w + 17179869184) / 17179869184 ≡ w / 17179869184 + 1 = omega arith in
-      rw (a, b, c, d, e, f, odd (w / 17179869184) h)
+  mark-word h = rw (still-owner w, still-path w, still-made w, now-derived w h)
 
-  marked-word : w / 17179869184 % 2 ≡ 1 → derivedEntry (entryOf s w) ≡ entryOf s w
+  -- a derived word holds a derived entry
+  marked-word : derivedOf w ≡ true → derivedEntry (entryOf s w) ≡ entryOf s w
   unfolding entryOf
   marked-word h = rw h
 
@@ -184,12 +185,18 @@ module _ (s ws : List ℕ) (n : ℕ) (fit : n ≤ length ws) (o p : Name) (i : �
   unfolding mark-derived
   mark-nothing h = sym (marked-none s ws n fit o i p e h)
 
-  pub mark-again : i < n → getD ws i 0 / 17179869184 % 2 ≡ 1 → entriesOf s ws n ≡ mark-derived o p (entriesOf s ws n)
-  unfolding mark-derived
-  mark-again h d =
-      sym (marked-at s ws n fit o i p e h ∙ (ap (set (entriesOf s ws n) i) (marked-word s (getD ws i 0) d ∙ sym (entry-at s ws n fit i h)) ∙ set-getD (entriesOf s ws n) i (entryOf s 0)))
+  module _ (h : i < n) (b : Bool) (f : b ≡ derivedOf (getD ws i 0)) where
+    -- the entry is derived already
+    pub mark-again : b ≡ true → entriesOf s ws n ≡ mark-derived o p (entriesOf s ws n)
+    unfolding mark-derived
+    mark-again d =
+        sym (marked-at s ws n fit o i p e h ∙
+        (ap (set (entriesOf s ws n) i) (marked-word s (getD ws i 0) (sym f ∙ d) ∙ sym (entry-at s ws n fit i h)) ∙
+        set-getD (entriesOf s ws n) i (entryOf s 0)))
 
-  pub mark-first : i < n → (getD ws i 0 / 17179869184 % 2 ≡ 1 → ⊥) → entriesOf s (set ws i (getD ws i 0 + 17179869184)) n ≡ mark-derived o p (entriesOf s ws n)
-  unfolding mark-derived
-  mark-first h d =
-      changed s ws n i (getD ws i 0 + 17179869184) h ∙ (ap (set (entriesOf s ws n) i) (mark-word s (getD ws i 0) d) ∙ sym (marked-at s ws n fit o i p e h))
+    -- its word is made a derived one
+    pub mark-first : {r : ℕ} → r ≡ derivedWord (getD ws i 0) → b ≡ false → entriesOf s (set ws i r) n ≡ mark-derived o p (entriesOf s ws n)
+    unfolding mark-derived
+    mark-first {r} er d =
+        changed s ws n i r h ∙
+        (ap (set (entriesOf s ws n) i) (ap (entryOf s) er ∙ mark-word s (getD ws i 0) (sym f ∙ d)) ∙ sym (marked-at s ws n fit o i p e h))

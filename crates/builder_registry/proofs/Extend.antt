@@ -99,9 +99,11 @@ module _ {s : List ℕ} (o : Name) (q : ℕ) where
     path-kept : (e : Entries s Item.names left at) → Kept s us r (ensure o (text (name (nameAt s at))) h)
     path-kept e = rw (held-name (named e l)) at k
 
-    pub paths-more : {u : ℕ} {g : Registry} → u ≡ le2 s at → r .number ≡ 0 → Paths s o g h q left at → Paths s o g (entriesOf s us (r .count)) q (left - 1) (at + 2 + u)
+    -- it was entered: the next path stands behind it
+    pub paths-more : {p : ℕ} {g : Registry} → p ≡ at + 2 + le2 s at → r .number ≡ 0 → Paths s o g h q left at →
+        Paths s o g (entriesOf s us (r .count)) q (left - 1) p
     paths-more {g = g} e z c =
-        subst (λ (m : ℕ). Paths s o g (entriesOf s us (r .count)) q (left - 1) (at + 2 + m)) (sym e)
+        subst (λ (m : ℕ). Paths s o g (entriesOf s us (r .count)) q (left - 1) m) (sym e)
         (go-on (ensure-all o) (ensure o) (each-path o) text (λ m. name (nameAt s at)) (λ m. name-entry m l .2) path-kept z c)
 
     pub paths-stop : {g : Registry} → (r .number ≡ 0 → ⊥) → Paths s o g h q left at → (p : PathsAt s q) → Kept s us r (ensure-all o (textsOf (p .list .got .0)) g)

@@ -2,25 +2,36 @@
 use Prim.Native.Nat.{ℕ, _+_, _-_, _≤_, _<_}
 use native.Mathlib.Omega.{arith}
 use mathlib.Core.Path.{_≡_, refl, sym, ap, ap₂, _∙_}
-use mathlib.Core.Bool.{Bool, true, false, _||_, cond}
+use mathlib.Core.Bool.{Bool, true, false, _&&_, _||_, cond}
 use mathlib.Core.List.{List, [], _∷_}
 use mathlib.Core.Option.{Option}
-use lib.Dec.{eqb}
-use lib.ListN.{length, take, drop, length-take}
-use borrow.Author.Tests.{le-leb, lt-leb, eq-eqb, ne-eqb}
-use Rattle.blocks.specs.Bytes.{le2}
+use lib.Dec.{eqb, leb}
+use lib.ListN.{length, drop, length-take}
+use borrow.Author.Tests.{le-leb, lt-leb, leb-true, eq-eqb, ne-eqb}
+use Rattle.blocks.specs.Bytes.{le2, nameAt}
 use Rattle.blocks.specs.Name.{Name, ascii, same}
 use Rattle.blocks.proofs.Name.{same-eq}
 use Rattle.builder.specs.Names.{isEmpty, normalize-path}
 use Rattle.builder.specs.Registry.{Entry, entryOf as pathEntry}
 use Rattle.builder_names.specs.Views.{isKey, aliasOf}
 use Rattle.builder_names.proofs.Colons.{aliases-are}
-use Rattle.builder_registry.specs.Words.{held, ownerAt, pathAt, madeOf, derivedOf, flagged, madePath, madeEntry, entryOf}
+use Rattle.builder_registry.specs.Word.{ownerAt, pathAt, madeOf, derivedOf}
+use Rattle.builder_registry.specs.Words.{held, flagged, madePath, madeEntry, entryOf}
 use Rattle.builder_registry.specs.Place.{wanted, anyKey, hasKey}
 
 -- ---- the name at an offset
 
 module _ (s : List ℕ) (at : ℕ) where
+  -- it is never longer than 255 bytes
+  pub held-bound : {r : Name} → r ≡ held s at → length r ≤ 255
+  unfolding held
+  held-bound f = rw f (go (leb (at + 2 + le2 s at) (length s)) (leb (le2 s at) 255) refl)
+    where
+      go : (a b : Bool) → leb (le2 s at) 255 ≡ b → length (cond (a && b) (nameAt s at) []) ≤ 255
+      go false b h = omega arith
+      go true false h = omega arith
+      go true true h = omega (arith, leb-true (le2 s at) 255 h, length-take (le2 s at) (drop (at + 2) s))
+
   pub held-none : length s < at + 2 → [] ≡ held s at
   unfolding held
   held-none h = rw (lt-leb (at + 2 + le2 s at) (length s) (omega arith))
@@ -34,14 +45,19 @@ module _ (s : List ℕ) (at : ℕ) where
     unfolding held
     held-long h k = rw (← e, le-leb (at + 2 + n) (length s) h, lt-leb n 255 k)
 
-    pub held-in : at + 2 + n ≤ length s → n ≤ 255 → take (at + 2 + n - (at + 2)) (drop (at + 2) s) ≡ held s at
+    -- it lies inside and is short: the name
+    pub held-in : {r : Name} → at + 2 + n ≤ length s → n ≤ 255 → r ≡ nameAt s at → (r ≡ held s at) × (length r ≤ 255)
     unfolding held
-    held-in h k = let q : at + 2 + n - (at + 2) ≡ n = omega arith in rw (← e, le-leb (at + 2 + n) (length s) h, le-leb n 255 k, q)
+    held-in {r} h k f = (is, held-bound is)
+      where
+        is : r ≡ held s at
+        is = f ∙ rw (← e, le-leb (at + 2 + n) (length s) h, le-leb n 255 k)
 
-  pub held-short : (n : ℕ) → n ≤ 255 → length (take (at + 2 + n - (at + 2)) (drop (at + 2) s)) ≤ 255
-  held-short n h = omega (arith, length-take (at + 2 + n - (at + 2)) (drop (at + 2) s))
+-- the name at an offset that is known by another term
+pub held-of : (s : List ℕ) {r : Name} {a b : ℕ} → r ≡ held s a → a ≡ b → r ≡ held s b
+held-of s f e = f ∙ ap (held s) e
 
-pub ruleset helds = (held-none, held-out, held-long, held-in, held-short)
+pub ruleset helds = (held-none, held-out, held-long)
 
 -- ---- the text of a made parameter
 
@@ -147,13 +163,13 @@ module _ (s : List ℕ) (w : ℕ) where
       owner-same : held s (ownerAt w) ≡ o
       owner-same = sym (same-eq o (entryOf s w .owner) (sym e ∙ h) ∙ owner-is)
 
-      pub word-path : (p : Name) (b : Bool) → madeOf w ≡ 0 → p ≡ held s (pathAt w) → b ≡ anyKey o x (pathEntry o p .keys) → b ≡ hasKey o x (entryOf s w)
-      word-path p b m f g =
-          g ∙ sym (keys-of ∙ (ap (λ (y : Entry). anyKey o x (y .keys)) (entry-path m) ∙ ap₂ (λ (y z : Name). anyKey o x (pathEntry y z .keys)) owner-same (sym f)))
+      pub word-path : (m : ℕ) (p : Name) (b : Bool) → m ≡ madeOf w → m ≡ 0 → p ≡ held s (pathAt w) → b ≡ anyKey o x (pathEntry o p .keys) → b ≡ hasKey o x (entryOf s w)
+      word-path m p b em z f g =
+          g ∙ sym (keys-of ∙ (ap (λ (y : Entry). anyKey o x (y .keys)) (entry-path (sym em ∙ z)) ∙ ap₂ (λ (y z : Name). anyKey o x (pathEntry y z .keys)) owner-same (sym f)))
 
-      pub word-made : (b : Bool) → (madeOf w ≡ 0 → ⊥) → b ≡ isKey o x (normalize-path o (madePath (madeOf w))) → b ≡ hasKey o x (entryOf s w)
+      pub word-made : (m : ℕ) (b : Bool) → m ≡ madeOf w → (m ≡ 0 → ⊥) → b ≡ isKey o x (normalize-path o (madePath m)) → b ≡ hasKey o x (entryOf s w)
       unfolding anyKey madeEntry
-      word-made b m g =
-          g ∙ sym (keys-of ∙ (ap (λ (y : Entry). anyKey o x (y .keys)) (entry-made m) ∙ (or-false (isKey o x (normalize-path (held s (ownerAt w)) (madePath (madeOf w)))) ∙ ap (λ (y : Name). isKey o x (normalize-path y (madePath (madeOf w)))) owner-same)))
+      word-made m b em z g =
+          g ∙ ap (λ (k : ℕ). isKey o x (normalize-path o (madePath k))) em ∙ sym (keys-of ∙ (ap (λ (y : Entry). anyKey o x (y .keys)) (entry-made (λ y. z (em ∙ y))) ∙ (or-false (isKey o x (normalize-path (held s (ownerAt w)) (madePath (madeOf w)))) ∙ ap (λ (y : Name). isKey o x (normalize-path y (madePath (madeOf w)))) owner-same)))
 
 pub ruleset word-keys = (word-other, word-path, word-made)

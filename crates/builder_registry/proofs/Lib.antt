@@ -1,3 +1,4 @@
+pub mod Word
 pub mod Keys
 pub mod Places
 pub mod Names

@@ -3,46 +3,22 @@ use Prim.Native.Nat.{ℕ, _+_, _≤_, _<_}
 use native.Mathlib.Omega.{arith}
 use mathlib.Core.Path.{_≡_, refl, sym, ap, _∙_}
 use mathlib.Core.Bool.{Bool, true, false, _&&_, _||_, cond}
-use mathlib.Core.List.{List, [], _∷_, map}
+use mathlib.Core.List.{List, [], _∷_, _++_, map}
 use mathlib.Core.Option.{Option, some, none}
 use lib.Dec.{eqb}
-use lib.ListN.{length, take, length-drop}
+use lib.ListN.{length, take, length-drop, length-append}
 use borrow.Author.Tests.{eqb-true, eqb-false}
 use Rattle.blocks.specs.Name.{Name, ascii, same, among}
 use Rattle.blocks.proofs.Name.{same-eq}
 use Rattle.wire.proofs.Names.{same-long}
-use Rattle.builder.specs.Names.{isEmpty, isSome, strip-prefix, strip-owner, normalize-path, rsplit-once, behind, aliasUnless, alternate-owner-aliases}
+use Rattle.builder.specs.Names.{isEmpty, isSome, strip-owner, normalize-path, rsplit-once, aliasUnless, alternate-owner-aliases}
 use Rattle.builder.specs.Registry.{Entry, Registry, keyedBy, findKey, derivedEntry, mark, entryOf as pathEntry}
-use Rattle.builder_names.proofs.Strip.{strip-got, normal-rest, normal-whole}
-use Rattle.builder_registry.specs.Words.{held, ownerAt, pathAt, madeOf, madePath, madeEntry, entryOf, entriesOf}
-use Rattle.builder_registry.proofs.Keys.{entry-path, entry-made}
-use Rattle.builder_registry.proofs.Names.{normal-short, held-bound}
-
--- ---- what stands behind the last `::` is shorter
-
-pub record Shorter (n : ℕ) (t : Option (Name × Name)) : Type 0 where
-  pub is : (p : Name × Name) → t ≡ some p → length (p .1) ≤ n
-
-split-short : (s : Name) → Shorter (length s) (rsplit-once s)
-unfolding rsplit-once
-split-short [] = record { is = λ p e. absurd (let z : _≡_ {A = ℕ} 0 1 = cc in omega arith) }
-split-short (x ∷ xs) = go (rsplit-once xs) (split-short xs)
-  where
-    first-one : (t : Option Name) → strip-prefix (ascii "::") (x ∷ xs) ≡ t → Shorter (length (x ∷ xs)) (behind t)
-    first-one none f = record { is = λ p e. absurd (let z : _≡_ {A = ℕ} 0 1 = cc in omega arith) }
-    first-one (some r) f = record {
-      is = λ p e.
-          let q : _≡_ {A = Name × Name} ([], r) p = cc in
-          omega (arith, ap (λ (v : Name × Name). length (v .1)) q, ap length (strip-got (ascii "::") (x ∷ xs) r f));
-    }
-
-    go : (t : Option (Name × Name)) → Shorter (length xs) t → Shorter (length (x ∷ xs)) (elim t [ none ↦ behind (strip-prefix (ascii "::") (x ∷ xs)) | some p ↦ some (x ∷ p .0, p .1) ])
-    go none ih = first-one (strip-prefix (ascii "::") (x ∷ xs)) refl
-    go (some q) ih = record {
-      is = λ p e.
-          let v : _≡_ {A = Name × Name} (x ∷ q .0, q .1) p = cc in
-          omega (arith, ap (λ (u : Name × Name). length (u .1)) v, ih .is q refl);
-    }
+use Rattle.builder_names.proofs.Strip.{normal-rest, normal-whole}
+use Rattle.builder_names.proofs.Qualified.{split-whole}
+use Rattle.builder_registry.specs.Word.{ownerAt, pathAt, madeOf}
+use Rattle.builder_registry.specs.Words.{held, madePath, madeEntry, entryOf, entriesOf}
+use Rattle.builder_registry.proofs.Keys.{held-bound, entry-path, entry-made}
+use Rattle.builder_registry.proofs.Names.{normal-short}
 
 -- ---- a long key
 
@@ -52,15 +28,18 @@ module _ (k : Name) (long : 255 < length k) where
 
   not-alias : (p n : Name) → length p ≤ 255 → among k (alternate-owner-aliases p n) ≡ false
   unfolding alternate-owner-aliases among
-  not-alias p n h = go (rsplit-once p) (split-short p)
+  not-alias p n h = go (rsplit-once p) refl
     where
-      go : (t : Option (Name × Name)) → Shorter (length p) t → among k (aliasUnless n t) ≡ false
-      go none l = refl
-      go (some q) l = all (isEmpty (q .1) || same (q .1) n)
+      go : (t : Option (Name × Name)) → rsplit-once p ≡ t → among k (aliasUnless n t) ≡ false
+      go none e = refl
+      go (some q) e = all (isEmpty (q .1) || same (q .1) n)
         where
+          short : length (q .1) ≤ 255
+          short = omega (arith, ap length (split-whole p (q .0) (q .1) e), length-append (q .0) (ascii "::" ++ q .1))
+
           all : (b : Bool) → among k (cond b [] (q .1 ∷ [])) ≡ false
           all true = refl
-          all false = rw (not-same (q .1) (omega (arith, l .is q refl)))
+          all false = rw (not-same (q .1) short)
 
   not-path : (o p : Name) → length p ≤ 255 → among k (pathEntry o p .keys) ≡ false
   unfolding among
@@ -83,7 +62,7 @@ module _ (k : Name) (long : 255 < length k) where
   not-key s w = go (eqb (madeOf w) 0) refl
     where
       go : (b : Bool) → eqb (madeOf w) 0 ≡ b → among k (entryOf s w .keys) ≡ false
-      go true h = ap (λ (y : Entry). among k (y .keys)) (entry-path s w (eqb-true (madeOf w) 0 h)) ∙ not-path (held s (ownerAt w)) (held s (pathAt w)) (held-bound s (pathAt w))
+      go true h = ap (λ (y : Entry). among k (y .keys)) (entry-path s w (eqb-true (madeOf w) 0 h)) ∙ not-path (held s (ownerAt w)) (held s (pathAt w)) (held-bound s (pathAt w) refl)
       go false h = ap (λ (y : Entry). among k (y .keys)) (entry-made s w (eqb-false (madeOf w) 0 h)) ∙ not-made (madeOf w) (held s (ownerAt w))
 
   not-held : (o : Name) (s : List ℕ) (w : ℕ) → keyedBy o k (entryOf s w) ≡ false

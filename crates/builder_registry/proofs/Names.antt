@@ -16,9 +16,10 @@ use Rattle.builder.specs.Registry.{Entry}
 use Rattle.builder_names.specs.Views.{alone}
 use Rattle.builder_names.proofs.Strip.{normal-same, normal-rest, normal-whole, dot-length}
 use Rattle.builder_names.proofs.Canonical.{canonical-alone, canonical-rest}
-use Rattle.builder_registry.specs.Words.{held, ownerAt, pathAt, madeOf, flagged, madeParameter, madeEntry, entryOf, entryName}
+use Rattle.builder_registry.specs.Word.{ownerAt, pathAt, madeOf}
+use Rattle.builder_registry.specs.Words.{held, flagged, madeParameter, madeEntry, entryOf, entryName}
 use Rattle.builder_registry.specs.Texts.{madeEnd, madeText, describing}
-use Rattle.builder_registry.proofs.Keys.{entry-path, entry-made}
+use Rattle.builder_registry.proofs.Keys.{held-bound, entry-path, entry-made}
 
 -- ---- lengths
 
@@ -98,34 +99,29 @@ module _ (s : List ℕ) (w : ℕ) where
   unfolding madeEntry
   name-made e = ap (λ (y : Entry). y .parameter .name) (entry-made s w e) ∙ ap (λ (p : IrParameter). p .name) (made-whole (madeOf w) (held s (ownerAt w)))
 
-  module _ (o : Name) (f : o ≡ held s (ownerAt w)) (l : length o ≤ 255) where
-    pub length-path : (p : Name) (r : ℕ) → p ≡ held s (pathAt w) → length p ≤ 255 → madeOf w ≡ 0 → r ≡ length (canonical-name o p) → (r ≡ length (entryName s w)) × (r ≤ 511)
-    length-path p r g k m e =
-        (e ∙ ap length (ap₂ canonical-name f g ∙ sym (name-path m)), omega (arith, canonical-short o p))
+  -- the answers of `name_length`: m is the word's made parameter, o its owner
+  module _ (m : ℕ) (em : m ≡ madeOf w) (o : Name) (f : o ≡ held s (ownerAt w)) (l : length o ≤ 255) where
+    -- a path: the canonical name is as long
+    pub length-path : (p : Name) (r : ℕ) → p ≡ held s (pathAt w) → length p ≤ 255 → m ≡ 0 → r ≡ length (canonical-name o p) →
+        (r ≡ length (entryName s w)) × (r ≤ 511)
+    length-path p r g k z e =
+        (e ∙ ap length (ap₂ canonical-name f g ∙ sym (name-path (sym em ∙ z))), omega (arith, canonical-short o p))
 
-    pub length-made : (t : Name) → (madeOf w ≡ 0 → ⊥) → t ≡ madeEnd (madeOf w) → (length o + length t ≡ length (entryName s w)) × (length o + length t ≤ 511)
-    length-made t m g =
-        (sym (length-append o t) ∙ ap length (ap₂ (λ (x y : Name). x ++ y) f g ∙ sym (name-made m)), omega (arith, ap length g, end-short (madeOf w)))
+    -- a made parameter: the owner and the end are as long
+    pub length-made : (t : Name) → (m ≡ 0 → ⊥) → t ≡ madeEnd m → (length o + length t ≡ length (entryName s w)) × (length o + length t ≤ 511)
+    length-made t z g =
+        (sym (length-append o t) ∙ ap length (ap₂ (λ (x y : Name). x ++ y) f (g ∙ ap madeEnd em) ∙ sym (name-made (λ y. z (em ∙ y)))), omega (arith, ap length g, end-short m))
 
 -- ---- bounds that hold of every word
-
-pub held-bound : (s : List ℕ) (at : ℕ) → length (held s at) ≤ 255
-unfolding held
-held-bound s at = go (leb (at + 2 + le2 s at) (length s)) (leb (le2 s at) 255) refl
-  where
-    go : (a b : Bool) → leb (le2 s at) 255 ≡ b → length (cond (a && b) (nameAt s at) []) ≤ 255
-    go false b h = omega arith
-    go true false h = omega arith
-    go true true h = omega (arith, leb-true (le2 s at) 255 h, length-take (le2 s at) (drop (at + 2) s))
 
 pub entry-short : (s : List ℕ) (w : ℕ) → length (entryName s w) ≤ 511
 entry-short s w = go (eqb (madeOf w) 0) refl
   where
     go : (b : Bool) → eqb (madeOf w) 0 ≡ b → length (entryName s w) ≤ 511
     go true h =
-        omega (arith, ap length (name-path s w (eqb-true (madeOf w) 0 h)), canonical-short (held s (ownerAt w)) (held s (pathAt w)), held-bound s (ownerAt w), held-bound s (pathAt w))
+        omega (arith, ap length (name-path s w (eqb-true (madeOf w) 0 h)), canonical-short (held s (ownerAt w)) (held s (pathAt w)), held-bound s (ownerAt w) refl, held-bound s (pathAt w) refl)
     go false h =
-        omega (arith, ap length (name-made s w (eqb-false (madeOf w) 0 h)), length-append (held s (ownerAt w)) (madeEnd (madeOf w)), end-short (madeOf w), held-bound s (ownerAt w))
+        omega (arith, ap length (name-made s w (eqb-false (madeOf w) 0 h)), length-append (held s (ownerAt w)) (madeEnd (madeOf w)), end-short (madeOf w), held-bound s (ownerAt w) refl)
 
 -- ---- the description of an entry
 

@@ -9,6 +9,7 @@ use mathlib.Core.List.{List, [], _∷_}
 use mathlib.Core.Option.{Option, some, none}
 use lib.ListN.{length, take, drop, getD, set, length-map, List·getD-map, drop-of-length-le}
 use lib.Seq.{drop-cons, getD-take, length-take-le}
+use borrow.Author.Tests.{lt-ltb, le-ltb}
 use Rattle.blocks.specs.Name.{Name, same, among}
 use Rattle.ir.specs.Ir.{IrParameter}
 use Rattle.builder.specs.Names.{normalize-path}
@@ -16,7 +17,7 @@ use Rattle.builder.specs.Registry.{Entry, Registry, keyedBy, findKey, lookup-na
 use Rattle.builder.specs.Nodes.{lookupQualified}
 use Rattle.builder_registry.specs.declared.Found.the-variants.{At, Missing}
 use Rattle.builder_registry.specs.Words.{entryOf, entriesOf, Looked}
-use Rattle.builder_registry.specs.Place.{anyKey, hasKey, placeOf}
+use Rattle.builder_registry.specs.Place.{anyKey, hasKey, placeOf, foundIn}
 
 -- ---- the entries in the words
 
@@ -139,6 +140,16 @@ module _ (s ws : List ℕ) (n : ℕ) (fit : n ≤ length ws) (o : Name) (i : ℕ
   unfolding lookup-name
   looked-at none e h = absurd (let z : ⊥ = omega (arith, place-nothing o (entriesOf s ws n), entries-length s ws n fit) in z)
   looked-at (some q) e h = rw (found-at q e h) (Looked.at h)
+
+  -- and the answer is its place
+  pub pinned-at : (x : Option Name) → i ≡ placeOf o x (entriesOf s ws n) → i < n → At i ≡ foundIn o x (entriesOf s ws n)
+  unfolding foundIn
+  pinned-at x e h = rw (← e, entries-length s ws n fit, lt-ltb i n h) refl
+
+  -- and the answer is that there is none
+  pub pinned-none : (x : Option Name) → i ≡ placeOf o x (entriesOf s ws n) → n ≤ i → Missing ≡ foundIn o x (entriesOf s ws n)
+  unfolding foundIn
+  pinned-none x e h = rw (← e, entries-length s ws n fit, le-ltb i n h) refl
 
   pub looked-none : (x : Option Name) → i ≡ placeOf o x (entriesOf s ws n) → n ≤ i → Looked s ws n Missing (lookupQualified o x (entriesOf s ws n))
   unfolding lookup-name

@@ -17,7 +17,8 @@ use Rattle.wire.proofs.Laws.{both, parts, no-parts, closed}
 use Rattle.builder_names.proofs.Canonical.{with-end}
 use Rattle.builder.specs.Names.{canonical-name}
 use Rattle.builder.specs.Registry.{Entry, Registry, owner-parameters}
-use Rattle.builder_registry.specs.Words.{held, ownerAt, pathAt, madeOf, derivedOf, entryOf, entriesOf, entryName}
+use Rattle.builder_registry.specs.Word.{ownerAt, pathAt, madeOf, derivedOf}
+use Rattle.builder_registry.specs.Words.{held, entryOf, entriesOf, entryName}
 use Rattle.builder_registry.specs.Texts.{madeEnd, madeText, describing}
 use Rattle.builder_registry.specs.Place.{owned}
 use Rattle.builder_registry.proofs.Names.{name-path, name-made, entry-short, text-short, described}
@@ -29,16 +30,16 @@ module _ {xs ys : List ℕ} {at r : ℕ} (s : List ℕ) (w : ℕ) where
   name-end : Wrote xs at (write (name (entryName s w))) ys r → Wrote xs at (write (name (entryName s w))) ys r × ((at ≤ r) × (r ≤ at + 513))
   name-end f = let e = with-end (entryName s w) f in (f, (omega (arith, e .1), omega (arith, e .1, entry-short s w)))
 
-  module _ (o : Name) (e : o ≡ held s (ownerAt w)) where
-    pub name-puts-path : (p : Name) → p ≡ held s (pathAt w) → madeOf w ≡ 0 → Wrote xs at (write (name (canonical-name o p))) ys r →
+  module _ (m : ℕ) (em : m ≡ madeOf w) (o : Name) (e : o ≡ held s (ownerAt w)) where
+    pub name-puts-path : (p : Name) → p ≡ held s (pathAt w) → m ≡ 0 → Wrote xs at (write (name (canonical-name o p))) ys r →
         Wrote xs at (write (name (entryName s w))) ys r × ((at ≤ r) × (r ≤ at + 513))
-    name-puts-path p g m f = name-end (rw (name-path s w m, ← e, ← g) f)
+    name-puts-path p g z f = name-end (rw (name-path s w (sym em ∙ z), ← e, ← g) f)
 
-    pub name-puts-made : {us vs : List ℕ} {p q : ℕ} (t : Name) (n : ℕ) → (madeOf w ≡ 0 → ⊥) → t ≡ madeEnd (madeOf w) → n ≡ length (entryName s w) →
+    pub name-puts-made : {us vs : List ℕ} {p q : ℕ} (t : Name) (n : ℕ) → (m ≡ 0 → ⊥) → t ≡ madeEnd m → n ≡ length (entryName s w) →
         Wrote xs at (bytes 2 n) us p → Wrote us p (drop 0 o) vs q → Wrote vs q (drop 0 t) ys r → Wrote xs at (write (name (entryName s w))) ys r × ((at ≤ r) × (r ≤ at + 513))
     unfolding write
-    name-puts-made t n m g l a b c =
-        name-end (subst (λ (x : Name). Wrote xs at (bytes 2 (length (entryName s w)) ++ x) ys r) (ap₂ (λ (x y : Name). x ++ y) e g ∙ sym (name-made s w m)) (rw l at (both a (both b c))))
+    name-puts-made t n z g l a b c =
+        name-end (subst (λ (x : Name). Wrote xs at (bytes 2 (length (entryName s w)) ++ x) ys r) (ap₂ (λ (x y : Name). x ++ y) e (g ∙ ap madeEnd em) ∙ sym (name-made s w (λ y. z (em ∙ y)))) (rw l at (both a (both b c))))
 
 -- ---- an entry's description
 
@@ -63,14 +64,14 @@ flag-is : (b : Bool) → num 1 (cond b 1 0) ≡ flagTree b
 flag-is true = refl
 flag-is false = refl
 
-pub puts-parameter : {xs ks bs cs ds ys : List ℕ} {at p q u e v : ℕ} (s : List ℕ) (w : ℕ) → Wrote xs at (opened 162) ks p → Wrote ks p (write (name (entryName s w))) bs q →
-    Wrote bs q (write (optionalTree name (describing (madeOf w)))) cs u → Wrote cs u (write (num 1 (cond (derivedOf w) 1 0))) ds e → Wrote ds at (bytes 4 (e - at - 4)) ys v →
+pub puts-parameter : {xs ks bs cs ds ys : List ℕ} {at p q u e v : ℕ} (s : List ℕ) (w : ℕ) (m : ℕ) (d : Bool) → m ≡ madeOf w → d ≡ derivedOf w → Wrote xs at (opened 162) ks p → Wrote ks p (write (name (entryName s w))) bs q →
+    Wrote bs q (write (optionalTree name (describing m))) cs u → Wrote cs u (write (num 1 (cond d 1 0))) ds e → Wrote ds at (bytes 4 (e - at - 4)) ys v →
     Wrote xs at (write (parameterTree (entryOf s w .parameter))) ys e
 unfolding entryOf
-puts-parameter s w f g h i j =
+puts-parameter s w m d em ed f g h i j =
     rw (described s w, ← flag-is (derivedOf w))
     (closed unplaced 162 (cons (name (entryName s w)) (cons (optionalTree name (describing (madeOf w))) (cons (num 1 (cond (derivedOf w) 1 0)) nil)))
-    (both f (parts _ _ g (parts _ _ h (parts _ _ i (no-parts _ _))))) j)
+    (both f (parts _ _ g (parts _ _ (rw em at h) (parts _ _ (rw ed at i) (no-parts _ _))))) j)
 
 -- ---- the parameters of an owner
 

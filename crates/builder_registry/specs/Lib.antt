@@ -1,3 +1,4 @@
+pub mod Word
 pub mod Words
 pub mod Place
 pub mod Texts

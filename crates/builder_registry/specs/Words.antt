@@ -1,6 +1,5 @@
--- The registry in working words: an entry in each word, in order of entry. A word holds the offset of the owner's name in the
--- set, that of the path's, what is entered (a path, or which made parameter), and whether it is derived.
-use Prim.Native.Nat.{ℕ, _+_, _/_, _%_, _≤_, _<_}
+-- The registry in working words: an entry in each word (specs/Word.antt), in order of entry.
+use Prim.Native.Nat.{ℕ, _+_, _≤_, _<_}
 use mathlib.Core.Path.{_≡_}
 use mathlib.Core.Bool.{Bool, true, false, _&&_, cond}
 use mathlib.Core.List.{List, [], _∷_, _++_, map}
@@ -13,6 +12,7 @@ use Rattle.blocks.specs.Name.{Name, ascii}
 use Rattle.ir.specs.Ir.{IrParameter}
 use Rattle.builder.specs.Names.{normalize-path}
 use Rattle.builder.specs.Registry.{Entry, Registry, entryOf as pathEntry}
+use Rattle.builder_registry.specs.Word.{ownerAt, pathAt, madeOf, derivedOf}
 use Rattle.builder_registry.specs.declared.Held.{Held}
 use Rattle.builder_registry.specs.declared.Tagged.{Tagged}
 use Rattle.builder_registry.specs.declared.Found.{Found}
@@ -49,25 +49,17 @@ flagged d e = record {
   parameter = record { name = e .parameter .name; description = e .parameter .description; derived = d };
 }
 
--- the fields of a word
-abbrev pub ownerAt : ℕ → ℕ
-ownerAt w = w % 65536
-
-abbrev pub pathAt : ℕ → ℕ
-pathAt w = w / 65536 % 65536
-
-abbrev pub madeOf : ℕ → ℕ
-madeOf w = w / 4294967296 % 4
-
-abbrev pub derivedOf : ℕ → Bool
-derivedOf w = eqb (w / 17179869184 % 2) 1
-
+-- the entry that a word holds
 unfoldable pub entryOf : List ℕ → ℕ → Entry
-entryOf s w = flagged (derivedOf w) (cond (eqb (madeOf w) 0) (pathEntry (held s (ownerAt w)) (held s (pathAt w))) (madeEntry (madeOf w) (held s (ownerAt w))))
+entryOf s w =
+    flagged (derivedOf w)
+    (cond (eqb (madeOf w) 0) (pathEntry (held s (ownerAt w)) (held s (pathAt w))) (madeEntry (madeOf w) (held s (ownerAt w))))
 
+-- the first n words as a registry
 unfoldable pub entriesOf : List ℕ → List ℕ → ℕ → Registry
 entriesOf s ws n = map (entryOf s) (take n ws)
 
+-- the name of the entry that a word holds
 abbrev pub entryName : List ℕ → ℕ → Name
 entryName s w = entryOf s w .parameter .name
 

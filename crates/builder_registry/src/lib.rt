@@ -1,7 +1,8 @@
 // builder.rs, `ParameterRegistry`, in working words.
 ghost use mathlib.Core.Path.{_≡_};
-ghost use mathlib.Core.Bool.{cond};
+ghost use mathlib.Core.Bool.{false, cond};
 ghost use mathlib.Core.List.{List};
+ghost use mathlib.Core.Option.{some};
 ghost use Prim.Native.Nat.{ℕ, _+_, _*_, _^_, _≤_, _<_};
 ghost use lib.Dec.{eqb};
 ghost use lib.ListN.{length, getD};
@@ -16,9 +17,10 @@ ghost use Rattle.builder.specs.Names.{qualify-parent-path, normalize-path};
 ghost use Rattle.builder.specs.Registry.{enter, ensure, ensure-all, extend-with, lookup-name, owner-parameters, add-synthetic, mark-derived, entryOf as pathEntry};
 ghost use Rattle.builder.specs.Nodes.{lookupQualified};
 ghost use Rattle.builder_names.specs.Views.{isKey};
-ghost use Rattle.builder_registry.specs.Words.{Standing, Kept, Tags, Looked, held, ownerAt, pathAt, madePath, madeParameter, madeEntry, entryOf, entriesOf, entryName};
+ghost use Rattle.builder_registry.specs.Word.{ownerAt, pathAt, madeOf, derivedOf, wordOf, derivedWord};
+ghost use Rattle.builder_registry.specs.Words.{Standing, Kept, Tags, Looked, held, madePath, madeParameter, madeEntry, entryOf, entriesOf, entryName};
 ghost use Rattle.builder_registry.specs.Texts.{describing};
-ghost use Rattle.builder_registry.specs.Place.{wanted, anyKey, hasKey, placeOf, owned};
+ghost use Rattle.builder_registry.specs.Place.{wanted, anyKey, hasKey, placeOf, foundIn, owned};
 
 // How many entries the registry has, and the number of a refusal or 0. Of a refusal, a count of at most 512.
 pub struct Held {
@@ -45,19 +47,65 @@ fn held_at<'a>(s: &'a [u8], at: usize) -> &'a [u8]
     ensures { λ r. ⌜ now r ≡ held (now (s .entry)) at ⌝ }
     ensures { λ r. ⌜ length (now r) ≤ 255 ⌝ }
 {
-    let from = at + 2;
-    if s.len() < from {
+    if s.len() < at + 2 {
         return &s[..0];
     }
     let n = wire::read2(s, at);
-    let to = from + n;
-    if s.len() < to {
+    if s.len() < at + 2 + n {
         return &s[..0];
     }
     if 255 < n {
         return &s[..0];
     }
-    &s[from..to]
+    resolved_parts::name_at(s, at)
+}
+
+// The fields of a word. No other function knows where a field stands in it.
+
+// The offset of the owner's name.
+fn owner_at(w: u64) -> usize
+    ensures { λ r. ⌜ r ≡ ownerAt w ⌝ }
+    ensures { λ r. ⌜ r < 65536 ⌝ }
+{
+    (w % 65536) as usize
+}
+
+// The offset of the path's name.
+fn path_at(w: u64) -> usize
+    ensures { λ r. ⌜ r ≡ pathAt w ⌝ }
+    ensures { λ r. ⌜ r < 65536 ⌝ }
+{
+    (w / 65536 % 65536) as usize
+}
+
+// Which made parameter it is; 0 where a path was entered.
+fn made_of(w: u64) -> u64
+    ensures { λ r. ⌜ r ≡ madeOf w ⌝ }
+{
+    w / 4294967296 % 4
+}
+
+// Whether it is derived.
+fn is_derived(w: u64) -> bool
+    ensures { λ r. ⌜ r ≡ derivedOf w ⌝ }
+{
+    w / 17179869184 % 2 == 1
+}
+
+// The word of these fields, not derived.
+fn pack(owner: usize, path: usize, made: u64) -> u64
+    requires { ⌜ (owner < 65536) × ((path < 65536) × (made ≤ 3)) ⌝ }
+    ensures { λ r. ⌜ r ≡ wordOf owner path made ⌝ }
+{
+    owner as u64 + 65536 * path as u64 + 4294967296 * made
+}
+
+// A word that is not derived, made a derived one.
+fn derived_word(w: u64) -> u64
+    requires { ⌜ derivedOf w ≡ false ⌝ }
+    ensures { λ r. ⌜ r ≡ derivedWord w ⌝ }
+{
+    w + 17179869184
 }
 
 // The name of an entry's owner.
@@ -65,7 +113,7 @@ fn owner_of<'a>(s: &'a [u8], w: u64) -> &'a [u8]
     ensures { λ r. ⌜ now r ≡ held (now (s .entry)) (ownerAt w) ⌝ }
     ensures { λ r. ⌜ length (now r) ≤ 255 ⌝ }
 {
-    held_at(s, (w % 65536) as usize)
+    held_at(s, owner_at(w))
 }
 
 // The path of an entry that is no made one.
@@ -73,7 +121,7 @@ fn path_of<'a>(s: &'a [u8], w: u64) -> &'a [u8]
     ensures { λ r. ⌜ now r ≡ held (now (s .entry)) (pathAt w) ⌝ }
     ensures { λ r. ⌜ length (now r) ≤ 255 ⌝ }
 {
-    held_at(s, (w / 65536 % 65536) as usize)
+    held_at(s, path_at(w))
 }
 
 // The text that belongs to a made parameter.
@@ -139,7 +187,7 @@ fn has_key(s: &[u8], w: u64, qualified: bool, owner: &[u8], path: &[u8]) -> bool
     ensures { λ r. ⌜ r ≡ hasKey (now (owner .entry)) (wanted qualified (now (owner .entry)) (now (path .entry))) (entryOf (now (s .entry)) w) ⌝ }
 {
     if has_owner(s, w, owner) {
-        let made = w / 4294967296 % 4;
+        let made = made_of(w);
         if made == 0 {
             return path_has(qualified, owner, path, path_of(s, w));
         }
@@ -164,28 +212,35 @@ fn place(s: &[u8], words: &[u64], n: usize, qualified: bool, owner: &[u8], path:
     n
 }
 
-// The entry that names a path under an owner.
-pub fn lookup_name(s: &[u8], words: &[u64], n: usize, owner: &[u8], path: &[u8]) -> Found
+// The first entry that has the path's key.
+fn find(s: &[u8], words: &[u64], n: usize, qualified: bool, owner: &[u8], path: &[u8]) -> Found
     requires { ⌜ Standing (now s) (now words) n ⌝ }
-    ensures { λ r. ⌜ Looked (now (s .entry)) (now (words .entry)) n r (lookup-name (now (owner .entry)) (now (path .entry)) (entriesOf (now (s .entry)) (now (words .entry)) n)) ⌝ }
+    ensures { λ r. ⌜ Looked (now (s .entry)) (now (words .entry)) n r (lookupQualified (now (owner .entry)) (wanted qualified (now (owner .entry)) (now (path .entry))) (entriesOf (now (s .entry)) (now (words .entry)) n)) ⌝ }
+    ensures { λ r. ⌜ r ≡ foundIn (now (owner .entry)) (wanted qualified (now (owner .entry)) (now (path .entry))) (entriesOf (now (s .entry)) (now (words .entry)) n) ⌝ }
 {
-    let i = place(s, words, n, false, owner, path);
+    let i = place(s, words, n, qualified, owner, path);
     if i < n {
         return Found::At(i);
     }
     Found::Missing
 }
 
+// The entry that names a path under an owner: the first that has the path's key.
+pub fn lookup_name(s: &[u8], words: &[u64], n: usize, owner: &[u8], path: &[u8]) -> Found
+    requires { ⌜ Standing (now s) (now words) n ⌝ }
+    ensures { λ r. ⌜ Looked (now (s .entry)) (now (words .entry)) n r (lookup-name (now (owner .entry)) (now (path .entry)) (entriesOf (now (s .entry)) (now (words .entry)) n)) ⌝ }
+    ensures { λ r. ⌜ r ≡ foundIn (now (owner .entry)) (some (now (path .entry))) (entriesOf (now (s .entry)) (now (words .entry)) n) ⌝ }
+{
+    find(s, words, n, false, owner, path)
+}
+
 // The same for the path qualified by the owner's parent.
 pub fn lookup_qualified(s: &[u8], words: &[u64], n: usize, owner: &[u8], path: &[u8]) -> Found
     requires { ⌜ Standing (now s) (now words) n ⌝ }
     ensures { λ r. ⌜ Looked (now (s .entry)) (now (words .entry)) n r (lookupQualified (now (owner .entry)) (qualify-parent-path (now (owner .entry)) (now (path .entry))) (entriesOf (now (s .entry)) (now (words .entry)) n)) ⌝ }
+    ensures { λ r. ⌜ r ≡ foundIn (now (owner .entry)) (qualify-parent-path (now (owner .entry)) (now (path .entry))) (entriesOf (now (s .entry)) (now (words .entry)) n) ⌝ }
 {
-    let i = place(s, words, n, true, owner, path);
-    if i < n {
-        return Found::At(i);
-    }
-    Found::Missing
+    find(s, words, n, true, owner, path)
 }
 
 // How many bytes an entry's name has.
@@ -194,7 +249,7 @@ pub fn name_length(s: &[u8], w: u64) -> usize
     ensures { λ r. ⌜ r ≡ length (entryName (now (s .entry)) w) ⌝ }
     ensures { λ r. ⌜ r ≤ 511 ⌝ }
 {
-    let made = w / 4294967296 % 4;
+    let made = made_of(w);
     let o = owner_of(s, w);
     if made == 0 {
         return builder_names::canonical_length(o, path_of(s, w));
@@ -244,7 +299,7 @@ pub fn ensure(s: &[u8], words: &mut [u64], n: usize, owner: usize, path: usize) 
             number: 0,
         };
     }
-    enter(s, words, n, owner as u64 + 65536 * path as u64)
+    enter(s, words, n, pack(owner, path, 0))
 }
 
 // Every path of the owner whose name stands at an offset. The paths stand behind their count.
@@ -262,7 +317,7 @@ fn ensure_all(s: &[u8], words: &mut [u64], n: usize, owner: usize, paths: usize)
             return e;
         }
         count = e.count;
-        at = at + 2 + wire::read2(s, at);
+        at = resolved_parts::next_name(s, at);
         left -= 1;
     }
     Held { count, number: 0 }
@@ -295,19 +350,20 @@ fn made_word(owner: usize, made: u64) -> u64
     requires { ⌜ (owner < 65536) × ((1 ≤ made) × (made ≤ 3)) ⌝ }
     ensures { λ r. ⌜ ((s : List ℕ) → entryOf s r ≡ madeEntry made (held s owner)) ⌝ }
 {
-    let w = owner as u64 + 4294967296 * made;
+    let w = pack(owner, 0, made);
     if made == 1 {
-        return w + 17179869184;
+        return derived_word(w);
     }
     w
 }
 
 // A parameter that the builder makes, under the owner whose name stands at this offset: 1 computed tag, 2 union variant, 3
-// payload size.
+// payload size. The entry that is meant is the first that has its key, or the new one.
 pub fn add_synthetic(s: &[u8], words: &mut [u64], n: usize, owner: usize, made: u64) -> Tagged
     requires { ⌜ Standing (now s) (now words) n × (owner < 65536) × ((1 ≤ made) × (made ≤ 3)) ⌝ }
     ensures { λ r. ⌜ r .count ≤ 512 ⌝ }
     ensures { λ r. ⌜ Tags (now (s .entry)) (now (words .exit)) r (add-synthetic (held (now (s .entry)) owner) (madePath made) (madeParameter made (held (now (s .entry)) owner)) (entriesOf (now (s .entry)) (now (words .entry)) n)) ⌝ }
+    ensures { λ r. ⌜ r .at ≡ placeOf (held (now (s .entry)) owner) (some (madePath made)) (entriesOf (now (s .entry)) (now (words .entry)) n) ⌝ }
 {
     let o = held_at(s, owner);
     let text = pick(made, b"__computed_tag", b"__variant", b"__payload_size");
@@ -337,10 +393,10 @@ pub fn mark_derived(s: &[u8], words: &mut [u64], n: usize, owner: &[u8], path: &
         return;
     }
     let w = words[i];
-    if w / 17179869184 % 2 == 1 {
+    if is_derived(w) {
         return;
     }
-    words[i] = w + 17179869184;
+    words[i] = derived_word(w);
 }
 
 // An entry's name, written as a name.
@@ -349,7 +405,7 @@ pub fn put_entry_name(s: &[u8], w: u64, out: &mut [u8], at: usize) -> usize
     ensures { λ r. ⌜ Wrote (now (out .entry)) at (write (name (entryName (now (s .entry)) w))) (now (out .exit)) r ⌝ }
     ensures { λ r. ⌜ (at ≤ r) × (r ≤ at + 513) ⌝ }
 {
-    let made = w / 4294967296 % 4;
+    let made = made_of(w);
     let o = owner_of(s, w);
     if made == 0 {
         return builder_names::put_canonical_name(out, at, o, path_of(s, w));
@@ -387,8 +443,8 @@ pub fn put_parameter(s: &[u8], w: u64, out: &mut [u8], at: usize) -> usize
 {
     let p = wire::open_block(out, at, 162);
     let q = put_entry_name(s, w, out, p);
-    let u = put_description(out, q, w / 4294967296 % 4);
-    let e = wire::put_flag(out, u, w / 17179869184 % 2 == 1);
+    let u = put_description(out, q, made_of(w));
+    let e = wire::put_flag(out, u, is_derived(w));
     wire::close_block(out, at, e);
     e
 }

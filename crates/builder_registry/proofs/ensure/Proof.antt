@@ -20,11 +20,8 @@ same-length c = search needs
 returns : tie.Need-returns
 returns c = (omega arith, ensure-has _ _ _ _ _ (omega arith) _ _ (c .before .before .before .before .held-at .ensures .0) (c .before .before .before .held-at2 .ensures .0) _ (c .before .place .ensures .0) (c .if1 .taken))
 
-mul-enter : tie.Need-mul-enter
-mul-enter c = search needs
-
-add-enter : tie.Need-add-enter
-add-enter c = search needs
+pack-requires : tie.Need-pack-requires
+pack-requires c κs = search needs
 
 enter-requires : tie.Need-enter-requires
 enter-requires c κs = search needs
@@ -33,7 +30,7 @@ same-length-2 : tie.Need-same-length-2
 same-length-2 c = search needs
 
 returns-2 : tie.Need-returns-2
-returns-2 c = (omega arith, ensure-more _ _ _ _ _ (omega arith) _ _ (c .before .before .before .before .before .before .before .before .held-at .ensures .0) (c .before .before .before .before .before .before .before .held-at2 .ensures .0) _ (c .before .before .before .before .before .place .ensures .0) (c .before .before .before .before .if1 .left) (omega arith) (omega arith) (c .before .before .enter .ensures .1 .0))
+returns-2 c = (omega arith, ensure-more _ _ _ _ _ (omega arith) _ _ (c .before .before .before .before .before .before .before .before .before .held-at .ensures .0) (c .before .before .before .before .before .before .before .before .held-at2 .ensures .0) _ (c .before .before .before .before .before .before .place .ensures .0) (c .before .before .before .pack .ensures) (c .before .before .before .before .before .if1 .left) (omega arith) (omega arith) (c .before .before .enter .ensures .1 .0))
 
 pub ensure-spec : {M : Type 1} → statement M
 ensure-spec =
@@ -44,8 +41,7 @@ ensure-spec =
     place-requires
     same-length
     returns
-    mul-enter
-    add-enter
+    pack-requires
     enter-requires
     same-length-2
     returns-2)

@@ -35,14 +35,8 @@ same-length c = search needs
 returns : tie.Need-returns Inv-loop μ-loop
 returns c = (omega arith, paths-stop _ _ _ _ (c .before .before .before .before .before .before .loop-test .taken) (c .before .before .before .before .ensure .ensures .1) (c .if1 .taken) (c .before .before .before .before .before .before .before .loop .inv .2))
 
-add-at-2 : tie.Need-add-at-2 Inv-loop μ-loop
-add-at-2 c = omega (arith, named (c .before .before .before .before .before .before .before .loop .inv .2 .here) (c .before .before .before .before .before .before .loop-test .taken))
-
-read2-requires-2 : tie.Need-read2-requires-2 Inv-loop μ-loop
-read2-requires-2 c κs = omega (arith, named (c .before .before .before .before .before .before .before .loop .inv .2 .here) (c .before .before .before .before .before .before .loop-test .taken))
-
-add-at-3 : tie.Need-add-at-3 Inv-loop μ-loop
-add-at-3 c = omega (arith, c .read22 .ensures .0, named (c .before .before .before .before .before .before .before .before .loop .inv .2 .here) (c .before .before .before .before .before .before .before .loop-test .taken))
+next-name-requires : tie.Need-next-name-requires Inv-loop μ-loop
+next-name-requires c κs = named (c .before .before .before .before .before .before .before .loop .inv .2 .here) (c .before .before .before .before .before .before .loop-test .taken) .inside
 
 sub-left : tie.Need-sub-left Inv-loop μ-loop
 sub-left c = omega arith
@@ -51,7 +45,7 @@ loop-less : tie.Need-loop-less Inv-loop μ-loop
 loop-less c = omega arith
 
 loop-again : tie.Need-loop-again Inv-loop μ-loop
-loop-again c = (omega arith, search needs, paths-more _ _ _ _ (c .before .before .before .before .before .before .before .loop-test .taken) (c .before .before .before .before .before .ensure .ensures .1) (c .read22 .ensures .0) (c .before .if1 .left) (c .before .before .before .before .before .before .before .before .loop .inv .2))
+loop-again c = (omega arith, search needs, paths-more _ _ _ _ (c .before .before .before .before .before .before .before .loop-test .taken) (c .before .before .before .before .before .ensure .ensures .1) (c .next-name .ensures) (c .before .if1 .left) (c .before .before .before .before .before .before .before .before .loop .inv .2))
 
 same-length-2 : tie.Need-same-length-2 Inv-loop μ-loop
 same-length-2 c = search needs
@@ -71,9 +65,7 @@ ensure-all-spec =
     ensure-requires
     same-length
     returns
-    add-at-2
-    read2-requires-2
-    add-at-3
+    next-name-requires
     sub-left
     loop-less
     loop-again

@@ -7,6 +7,9 @@ use Rattle.builder_registry.proofs.has_key.Tie as tie
 has-owner-requires : tie.Need-has-owner-requires
 has-owner-requires c κs = search needs
 
+made-of-requires : tie.Need-made-of-requires
+made-of-requires c κs = search needs
+
 path-of-requires : tie.Need-path-of-requires
 path-of-requires c κs = search needs
 
@@ -30,6 +33,7 @@ has-key-spec =
     tie.close
     (tie.spec
     has-owner-requires
+    made-of-requires
     path-of-requires
     path-has-requires
     returns

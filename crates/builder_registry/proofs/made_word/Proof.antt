@@ -1,24 +1,28 @@
 -- `builder_registry::made_word` meets its contract: the fields of the word are the made parameter's. Assumes nothing.
 use native.Mathlib.Omega.{arith}
+use Rattle.builder_registry.proofs.Word.{word-plain}
 use Rattle.builder_registry.proofs.Changes.{made-one, made-other}
 use borrow.Author.Needs.{needs}
 use Rattle.builder_registry.proofs.made_word.Statement.{statement}
 use Rattle.builder_registry.proofs.made_word.Tie as tie
 
-mul-w : tie.Need-mul-w
-mul-w c = search needs
+pack-requires : tie.Need-pack-requires
+pack-requires c κs = search needs
 
-add-w : tie.Need-add-w
-add-w c = search needs
-
-add-result : tie.Need-add-result
-add-result c = search needs
+derived-word-requires : tie.Need-derived-word-requires
+derived-word-requires c κs = rw (c .before .pack .ensures) (word-plain _ _ _ (omega arith) (omega arith) (omega arith))
 
 returns : tie.Need-returns
-returns c = λ s. made-one s _ _ (omega arith) (c .if1 .taken)
+returns c = λ s. made-one s _ _ (omega arith) (omega arith) (omega arith) _ (c .before .before .pack .ensures) (c .derived-word .ensures) (c .before .if1 .taken)
 
 returns-2 : tie.Need-returns-2
-returns-2 c = λ s. made-other s _ _ (omega arith) (c .if1 .left) (omega arith) (omega arith)
+returns-2 c = λ s. made-other s _ _ (omega arith) (omega arith) (omega arith) _ (c .before .pack .ensures) (c .if1 .left)
 
 pub made-word-spec : {M : Type 1} → statement M
-made-word-spec = tie.close (tie.spec mul-w add-w add-result returns returns-2)
+made-word-spec =
+    tie.close
+    (tie.spec
+    pack-requires
+    derived-word-requires
+    returns
+    returns-2)

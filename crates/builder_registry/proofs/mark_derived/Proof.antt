@@ -1,5 +1,6 @@
 -- `builder_registry::mark_derived` meets its contract: the word with its bit set holds the derived entry. Assumes nothing.
 use native.Mathlib.Omega.{arith}
+use mathlib.Core.Path.{sym, _∙_}
 use Rattle.builder_registry.proofs.Changes.{mark-nothing, mark-again, mark-first}
 use borrow.Author.Needs.{needs}
 use Rattle.builder_registry.proofs.mark_derived.Statement.{statement}
@@ -20,14 +21,17 @@ mul-w c = search needs
 slice-read-w : tie.Need-slice-read-w
 slice-read-w c = search needs
 
+is-derived-requires : tie.Need-is-derived-requires
+is-derived-requires c κs = search needs
+
 same-length-2 : tie.Need-same-length-2
 same-length-2 c = search needs
 
 returns-2 : tie.Need-returns-2
-returns-2 c = mark-again _ _ _ (omega arith) _ _ _ (c .before .before .before .place .ensures .0) (c .before .before .if1 .left) (c .if2 .taken)
+returns-2 c = mark-again _ _ _ (omega arith) _ _ _ (c .before .before .before .before .place .ensures .0) (c .before .before .before .if1 .left) _ (c .before .is-derived .ensures) (c .if2 .taken)
 
-add-words : tie.Need-add-words
-add-words c = omega (arith, c .before .slice-known2 .given (c .before .before .before .place .result))
+derived-word-requires : tie.Need-derived-word-requires
+derived-word-requires c κs = sym (c .before .is-derived .ensures) ∙ c .if2 .left
 
 mul-words : tie.Need-mul-words
 mul-words c = search needs
@@ -39,7 +43,7 @@ same-length-3 : tie.Need-same-length-3
 same-length-3 c = search needs
 
 returns-3 : tie.Need-returns-3
-returns-3 c = mark-first _ _ _ (omega arith) _ _ _ (c .before .before .before .place .ensures .0) (c .before .before .if1 .left) (c .if2 .left)
+returns-3 c = mark-first _ _ _ (omega arith) _ _ _ (c .before .before .before .before .before .place .ensures .0) (c .before .before .before .before .if1 .left) _ (c .before .before .is-derived .ensures) (c .derived-word .ensures) (c .before .if2 .left)
 
 pub mark-derived-spec : {M : Type 1} → statement M
 mark-derived-spec =
@@ -50,9 +54,10 @@ mark-derived-spec =
     returns
     mul-w
     slice-read-w
+    is-derived-requires
     same-length-2
     returns-2
-    add-words
+    derived-word-requires
     mul-words
     slice-write-words
     same-length-3

@@ -5,6 +5,9 @@ use borrow.Author.Needs.{needs}
 use Rattle.builder_registry.proofs.name_length.Statement.{statement}
 use Rattle.builder_registry.proofs.name_length.Tie as tie
 
+made-of-requires : tie.Need-made-of-requires
+made-of-requires c κs = search needs
+
 owner-of-requires : tie.Need-owner-of-requires
 owner-of-requires c κs = search needs
 
@@ -15,7 +18,7 @@ canonical-length-requires : tie.Need-canonical-length-requires
 canonical-length-requires c κs = search needs
 
 returns : tie.Need-returns
-returns c = length-path _ _ _ (c .before .before .before .owner-of .ensures .0) (c .before .before .before .owner-of .ensures .1) _ _ (c .before .path-of .ensures .0) (c .before .path-of .ensures .1) (c .before .before .if1 .taken) (c .canonical-length .ensures)
+returns c = length-path _ _ _ (c .before .before .before .before .made-of .ensures) _ (c .before .before .before .owner-of .ensures .0) (c .before .before .before .owner-of .ensures .1) _ _ (c .before .path-of .ensures .0) (c .before .path-of .ensures .1) (c .before .before .if1 .taken) (c .canonical-length .ensures)
 
 slice-aggregate-pick : tie.Need-slice-aggregate-pick
 slice-aggregate-pick c = search needs
@@ -34,12 +37,13 @@ add-result c = search needs
 
 returns-2 : tie.Need-returns-2
 unfolding madeEnd
-returns-2 c = length-made _ _ _ (c .before .before .before .before .before .owner-of .ensures .0) (c .before .before .before .before .before .owner-of .ensures .1) _ (c .before .before .before .before .if1 .left) (c .pick .ensures)
+returns-2 c = length-made _ _ _ (c .before .before .before .before .before .before .made-of .ensures) _ (c .before .before .before .before .before .owner-of .ensures .0) (c .before .before .before .before .before .owner-of .ensures .1) _ (c .before .before .before .before .if1 .left) (c .pick .ensures)
 
 pub name-length-spec : {M : Type 1} → statement M
 name-length-spec =
     tie.close
     (tie.spec
+    made-of-requires
     owner-of-requires
     path-of-requires
     canonical-length-requires

@@ -1,5 +1,4 @@
 -- `builder_registry::put_entry_name` meets its contract: the canonical name, or the length, the owner and the end, one write behind the other. Assumes nothing.
-use Rattle.builder_registry.specs.Words.{madeOf}
 use Rattle.builder_registry.specs.Texts.{madeEnd}
 use native.Mathlib.Omega.{arith}
 use Rattle.builder_registry.proofs.Names.{end-bound}
@@ -7,6 +6,9 @@ use Rattle.builder_registry.proofs.Puts.{name-puts-path, name-puts-made
 use borrow.Author.Needs.{needs}
 use Rattle.builder_registry.proofs.put_entry_name.Statement.{statement}
 use Rattle.builder_registry.proofs.put_entry_name.Tie as tie
+
+made-of-requires : tie.Need-made-of-requires
+made-of-requires c κs = search needs
 
 owner-of-requires : tie.Need-owner-of-requires
 owner-of-requires c κs = search needs
@@ -21,7 +23,7 @@ same-length : tie.Need-same-length
 same-length c = search needs
 
 returns : tie.Need-returns
-returns c = name-puts-path _ _ _ (c .before .before .before .before .before .before .owner-of .ensures .0) _ (c .before .before .before .path-of .ensures .0) (c .before .before .before .before .before .if1 .taken) (c .before .before .put-canonical-name .ensures .0)
+returns c = name-puts-path _ _ _ (c .before .before .before .before .before .before .before .made-of .ensures) _ (c .before .before .before .before .before .before .owner-of .ensures .0) _ (c .before .before .before .path-of .ensures .0) (c .before .before .before .before .before .if1 .taken) (c .before .before .put-canonical-name .ensures .0)
 
 slice-aggregate-pick : tie.Need-slice-aggregate-pick
 slice-aggregate-pick c = search needs
@@ -46,19 +48,20 @@ put-from-requires c κs = search needs
 
 put-from-requires-2 : tie.Need-put-from-requires-2
 unfolding madeEnd
-put-from-requires-2 c κs = omega (arith, end-bound (madeOf (c .before .before .before .before .before .before .before .before .before .before .before .before .before .before .before .before .before .before .args .w)) _ (c .before .before .before .before .before .before .before .before .before .before .pick .ensures), c .before .before .before .put-from .ensures .1, c .before .before .before .before .before .before .before .put-le .ensures .1, c .before .before .before .before .before .before .before .before .before .before .before .before .before .before .before .owner-of .ensures .1)
+put-from-requires-2 c κs = omega (arith, end-bound (c .before .before .before .before .before .before .before .before .before .before .before .before .before .before .before .before .made-of .result) _ (c .before .before .before .before .before .before .before .before .before .before .pick .ensures), c .before .before .before .put-from .ensures .1, c .before .before .before .before .before .before .before .put-le .ensures .1, c .before .before .before .before .before .before .before .before .before .before .before .before .before .before .before .owner-of .ensures .1)
 
 same-length-2 : tie.Need-same-length-2
 same-length-2 c = search needs
 
 returns-2 : tie.Need-returns-2
 unfolding madeEnd
-returns-2 c = name-puts-made _ _ _ (c .before .before .before .before .before .before .before .before .before .before .before .before .before .before .before .before .before .before .owner-of .ensures .0) _ _ (c .before .before .before .before .before .before .before .before .before .before .before .before .before .before .before .before .before .if1 .left) (c .before .before .before .before .before .before .before .before .before .before .before .before .before .pick .ensures) (c .before .before .before .before .before .before .before .before .before .before .before .name-length .ensures .0) (c .before .before .before .before .before .before .before .before .before .before .put-le .ensures .0) (c .before .before .before .before .before .before .put-from .ensures .0) (c .before .before .put-from2 .ensures .0)
+returns-2 c = name-puts-made _ _ _ (c .before .before .before .before .before .before .before .before .before .before .before .before .before .before .before .before .before .before .before .made-of .ensures) _ (c .before .before .before .before .before .before .before .before .before .before .before .before .before .before .before .before .before .before .owner-of .ensures .0) _ _ (c .before .before .before .before .before .before .before .before .before .before .before .before .before .before .before .before .before .if1 .left) (c .before .before .before .before .before .before .before .before .before .before .before .before .before .pick .ensures) (c .before .before .before .before .before .before .before .before .before .before .before .name-length .ensures .0) (c .before .before .before .before .before .before .before .before .before .before .put-le .ensures .0) (c .before .before .before .before .before .before .put-from .ensures .0) (c .before .before .put-from2 .ensures .0)
 
 pub put-entry-name-spec : {M : Type 1} → statement M
 put-entry-name-spec =
     tie.close
     (tie.spec
+    made-of-requires
     owner-of-requires
     path-of-requires
     put-canonical-name-requires

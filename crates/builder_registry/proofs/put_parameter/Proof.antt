@@ -11,8 +11,14 @@ open-block-requires c κs = search needs
 put-entry-name-requires : tie.Need-put-entry-name-requires
 put-entry-name-requires c κs = search needs
 
+made-of-requires : tie.Need-made-of-requires
+made-of-requires c κs = search needs
+
 put-description-requires : tie.Need-put-description-requires
 put-description-requires c κs = search needs
+
+is-derived-requires : tie.Need-is-derived-requires
+is-derived-requires c κs = search needs
 
 put-flag-requires : tie.Need-put-flag-requires
 put-flag-requires c κs = search needs
@@ -24,7 +30,7 @@ same-length : tie.Need-same-length
 same-length c = search needs
 
 returns : tie.Need-returns
-returns c = (puts-parameter _ _ (c .before .before .before .before .before .before .before .before .before .before .before .before .before .before .before .before .before .before .open-block .ensures .0) (c .before .before .before .before .before .before .before .before .before .before .before .before .before .before .put-entry-name .ensures .0) (c .before .before .before .before .before .before .before .before .before .before .put-description .ensures .0) (c .before .before .before .before .before .before .put-flag .ensures .0) (c .before .before .close-block .ensures .0), (omega arith, omega arith))
+returns c = (puts-parameter _ _ _ _ (c .before .before .before .before .before .before .before .before .before .before .before .before .made-of .ensures) (c .before .before .before .before .before .before .before .is-derived .ensures) (c .before .before .before .before .before .before .before .before .before .before .before .before .before .before .before .before .before .before .before .before .open-block .ensures .0) (c .before .before .before .before .before .before .before .before .before .before .before .before .before .before .before .before .put-entry-name .ensures .0) (c .before .before .before .before .before .before .before .before .before .before .before .put-description .ensures .0) (c .before .before .before .before .before .before .put-flag .ensures .0) (c .before .before .close-block .ensures .0), (omega arith, omega arith))
 
 pub put-parameter-spec : {M : Type 1} → statement M
 put-parameter-spec =
@@ -32,7 +38,9 @@ put-parameter-spec =
     (tie.spec
     open-block-requires
     put-entry-name-requires
+    made-of-requires
     put-description-requires
+    is-derived-requires
     put-flag-requires
     close-block-requires
     same-length
