@@ -1,5 +1,5 @@
 -- What a word more enters, and what a mark changes. Assumes nothing.
-use Prim.Native.Nat.{ℕ, zero, suc, _+_, _*_, _/_, _%_, _≤_, _<_}
+use Prim.Native.Nat.{ℕ, zero, suc, _+_, _≤_, _<_}
 use native.Mathlib.Omega.{arith}
 use native.Mathlib.Numerals.{add-one}
 use mathlib.Core.Path.{_≡_, refl, sym, ap, _∙_}
@@ -27,32 +27,39 @@ use Rattle.builder_registry.proofs.Places.{entries-length, entry-at, fo
 -- ---- the definition, by its tests
 
 module _ (e : Entry) (g : Registry) where
+  -- the definition refuses a name of more than 255 bytes
   enter-long : 255 < length (e .parameter .name) → enter e g ≡ refused (plain 17)
   unfolding enter _>>=_ _andThen_ give refuse require reads change
   enter-long h = rw (lt-leb (length (e .parameter .name)) 255 h)
 
+  -- it refuses a 513th entry
   enter-full : length (e .parameter .name) ≤ 255 → 512 ≤ length g → enter e g ≡ refused (plain 17)
   unfolding enter _>>=_ _andThen_ give refuse require reads change
   enter-full h k = rw (le-leb (length (e .parameter .name)) 255 h, le-ltb (length g) 512 k)
 
+  -- else the entry goes behind the others
   enter-room : length (e .parameter .name) ≤ 255 → length g < 512 → enter e g ≡ done (tt, g ++ (e ∷ []))
   unfolding enter _>>=_ _andThen_ give refuse require reads change
   enter-room h k = rw (le-leb (length (e .parameter .name)) 255 h, lt-ltb (length g) 512 k)
 
 module _ (o p : Name) (g : Registry) where
+  -- a key that is there is not entered again
   ensure-found : (x : IrParameter) → findKey o (normalize-path o p) g ≡ some x → ensure o p g ≡ done (tt, g)
   unfolding ensure _>>=_ _andThen_ reads give
   ensure-found x h = rw h
 
+  -- a new one is entered
   ensure-new : findKey o (normalize-path o p) g ≡ none → ensure o p g ≡ enter (pathEntry o p) g
   unfolding ensure _>>=_ _andThen_ reads
   ensure-new h = rw h
 
   module _ (q : IrParameter) where
+    -- the same for a made parameter: the name is that of the entry that is there
     synthetic-found : (x : IrParameter) → findKey o (normalize-path o p) g ≡ some x → add-synthetic o p q g ≡ done (x .name, g)
     unfolding add-synthetic _>>=_ _andThen_ reads give
     synthetic-found x h = rw h
 
+    -- or that of the new entry
     synthetic-new : findKey o (normalize-path o p) g ≡ none →
         add-synthetic o p q g ≡ _andThen_ (enter (record { owner = o; keys = normalize-path o p ∷ []; parameter = q }) g) (λ x. done (q .name, x .1))
     unfolding add-synthetic _>>=_ _andThen_ reads give
@@ -60,28 +67,39 @@ module _ (o p : Name) (g : Registry) where
 
 -- ---- one word more
 
+-- an image with one element more
 map-last : {A B : Type 0} (f : A → B) (xs : List A) (y : A) → map f (xs ++ (y ∷ [])) ≡ map f xs ++ (f y ∷ [])
 map-last f [] y = refl
 map-last {B = B} f (x ∷ xs) y = ap (λ (z : List B). f x ∷ z) (map-last f xs y)
 
+-- a word behind n words is an entry behind n entries
 pushed : (s ws : List ℕ) (n w : ℕ) → n < length ws → entriesOf s (set ws n w) (n + 1) ≡ entriesOf s ws n ++ (entryOf s w ∷ [])
 unfolding entriesOf
 pushed s ws n w h = rw (add-one, take-suc-set ws n w h, map-last (entryOf s) (take n ws) w)
 
 module _ (s ws : List ℕ) (n w l : ℕ) (fit : n ≤ length ws) (e : l ≡ length (entryName s w)) where
+  -- the answer of `enter` for a long name
   pub entered-long : (us : List ℕ) → 255 < l → Kept s us (record { count = n; number = 17 }) (enter (entryOf s w) (entriesOf s ws n))
   entered-long us h = rw (enter-long (entryOf s w) (entriesOf s ws n) (omega arith)) (Kept.not 17 refl (omega arith))
 
+  -- its answer where there is no room
   pub entered-full : (us : List ℕ) → l ≤ 255 → 512 ≤ n → Kept s us (record { count = n; number = 17 }) (enter (entryOf s w) (entriesOf s ws n))
-  entered-full us h k = rw (enter-full (entryOf s w) (entriesOf s ws n) (omega arith) (omega (arith, entries-length s ws n fit))) (Kept.not 17 refl (omega arith))
+  entered-full us h k =
+      rw (enter-full (entryOf s w) (entriesOf s ws n) (omega arith) (omega (arith, entries-length s ws n fit))) (Kept.not 17 refl (omega arith))
 
+  -- its answer else, and where the new word stands
   pub entered : l ≤ 255 → n < 512 → n < length ws →
-      Kept s (set ws n w) (record { count = n + 1; number = 0 }) (enter (entryOf s w) (entriesOf s ws n)) × (_≡_ {A = ℕ} 0 0 → (n + 1 ≡ n + 1) × (getD (set ws n w) n 0 ≡ w))
+      Kept s (set ws n w) (record {
+        count =
+            n + 1;
+        number = 0;
+      }) (enter (entryOf s w) (entriesOf s ws n)) × (_≡_ {A = ℕ} 0 0 → (n + 1 ≡ n + 1) × (getD (set ws n w) n 0 ≡ w))
   entered h k g = (
     rw (enter-room (entryOf s w) (entriesOf s ws n) (omega arith) (omega (arith, entries-length s ws n fit))) (Kept.kept _ refl (pushed s ws n w g)),
     λ z. (refl, getD-set-same ws n w 0 g),
   )
 
+-- a refusal has no number 0
 pub not-seventeen : {X : Type 0} → _≡_ {A = ℕ} 17 0 → X
 not-seventeen e = absurd (let z : ⊥ = omega arith in z)
 
@@ -90,10 +108,12 @@ not-seventeen e = absurd (let z : ⊥ = omega arith in z)
 -- the word of a path holds its entry
 packed : (s : List ℕ) (a b : ℕ) → a < 65536 → b < 65536 → entryOf s (wordOf a b 0) ≡ pathEntry (held s a) (held s b)
 unfolding entryOf
-packed s a b h k = rw (word-owner a b 0 h k (omega arith), word-path a b 0 h k (omega arith), word-made a b 0 h k (omega arith), word-plain a b 0 h k (omega arith))
+packed s a b h k =
+    rw (word-owner a b 0 h k (omega arith), word-path a b 0 h k (omega arith), word-made a b 0 h k (omega arith), word-plain a b 0 h k (omega arith))
 
 module _ (s ws : List ℕ) (n owner path : ℕ) (fit : n ≤ length ws) (o p : Name) (f : o ≡ held s owner) (g : p ≡ held s path)
     (i : ℕ) (e : i ≡ placeOf o (some p) (entriesOf s ws n)) where
+  -- the answer of `ensure` where the key is there
   pub ensure-has : i < n → Kept s ws (record { count = n; number = 0 }) (ensure (held s owner) (held s path) (entriesOf s ws n))
   ensure-has h = rw (← f, ← g, ensure-found o p (entriesOf s ws n) _ (found-at s ws n fit o i p e h)) (Kept.kept _ refl refl)
 
@@ -129,31 +149,41 @@ module _ (s : List ℕ) (a m : ℕ) (h : a < 65536) (l : 1 ≤ m) (u : m ≤ 3) 
 
 module _ (s ws : List ℕ) (n owner made : ℕ) (fit : n ≤ length ws) (o p : Name) (f : o ≡ held s owner) (g : p ≡ madePath made)
     (i : ℕ) (e : i ≡ placeOf o (some p) (entriesOf s ws n)) where
-  pub synthetic-has : i < n → Tags s ws (record { at = i; count = n; number = 0 }) (add-synthetic (held s owner) (madePath made) (madeParameter made (held s owner)) (entriesOf s ws n))
-  synthetic-has h = rw (← f, ← g, synthetic-found o p (entriesOf s ws n) (madeParameter made o) _ (found-at s ws n fit o i p e h)) (Tags.tags _ refl refl h)
+  -- the place, of the names as the contract has them
+  place-is : i ≡ placeOf (held s owner) (some (madePath made)) (entriesOf s ws n)
+  place-is = rw (← f, ← g) e
 
-  -- the entry that is meant is the first that has the key
-  pub synthetic-at : i ≡ placeOf (held s owner) (some (madePath made)) (entriesOf s ws n)
-  synthetic-at = rw (← f, ← g) e
-
-  -- or, where none has it, the new one behind the others
-  pub synthetic-last : n ≤ i → i ≤ n → n ≡ placeOf (held s owner) (some (madePath made)) (entriesOf s ws n)
-  synthetic-last h l = let z : n ≡ i = omega arith in z ∙ synthetic-at
+  -- the answer of `add_synthetic` where the key is there: the first entry that has it
+  pub synthetic-has : i < n →
+      Tags s ws (record { at = i; count = n; number = 0 })
+      (add-synthetic (held s owner) (madePath made) (madeParameter made (held s owner)) (entriesOf s ws n)) ×
+      (i ≡ placeOf (held s owner) (some (madePath made)) (entriesOf s ws n))
+  synthetic-has h = (
+    rw (← f, ← g, synthetic-found o p (entriesOf s ws n) (madeParameter made o) _ (found-at s ws n fit o i p e h)) (Tags.tags _ refl refl h),
+    place-is,
+  )
 
   -- the outcome of entering, with the name that is then answered
-  tagged : {us : List ℕ} {r : Held} {x : Outcome (Unit × Registry)} (m : Name) → Kept s us r x → (r .number ≡ 0 → m ≡ entryName s (getD us n 0)) → (r .number ≡ 0 → r .count ≡ n + 1) →
+  tagged : {us : List ℕ} {r : Held} {x : Outcome (Unit × Registry)} (m : Name) → Kept s us r x →
+      (r .number ≡ 0 → m ≡ entryName s (getD us n 0)) → (r .number ≡ 0 → r .count ≡ n + 1) →
       Tags s us (record { at = n; count = r .count; number = r .number }) (_andThen_ x (λ y. done (m, y .1)))
   unfolding _andThen_
   tagged m (Kept.kept g z q) k l = rw (k z) (Tags.tags g z q (omega (arith, l z)))
   tagged m (Kept.not j z q) k l = Tags.not j z q
 
-  pub synthetic-more : {us : List ℕ} {r : Held} (w : ℕ) → n ≤ i → ((t : List ℕ) → entryOf t w ≡ madeEntry made (held t owner)) → Kept s us r (enter (entryOf s w) (entriesOf s ws n)) →
-      (r .number ≡ 0 → (r .count ≡ n + 1) × (getD us n 0 ≡ w)) →
-      Tags s us (record { at = n; count = r .count; number = r .number }) (add-synthetic (held s owner) (madePath made) (madeParameter made (held s owner)) (entriesOf s ws n))
+  -- its answer where the word is entered: the new entry, behind the others
+  pub synthetic-more : {us : List ℕ} {r : Held} (w : ℕ) → n ≤ i → i ≤ n → ((t : List ℕ) → entryOf t w ≡ madeEntry made (held t owner)) →
+      Kept s us r (enter (entryOf s w) (entriesOf s ws n)) → (r .number ≡ 0 → (r .count ≡ n + 1) × (getD us n 0 ≡ w)) →
+      Tags s us (record { at = n; count = r .count; number = r .number })
+      (add-synthetic (held s owner) (madePath made) (madeParameter made (held s owner)) (entriesOf s ws n)) ×
+      (n ≡ placeOf (held s owner) (some (madePath made)) (entriesOf s ws n))
   unfolding madeEntry
-  synthetic-more {us} {r} w h m k l =
-      rw (synthetic-new (held s owner) (madePath made) (entriesOf s ws n) (madeParameter made (held s owner)) none-found)
-      (tagged (madeParameter made (held s owner) .name) (rw (m s) at k) (λ z. sym (ap (entryName s) (l z .1) ∙ ap (λ (y : Entry). y .parameter .name) (m s))) (λ z. l z .0))
+  synthetic-more {us} {r} w h j m k l = (
+    rw (synthetic-new (held s owner) (madePath made) (entriesOf s ws n) (madeParameter made (held s owner)) none-found)
+        (tagged (madeParameter made (held s owner) .name) (rw (m s) at k)
+        (λ z. sym (ap (entryName s) (l z .1) ∙ ap (λ (y : Entry). y .parameter .name) (m s))) (λ z. l z .0)),
+    let z : n ≡ i = omega arith in z ∙ place-is,
+  )
     where
       none-found : findKey (held s owner) (normalize-path (held s owner) (madePath made)) (entriesOf s ws n) ≡ none
       none-found = rw (← f, ← g) (found-none s ws n fit o i p e h)
@@ -171,16 +201,19 @@ module _ (s : List ℕ) (w : ℕ) where
   unfolding entryOf
   marked-word h = rw h
 
+-- an image with one element changed
 map-set : {A B : Type 0} (f : A → B) (xs : List A) (i : ℕ) (y : A) → map f (set xs i y) ≡ set (map f xs) i (f y)
 map-set f [] i y = refl
 map-set f (x ∷ xs) zero y = refl
 map-set {B = B} f (x ∷ xs) (suc i) y = ap (λ (z : List B). f x ∷ z) (map-set f xs i y)
 
+-- a word changed among n words is an entry changed among n entries
 changed : (s ws : List ℕ) (n i w : ℕ) → i < n → entriesOf s (set ws i w) n ≡ set (entriesOf s ws n) i (entryOf s w)
 unfolding entriesOf
 changed s ws n i w h = rw (take-set-lt n ws i w h) (map-set (entryOf s) (take n ws) i w)
 
 module _ (s ws : List ℕ) (n : ℕ) (fit : n ≤ length ws) (o p : Name) (i : ℕ) (e : i ≡ placeOf o (some p) (entriesOf s ws n)) where
+  -- no entry has the key: nothing is marked
   pub mark-nothing : n ≤ i → entriesOf s ws n ≡ mark-derived o p (entriesOf s ws n)
   unfolding mark-derived
   mark-nothing h = sym (marked-none s ws n fit o i p e h)

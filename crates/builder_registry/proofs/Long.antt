@@ -18,14 +18,16 @@ use Rattle.builder_names.proofs.Qualified.{split-whole}
 use Rattle.builder_registry.specs.Word.{ownerAt, pathAt, madeOf}
 use Rattle.builder_registry.specs.Words.{held, madePath, madeEntry, entryOf, entriesOf}
 use Rattle.builder_registry.proofs.Keys.{held-bound, entry-path, entry-made}
-use Rattle.builder_registry.proofs.Names.{normal-short}
+use Rattle.builder_registry.proofs.Names.{normal-short, picked-short}
 
 -- ---- a long key
 
 module _ (k : Name) (long : 255 < length k) where
+  -- it is not a short name
   not-same : (n : Name) → length n ≤ 255 → same k n ≡ false
   not-same n h = sym (same-long k n (λ e. let z : ⊥ = omega arith in z))
 
+  -- nor the alias of a short path
   not-alias : (p n : Name) → length p ≤ 255 → among k (alternate-owner-aliases p n) ≡ false
   unfolding alternate-owner-aliases among
   not-alias p n h = go (rsplit-once p) refl
@@ -41,30 +43,33 @@ module _ (k : Name) (long : 255 < length k) where
           all true = refl
           all false = rw (not-same (q .1) short)
 
+  -- nor a key of an entered path
   not-path : (o p : Name) → length p ≤ 255 → among k (pathEntry o p .keys) ≡ false
   unfolding among
   not-path o p h = rw (not-same (normalize-path o p) (omega (arith, normal-short o p))) (not-alias p (normalize-path o p) h)
 
+  -- the path of a made parameter is short
   made-short : (m : ℕ) → length (madePath m) ≤ 255
   unfolding madePath
-  made-short m = go (eqb m 1) (eqb m 2)
-    where
-      go : (b t : Bool) → length (cond b (ascii "__computed_tag") (cond t (ascii "__variant") (ascii "__payload_size"))) ≤ 255
-      go true t = omega arith
-      go false true = omega arith
-      go false false = omega arith
+  made-short m =
+      picked-short 255 m (ascii "__computed_tag") (ascii "__variant") (ascii "__payload_size") (omega arith) (omega arith) (omega arith)
 
+  -- nor the key of a made parameter
   not-made : (m : ℕ) (o : Name) → among k (madeEntry m o .keys) ≡ false
   unfolding among madeEntry
   not-made m o = rw (not-same (normalize-path o (madePath m)) (omega (arith, normal-short o (madePath m), made-short m)))
 
+  -- nor a key of the entry that a word holds
   not-key : (s : List ℕ) (w : ℕ) → among k (entryOf s w .keys) ≡ false
   not-key s w = go (eqb (madeOf w) 0) refl
     where
       go : (b : Bool) → eqb (madeOf w) 0 ≡ b → among k (entryOf s w .keys) ≡ false
-      go true h = ap (λ (y : Entry). among k (y .keys)) (entry-path s w (eqb-true (madeOf w) 0 h)) ∙ not-path (held s (ownerAt w)) (held s (pathAt w)) (held-bound s (pathAt w) refl)
+      go true h =
+          ap (λ (y : Entry). among k (y .keys)) (entry-path s w (eqb-true (madeOf w) 0 h)) ∙
+          not-path (held s (ownerAt w)) (held s (pathAt w)) (held-bound s (pathAt w) refl)
       go false h = ap (λ (y : Entry). among k (y .keys)) (entry-made s w (eqb-false (madeOf w) 0 h)) ∙ not-made (madeOf w) (held s (ownerAt w))
 
+  -- so no word's entry has it under any owner
   not-held : (o : Name) (s : List ℕ) (w : ℕ) → keyedBy o k (entryOf s w) ≡ false
   not-held o s w = ap (λ (b : Bool). same o (entryOf s w .owner) && b) (not-key s w) ∙ go (same o (entryOf s w .owner))
     where
@@ -72,20 +77,27 @@ module _ (k : Name) (long : 255 < length k) where
       go true = refl
       go false = refl
 
+  -- nothing is found in any words
   find-words : (o : Name) (s ws : List ℕ) → findKey o k (map (entryOf s) ws) ≡ none
   unfolding findKey
   find-words o s [] = refl
-  find-words o s (w ∷ ws) = ap (λ (t : Bool). elim t [ true ↦ some (entryOf s w .parameter) | false ↦ findKey o k (map (entryOf s) ws) ]) (not-held o s w) ∙ find-words o s ws
+  find-words o s (w ∷ ws) =
+      ap (λ (t : Bool). elim t [ true ↦ some (entryOf s w .parameter) | false ↦ findKey o k (map (entryOf s) ws) ]) (not-held o s w) ∙ find-words o s ws
 
+  -- and nothing is marked
   mark-words : (o : Name) (s ws : List ℕ) → mark o k (map (entryOf s) ws) ≡ map (entryOf s) ws
   unfolding mark
   mark-words o s [] = refl
-  mark-words o s (w ∷ ws) = ap (λ (t : Bool). cond t (derivedEntry (entryOf s w) ∷ map (entryOf s) ws) (entryOf s w ∷ mark o k (map (entryOf s) ws))) (not-held o s w) ∙ ap (λ (l : Registry). entryOf s w ∷ l) (mark-words o s ws)
+  mark-words o s (w ∷ ws) =
+      ap (λ (t : Bool). cond t (derivedEntry (entryOf s w) ∷ map (entryOf s) ws) (entryOf s w ∷ mark o k (map (entryOf s) ws))) (not-held o s w) ∙
+      ap (λ (l : Registry). entryOf s w ∷ l) (mark-words o s ws)
 
+  -- nothing is found in the first n words
   pub find-long : (o : Name) (s ws : List ℕ) (n : ℕ) → findKey o k (entriesOf s ws n) ≡ none
   unfolding entriesOf
   find-long o s ws n = find-words o s (take n ws)
 
+  -- and nothing is marked in them
   pub mark-long : (o : Name) (s ws : List ℕ) (n : ℕ) → mark o k (entriesOf s ws n) ≡ entriesOf s ws n
   unfolding entriesOf
   mark-long o s ws n = mark-words o s (take n ws)

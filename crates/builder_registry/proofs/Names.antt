@@ -2,13 +2,12 @@
 use Prim.Native.Nat.{ℕ, _+_, _≤_}
 use native.Mathlib.Omega.{arith}
 use mathlib.Core.Path.{_≡_, refl, sym, ap, ap₂, _∙_}
-use mathlib.Core.Bool.{Bool, true, false, _&&_, cond}
-use mathlib.Core.List.{List, [], _++_}
+use mathlib.Core.Bool.{Bool, true, false, cond}
+use mathlib.Core.List.{List, _++_}
 use mathlib.Core.Option.{some, none}
-use lib.Dec.{eqb, leb}
-use lib.ListN.{length, drop, length-take, length-drop, length-append}
-use borrow.Author.Tests.{eqb-true, eqb-false, leb-true}
-use Rattle.blocks.specs.Bytes.{le2, nameAt}
+use lib.Dec.{eqb}
+use lib.ListN.{length, drop, length-drop, length-append}
+use borrow.Author.Tests.{eqb-true, eqb-false}
 use Rattle.blocks.specs.Name.{Name, ascii, same}
 use Rattle.ir.specs.Ir.{IrParameter}
 use Rattle.builder.specs.Names.{isSome, strip-owner, normalize-path, canonical-name}
@@ -32,9 +31,11 @@ normal-part o p = go (same p o) refl (isSome (strip-owner o p)) refl
     go false e true f = (length o + 1, normal-rest o p false e true refl f refl)
     go false e false f = (0, normal-whole o p false e false refl f refl)
 
+-- so it is no longer
 pub normal-short : (o p : Name) → length (normalize-path o p) ≤ length p
 normal-short o p = let k = normal-part o p in omega (arith, ap length (k .1), length-drop (k .0) p)
 
+-- the canonical name has the owner, a dot and the path at the most
 pub canonical-short : (o p : Name) → length (canonical-name o p) ≤ length o + 1 + length p
 canonical-short o p = go (alone o p) refl
   where
@@ -42,29 +43,35 @@ canonical-short o p = go (alone o p) refl
     go true e = omega (arith, ap length (canonical-alone o p true e refl))
     go false e = omega (arith, ap length (canonical-rest o p false e refl), dot-length o (normalize-path o p), normal-short o p)
 
+-- a text of a made parameter is as short as the longest of the three
+pub picked-short : (k m : ℕ) (a b c : Name) → length a ≤ k → length b ≤ k → length c ≤ k → length (cond (eqb m 1) a (cond (eqb m 2) b c)) ≤ k
+picked-short k m a b c x y z = go (eqb m 1) (eqb m 2)
+  where
+    go : (s t : Bool) → length (cond s a (cond t b c)) ≤ k
+    go true t = x
+    go false true = y
+    go false false = z
+
+-- the end of its name
 end-short : (m : ℕ) → length (madeEnd m) ≤ 13
 unfolding madeEnd
-end-short m = go (eqb m 1) (eqb m 2)
-  where
-    go : (b t : Bool) → length (cond b (ascii ".computed_tag") (cond t (ascii ".variant") (ascii ".payload_size"))) ≤ 13
-    go true t = omega arith
-    go false true = omega arith
-    go false false = omega arith
+end-short m =
+    picked-short 13 m (ascii ".computed_tag") (ascii ".variant") (ascii ".payload_size") (omega arith) (omega arith) (omega arith)
 
+-- the same of the text that the code picked
 pub end-bound : (m : ℕ) (t : Name) → t ≡ madeEnd m → length t ≤ 13
 end-bound m t e = omega (arith, ap length e, end-short m)
 
+-- its description
 pub text-short : (m : ℕ) → length (madeText m) ≤ 80
 unfolding madeText
-text-short m = go (eqb m 1) (eqb m 2)
-  where
-    go : (b t : Bool) → length (cond b (ascii "Computed enum tag expression") (cond t (ascii "Active union variant selector") (ascii "Runtime payload size (bytes) selecting size-discriminated variant"))) ≤ 80
-    go true t = omega arith
-    go false true = omega arith
-    go false false = omega arith
+text-short m =
+    picked-short 80 m (ascii "Computed enum tag expression") (ascii "Active union variant selector")
+    (ascii "Runtime payload size (bytes) selecting size-discriminated variant") (omega arith) (omega arith) (omega arith)
 
 -- ---- a made parameter
 
+-- a made parameter: its name, its description, and whether it is derived
 made-whole : (m : ℕ) (o : Name) → madeParameter m o ≡ record { name = o ++ madeEnd m; description = some (madeText m); derived = eqb m 1 }
 unfolding madeParameter madeEnd madeText
 made-whole m o = go (eqb m 1) (eqb m 2)
@@ -77,7 +84,8 @@ made-whole m o = go (eqb m 1) (eqb m 2)
         (record { name = o ++ ascii ".payload_size"; description = some (ascii "Runtime payload size (bytes) selecting size-discriminated variant"); derived = false })) ≡
         record {
           name = o ++ cond b (ascii ".computed_tag") (cond t (ascii ".variant") (ascii ".payload_size"));
-          description = some (cond b (ascii "Computed enum tag expression") (cond t (ascii "Active union variant selector") (ascii "Runtime payload size (bytes) selecting size-discriminated variant")));
+          description =
+              some (cond b (ascii "Computed enum tag expression") (cond t (ascii "Active union variant selector") (ascii "Runtime payload size (bytes) selecting size-discriminated variant")));
           derived = b;
         }
     go true t = refl
@@ -92,9 +100,11 @@ made-flagged m o = rw (made-whole m o)
 -- ---- the name of an entry
 
 module _ (s : List ℕ) (w : ℕ) where
+  -- the name of a path is the canonical one
   pub name-path : madeOf w ≡ 0 → entryName s w ≡ canonical-name (held s (ownerAt w)) (held s (pathAt w))
   name-path e = ap (λ (y : Entry). y .parameter .name) (entry-path s w e)
 
+  -- the name of a made parameter is the owner and the end
   pub name-made : (madeOf w ≡ 0 → ⊥) → entryName s w ≡ held s (ownerAt w) ++ madeEnd (madeOf w)
   unfolding madeEntry
   name-made e = ap (λ (y : Entry). y .parameter .name) (entry-made s w e) ∙ ap (λ (p : IrParameter). p .name) (made-whole (madeOf w) (held s (ownerAt w)))
@@ -114,6 +124,7 @@ module _ (s : List ℕ) (w : ℕ) where
 
 -- ---- bounds that hold of every word
 
+-- no entry's name has more than 511 bytes
 pub entry-short : (s : List ℕ) (w : ℕ) → length (entryName s w) ≤ 511
 entry-short s w = go (eqb (madeOf w) 0) refl
   where
@@ -125,10 +136,13 @@ entry-short s w = go (eqb (madeOf w) 0) refl
 
 -- ---- the description of an entry
 
+-- what the code writes as the description
 pub described : (s : List ℕ) (w : ℕ) → entryOf s w .parameter .description ≡ describing (madeOf w)
 unfolding describing madeEntry
 described s w = go (eqb (madeOf w) 0) refl
   where
     go : (b : Bool) → eqb (madeOf w) 0 ≡ b → entryOf s w .parameter .description ≡ cond b none (some (madeText (madeOf w)))
     go true h = ap (λ (y : Entry). y .parameter .description) (entry-path s w (eqb-true (madeOf w) 0 h))
-    go false h = ap (λ (y : Entry). y .parameter .description) (entry-made s w (eqb-false (madeOf w) 0 h)) ∙ ap (λ (p : IrParameter). p .description) (made-whole (madeOf w) (held s (ownerAt w)))
+    go false h =
+        ap (λ (y : Entry). y .parameter .description) (entry-made s w (eqb-false (madeOf w) 0 h)) ∙
+        ap (λ (p : IrParameter). p .description) (made-whole (madeOf w) (held s (ownerAt w)))

@@ -27,44 +27,58 @@ use Rattle.builder_registry.proofs.Places.{entries-from, entries-end}
 -- ---- an entry's name
 
 module _ {xs ys : List ℕ} {at r : ℕ} (s : List ℕ) (w : ℕ) where
+  -- how far the write of an entry's name goes
   name-end : Wrote xs at (write (name (entryName s w))) ys r → Wrote xs at (write (name (entryName s w))) ys r × ((at ≤ r) × (r ≤ at + 513))
   name-end f = let e = with-end (entryName s w) f in (f, (omega (arith, e .1), omega (arith, e .1, entry-short s w)))
 
   module _ (m : ℕ) (em : m ≡ madeOf w) (o : Name) (e : o ≡ held s (ownerAt w)) where
+    -- a path: the canonical name was written
     pub name-puts-path : (p : Name) → p ≡ held s (pathAt w) → m ≡ 0 → Wrote xs at (write (name (canonical-name o p))) ys r →
         Wrote xs at (write (name (entryName s w))) ys r × ((at ≤ r) × (r ≤ at + 513))
     name-puts-path p g z f = name-end (rw (name-path s w (sym em ∙ z), ← e, ← g) f)
 
+    -- a made parameter: the length, the owner and the end were written one behind the other
     pub name-puts-made : {us vs : List ℕ} {p q : ℕ} (t : Name) (n : ℕ) → (m ≡ 0 → ⊥) → t ≡ madeEnd m → n ≡ length (entryName s w) →
-        Wrote xs at (bytes 2 n) us p → Wrote us p (drop 0 o) vs q → Wrote vs q (drop 0 t) ys r → Wrote xs at (write (name (entryName s w))) ys r × ((at ≤ r) × (r ≤ at + 513))
+        Wrote xs at (bytes 2 n) us p → Wrote us p (drop 0 o) vs q → Wrote vs q (drop 0 t) ys r →
+        Wrote xs at (write (name (entryName s w))) ys r × ((at ≤ r) × (r ≤ at + 513))
     unfolding write
     name-puts-made t n z g l a b c =
-        name-end (subst (λ (x : Name). Wrote xs at (bytes 2 (length (entryName s w)) ++ x) ys r) (ap₂ (λ (x y : Name). x ++ y) e (g ∙ ap madeEnd em) ∙ sym (name-made s w (λ y. z (em ∙ y)))) (rw l at (both a (both b c))))
+        name-end (subst (λ (x : Name). Wrote xs at (bytes 2 (length (entryName s w)) ++ x) ys r)
+        (ap₂ (λ (x y : Name). x ++ y) e (g ∙ ap madeEnd em) ∙ sym (name-made s w (λ y. z (em ∙ y))))
+        (rw l at (both a (both b c))))
 
 -- ---- an entry's description
 
 module _ {xs ys : List ℕ} {at r : ℕ} (m : ℕ) where
+  -- a path has no description: the flag 0
   pub puts-none : m ≡ 0 → Wrote xs at (write (num 1 0)) ys r → Wrote xs at (write (optionalTree name (describing m))) ys r
   unfolding describing
   puts-none e f = rw (eq-eqb m 0 e) (parts (num 1 0) nil f (no-parts ys r))
 
-  pub puts-some : {us : List ℕ} {p : ℕ} (t : Name) → (m ≡ 0 → ⊥) → t ≡ madeText m → Wrote xs at (write (num 1 1)) us p → Wrote us p (write (name t)) ys r → Wrote xs at (write (optionalTree name (describing m))) ys r
+  -- a made parameter has one: the flag 1 and the text
+  pub puts-some : {us : List ℕ} {p : ℕ} (t : Name) → (m ≡ 0 → ⊥) → t ≡ madeText m → Wrote xs at (write (num 1 1)) us p →
+      Wrote us p (write (name t)) ys r → Wrote xs at (write (optionalTree name (describing m))) ys r
   unfolding describing
   puts-some t e g a b = rw (ne-eqb m 0 e, ← g) (parts (num 1 1) (name t) a b)
 
+-- how far that write goes
 pub some-bound : (m : ℕ) (t : Name) {at p r : ℕ} → t ≡ madeText m → p ≡ at + 1 → r ≡ p + (2 + length t) → (at ≤ r) × (r ≤ at + 83)
 some-bound m t e f g = (omega arith, omega (arith, ap length e, text-short m))
 
+-- and that its end does not overflow
 pub some-fits : (m : ℕ) (t : Name) (at : ℕ) {p k : ℕ} → t ≡ madeText m → p ≡ at + 1 → at + 81 < k → p + length t < k
 some-fits m t at e f g = omega (arith, ap length e, text-short m)
 
 -- ---- a parameter
 
+-- a flag as `put_flag` writes it
 flag-is : (b : Bool) → num 1 (cond b 1 0) ≡ flagTree b
 flag-is true = refl
 flag-is false = refl
 
-pub puts-parameter : {xs ks bs cs ds ys : List ℕ} {at p q u e v : ℕ} (s : List ℕ) (w : ℕ) (m : ℕ) (d : Bool) → m ≡ madeOf w → d ≡ derivedOf w → Wrote xs at (opened 162) ks p → Wrote ks p (write (name (entryName s w))) bs q →
+-- the parts of a parameter one behind the other, and its length, are its block
+pub puts-parameter : {xs ks bs cs ds ys : List ℕ} {at p q u e v : ℕ} (s : List ℕ) (w : ℕ) (m : ℕ) (d : Bool) → m ≡ madeOf w →
+    d ≡ derivedOf w → Wrote xs at (opened 162) ks p → Wrote ks p (write (name (entryName s w))) bs q →
     Wrote bs q (write (optionalTree name (describing m))) cs u → Wrote cs u (write (num 1 (cond d 1 0))) ds e → Wrote ds at (bytes 4 (e - at - 4)) ys v →
     Wrote xs at (write (parameterTree (entryOf s w .parameter))) ys e
 unfolding entryOf
@@ -76,28 +90,36 @@ puts-parameter s w m d em ed f g h i j =
 -- ---- the parameters of an owner
 
 module _ (o : Name) (s : List ℕ) (w : ℕ) (b : Bool) (e : b ≡ same o (entryOf s w .owner)) where
+  -- an entry of the owner adds its parameter
   owned-yes : b ≡ true → owned o (entryOf s w) ≡ entryOf s w .parameter ∷ []
   unfolding owned
   owned-yes h = let q : same o (entryOf s w .owner) ≡ true = sym e ∙ h in rw q
 
+  -- another adds none
   owned-no : b ≡ false → owned o (entryOf s w) ≡ []
   unfolding owned
   owned-no h = let q : same o (entryOf s w .owner) ≡ false = sym e ∙ h in rw q
 
+  -- the answer of `count_one` for an entry of the owner
   pub count-yes : b ≡ true → 1 ≡ length (owned o (entryOf s w))
   count-yes h = sym (ap length (owned-yes h))
 
+  -- and for another
   pub count-no : b ≡ false → 0 ≡ length (owned o (entryOf s w))
   count-no h = sym (ap length (owned-no h))
 
-  pub puts-yes : {xs ys : List ℕ} {at r : ℕ} → b ≡ true → Wrote xs at (write (parameterTree (entryOf s w .parameter))) ys r → Wrote xs at (write (entriesTree parameterTree (owned o (entryOf s w)))) ys r
+  -- what `put_one` writes for an entry of the owner
+  pub puts-yes : {xs ys : List ℕ} {at r : ℕ} → b ≡ true → Wrote xs at (write (parameterTree (entryOf s w .parameter))) ys r →
+      Wrote xs at (write (entriesTree parameterTree (owned o (entryOf s w)))) ys r
   unfolding entriesTree
   puts-yes h f = rw (owned-yes h) (parts _ nil f (no-parts _ _))
 
+  -- and for another
   pub puts-no : (xs : List ℕ) (at : ℕ) → b ≡ false → Wrote xs at (write (entriesTree parameterTree (owned o (entryOf s w)))) xs at
   unfolding entriesTree
   puts-no xs at h = rw (owned-no h) (no-parts xs at)
 
+-- the parameters of an owner are those of the first entry and of the others
 owned-first : (o : Name) (e : Entry) (es : Registry) → owner-parameters o (e ∷ es) ≡ owned o e ++ owner-parameters o es
 unfolding owner-parameters owned
 owned-first o e es = go (same o (e .owner))
@@ -106,34 +128,46 @@ owned-first o e es = go (same o (e .owner))
     go true = refl
     go false = refl
 
+-- two lists of parameters are written one behind the other
 entries-both : (f : IrParameter → Tree) (as′ bs : List IrParameter) → write (entriesTree f (as′ ++ bs)) ≡ write (entriesTree f as′) ++ write (entriesTree f bs)
 unfolding write entriesTree
 entries-both f [] bs = refl
-entries-both f (a ∷ as′) bs = ap (λ (x : List ℕ). write (f a) ++ x) (entries-both f as′ bs) ∙ sym (append-assoc (write (f a)) (write (entriesTree f as′)) (write (entriesTree f bs)))
+entries-both f (a ∷ as′) bs =
+    ap (λ (x : List ℕ). write (f a) ++ x) (entries-both f as′ bs) ∙ sym (append-assoc (write (f a)) (write (entriesTree f as′)) (write (entriesTree f bs)))
 
 module _ (s ws : List ℕ) (n : ℕ) (fit : n ≤ length ws) (o : Name) (i : ℕ) where
+  -- the parameters from the entry at i on
   next : i < n → owner-parameters o (drop i (entriesOf s ws n)) ≡ owned o (entryOf s (getD ws i 0)) ++ owner-parameters o (drop (i + 1) (entriesOf s ws n))
   next h = ap (owner-parameters o) (entries-from s ws n fit i h) ∙ owned-first o (entryOf s (getD ws i 0)) (drop (i + 1) (entriesOf s ws n))
 
+  -- from n on there are none
   last : n ≤ i → owner-parameters o (drop i (entriesOf s ws n)) ≡ []
   unfolding owner-parameters
   last h = ap (owner-parameters o) (entries-end s ws n fit i h)
 
-  pub count-more : (k c r : ℕ) → i < n → k ≡ c + length (owner-parameters o (drop i (entriesOf s ws n))) → r ≡ length (owned o (entryOf s (getD ws i 0))) → k ≡ c + r + length (owner-parameters o (drop (i + 1) (entriesOf s ws n)))
-  count-more k c r h e f = omega (arith, ap length (next h), length-append (owned o (entryOf s (getD ws i 0))) (owner-parameters o (drop (i + 1) (entriesOf s ws n))))
+  -- a turn of the loop of `count_owned`
+  pub count-more : (k c r : ℕ) → i < n → k ≡ c + length (owner-parameters o (drop i (entriesOf s ws n))) →
+      r ≡ length (owned o (entryOf s (getD ws i 0))) → k ≡ c + r + length (owner-parameters o (drop (i + 1) (entriesOf s ws n)))
+  count-more k c r h e f =
+      omega (arith, ap length (next h), length-append (owned o (entryOf s (getD ws i 0))) (owner-parameters o (drop (i + 1) (entriesOf s ws n))))
 
+  -- its end
   pub count-end : (k c : ℕ) → n ≤ i → k ≡ c + length (owner-parameters o (drop i (entriesOf s ws n))) → c ≡ k
   count-end k c h e = omega (arith, ap length (last h))
 
+  -- a turn of the loop of `put_owned`
   pub put-more : {xs ys zs : List ℕ} {p q r : ℕ} → i < n → Wrote xs p (write (entriesTree parameterTree (owned o (entryOf s (getD ws i 0))))) ys q →
-      Wrote ys q (write (entriesTree parameterTree (owner-parameters o (drop (i + 1) (entriesOf s ws n))))) zs r → Wrote xs p (write (entriesTree parameterTree (owner-parameters o (drop i (entriesOf s ws n))))) zs r
+      Wrote ys q (write (entriesTree parameterTree (owner-parameters o (drop (i + 1) (entriesOf s ws n))))) zs r →
+      Wrote xs p (write (entriesTree parameterTree (owner-parameters o (drop i (entriesOf s ws n))))) zs r
   put-more h f g = rw (next h, entries-both parameterTree (owned o (entryOf s (getD ws i 0))) (owner-parameters o (drop (i + 1) (entriesOf s ws n)))) (both f g)
 
+  -- its end
   pub put-end : (xs : List ℕ) (p : ℕ) → n ≤ i → Wrote xs p (write (entriesTree parameterTree (owner-parameters o (drop i (entriesOf s ws n))))) xs p
   unfolding entriesTree
   put-end xs p h = rw (last h) (no-parts xs p)
 
 -- the count before the list
-pub puts-list : {xs us ys : List ℕ} {at p r : ℕ} (ps : List IrParameter) (n : ℕ) → n ≡ length ps → Wrote xs at (bytes 2 n) us p → Wrote us p (write (entriesTree parameterTree ps)) ys r → Wrote xs at (write (listTree parameterTree ps)) ys r
+pub puts-list : {xs us ys : List ℕ} {at p r : ℕ} (ps : List IrParameter) (n : ℕ) → n ≡ length ps → Wrote xs at (bytes 2 n) us p →
+    Wrote us p (write (entriesTree parameterTree ps)) ys r → Wrote xs at (write (listTree parameterTree ps)) ys r
 unfolding write
 puts-list ps n e f g = rw (← e) (both f g)

@@ -2,7 +2,7 @@
 use mathlib.Core.Path.{_≡_, refl, ap}
 use mathlib.Core.Bool.{true}
 use mathlib.Core.List.{List}
-use Prim.Native.Nat.{ℕ, _+_, _-_, _≤_}
+use Prim.Native.Nat.{ℕ, _+_, _-_, _≤_, _<_}
 use native.Mathlib.Omega.{arith}
 use lib.ListN.{length, take, drop, length-drop}
 use lib.Seq.{length-take-le}
@@ -13,8 +13,8 @@ use Rattle.blocks.specs.Tree.{Tree, view}
 use Rattle.blocks.proofs.Name.{and-left}
 use Rattle.resolved.specs.Resolved.{ResolvedTypeKind, kindOf}
 use Rattle.resolved.specs.Set.{typeOf, thingOf, makeThing, formOf}
-use Rattle.accepted.specs.Accepted.{Accepted, tree, nameAt}
-use Rattle.accepted.proofs.Laws.{opened}
+use Rattle.accepted.specs.Accepted.{Accepted, tree, nameAt, Item, Entries}
+use Rattle.accepted.proofs.Laws.{opened, name-entry}
 use Rattle.resolved_parts.specs.Types.{Named}
 
 module _ {s : List ℕ} {lo hi at : ℕ} (a : Accepted s lo hi at) where
@@ -46,6 +46,10 @@ named {s} {at} h t =
     let l : length (nameAt s at) ≡ le2 s at = length-take-le (le2 s at) (drop (at + 2) s) (rw length-drop (omega arith)) in
     let b = leb-true (length (nameAt s at)) 255 (and-left _ _ t) in
     record { inside = h; short = omega (arith, l, b) }
+
+-- a name of an accepted list of names
+pub entry-named : {s : List ℕ} {n at : ℕ} → Entries s Item.names n at → 0 < n → Named s at
+entry-named l h = let e = name-entry l h in named (omega (arith, e .2 .inside, l .fits)) (e .0)
 
 -- the part of the bytes that is the name
 pub whole : (s : List ℕ) (at : ℕ) {u : ℕ} → u ≡ le2 s at → take (at + 2 + u - (at + 2)) (drop (at + 2) s) ≡ nameAt s at

@@ -42,7 +42,7 @@ placed s n zero at h e = absurd (let z : ⊥ = omega arith in z)
 placed s n (suc left) at h e = let z : suc left - 1 ≡ left = omega arith in rw (e, z)
 
 -- a references block is a list of owners
-listed : {s : List ℕ} {b : ℕ} (a : Accepted s 32 32 b) → Sole a (Item.blocks 37 37) 64
+pub listed : {s : List ℕ} {b : ℕ} (a : Accepted s 32 32 b) → Sole a (Item.blocks 37 37) 64
 unfolding partsOf findRow grammar nodeTable
 listed a = sole a refl Counted.ascending
 

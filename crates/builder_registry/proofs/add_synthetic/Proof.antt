@@ -1,6 +1,6 @@
 -- `builder_registry::add_synthetic` meets its contract: where the key is not found, the word of the made parameter is entered, and stands last. Assumes nothing.
 use native.Mathlib.Omega.{arith}
-use Rattle.builder_registry.proofs.Changes.{synthetic-has, synthetic-more, synthetic-at, synthetic-last}
+use Rattle.builder_registry.proofs.Changes.{synthetic-has, synthetic-more}
 use Rattle.builder_registry.proofs.Keys.{made-text}
 use borrow.Author.Needs.{needs}
 use Rattle.builder_registry.proofs.add_synthetic.Statement.{statement}
@@ -28,7 +28,19 @@ same-length : tie.Need-same-length
 same-length c = search needs
 
 returns : tie.Need-returns
-returns c = (omega arith, (synthetic-has _ _ _ _ (c .before .before .before .before .before .before .before .before .before .before .args .made) (omega arith) _ _ (c .before .before .before .before .before .before .before .held-at .ensures .0) (made-text _ _ (c .before .before .before .pick .ensures)) _ (c .before .place .ensures .0) (c .if1 .taken), synthetic-at _ _ _ _ (c .before .before .before .before .before .before .before .before .before .before .args .made) (omega arith) _ _ (c .before .before .before .before .before .before .before .held-at .ensures .0) (made-text _ _ (c .before .before .before .pick .ensures)) _ (c .before .place .ensures .0)))
+returns c =
+    let at-pick = c .before .before .before in
+    let at-held-at = at-pick .before .before .before .before in
+    let at-start = at-held-at .before .before .before in (
+      omega arith,
+      synthetic-has _ _ _ _
+          (at-start .args .made)
+          (omega arith) _ _
+          (at-held-at .held-at .ensures .0)
+          (made-text _ _ (at-pick .pick .ensures)) _
+          (c .before .place .ensures .0)
+          (c .if1 .taken),
+    )
 
 made-word-requires : tie.Need-made-word-requires
 made-word-requires c κs = search needs
@@ -40,7 +52,27 @@ same-length-2 : tie.Need-same-length-2
 same-length-2 c = search needs
 
 returns-2 : tie.Need-returns-2
-returns-2 c = (omega arith, (synthetic-more _ _ _ _ (c .before .before .before .before .before .before .before .before .before .before .before .before .before .before .before .args .made) (omega arith) _ _ (c .before .before .before .before .before .before .before .before .before .before .before .before .held-at .ensures .0) (made-text _ _ (c .before .before .before .before .before .before .before .before .pick .ensures)) _ (c .before .before .before .before .before .before .place .ensures .0) _ (c .before .before .before .before .before .if1 .left) (c .before .before .before .made-word .ensures) (c .before .before .enter .ensures .1 .0) (c .before .before .enter .ensures .1 .1), synthetic-last _ _ _ _ (c .before .before .before .before .before .before .before .before .before .before .before .before .before .before .before .args .made) (omega arith) _ _ (c .before .before .before .before .before .before .before .before .before .before .before .before .held-at .ensures .0) (made-text _ _ (c .before .before .before .before .before .before .before .before .pick .ensures)) _ (c .before .before .before .before .before .before .place .ensures .0) (c .before .before .before .before .before .if1 .left) (c .before .before .before .before .before .before .place .ensures .1)))
+returns-2 c =
+    let at-enter = c .before .before in
+    let at-made-word = at-enter .before in
+    let at-else1 = at-made-word .before .before in
+    let at-place = at-else1 .before in
+    let at-pick = at-place .before .before in
+    let at-held-at = at-pick .before .before .before .before in
+    let at-start = at-held-at .before .before .before in (
+      omega arith,
+      synthetic-more _ _ _ _
+          (at-start .args .made)
+          (omega arith) _ _
+          (at-held-at .held-at .ensures .0)
+          (made-text _ _ (at-pick .pick .ensures)) _
+          (at-place .place .ensures .0) _
+          (at-else1 .if1 .left)
+          (at-place .place .ensures .1)
+          (at-made-word .made-word .ensures)
+          (at-enter .enter .ensures .1 .0)
+          (at-enter .enter .ensures .1 .1),
+    )
 
 pub add-synthetic-spec : {M : Type 1} → statement M
 add-synthetic-spec =

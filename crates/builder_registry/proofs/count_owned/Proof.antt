@@ -12,7 +12,12 @@ use Rattle.builder_registry.proofs.count_owned.Statement.{statement}
 use Rattle.builder_registry.proofs.count_owned.Tie as tie
 
 abbrev Inv-loop : tie.InvT-loop
-Inv-loop s words n owner count₀ i₀ count i = (i ≤ n) × (count ≤ i) × (length (owner-parameters owner (entriesOf s words n)) ≡ count + length (owner-parameters owner (drop i (entriesOf s words n))))
+Inv-loop s words n owner count₀ i₀ count i =
+    (i ≤ n) ×
+    (count ≤ i) ×
+    (length
+    (owner-parameters owner (entriesOf s words n)) ≡ count + length
+    (owner-parameters owner (drop i (entriesOf s words n))))
 
 abbrev μ-loop : tie.MeasureT-loop
 μ-loop s words n owner count₀ i₀ count i = n - i
@@ -39,7 +44,17 @@ loop-less : tie.Need-loop-less Inv-loop μ-loop
 loop-less c = omega arith
 
 loop-again : tie.Need-loop-again Inv-loop μ-loop
-loop-again c = (omega arith, omega arith, count-more _ _ _ (omega arith) _ _ _ _ _ (c .before .before .loop-test .taken) (c .before .before .before .loop .inv .2) (c .count-one .ensures .0))
+loop-again c =
+    let in-loop = c .before .before in
+    let at-loop = in-loop .before in (
+      omega arith,
+      omega arith,
+      count-more _ _ _
+          (omega arith) _ _ _ _ _
+          (in-loop .loop-test .taken)
+          (at-loop .loop .inv .2)
+          (c .count-one .ensures .0),
+    )
 
 returns : tie.Need-returns Inv-loop μ-loop
 returns c = count-end _ _ _ (omega arith) _ _ _ _ (c .loop-test .left) (c .before .loop .inv .2)

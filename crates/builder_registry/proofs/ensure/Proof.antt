@@ -18,7 +18,17 @@ same-length : tie.Need-same-length
 same-length c = search needs
 
 returns : tie.Need-returns
-returns c = (omega arith, ensure-has _ _ _ _ _ (omega arith) _ _ (c .before .before .before .before .held-at .ensures .0) (c .before .before .before .held-at2 .ensures .0) _ (c .before .place .ensures .0) (c .if1 .taken))
+returns c =
+    let at-held-at2 = c .before .before .before in
+    let at-held-at = at-held-at2 .before in (
+      omega arith,
+      ensure-has _ _ _ _ _
+          (omega arith) _ _
+          (at-held-at .held-at .ensures .0)
+          (at-held-at2 .held-at2 .ensures .0) _
+          (c .before .place .ensures .0)
+          (c .if1 .taken),
+    )
 
 pack-requires : tie.Need-pack-requires
 pack-requires c κs = search needs
@@ -30,7 +40,26 @@ same-length-2 : tie.Need-same-length-2
 same-length-2 c = search needs
 
 returns-2 : tie.Need-returns-2
-returns-2 c = (omega arith, ensure-more _ _ _ _ _ (omega arith) _ _ (c .before .before .before .before .before .before .before .before .before .held-at .ensures .0) (c .before .before .before .before .before .before .before .before .held-at2 .ensures .0) _ (c .before .before .before .before .before .before .place .ensures .0) (c .before .before .before .pack .ensures) (c .before .before .before .before .before .if1 .left) (omega arith) (omega arith) (c .before .before .enter .ensures .1 .0))
+returns-2 c =
+    let at-enter = c .before .before in
+    let at-pack = at-enter .before in
+    let at-else1 = at-pack .before .before in
+    let at-place = at-else1 .before in
+    let at-held-at2 = at-place .before .before in
+    let at-held-at = at-held-at2 .before in
+    let at-start = at-held-at .before .before .before in (
+      at-enter .enter .ensures .0,
+      ensure-more _ _ _ _ _
+          (omega (arith, at-start .pre .0 .words, at-start .pre .0 .count)) _ _
+          (at-held-at .held-at .ensures .0)
+          (at-held-at2 .held-at2 .ensures .0) _
+          (at-place .place .ensures .0)
+          (at-pack .pack .ensures)
+          (at-else1 .if1 .left)
+          (at-start .pre .1)
+          (at-start .pre .2)
+          (at-enter .enter .ensures .1 .0),
+    )
 
 pub ensure-spec : {M : Type 1} → statement M
 ensure-spec =

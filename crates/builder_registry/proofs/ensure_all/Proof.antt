@@ -5,14 +5,19 @@ use native.Mathlib.Omega.{arith}
 use mathlib.Core.Path.{_≡_}
 use lib.ListN.{length}
 use Rattle.builder_registry.specs.Words.{held, entriesOf}
+use Rattle.resolved_parts.proofs.Laws.{entry-named}
 use Rattle.builder_registry.proofs.Laws.{standing}
-use Rattle.builder_registry.proofs.Extend.{named, Paths, paths-begin, paths-more, paths-stop, paths-end}
+use Rattle.builder_registry.proofs.Extend.{Paths, paths-begin, paths-more, paths-stop, paths-end}
 use Rattle.builder_registry.proofs.ensure_all.Statement.{statement}
 use Rattle.builder_registry.proofs.ensure_all.Tie as tie
 
 abbrev Inv-loop : tie.InvT-loop
 Inv-loop s words₀ n owner paths left₀ at₀ count₀ words left at count =
-    (count ≤ 512) × (length words ≡ length words₀) × Paths s (held s owner) (entriesOf s words₀ n) (entriesOf s words count) paths left at
+    (count ≤ 512) ×
+    (length words ≡ length words₀) × Paths s
+    (held s owner)
+    (entriesOf s words₀ n)
+    (entriesOf s words count) paths left at
 
 abbrev μ-loop : tie.MeasureT-loop
 μ-loop s words₀ n owner paths left₀ at₀ count₀ words left at count = left
@@ -24,19 +29,40 @@ add-at : tie.Need-add-at Inv-loop μ-loop
 add-at c = omega arith
 
 loop-holds : tie.Need-loop-holds Inv-loop μ-loop
-loop-holds c = (omega arith, search needs, paths-begin _ _ (c .read2 .ensures .0) (c .before .before .before .pre .2))
+loop-holds c =
+    let at-start = c .before .before .before in
+    (omega arith, search needs, paths-begin _ _ (c .read2 .ensures .0) (at-start .pre .2))
 
 ensure-requires : tie.Need-ensure-requires Inv-loop μ-loop
-ensure-requires c κs = (standing (c .before .before .before .before .before .before .pre .0) (c .before .before .loop .inv .1) (c .before .before .loop .inv .0), omega arith, omega (arith, named (c .before .before .loop .inv .2 .here) (c .before .loop-test .taken)))
+ensure-requires c κs =
+    let at-loop = c .before .before in
+    let at-start = at-loop .before .before .before .before in (
+      standing (at-start .pre .0) (at-loop .loop .inv .1) (at-loop .loop .inv .0),
+      omega arith,
+      omega (arith, entry-named (at-loop .loop .inv .2 .here) (c .before .loop-test .taken)),
+    )
 
 same-length : tie.Need-same-length Inv-loop μ-loop
 same-length c = search needs
 
 returns : tie.Need-returns Inv-loop μ-loop
-returns c = (omega arith, paths-stop _ _ _ _ (c .before .before .before .before .before .before .loop-test .taken) (c .before .before .before .before .ensure .ensures .1) (c .if1 .taken) (c .before .before .before .before .before .before .before .loop .inv .2))
+returns c =
+    let at-ensure = c .before .before .before .before in
+    let in-loop = at-ensure .before .before in
+    let at-loop = in-loop .before in (
+      omega arith,
+      paths-stop _ _ _ _
+          (in-loop .loop-test .taken)
+          (at-ensure .ensure .ensures .1)
+          (c .if1 .taken)
+          (at-loop .loop .inv .2),
+    )
 
 next-name-requires : tie.Need-next-name-requires Inv-loop μ-loop
-next-name-requires c κs = named (c .before .before .before .before .before .before .before .loop .inv .2 .here) (c .before .before .before .before .before .before .loop-test .taken) .inside
+next-name-requires c κs =
+    let in-loop = c .before .before .before .before .before .before in
+    let at-loop = in-loop .before in
+    entry-named (at-loop .loop .inv .2 .here) (in-loop .loop-test .taken) .inside
 
 sub-left : tie.Need-sub-left Inv-loop μ-loop
 sub-left c = omega arith
@@ -45,7 +71,19 @@ loop-less : tie.Need-loop-less Inv-loop μ-loop
 loop-less c = omega arith
 
 loop-again : tie.Need-loop-again Inv-loop μ-loop
-loop-again c = (omega arith, search needs, paths-more _ _ _ _ (c .before .before .before .before .before .before .before .loop-test .taken) (c .before .before .before .before .before .ensure .ensures .1) (c .next-name .ensures) (c .before .if1 .left) (c .before .before .before .before .before .before .before .before .loop .inv .2))
+loop-again c =
+    let at-ensure = c .before .before .before .before .before in
+    let in-loop = at-ensure .before .before in
+    let at-loop = in-loop .before in (
+      omega arith,
+      search needs,
+      paths-more _ _ _ _
+          (in-loop .loop-test .taken)
+          (at-ensure .ensure .ensures .1)
+          (c .next-name .ensures)
+          (c .before .if1 .left)
+          (at-loop .loop .inv .2),
+    )
 
 same-length-2 : tie.Need-same-length-2 Inv-loop μ-loop
 same-length-2 c = search needs

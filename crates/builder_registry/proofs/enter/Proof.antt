@@ -9,10 +9,26 @@ name-length-requires : tie.Need-name-length-requires
 name-length-requires c κs = search needs
 
 returns : tie.Need-returns
-returns c = (omega arith, (entered-long _ _ _ _ _ (omega arith) (c .before .name-length .ensures .0) _ (c .if1 .taken), λ z. not-seventeen z))
+returns c = (
+  omega arith,
+  (
+    entered-long _ _ _ _ _ (omega arith) (c .before .name-length .ensures .0) _ (c .if1 .taken),
+    λ z. not-seventeen z,
+  ),
+)
 
 returns-2 : tie.Need-returns-2
-returns-2 c = (omega arith, (entered-full _ _ _ _ _ (omega arith) (c .before .before .name-length .ensures .0) _ (c .before .if1 .left) (c .if2 .taken), λ z. not-seventeen z))
+returns-2 c = (
+  omega arith,
+  (
+    entered-full _ _ _ _ _
+        (omega arith)
+        (c .before .before .name-length .ensures .0) _
+        (c .before .if1 .left)
+        (c .if2 .taken),
+    λ z. not-seventeen z,
+  ),
+)
 
 mul-words : tie.Need-mul-words
 mul-words c = search needs
@@ -27,7 +43,15 @@ same-length : tie.Need-same-length
 same-length c = search needs
 
 returns-3 : tie.Need-returns-3
-returns-3 c = (omega arith, entered _ _ _ _ _ (omega arith) (c .before .before .name-length .ensures .0) (c .before .if1 .left) (c .if2 .left) (omega arith))
+returns-3 c = (
+  omega arith,
+  entered _ _ _ _ _
+      (omega arith)
+      (c .before .before .name-length .ensures .0)
+      (c .before .if1 .left)
+      (c .if2 .left)
+      (omega arith),
+)
 
 pub enter-spec : {M : Type 1} → statement M
 enter-spec =

@@ -9,14 +9,16 @@ place-requires : tie.Need-place-requires
 place-requires c κs = search needs
 
 returns : tie.Need-returns
-returns c =
-    (looked-at _ _ _ (omega arith) _ _ _ (c .before .place .ensures .0) (c .if1 .taken),
-    pinned-at _ _ _ (omega arith) _ _ _ (c .before .place .ensures .0) (c .if1 .taken))
+returns c = (
+  looked-at _ _ _ (omega arith) _ _ _ (c .before .place .ensures .0) (c .if1 .taken),
+  pinned-at _ _ _ (omega arith) _ _ _ (c .before .place .ensures .0) (c .if1 .taken),
+)
 
 returns-2 : tie.Need-returns-2
-returns-2 c =
-    (looked-none _ _ _ (omega arith) _ _ _ (c .before .place .ensures .0) (c .if1 .left),
-    pinned-none _ _ _ (omega arith) _ _ _ (c .before .place .ensures .0) (c .if1 .left))
+returns-2 c = (
+  looked-none _ _ _ (omega arith) _ _ _ (c .before .place .ensures .0) (c .if1 .left),
+  pinned-none _ _ _ (omega arith) _ _ _ (c .before .place .ensures .0) (c .if1 .left),
+)
 
 pub find-spec : {M : Type 1} → statement M
 find-spec = tie.close (tie.spec place-requires returns returns-2)

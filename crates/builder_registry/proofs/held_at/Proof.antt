@@ -36,10 +36,21 @@ returns-3 : tie.Need-returns-3
 returns-3 c = (search helds, search needs)
 
 name-at-requires : tie.Need-name-at-requires
-name-at-requires c κs = record { inside = omega (arith, c .before .before .read2 .ensures .0); short = omega (arith, c .before .before .read2 .ensures .0) }
+name-at-requires c κs =
+    let at-read2 = c .before .before in record {
+      inside = omega (arith, at-read2 .read2 .ensures .0);
+      short = omega (arith, at-read2 .read2 .ensures .0);
+    }
 
 returns-4 : tie.Need-returns-4
-returns-4 c = held-in _ _ _ (c .before .before .before .read2 .ensures .0) (c .before .before .if2 .left) (c .before .if3 .left) (c .name-at .ensures)
+returns-4 c =
+    let at-else2 = c .before .before in
+    let at-read2 = at-else2 .before in
+    held-in _ _ _
+    (at-read2 .read2 .ensures .0)
+    (at-else2 .if2 .left)
+    (c .before .if3 .left)
+    (c .name-at .ensures)
 
 pub held-at-spec : {M : Type 1} → statement M
 held-at-spec =

@@ -28,7 +28,15 @@ same-length-2 : tie.Need-same-length-2
 same-length-2 c = search needs
 
 returns-2 : tie.Need-returns-2
-returns-2 c = mark-again _ _ _ (omega arith) _ _ _ (c .before .before .before .before .place .ensures .0) (c .before .before .before .if1 .left) _ (c .before .is-derived .ensures) (c .if2 .taken)
+returns-2 c =
+    let at-else1 = c .before .before .before in
+    let at-place = at-else1 .before in
+    mark-again _ _ _
+    (omega arith) _ _ _
+    (at-place .place .ensures .0)
+    (at-else1 .if1 .left) _
+    (c .before .is-derived .ensures)
+    (c .if2 .taken)
 
 derived-word-requires : tie.Need-derived-word-requires
 derived-word-requires c κs = sym (c .before .is-derived .ensures) ∙ c .if2 .left
@@ -43,7 +51,17 @@ same-length-3 : tie.Need-same-length-3
 same-length-3 c = search needs
 
 returns-3 : tie.Need-returns-3
-returns-3 c = mark-first _ _ _ (omega arith) _ _ _ (c .before .before .before .before .before .place .ensures .0) (c .before .before .before .before .if1 .left) _ (c .before .before .is-derived .ensures) (c .derived-word .ensures) (c .before .if2 .left)
+returns-3 c =
+    let at-is-derived = c .before .before in
+    let at-else1 = at-is-derived .before .before in
+    let at-place = at-else1 .before in
+    mark-first _ _ _
+    (omega arith) _ _ _
+    (at-place .place .ensures .0)
+    (at-else1 .if1 .left) _
+    (at-is-derived .is-derived .ensures)
+    (c .derived-word .ensures)
+    (c .before .if2 .left)
 
 pub mark-derived-spec : {M : Type 1} → statement M
 mark-derived-spec =

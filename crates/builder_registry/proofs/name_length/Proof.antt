@@ -18,7 +18,18 @@ canonical-length-requires : tie.Need-canonical-length-requires
 canonical-length-requires c κs = search needs
 
 returns : tie.Need-returns
-returns c = length-path _ _ _ (c .before .before .before .before .made-of .ensures) _ (c .before .before .before .owner-of .ensures .0) (c .before .before .before .owner-of .ensures .1) _ _ (c .before .path-of .ensures .0) (c .before .path-of .ensures .1) (c .before .before .if1 .taken) (c .canonical-length .ensures)
+returns c =
+    let at-then1 = c .before .before in
+    let at-owner-of = at-then1 .before in
+    let at-made-of = at-owner-of .before in
+    length-path _ _ _
+    (at-made-of .made-of .ensures) _
+    (at-owner-of .owner-of .ensures .0)
+    (at-owner-of .owner-of .ensures .1) _ _
+    (c .before .path-of .ensures .0)
+    (c .before .path-of .ensures .1)
+    (at-then1 .if1 .taken)
+    (c .canonical-length .ensures)
 
 slice-aggregate-pick : tie.Need-slice-aggregate-pick
 slice-aggregate-pick c = search needs
@@ -37,7 +48,16 @@ add-result c = search needs
 
 returns-2 : tie.Need-returns-2
 unfolding madeEnd
-returns-2 c = length-made _ _ _ (c .before .before .before .before .before .before .made-of .ensures) _ (c .before .before .before .before .before .owner-of .ensures .0) (c .before .before .before .before .before .owner-of .ensures .1) _ (c .before .before .before .before .if1 .left) (c .pick .ensures)
+returns-2 c =
+    let at-else1 = c .before .before .before .before in
+    let at-owner-of = at-else1 .before in
+    let at-made-of = at-owner-of .before in
+    length-made _ _ _
+    (at-made-of .made-of .ensures) _
+    (at-owner-of .owner-of .ensures .0)
+    (at-owner-of .owner-of .ensures .1) _
+    (at-else1 .if1 .left)
+    (c .pick .ensures)
 
 pub name-length-spec : {M : Type 1} → statement M
 name-length-spec =

@@ -11,7 +11,10 @@ held-at-requires : tie.Need-held-at-requires
 held-at-requires c κs = search needs
 
 returns : tie.Need-returns
-returns c = (held-of _ (c .held-at .ensures .0) (c .before .owner-at .ensures .0), c .held-at .ensures .1)
+returns c = (
+  held-of _ (c .held-at .ensures .0) (c .before .owner-at .ensures .0),
+  c .held-at .ensures .1,
+)
 
 pub owner-of-spec : {M : Type 1} → statement M
 owner-of-spec = tie.close (tie.spec owner-at-requires held-at-requires returns)

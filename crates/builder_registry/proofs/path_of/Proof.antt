@@ -11,7 +11,10 @@ held-at-requires : tie.Need-held-at-requires
 held-at-requires c κs = search needs
 
 returns : tie.Need-returns
-returns c = (held-of _ (c .held-at .ensures .0) (c .before .path-at .ensures .0), c .held-at .ensures .1)
+returns c = (
+  held-of _ (c .held-at .ensures .0) (c .before .path-at .ensures .0),
+  c .held-at .ensures .1,
+)
 
 pub path-of-spec : {M : Type 1} → statement M
 path-of-spec = tie.close (tie.spec path-at-requires held-at-requires returns)

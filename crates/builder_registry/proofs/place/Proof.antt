@@ -12,7 +12,13 @@ use Rattle.builder_registry.proofs.place.Statement.{statement}
 use Rattle.builder_registry.proofs.place.Tie as tie
 
 abbrev Inv-loop : tie.InvT-loop
-Inv-loop s words n qualified owner path i₀ i = (i ≤ n) × (placeOf owner (wanted qualified owner path) (entriesOf s words n) ≡ i + placeOf owner (wanted qualified owner path) (drop i (entriesOf s words n)))
+Inv-loop s words n qualified owner path i₀ i =
+    (i ≤ n) ×
+    (placeOf owner
+    (wanted qualified owner path)
+    (entriesOf s words n) ≡ i + placeOf owner
+    (wanted qualified owner path)
+    (drop i (entriesOf s words n)))
 
 abbrev μ-loop : tie.MeasureT-loop
 μ-loop s words n qualified owner path i₀ i = n - i

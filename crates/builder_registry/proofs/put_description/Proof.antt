@@ -13,7 +13,12 @@ same-length : tie.Need-same-length
 same-length c = search needs
 
 returns : tie.Need-returns
-returns c = (puts-none _ (c .before .before .before .before .if1 .taken) (c .before .before .put-flag .ensures .0), (omega arith, omega arith))
+returns c =
+    let at-put-flag = c .before .before in
+    let at-then1 = at-put-flag .before .before in (
+      puts-none _ (at-then1 .if1 .taken) (at-put-flag .put-flag .ensures .0),
+      (omega arith, omega arith),
+    )
 
 slice-aggregate-pick : tie.Need-slice-aggregate-pick
 slice-aggregate-pick c = search needs
@@ -32,14 +37,38 @@ put-flag-requires-2 c κs = search needs
 
 put-name-requires : tie.Need-put-name-requires
 unfolding madeText
-put-name-requires c κs = some-fits (c .before .before .before .before .before .before .before .before .before .before .before .args .made) _ _ (c .before .before .before .before .before .pick .ensures) (c .before .before .before .put-flag2 .ensures .1) (omega arith)
+put-name-requires c κs =
+    let at-put-flag2 = c .before .before .before in
+    let at-pick = at-put-flag2 .before .before in
+    let at-start = at-pick .before .before .before .before .before .before in
+    some-fits
+    (at-start .args .made) _ _
+    (at-pick .pick .ensures)
+    (at-put-flag2 .put-flag2 .ensures .1)
+    (omega arith)
 
 same-length-2 : tie.Need-same-length-2
 same-length-2 c = search needs
 
 returns-2 : tie.Need-returns-2
 unfolding madeText
-returns-2 c = (puts-some _ _ (c .before .before .before .before .before .before .before .before .before .before .before .before .if1 .left) (c .before .before .before .before .before .before .before .before .pick .ensures) (c .before .before .before .before .before .before .put-flag2 .ensures .0) (c .before .before .put-name .ensures .0), some-bound (c .before .before .before .before .before .before .before .before .before .before .before .before .before .before .args .made) _ (c .before .before .before .before .before .before .before .before .pick .ensures) (c .before .before .before .before .before .before .put-flag2 .ensures .1) (c .before .before .put-name .ensures .1))
+returns-2 c =
+    let at-put-name = c .before .before in
+    let at-put-flag2 = at-put-name .before .before .before .before in
+    let at-pick = at-put-flag2 .before .before in
+    let at-else1 = at-pick .before .before .before .before in
+    let at-start = at-else1 .before .before in (
+      puts-some _ _
+          (at-else1 .if1 .left)
+          (at-pick .pick .ensures)
+          (at-put-flag2 .put-flag2 .ensures .0)
+          (at-put-name .put-name .ensures .0),
+      some-bound
+          (at-start .args .made) _
+          (at-pick .pick .ensures)
+          (at-put-flag2 .put-flag2 .ensures .1)
+          (at-put-name .put-name .ensures .1),
+    )
 
 pub put-description-spec : {M : Type 1} → statement M
 put-description-spec =

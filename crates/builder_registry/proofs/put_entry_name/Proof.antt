@@ -23,7 +23,18 @@ same-length : tie.Need-same-length
 same-length c = search needs
 
 returns : tie.Need-returns
-returns c = name-puts-path _ _ _ (c .before .before .before .before .before .before .before .made-of .ensures) _ (c .before .before .before .before .before .before .owner-of .ensures .0) _ (c .before .before .before .path-of .ensures .0) (c .before .before .before .before .before .if1 .taken) (c .before .before .put-canonical-name .ensures .0)
+returns c =
+    let at-put-canonical-name = c .before .before in
+    let at-path-of = at-put-canonical-name .before in
+    let at-then1 = at-path-of .before .before in
+    let at-owner-of = at-then1 .before in
+    let at-made-of = at-owner-of .before in
+    name-puts-path _ _ _
+    (at-made-of .made-of .ensures) _
+    (at-owner-of .owner-of .ensures .0) _
+    (at-path-of .path-of .ensures .0)
+    (at-then1 .if1 .taken)
+    (at-put-canonical-name .put-canonical-name .ensures .0)
 
 slice-aggregate-pick : tie.Need-slice-aggregate-pick
 slice-aggregate-pick c = search needs
@@ -48,14 +59,43 @@ put-from-requires c κs = search needs
 
 put-from-requires-2 : tie.Need-put-from-requires-2
 unfolding madeEnd
-put-from-requires-2 c κs = omega (arith, end-bound (c .before .before .before .before .before .before .before .before .before .before .before .before .before .before .before .before .made-of .result) _ (c .before .before .before .before .before .before .before .before .before .before .pick .ensures), c .before .before .before .put-from .ensures .1, c .before .before .before .before .before .before .before .put-le .ensures .1, c .before .before .before .before .before .before .before .before .before .before .before .before .before .before .before .owner-of .ensures .1)
+put-from-requires-2 c κs =
+    let at-put-from = c .before .before .before in
+    let at-put-le = at-put-from .before .before .before .before in
+    let at-pick = at-put-le .before .before .before in
+    let at-owner-of = at-pick .before .before .before .before .before in
+    let at-made-of = at-owner-of .before in
+    omega (
+      arith,
+      end-bound (at-made-of .made-of .result) _ (at-pick .pick .ensures),
+      at-put-from .put-from .ensures .1,
+      at-put-le .put-le .ensures .1,
+      at-owner-of .owner-of .ensures .1,
+    )
 
 same-length-2 : tie.Need-same-length-2
 same-length-2 c = search needs
 
 returns-2 : tie.Need-returns-2
 unfolding madeEnd
-returns-2 c = name-puts-made _ _ _ (c .before .before .before .before .before .before .before .before .before .before .before .before .before .before .before .before .before .before .before .made-of .ensures) _ (c .before .before .before .before .before .before .before .before .before .before .before .before .before .before .before .before .before .before .owner-of .ensures .0) _ _ (c .before .before .before .before .before .before .before .before .before .before .before .before .before .before .before .before .before .if1 .left) (c .before .before .before .before .before .before .before .before .before .before .before .before .before .pick .ensures) (c .before .before .before .before .before .before .before .before .before .before .before .name-length .ensures .0) (c .before .before .before .before .before .before .before .before .before .before .put-le .ensures .0) (c .before .before .before .before .before .before .put-from .ensures .0) (c .before .before .put-from2 .ensures .0)
+returns-2 c =
+    let at-put-from2 = c .before .before in
+    let at-put-from = at-put-from2 .before .before .before .before in
+    let at-put-le = at-put-from .before .before .before .before in
+    let at-name-length = at-put-le .before in
+    let at-pick = at-name-length .before .before in
+    let at-else1 = at-pick .before .before .before .before in
+    let at-owner-of = at-else1 .before in
+    let at-made-of = at-owner-of .before in
+    name-puts-made _ _ _
+    (at-made-of .made-of .ensures) _
+    (at-owner-of .owner-of .ensures .0) _ _
+    (at-else1 .if1 .left)
+    (at-pick .pick .ensures)
+    (at-name-length .name-length .ensures .0)
+    (at-put-le .put-le .ensures .0)
+    (at-put-from .put-from .ensures .0)
+    (at-put-from2 .put-from2 .ensures .0)
 
 pub put-entry-name-spec : {M : Type 1} → statement M
 put-entry-name-spec =

@@ -15,10 +15,22 @@ same-length : tie.Need-same-length
 same-length c = search needs
 
 returns : tie.Need-returns
-returns c = (puts-yes _ _ _ _ (c .before .before .before .before .before .has-owner .ensures) (c .before .before .before .before .if1 .taken) (c .before .before .put-parameter .ensures .0), (omega arith, omega arith))
+returns c =
+    let at-put-parameter = c .before .before in
+    let at-then1 = at-put-parameter .before .before in
+    let at-has-owner = at-then1 .before in (
+      puts-yes _ _ _ _
+          (at-has-owner .has-owner .ensures)
+          (at-then1 .if1 .taken)
+          (at-put-parameter .put-parameter .ensures .0),
+      (omega arith, omega arith),
+    )
 
 returns-2 : tie.Need-returns-2
-returns-2 c = (puts-no _ _ _ _ (c .before .has-owner .ensures) _ _ (c .if1 .left), (omega arith, omega arith))
+returns-2 c = (
+  puts-no _ _ _ _ (c .before .has-owner .ensures) _ _ (c .if1 .left),
+  (omega arith, omega arith),
+)
 
 pub put-one-spec : {M : Type 1} → statement M
 put-one-spec =

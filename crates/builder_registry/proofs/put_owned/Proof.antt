@@ -16,8 +16,15 @@ use Rattle.builder_registry.proofs.put_owned.Tie as tie
 
 abbrev Inv-loop : tie.InvT-loop
 Inv-loop s words n owner out₀ at p₀ i₀ out p i =
-    (i ≤ n) × (at ≤ p) × (p ≤ at + 700 * i) × (length out ≡ length out₀) ×
-    ((zs : List ℕ) (r : ℕ) → Wrote out p (write (entriesTree parameterTree (owner-parameters owner (drop i (entriesOf s words n))))) zs r → Wrote out₀ at (write (entriesTree parameterTree (owner-parameters owner (entriesOf s words n)))) zs r)
+    (i ≤ n) ×
+    (at ≤ p) ×
+    (p ≤ at + 700 * i) ×
+    (length out ≡ length out₀) ×
+    ((zs : List ℕ)
+    (r : ℕ) → Wrote out p
+    (write (entriesTree parameterTree (owner-parameters owner (drop i (entriesOf s words n))))) zs r
+    → Wrote out₀ at
+    (write (entriesTree parameterTree (owner-parameters owner (entriesOf s words n)))) zs r)
 
 abbrev μ-loop : tie.MeasureT-loop
 μ-loop s words n owner out₀ at p₀ i₀ out p i = n - i
@@ -41,13 +48,29 @@ loop-less : tie.Need-loop-less Inv-loop μ-loop
 loop-less c = omega arith
 
 loop-again : tie.Need-loop-again Inv-loop μ-loop
-loop-again c = (omega arith, omega arith, omega arith, search needs, λ zs r g. c .before .before .before .before .before .before .loop .inv .4 zs r (put-more _ _ _ (omega arith) _ _ (c .before .before .before .before .before .loop-test .taken) (c .before .before .put-one .ensures .0) g))
+loop-again c =
+    let at-put-one = c .before .before in
+    let in-loop = at-put-one .before .before .before in
+    let at-loop = in-loop .before in (
+      omega arith,
+      omega arith,
+      omega arith,
+      search needs,
+      λ zs r g. at-loop .loop .inv .4 zs r
+          (put-more _ _ _
+          (omega arith) _ _
+          (in-loop .loop-test .taken)
+          (at-put-one .put-one .ensures .0) g),
+    )
 
 same-length : tie.Need-same-length Inv-loop μ-loop
 same-length c = search needs
 
 returns : tie.Need-returns Inv-loop μ-loop
-returns c = (c .before .loop .inv .4 _ _ (put-end _ _ _ (omega arith) _ _ _ _ (c .loop-test .left)), (omega arith, omega arith))
+returns c = (
+  c .before .loop .inv .4 _ _ (put-end _ _ _ (omega arith) _ _ _ _ (c .loop-test .left)),
+  (omega arith, omega arith),
+)
 
 pub put-owned-spec : {M : Type 1} → statement M
 put-owned-spec =

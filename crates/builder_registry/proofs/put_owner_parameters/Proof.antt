@@ -18,7 +18,16 @@ same-length : tie.Need-same-length
 same-length c = search needs
 
 returns : tie.Need-returns
-returns c = (puts-list _ _ (c .before .before .before .before .before .before .before .before .count-owned .ensures) (c .before .before .before .before .before .before .put-le .ensures .0) (c .before .before .put-owned .ensures .0), (omega arith, omega arith))
+returns c =
+    let at-put-owned = c .before .before in
+    let at-put-le = at-put-owned .before .before .before .before in
+    let at-count-owned = at-put-le .before .before in (
+      puts-list _ _
+          (at-count-owned .count-owned .ensures)
+          (at-put-le .put-le .ensures .0)
+          (at-put-owned .put-owned .ensures .0),
+      (omega arith, omega arith),
+    )
 
 pub put-owner-parameters-spec : {M : Type 1} → statement M
 put-owner-parameters-spec =

@@ -30,7 +30,24 @@ same-length : tie.Need-same-length
 same-length c = search needs
 
 returns : tie.Need-returns
-returns c = (puts-parameter _ _ _ _ (c .before .before .before .before .before .before .before .before .before .before .before .before .made-of .ensures) (c .before .before .before .before .before .before .before .is-derived .ensures) (c .before .before .before .before .before .before .before .before .before .before .before .before .before .before .before .before .before .before .before .before .open-block .ensures .0) (c .before .before .before .before .before .before .before .before .before .before .before .before .before .before .before .before .put-entry-name .ensures .0) (c .before .before .before .before .before .before .before .before .before .before .before .put-description .ensures .0) (c .before .before .before .before .before .before .put-flag .ensures .0) (c .before .before .close-block .ensures .0), (omega arith, omega arith))
+returns c =
+    let at-close-block = c .before .before in
+    let at-put-flag = at-close-block .before .before .before .before in
+    let at-is-derived = at-put-flag .before in
+    let at-put-description = at-is-derived .before .before .before .before in
+    let at-made-of = at-put-description .before in
+    let at-put-entry-name = at-made-of .before .before .before .before in
+    let at-open-block = at-put-entry-name .before .before .before .before in (
+      puts-parameter _ _ _ _
+          (at-made-of .made-of .ensures)
+          (at-is-derived .is-derived .ensures)
+          (at-open-block .open-block .ensures .0)
+          (at-put-entry-name .put-entry-name .ensures .0)
+          (at-put-description .put-description .ensures .0)
+          (at-put-flag .put-flag .ensures .0)
+          (at-close-block .close-block .ensures .0),
+      (omega arith, omega arith),
+    )
 
 pub put-parameter-spec : {M : Type 1} → statement M
 put-parameter-spec =
