@@ -3,7 +3,7 @@
 use mathlib.Core.Path.{_≡_, refl, sym, _∙_, ap, subst}
 use mathlib.Core.Bool.{Bool, true, false, cond}
 use mathlib.Core.List.{List}
-use mathlib.Core.Option.{Option, some, none}
+use mathlib.Core.Option.{some, none}
 use Prim.Native.Nat.{ℕ, _+_, _-_, _*_, _^_, _≤_, _<_}
 use native.Mathlib.Omega.{arith}
 use lib.Dec.{leb, eqb}
@@ -32,7 +32,7 @@ use Rattle.resolved_parts.specs.Types.{textsOf}
 use Rattle.builder_registry.specs.Words.{Standing, Looked, entriesOf, entryName}
 use Rattle.builder_registry.specs.declared.Found.{Found}
 use Rattle.builder_registry.specs.declared.Found.the-variants.{At, Missing}
-use Rattle.builder_registry.proofs.Laws.{standing, long-lookup}
+use Rattle.builder_registry.proofs.Laws.{standing, looked-entry, looked-missing, long-lookup}
 use Rattle.builder_paths.specs.Joined.{prefixOf, pathOf}
 use Rattle.builder_nodes.specs.declared.Built.{Built}
 use Rattle.builder_nodes.specs.Built.{Builds, Within, nodeStart}
@@ -49,11 +49,13 @@ header-inside a = let o = opened a refl refl in omega (arith, o .long, o .high, 
 -- ---- what a builder's answer tells
 
 module _ {s xs us ys : List ℕ} {at : ℕ} {r : Built} where
+  -- an answer without a number: a node was made and written
   pub built : {x : Outcome (IrNode × Registry)} → r .number ≡ 0 → Builds s xs at us ys r x →
       (y : IrNode × Registry) × (x ≡ done y) × (entriesOf s us (r .count) ≡ y .1) × Wrote xs at (write (nodeTree (y .0))) ys (r .at)
   built z (Builds.made y e g w) = (y, refl, g, w)
   built z (Builds.not k e l) = absurd (let z : ⊥ = omega arith in z)
 
+  -- one with a number: that refusal
   pub not-built : {x : Outcome (IrNode × Registry)} → (r .number ≡ 0 → ⊥) → Builds s xs at us ys r x → (x ≡ refused (plain (r .number))) × (0 < r .number)
   not-built z (Builds.made y e g w) = absurd (z e)
   not-built z (Builds.not k e l) = (ap (λ (q : ℕ). refused (plain q)) (sym e), omega arith)
@@ -68,23 +70,29 @@ wider h w = record { low = w .low; high = omega (arith, w .high); count = w .cou
 
 -- ---- literals
 
+-- a literal of this code is its value
 abbrev Unsigned : ℕ → Type 0
 Unsigned c = (v : ℕ) → literal-to-u64 (getD literals c LiteralExpr.U64 v) ≡ some v
 
+-- a literal of this code is its value unless it is negative
 abbrev Signed : ℕ → Type 0
 Signed c = (v : ℕ) → literal-to-u64 (getD literals c LiteralExpr.U64 v) ≡ unlessNegative v
 
+-- the codes 0 to 3
 unsigned : (c : ℕ) → c < 4 → Unsigned c
 unfolding literals
 unsigned c h = each Unsigned 4 0 ((λ v. refl), ((λ v. refl), ((λ v. refl), ((λ v. refl), tt)))) c (omega arith) (omega arith)
 
+-- the codes 4 to 7
 signed : (c : ℕ) → 4 ≤ c → c ≤ 7 → Signed c
 unfolding literals
 signed c l h = each Signed 4 4 ((λ v. refl), ((λ v. refl), ((λ v. refl), ((λ v. refl), tt)))) c l (omega arith)
 
+-- the literal of a literal expression
 literal-one : {l m : LiteralExpr} → ExprKind.Literal l ≡ ExprKind.Literal m → l ≡ m
 literal-one e = cc
 
+-- the test of the highest bit, as the code makes it
 negative-test : (v : ℕ) → unlessNegative v ≡ cond (leb (2 ^ 63) v) none (some v)
 negative-test v = go (leb (2 ^ 63) v) refl
   where
@@ -94,46 +102,59 @@ negative-test v = go (leb (2 ^ 63) v) refl
 
 -- what is_negative says
 abbrev pub Negative : List ℕ → ℕ → Bool → Type 0
-Negative s expr r = (a : Accepted s 64 91 expr) (l : LiteralExpr) → exprOf (tree a) ≡ ExprKind.Literal l → literal-to-u64 l ≡ cond r none (some (le8 s (expr + 7)))
+Negative s expr r =
+    (a : Accepted s 64 91 expr) (l : LiteralExpr) → exprOf (tree a) ≡ ExprKind.Literal l → literal-to-u64 l ≡ cond r none (some (le8 s (expr + 7)))
 
 module _ {s : List ℕ} {expr : ℕ} (k : le2 s (expr + 4) ≡ 64) where
+  -- the answer of `is_negative` for an unsigned literal
   pub is-unsigned : getD s (expr + 6) 0 < 4 → Negative s expr false
   is-unsigned h a l e =
       ap literal-to-u64 (literal-one (sym e ∙ literal-at a k .is)) ∙ unsigned (getD s (expr + 6) 0) h (le8 s (expr + 7))
 
+  -- its answer for a signed one
   pub is-signed : {v : ℕ} → 4 ≤ getD s (expr + 6) 0 → v ≡ le8 s (expr + 7) → Negative s expr (leb (2 ^ 63) v)
   is-signed {v} h q a l e =
       ap literal-to-u64 (literal-one (sym e ∙ literal-at a k .is)) ∙ signed (getD s (expr + 6) 0) h (literal-at a k .small) (le8 s (expr + 7)) ∙
       subst (λ (w : ℕ). unlessNegative w ≡ cond (leb (2 ^ 63) v) none (some w)) q (negative-test v)
 
 module _ (owner prefix : Name) (l : LiteralExpr) (g : Registry) where
+  -- a literal that is a value becomes a Const node
   literal-gives : {v : ℕ} → literal-to-u64 l ≡ some v → build-expr-ir owner prefix (ExprKind.Literal l) g ≡ done (IrNode.Const unplaced default-metadata v, g)
   unfolding build-expr-ir give
   literal-gives e = need-some UnsupportedExpression _ g e
 
+  -- a negative one is refused with 14
   literal-refused : literal-to-u64 l ≡ none → build-expr-ir owner prefix (ExprKind.Literal l) g ≡ refused (plain 14)
   unfolding build-expr-ir
   literal-refused e = need-none UnsupportedExpression _ g e
 
 -- what building an expression leaves
 abbrev pub Leaves : (s xs : List ℕ) (at : ℕ) (ws ys : List ℕ) (r : Built) (owner : Name) (depth expr n : ℕ) → Type 0
-Leaves s xs at ws ys r owner depth expr n = (a : Accepted s 64 91 expr) → Builds s xs at ws ys r (build-expr-ir owner (prefixOf depth) (exprOf (tree a)) (entriesOf s ws n))
+Leaves s xs at ws ys r owner depth expr n =
+    (a : Accepted s 64 91 expr) → Builds s xs at ws ys r (build-expr-ir owner (prefixOf depth) (exprOf (tree a)) (entriesOf s ws n))
 
 -- the same, told by what the definition gives
 module _ {s xs ws ys : List ℕ} {at : ℕ} {r : Built} where
-  pub makes : {x : Outcome (IrNode × Registry)} {n : ℕ} (y : IrNode) → r .number ≡ 0 → r .count ≡ n → Wrote xs at (write (nodeTree y)) ys (r .at) → x ≡ done (y, entriesOf s ws n) → Builds s xs at ws ys r x
+  -- a node that was made and written
+  pub makes : {x : Outcome (IrNode × Registry)} {n : ℕ} (y : IrNode) → r .number ≡ 0 → r .count ≡ n →
+      Wrote xs at (write (nodeTree y)) ys (r .at) → x ≡ done (y, entriesOf s ws n) → Builds s xs at ws ys r x
   makes {n} y z c w e = rw e (Builds.made (y, entriesOf s ws n) z (ap (entriesOf s ws) c) w)
 
+  -- a refusal
   pub refuses : {x : Outcome (IrNode × Registry)} (k : ℕ) → r .number ≡ k → 0 < k → x ≡ refused (plain k) → Builds s xs at ws ys r x
   refuses k z l e = rw e (Builds.not k z l)
 
 module _ {s xs ws ys : List ℕ} {at expr n : ℕ} (owner : Name) (depth : ℕ) (k : le2 s (expr + 4) ≡ 64) {b : Bool} (neg : Negative s expr b) where
+  -- the answer of `build_literal` for a negative literal
   pub literal-stops : {u : ℕ} → b ≡ true → Leaves s xs at ws ys (record { at = u; count = n; number = 14 }) owner depth expr n
   literal-stops t a =
       let p = literal-at a k in
       refuses 14 refl (omega arith) (rw (p .is) (literal-refused owner (prefixOf depth) _ _ (neg a _ (p .is) ∙ rw t)))
 
-  pub literal-made : {v u d : ℕ} → b ≡ false → v ≡ le8 s (expr + 7) → d ≡ default-alignment → Wrote xs at (write (nodeTree (IrNode.Const unplaced (aligned d) v))) ys u → Leaves s xs at ws ys (record { at = u; count = n; number = 0 }) owner depth expr n
+  -- its answer else
+  pub literal-made : {v u d : ℕ} → b ≡ false → v ≡ le8 s (expr + 7) → d ≡ default-alignment →
+      Wrote xs at (write (nodeTree (IrNode.Const unplaced (aligned d) v))) ys u →
+      Leaves s xs at ws ys (record { at = u; count = n; number = 0 }) owner depth expr n
   literal-made t e f w a =
       let p = literal-at a k in
       makes _ refl refl (rw (e, f) at w) (rw (p .is) (literal-gives owner (prefixOf depth) _ _ (neg a _ (p .is) ∙ rw t)))
@@ -141,43 +162,38 @@ module _ {s xs ws ys : List ℕ} {at expr n : ℕ} (owner : Name) (depth : ℕ) 
 -- ---- paths
 
 module _ (owner path : Name) (g : Registry) where
+  -- the definition, with the registry read
   path-steps : build-path owner path g ≡ (need (lookup-name owner path g) MissingParameter >>= (λ p. require (short path) 17 >>= (λ _. give (IrNode.FieldRef unplaced default-metadata path (some p))))) g
   unfolding build-path
   path-steps = reads-then (lookup-name owner path) _ g
 
-  path-gives : {p : Name} → lookup-name owner path g ≡ some p → length path ≤ 255 → build-path owner path g ≡ done (IrNode.FieldRef unplaced default-metadata path (some p), g)
+  -- a path that is found and short becomes a FieldRef node
+  path-gives : {p : Name} → lookup-name owner path g ≡ some p → length path ≤ 255 →
+      build-path owner path g ≡ done (IrNode.FieldRef unplaced default-metadata path (some p), g)
   unfolding give
   path-gives e h = path-steps ∙ need-some MissingParameter _ g e ∙ require-yes 17 _ g (le-leb (length path) 255 h)
 
+  -- a long one is refused with 17
   path-long : {p : Name} → lookup-name owner path g ≡ some p → 255 < length path → build-path owner path g ≡ refused (plain 17)
   path-long e h = path-steps ∙ need-some MissingParameter _ g e ∙ require-no 17 _ g (lt-leb (length path) 255 h)
 
+  -- one that is not found with 12
   path-missing : lookup-name owner path g ≡ none → build-path owner path g ≡ refused (plain 12)
   path-missing e = path-steps ∙ need-none MissingParameter _ g e
 
-module _ {s ws : List ℕ} {n : ℕ} {r : Found} where
-  pub looked-at : {o : Option Name} {i : ℕ} → r ≡ At i → Looked s ws n r o → (i < n) × (o ≡ some (entryName s (getD ws i 0)))
-  looked-at {o} {i} e l = go (subst (λ (f : Found). Looked s ws n f o) e l) refl
-    where
-      go : {f : Found} {o : Option Name} → Looked s ws n f o → f ≡ At i → (i < n) × (o ≡ some (entryName s (getD ws i 0)))
-      go (Looked.at {i = j} h) q = let z : j ≡ i = cc in rw (← z) (h, refl)
-      go Looked.missing q = absurd (let z : _≡_ {A = ℕ} 0 1 = cc in omega arith)
-
-  pub looked-missing : {o : Option Name} → r ≡ Missing → Looked s ws n r o → o ≡ none
-  looked-missing {o} e l = go (subst (λ (f : Found). Looked s ws n f o) e l) refl
-    where
-      go : {f : Found} {o : Option Name} → Looked s ws n f o → f ≡ Missing → o ≡ none
-      go (Looked.at h) q = absurd (let z : _≡_ {A = ℕ} 0 1 = cc in omega arith)
-      go Looked.missing q = refl
-
 module _ {s xs ws ys : List ℕ} {at n : ℕ} (owner path : Name) {r : Found} (l : Looked s ws n r (lookup-name owner path (entriesOf s ws n))) where
-  pub ref-made : {i u : ℕ} → r ≡ At i → length path ≤ 255 → Wrote xs at (write (nodeTree (IrNode.FieldRef unplaced default-metadata path (some (entryName s (getD ws i 0)))))) ys u →
+  -- the answer of `build_path` for a path that is found and short
+  pub ref-made : {i u : ℕ} → r ≡ At i → length path ≤ 255 →
+      Wrote xs at (write (nodeTree (IrNode.FieldRef unplaced default-metadata path (some (entryName s (getD ws i 0)))))) ys u →
       Builds s xs at ws ys (record { at = u; count = n; number = 0 }) (build-path owner path (entriesOf s ws n))
-  ref-made e h w = makes _ refl refl w (path-gives owner path _ (looked-at e l .1) h)
+  ref-made e h w = makes _ refl refl w (path-gives owner path _ (looked-entry e l .1) h)
 
-  pub ref-long : {i u : ℕ} → r ≡ At i → 255 < length path → Builds s xs at ws ys (record { at = u; count = n; number = 17 }) (build-path owner path (entriesOf s ws n))
-  ref-long e h = refuses 17 refl (omega arith) (path-long owner path _ (looked-at e l .1) h)
+  -- for a long one
+  pub ref-long : {i u : ℕ} → r ≡ At i → 255 < length path →
+      Builds s xs at ws ys (record { at = u; count = n; number = 17 }) (build-path owner path (entriesOf s ws n))
+  ref-long e h = refuses 17 refl (omega arith) (path-long owner path _ (looked-entry e l .1) h)
 
+  -- for one that is not found
   pub ref-missing : {u : ℕ} → r ≡ Missing → Builds s xs at ws ys (record { at = u; count = n; number = 12 }) (build-path owner path (entriesOf s ws n))
   ref-missing e = refuses 12 refl (omega arith) (path-missing owner path _ (looked-missing e l))
 
@@ -185,11 +201,15 @@ module _ {s xs ws ys : List ℕ} {at n : ℕ} (owner path : Name) {r : Found} (l
 
 -- what a field reference becomes
 module _ (owner prefix : Name) (path : List Name) (g : Registry) where
-  buffer-gives : same (join path) buffer-size ≡ true → build-expr-ir owner prefix (ExprKind.FieldRef path) g ≡ done (IrNode.FieldRef unplaced default-metadata buffer-size none, g)
+  -- `__buffer_size` becomes the node of that name, whatever the prefix
+  buffer-gives : same (join path) buffer-size ≡ true →
+      build-expr-ir owner prefix (ExprKind.FieldRef path) g ≡ done (IrNode.FieldRef unplaced default-metadata buffer-size none, g)
   unfolding build-expr-ir give
   buffer-gives e = rw (e, same-eq (join path) buffer-size e)
 
-  path-is : same (join path) buffer-size ≡ false → build-expr-ir owner prefix (ExprKind.FieldRef path) g ≡ build-path owner (apply-path-prefix prefix (join path)) g
+  -- another path is looked up behind the prefix
+  path-is : same (join path) buffer-size ≡ false →
+      build-expr-ir owner prefix (ExprKind.FieldRef path) g ≡ build-path owner (apply-path-prefix prefix (join path)) g
   unfolding build-expr-ir
   path-is e = rw e
 
@@ -197,9 +217,11 @@ module _ (owner prefix : Name) (path : List Name) (g : Registry) where
 abbrev pub BufferSize : List ℕ → ℕ → Bool → Type 0
 BufferSize s expr r = (a : Accepted s 64 91 expr) (path : List Name) → exprOf (tree a) ≡ ExprKind.FieldRef path → r ≡ same (join path) buffer-size
 
+-- how long the path behind the prefix is
 abbrev pub Long : List ℕ → ℕ → ℕ → ℕ → Type 0
 Long s expr depth r = (a : Accepted s 64 91 expr) (path : List Name) → exprOf (tree a) ≡ ExprKind.FieldRef path → r ≡ length (pathOf depth path)
 
+-- that the path behind the prefix was written
 abbrev pub Put : List ℕ → ℕ → ℕ → (xs ys : List ℕ) → ℕ → Type 0
 Put s expr depth xs ys r = (a : Accepted s 64 91 expr) (path : List Name) → exprOf (tree a) ≡ ExprKind.FieldRef path → Wrote xs 0 (pathOf depth path) ys r
 
@@ -209,31 +231,38 @@ taken {xs} {ys} {bs} {e} h w =
     let z : e ≡ length bs = omega (arith, w .end) in
     rw (w .left, poke-whole xs bs h, z) (take-at bs (drop (length bs) xs) (length bs) refl)
 
+-- the length of that part
 pub taken-length : (ys : List ℕ) (e : ℕ) → e ≤ length ys → e ≡ length (take e ys)
 taken-length ys e h = simp length-take (omega arith)
 
 module _ {s : List ℕ} {expr : ℕ} (k : le2 s (expr + 4) ≡ 65) where
   -- the path fits where it was measured
-  pub written : (depth : ℕ) {l e : ℕ} {xs ys : List ℕ} → Accepted s 64 91 expr → Long s expr depth l → l ≤ 511 → length xs ≡ 512 → Put s expr depth xs ys e → e ≤ length ys
+  pub written : (depth : ℕ) {l e : ℕ} {xs ys : List ℕ} → Accepted s 64 91 expr → Long s expr depth l → l ≤ 511 → length xs ≡ 512 →
+      Put s expr depth xs ys e → e ≤ length ys
   written depth {l} {e} {xs} {ys} a g h x p =
       let f = field-ref-at a k in
       let w = p a _ (f .is) in
       omega (arith, g a _ (f .is), w .end, ap length (w .left), poke-length xs 0 (pathOf depth (textsOf (f .list .got .0))))
 
   module _ {xs ws ys : List ℕ} {at : ℕ} (owner : Name) (depth n : ℕ) {b : Bool} (is : BufferSize s expr b) where
-    pub buffer-made : {u : ℕ} → b ≡ true → Wrote xs at (write (nodeTree (IrNode.FieldRef unplaced default-metadata buffer-size none))) ys u → Leaves s xs at ws ys (record { at = u; count = n; number = 0 }) owner depth expr n
+    -- the answer of `build_field_ref` for `__buffer_size`
+    pub buffer-made : {u : ℕ} → b ≡ true →
+        Wrote xs at (write (nodeTree (IrNode.FieldRef unplaced default-metadata buffer-size none))) ys u →
+        Leaves s xs at ws ys (record { at = u; count = n; number = 0 }) owner depth expr n
     buffer-made t w a =
         let f = field-ref-at a k in
         makes _ refl refl w (rw (f .is) (buffer-gives owner (prefixOf depth) _ _ (sym (is a _ (f .is)) ∙ t)))
 
     -- longer than any path of the registry
-    pub path-stops : {l u : ℕ} → Standing s ws n → length owner ≤ 255 → b ≡ false → Long s expr depth l → 511 < l → Leaves s xs at ws ys (record { at = u; count = n; number = 12 }) owner depth expr n
+    pub path-stops : {l u : ℕ} → Standing s ws n → length owner ≤ 255 → b ≡ false → Long s expr depth l → 511 < l →
+        Leaves s xs at ws ys (record { at = u; count = n; number = 12 }) owner depth expr n
     path-stops {l} st o t g h a =
         let f = field-ref-at a k in
         let m : 511 < length (pathOf depth (textsOf (f .list .got .0))) = rw (g a _ (f .is)) at h in
         refuses 12 refl (omega arith)
         (rw (f .is) (path-is owner (prefixOf depth) _ _ (sym (is a _ (f .is)) ∙ t) ∙ path-missing owner _ _ (long-lookup st owner _ o m)))
 
+    -- its answer for a path that was copied
     pub path-made : {l e : ℕ} {x₁ x₂ : List ℕ} {r : Built} → b ≡ false → Long s expr depth l → l ≤ 511 → length x₁ ≡ 512 → Put s expr depth x₁ x₂ e →
         Builds s xs at ws ys r (build-path owner (take e x₂) (entriesOf s ws n)) → Leaves s xs at ws ys r owner depth expr n
     path-made {l} {e} {x₁} {x₂} t g h x p m a =
@@ -243,18 +272,22 @@ module _ {s : List ℕ} {expr : ℕ} (k : le2 s (expr + 4) ≡ 65) where
 
 -- ---- operations
 
+-- the operation of a kind from 68 to 72, and the kind of its node
 abbrev Low : ℕ → Type 0
 Low k = (operationOf k ≡ some (getD operations (k - 68) BinaryOp.AddChecked)) × (opKind (getD operations (k - 68) BinaryOp.AddChecked) ≡ k + 66)
 
+-- the operation of a kind from 74 to 78, and the kind of its node
 abbrev High : ℕ → Type 0
 High k = (operationOf k ≡ some (getD operations (5 + (k - 74)) BinaryOp.AddChecked)) × (opKind (getD operations (5 + (k - 74)) BinaryOp.AddChecked) ≡ k + 65)
 
+-- the kinds 68 to 72 have an operation
 pub low-operation : {k : ℕ} → 68 ≤ k → k < 73 → Operation k (k + 66)
 unfolding operationOf operations
 low-operation {k} l h =
     let o : Low k = each Low 5 68 ((refl, refl), ((refl, refl), ((refl, refl), ((refl, refl), ((refl, refl), tt))))) k l (omega arith) in
     record { low = l; high = omega arith; op = _; is = o .0; node = o .1; least = omega arith; most = omega arith }
 
+-- the kinds 74 to 78 have one
 pub high-operation : {k : ℕ} → 74 ≤ k → k < 79 → Operation k (k + 65)
 unfolding operationOf operations
 high-operation {k} l h =
@@ -270,36 +303,49 @@ none-low : {k : ℕ} → k < 68 → operationOf k ≡ none
 unfolding operationOf
 none-low {k} h = let i : k < 74 = omega arith in rw (lt-leb 68 k h, lt-leb 74 k i)
 
+-- 73, the remainder
 none-between : {k : ℕ} → 73 ≤ k → k < 74 → operationOf k ≡ none
 unfolding operationOf
 none-between {k} l h = let i : 68 ≤ k = omega arith in let j : 72 < k = omega arith in rw (le-leb 68 k i, lt-leb k 72 j, lt-leb 74 k h)
 
+-- 79 and above
 none-high : {k : ℕ} → 79 ≤ k → operationOf k ≡ none
 unfolding operationOf
-none-high {k} l = let i : 68 ≤ k = omega arith in let j : 72 < k = omega arith in let m : 74 ≤ k = omega arith in let p : 78 < k = omega arith in rw (le-leb 68 k i, lt-leb k 72 j, le-leb 74 k m, lt-leb k 78 p)
+none-high {k} l =
+    let i : 68 ≤ k = omega arith in
+    let j : 72 < k = omega arith in
+    let m : 74 ≤ k = omega arith in
+    let p : 78 < k = omega arith in
+    rw (le-leb 68 k i, lt-leb k 72 j, le-leb 74 k m, lt-leb k 78 p)
 
 module _ (owner prefix : Name) (g : Registry) where
+  -- a kind of two operands without an operation is refused
   binary-refused : (k : ℕ) (l r : ExprKind) → operationOf k ≡ none → build-expr-ir owner prefix (ExprKind.Binary k l r) g ≡ refused (plain 14)
   unfolding build-expr-ir
   binary-refused k l r e = need-none UnsupportedExpression _ g e
 
+  -- so is `sizeof`
   sizeof-refused : (n : Name) → build-expr-ir owner prefix (ExprKind.Sizeof n) g ≡ refused (plain 14)
   unfolding build-expr-ir refuse
   sizeof-refused n = refl
 
+  -- so is `alignof`
   alignof-refused : (n : Name) → build-expr-ir owner prefix (ExprKind.Alignof n) g ≡ refused (plain 14)
   unfolding build-expr-ir refuse
   alignof-refused n = refl
 
+  -- so is every kind of one operand
   unary-refused : (k : ℕ) (x : ExprKind) → build-expr-ir owner prefix (ExprKind.Unary k x) g ≡ refused (plain 14)
   unfolding build-expr-ir refuse
   unary-refused k x = refl
 
+  -- the expression is refused with 14
   abbrev Refused : ExprKind → Type 0
   Refused e = build-expr-ir owner prefix e g ≡ refused (plain 14)
 
   -- a kind that becomes no node
-  other-refused : {s : List ℕ} {at : ℕ} (a : Accepted s 64 91 at) → (le2 s (at + 4) ≡ 64 → ⊥) → (le2 s (at + 4) ≡ 65 → ⊥) → operationOf (le2 s (at + 4)) ≡ none → Refused (exprOf (tree a))
+  other-refused : {s : List ℕ} {at : ℕ} (a : Accepted s 64 91 at) → (le2 s (at + 4) ≡ 64 → ⊥) → (le2 s (at + 4) ≡ 65 → ⊥) →
+      operationOf (le2 s (at + 4)) ≡ none → Refused (exprOf (tree a))
   other-refused {s} {at} a x y e = low (eqb (le2 s (at + 4)) 66) refl
     where
       high : (t : Bool) → leb (le2 s (at + 4)) 82 ≡ t → 79 ≤ le2 s (at + 4) → Refused (exprOf (tree a))
@@ -312,38 +358,48 @@ module _ (owner prefix : Name) (g : Registry) where
 
       next : (t : Bool) → eqb (le2 s (at + 4)) 67 ≡ t → (le2 s (at + 4) ≡ 66 → ⊥) → Refused (exprOf (tree a))
       next true q h = rw (alignof-at a (eqb-true _ _ q)) (alignof-refused _)
-      next false q h = let z : le2 s (at + 4) ≡ 67 → ⊥ = eqb-false _ _ q in let o = opened a refl refl in middle (leb 79 (le2 s (at + 4))) refl (omega (arith, o .least))
+      next false q h =
+          let z : le2 s (at + 4) ≡ 67 → ⊥ = eqb-false _ _ q in let o = opened a refl refl in middle (leb 79 (le2 s (at + 4))) refl (omega (arith, o .least))
 
       low : (t : Bool) → eqb (le2 s (at + 4)) 66 ≡ t → Refused (exprOf (tree a))
       low true q = rw (sizeof-at a (eqb-true _ _ q)) (sizeof-refused _)
       low false q = next (eqb (le2 s (at + 4)) 67) refl (eqb-false _ _ q)
 
 module _ {s xs ws ys : List ℕ} {at expr : ℕ} (owner : Name) (depth n : ℕ) {k : ℕ} (e : k ≡ le2 s (expr + 4)) (x : k ≡ 64 → ⊥) (y : k ≡ 65 → ⊥) where
+  -- the answer of `build_expr_ir` for a kind that becomes no node
   other-stops : {u : ℕ} → operationOf k ≡ none → Leaves s xs at ws ys (record { at = u; count = n; number = 14 }) owner depth expr n
   other-stops z a = refuses 14 refl (omega arith) (other-refused owner (prefixOf depth) _ a (rw e at x) (rw e at y) (rw e at z))
 
+  -- such a kind is below 68
   pub low-stops : {u : ℕ} → k < 68 → Leaves s xs at ws ys (record { at = u; count = n; number = 14 }) owner depth expr n
   low-stops h = other-stops (none-low h)
 
+  -- or it is 73
   pub between-stops : {u : ℕ} → 73 ≤ k → k < 74 → Leaves s xs at ws ys (record { at = u; count = n; number = 14 }) owner depth expr n
   between-stops l h = other-stops (none-between l h)
 
+  -- or 79 and above
   pub high-stops : {u : ℕ} → 79 ≤ k → Leaves s xs at ws ys (record { at = u; count = n; number = 14 }) owner depth expr n
   high-stops h = other-stops (none-high h)
 
 -- ---- two operands
 
 module _ (owner prefix : Name) (k : ℕ) (l r : ExprKind) (g : Registry) {op : BinaryOp} (e : operationOf k ≡ some op) where
+  -- the refusal of the first operand is that of the whole
   first-refused : {q : Refusal} → build-expr-ir owner prefix l g ≡ refused q → build-expr-ir owner prefix (ExprKind.Binary k l r) g ≡ refused q
   unfolding build-expr-ir
   first-refused h = need-some UnsupportedExpression _ g e ∙ step-refused (build-expr-ir owner prefix l) _ g h
 
   module _ {x : IrNode × Registry} (h : build-expr-ir owner prefix l g ≡ done x) where
+    -- so is that of the second, on the registry that the first left
     second-refused : {q : Refusal} → build-expr-ir owner prefix r (x .1) ≡ refused q → build-expr-ir owner prefix (ExprKind.Binary k l r) g ≡ refused q
     unfolding build-expr-ir
-    second-refused i = need-some UnsupportedExpression _ g e ∙ step-done (build-expr-ir owner prefix l) _ g h ∙ step-refused (build-expr-ir owner prefix r) _ (x .1) i
+    second-refused i =
+        need-some UnsupportedExpression _ g e ∙ step-done (build-expr-ir owner prefix l) _ g h ∙ step-refused (build-expr-ir owner prefix r) _ (x .1) i
 
-    both-give : {y : IrNode × Registry} → build-expr-ir owner prefix r (x .1) ≡ done y → build-expr-ir owner prefix (ExprKind.Binary k l r) g ≡ done (IrNode.Binary unplaced default-metadata op (x .0) (y .0), y .1)
+    -- both operands become one node
+    both-give : {y : IrNode × Registry} → build-expr-ir owner prefix r (x .1) ≡ done y →
+        build-expr-ir owner prefix (ExprKind.Binary k l r) g ≡ done (IrNode.Binary unplaced default-metadata op (x .0) (y .0), y .1)
     unfolding build-expr-ir give
     both-give i = need-some UnsupportedExpression _ g e ∙ step-done (build-expr-ir owner prefix l) _ g h ∙ step-done (build-expr-ir owner prefix r) _ (x .1) i
 
@@ -352,55 +408,72 @@ pub summed : (x : ℕ) {y z : ℕ} → y ≡ z → x + y ≡ x + z
 summed x e = ap (λ (w : ℕ). x + w) e
 
 -- what the operands stand on, and that they are shorter
-module _ {s ws : List ℕ} {n depth expr at kind p : ℕ} {owner : Name} (r : Ready s ws n owner depth expr at) (o : Operation (le2 s (expr + 4)) kind) (e : p ≡ at + 15) where
+module _ {s ws : List ℕ} {n depth expr at kind p : ℕ} {owner : Name} (r : Ready s ws n owner depth expr at)
+    (o : Operation (le2 s (expr + 4)) kind) (e : p ≡ at + 15) where
+  -- the first operand
   pub left-ready : (le4 s (expr + 6) < le4 s expr) × Ready s ws n owner depth (expr + 6) p
   left-ready =
       let b = binary-at (r .expression) (o .low) (o .high) in
       (omega (arith, b .room), record { standing = r .standing; owned = r .owned; deep = r .deep; expression = b .left; cursor = omega (arith, r .cursor, b .room) })
 
+  -- the length of the first lies inside the bytes, so that the second can be found
   pub second-inside : expr + 6 + 4 ≤ length s
   second-inside = omega (arith, header-inside (binary-at (r .expression) (o .low) (o .high) .left))
 
   module _ {q : ℕ} {l : Built} (w : Within p (1024 * (4 + le4 s (expr + 6))) l) (f : q ≡ expr + 10 + le4 s (expr + 6)) where
+    -- the second operand is an accepted expression
     right-at : Accepted s 64 91 q × (10 + le4 s (expr + 6) + le4 s q ≤ le4 s expr)
     right-at =
         let b = binary-at (r .expression) (o .low) (o .high) in
         rw f (b .right, b .room)
 
+    -- the second operand
     pub right-ready : (le4 s q < le4 s expr) × Ready s ws (l .count) owner depth q (l .at)
     right-ready =
         let b = right-at in
         (omega (arith, b .1), record { standing = standing (r .standing) refl (w .count); owned = r .owned; deep = r .deep; expression = b .0; cursor = omega (arith, r .cursor, b .1, w .high) })
 
-    pub both-within : {m : Built} → Within (l .at) (1024 * (4 + le4 s q)) m → (at + 4 ≤ m .at) × (m .at < 2 ^ 61) × Within at (1024 * (4 + le4 s expr)) (record { at = m .at; count = m .count; number = 0 })
+    -- the cursor behind both stays in the room of the whole
+    pub both-within : {m : Built} → Within (l .at) (1024 * (4 + le4 s q)) m →
+        (at + 4 ≤ m .at) × (m .at < 2 ^ 61) × Within at (1024 * (4 + le4 s expr)) (record { at = m .at; count = m .count; number = 0 })
     both-within {m} v =
         let b = right-at in
         (omega (arith, w .low, v .low), omega (arith, r .cursor, b .1, w .high, v .high), record { low = omega (arith, w .low, v .low); high = omega (arith, b .1, w .high, v .high); count = v .count })
 
 -- the bytes of a node of two operands
-pub two-written : {xs x₁ x₂ x₃ ys : List ℕ} {at p q u v : ℕ} (k a : ℕ) (m n : Tree) → Wrote xs at (nodeStart k a) x₁ p → Wrote x₁ p (write m) x₂ q → Wrote x₂ q (write n) x₃ u → Wrote x₃ at (bytes 4 (u - at - 4)) ys v →
+pub two-written : {xs x₁ x₂ x₃ ys : List ℕ} {at p q u v : ℕ} (k a : ℕ) (m n : Tree) → Wrote xs at (nodeStart k a) x₁ p →
+    Wrote x₁ p (write m) x₂ q → Wrote x₂ q (write n) x₃ u → Wrote x₃ at (bytes 4 (u - at - 4)) ys v →
     Wrote xs at (write (nodeBlock k (aligned a) (cons m (cons n nil)))) ys u
 two-written {x₃} {u} k a m n w f g c = node-closed k a (cons m (cons n nil)) w (parts m (cons n nil) f (parts n nil g (no-parts x₃ u))) c
 
-module _ {s ws : List ℕ} {kind : ℕ} (owner : Name) (depth n expr : ℕ) (o : Operation (le2 s (expr + 4)) kind) {x₁ x₂ : List ℕ} {p : ℕ} {l : Built} (f : Leaves s x₁ p ws x₂ l owner depth (expr + 6) n) where
-  pub left-stops : {xs ys : List ℕ} {at u m : ℕ} → (l .number ≡ 0 → ⊥) → Leaves s xs at ws ys (record { at = u; count = m; number = l .number }) owner depth expr n
+module _ {s ws : List ℕ} {kind : ℕ} (owner : Name) (depth n expr : ℕ) (o : Operation (le2 s (expr + 4)) kind) {x₁ x₂ : List ℕ}
+    {p : ℕ} {l : Built} (f : Leaves s x₁ p ws x₂ l owner depth (expr + 6) n) where
+  -- the first operand is refused
+  pub left-stops : {xs ys : List ℕ} {at u m : ℕ} → (l .number ≡ 0 → ⊥) →
+      Leaves s xs at ws ys (record { at = u; count = m; number = l .number }) owner depth expr n
   left-stops z a =
       let b = binary-at a (o .low) (o .high) in
       let i = not-built z (f (b .left)) in
       refuses (l .number) refl (i .1) (rw (b .is) (first-refused owner (prefixOf depth) _ _ _ _ (o .is) (i .0)))
 
-  module _ {q : ℕ} (z : l .number ≡ 0) (e : q ≡ expr + 10 + le4 s (expr + 6)) {x₃ : List ℕ} {r : Built} (g : Leaves s x₂ (l .at) ws x₃ r owner depth q (l .count)) where
+  module _ {q : ℕ} (z : l .number ≡ 0) (e : q ≡ expr + 10 + le4 s (expr + 6)) {x₃ : List ℕ} {r : Built}
+      (g : Leaves s x₂ (l .at) ws x₃ r owner depth q (l .count)) where
+    -- what the second operand leaves, at the offset as the definition has it
     right-leaves : Leaves s x₂ (l .at) ws x₃ r owner depth (expr + 10 + le4 s (expr + 6)) (l .count)
     right-leaves = subst (λ (j : ℕ). Leaves s x₂ (l .at) ws x₃ r owner depth j (l .count)) e g
 
-    pub right-stops : {xs ys : List ℕ} {at u m : ℕ} → (r .number ≡ 0 → ⊥) → Leaves s xs at ws ys (record { at = u; count = m; number = r .number }) owner depth expr n
+    -- the second operand is refused
+    pub right-stops : {xs ys : List ℕ} {at u m : ℕ} → (r .number ≡ 0 → ⊥) →
+        Leaves s xs at ws ys (record { at = u; count = m; number = r .number }) owner depth expr n
     right-stops y a =
         let b = binary-at a (o .low) (o .high) in
         let i = built z (f (b .left)) in
         let j = not-built y (right-leaves (b .right)) in
         refuses (r .number) refl (j .1) (rw (b .is) (second-refused owner (prefixOf depth) _ _ _ _ (o .is) (i .1) (rw (← i .2) (j .0))))
 
-    pub both-made : {xs ys : List ℕ} {at d v : ℕ} → r .number ≡ 0 → d ≡ default-alignment → Wrote xs at (nodeStart kind d) x₁ p → Wrote x₃ at (bytes 4 (r .at - at - 4)) ys v →
+    -- both were built
+    pub both-made : {xs ys : List ℕ} {at d v : ℕ} → r .number ≡ 0 → d ≡ default-alignment → Wrote xs at (nodeStart kind d) x₁ p →
+        Wrote x₃ at (bytes 4 (r .at - at - 4)) ys v →
         Leaves s xs at ws ys (record { at = r .at; count = r .count; number = 0 }) owner depth expr n
     unfolding nodeTree
     both-made y t w c a =

@@ -19,32 +19,38 @@ use Rattle.builder.specs.Nodes.{const-or-zero, refText, buffer-size}
 use Rattle.wire.specs.Poke.{Wrote, opened}
 use Rattle.wire.proofs.Laws.{none as nothing, both, parts, no-parts, closed, bytes-length}
 use Rattle.builder_nodes.specs.Built.{nodeStart, numberPart, textFlag, absentText}
-use Rattle.builder_nodes.proofs.Laws.{node-closed, align-closed}
+use Rattle.builder_nodes.proofs.Laws.{node-closed, align-closed, start-at}
 
 -- ---- one part, by its code in the table
 
 module _ {xs ys : List ℕ} {at r code c : ℕ} (e : c ≡ code) where
+  -- a number part is written where the table has one
   pub number-there : (v : ℕ) → c ≡ 3 → Wrote xs at (bytes 8 v) ys r → Wrote xs at (numberPart code v) ys r
   unfolding numberPart write
   number-there v h f = rw (eq-eqb _ _ (sym e ∙ h)) f
 
+  -- the flag 1 before a text where the table has an optional text
   pub flag-there : c ≡ 7 → Wrote xs at (write (num 1 (cond true 1 0))) ys r → Wrote xs at (textFlag code) ys r
   unfolding textFlag
   flag-there h f = rw (eq-eqb _ _ (sym e ∙ h)) f
 
+  -- the flag 0 for a text that is absent
   pub absent-there : c ≡ 7 → Wrote xs at (write (num 1 (cond false 1 0))) ys r → Wrote xs at (absentText code) ys r
   unfolding absentText
   absent-there h f = rw (eq-eqb _ _ (sym e ∙ h)) f
 
 module _ {xs : List ℕ} {at code c : ℕ} (e : c ≡ code) where
+  -- nothing is written where the table has no number
   pub number-other : (v : ℕ) → (c ≡ 3 → ⊥) → Wrote xs at (numberPart code v) xs at
   unfolding numberPart
   number-other v h = rw (ne-eqb _ _ (λ q. h (e ∙ q))) (nothing xs at)
 
+  -- no flag before a text that is not optional
   pub flag-other : (c ≡ 7 → ⊥) → Wrote xs at (textFlag code) xs at
   unfolding textFlag
   flag-other h = rw (ne-eqb _ _ (λ q. h (e ∙ q))) (nothing xs at)
 
+  -- nothing where the table has no optional text
   pub absent-other : (c ≡ 7 → ⊥) → Wrote xs at (absentText code) xs at
   unfolding absentText
   absent-other h = rw (ne-eqb _ _ (λ q. h (e ∙ q))) (nothing xs at)
@@ -56,11 +62,14 @@ meta-codes : (k : ℕ) → 128 ≤ k → k ≤ 144 → (codeAt k 0 ≡ 3) × (co
 unfolding codeAt partsOf nodeTable
 meta-codes k l h = rw (le-leb _ _ l, le-leb _ _ h) (refl, refl)
 
+-- a node's head has 15 bytes
 start-length : (k a : ℕ) → length (nodeStart k a) ≡ 15
 unfolding nodeStart write opened bytes
 start-length k a = refl
 
-pub started : {xs ys zs vs : List ℕ} {at p q r : ℕ} (k a : ℕ) → 128 ≤ k → k ≤ 144 → Wrote xs at (opened k) ys p → Wrote ys p (numberPart (codeAt k 0) a) zs q → Wrote zs q (absentText (codeAt k 1)) vs r →
+-- the answer of `start_node`
+pub started : {xs ys zs vs : List ℕ} {at p q r : ℕ} (k a : ℕ) → 128 ≤ k → k ≤ 144 → Wrote xs at (opened k) ys p →
+    Wrote ys p (numberPart (codeAt k 0) a) zs q → Wrote zs q (absentText (codeAt k 1)) vs r →
     Wrote xs at (nodeStart k a) vs r × (r ≡ at + 15)
 unfolding nodeStart numberPart absentText
 started {xs} {at = at} {r = r} k a l h f g i =
@@ -68,78 +77,104 @@ started {xs} {at = at} {r = r} k a l h f g i =
     let w : Wrote xs at (nodeStart k a) _ r = both f (both (rw (m .0) at g) (rw (m .1) at i)) in
     (w, omega (arith, w .end, start-length k a))
 
-pub meta-is : {xs ys : List ℕ} {at r m a : ℕ} (k : ℕ) → m ≡ a → Wrote xs at (nodeStart k m) ys r → Wrote xs at (nodeStart k a) ys r
-meta-is {xs} {ys} {at} {r} k e f = subst (λ (n : ℕ). Wrote xs at (nodeStart k n) ys r) e f
-
 -- ---- nodes of numbers
 
-pub zero-closed : {xs ys zs : List ℕ} {at p e : ℕ} (a v : ℕ) → v ≡ 0 → Wrote xs at (nodeStart 128 a) ys p → Wrote ys at (bytes 4 (p - at - 4)) zs e → Wrote xs at (write (nodeTree (const-or-zero v a))) zs p
+-- `put_const_or_zero` of 0 writes a ZeroSize node
+pub zero-closed : {xs ys zs : List ℕ} {at p e : ℕ} (a v : ℕ) → v ≡ 0 → Wrote xs at (nodeStart 128 a) ys p →
+    Wrote ys at (bytes 4 (p - at - 4)) zs e → Wrote xs at (write (nodeTree (const-or-zero v a))) zs p
 unfolding nodeTree
 zero-closed {ys = ys} {p = p} a v z f c = rw (eq-eqb _ _ z) (node-closed 128 a nil f (no-parts ys p) c)
 
 module _ {xs ys zs : List ℕ} {at p q : ℕ} (a : ℕ) where
   -- an AlignUp node, as far as the node that it aligns
-  pub align-started : Wrote xs at (nodeStart 131 a) ys p → Wrote ys p (numberPart (codeAt 131 2) a) zs q → Wrote xs at (nodeStart 131 a ++ write (num 8 a)) zs q × (q ≡ at + 23)
+  pub align-started : Wrote xs at (nodeStart 131 a) ys p → Wrote ys p (numberPart (codeAt 131 2) a) zs q →
+      Wrote xs at (nodeStart 131 a ++ write (num 8 a)) zs q × (q ≡ at + 23)
   unfolding numberPart codeAt partsOf nodeTable write
   align-started f g = (both f g, omega (arith, f .end, g .end, start-length 131 a, bytes-length 8 a))
 
-  pub const-closed : {vs : List ℕ} {m e : ℕ} (v : ℕ) → m ≡ a → Wrote xs at (nodeStart 129 m) ys p → Wrote ys p (numberPart (codeAt 129 2) v) zs q → Wrote zs at (bytes 4 (q - at - 4)) vs e →
+  -- the answer of `const_node`
+  pub const-closed : {vs : List ℕ} {m e : ℕ} (v : ℕ) → m ≡ a → Wrote xs at (nodeStart 129 m) ys p →
+      Wrote ys p (numberPart (codeAt 129 2) v) zs q → Wrote zs at (bytes 4 (q - at - 4)) vs e →
       Wrote xs at (write (nodeTree (IrNode.Const unplaced (aligned a) v))) vs q × (q ≡ at + 23)
   unfolding numberPart codeAt partsOf nodeTable write nodeTree
   const-closed {m = m} v i f g c =
-      (node-closed 129 a (cons (num 8 v) nil) (meta-is 129 i f) (parts (num 8 v) nil g (no-parts zs q)) c, omega (arith, f .end, g .end, start-length 129 m, bytes-length 8 v))
+      (node-closed 129 a (cons (num 8 v) nil) (start-at 129 i f) (parts (num 8 v) nil g (no-parts zs q)) c, omega (arith, f .end, g .end, start-length 129 m, bytes-length 8 v))
 
-  pub value-closed : {vs : List ℕ} {e : ℕ} (v : ℕ) → (v ≡ 0 → ⊥) → Wrote xs at (nodeStart 131 a ++ write (num 8 a)) ys p → Wrote ys p (write (nodeTree (IrNode.Const unplaced (aligned a) v))) zs q → Wrote zs at (bytes 4 (q - at - 4)) vs e →
+  -- `put_const_or_zero` of another value writes a Const node in an AlignUp node
+  pub value-closed : {vs : List ℕ} {e : ℕ} (v : ℕ) → (v ≡ 0 → ⊥) → Wrote xs at (nodeStart 131 a ++ write (num 8 a)) ys p →
+      Wrote ys p (write (nodeTree (IrNode.Const unplaced (aligned a) v))) zs q → Wrote zs at (bytes 4 (q - at - 4)) vs e →
       Wrote xs at (write (nodeTree (const-or-zero v a))) vs q
   value-closed v z f g c = rw (ne-eqb _ _ z) (align-closed a (IrNode.Const unplaced (aligned a) v) f g c)
 
 -- ---- FieldRef nodes
 
+-- the parts of a FieldRef node behind its metadata
 abbrev refParts : Name → Name → Tree
 refParts path parameter = cons (name path) (cons (optionalTree name (some parameter)) nil)
 
+-- the path `__buffer_size` has 15 bytes as a text
 buffer-length : length (textFlag (codeAt 130 2) ++ write (name buffer-size)) ≡ 15
 unfolding textFlag codeAt partsOf nodeTable write bytes
 buffer-length = refl
 
+-- an absent parameter has one
 buffer-flag : length (absentText (codeAt 130 3)) ≡ 1
 unfolding absentText codeAt partsOf nodeTable write bytes
 buffer-flag = refl
 
 module _ {xs ys zs vs : List ℕ} {at p q r : ℕ} where
-  pub ref-parts : (path parameter : Name) → Wrote xs at (textFlag (codeAt 130 2) ++ write (name path)) ys p → Wrote ys p (textFlag (codeAt 130 3)) zs q → Wrote zs q (write (name parameter)) vs r → Wrote xs at (write (refParts path parameter)) vs r
+  -- the answer of `put_ref_parts`
+  pub ref-parts : (path parameter : Name) → Wrote xs at (textFlag (codeAt 130 2) ++ write (name path)) ys p →
+      Wrote ys p (textFlag (codeAt 130 3)) zs q → Wrote zs q (write (name parameter)) vs r →
+      Wrote xs at (write (refParts path parameter)) vs r
   unfolding textFlag codeAt partsOf nodeTable
-  ref-parts path n f g h = parts (name path) (cons (optionalTree name (some n)) nil) f (parts (optionalTree name (some n)) nil (parts (num 1 1) (name n) g h) (no-parts vs r))
+  ref-parts path n f g h =
+      parts (name path) (cons (optionalTree name (some n)) nil) f (parts (optionalTree name (some n)) nil (parts (num 1 1) (name n) g h) (no-parts vs r))
 
-  pub buffer-closed : {e a : ℕ} → a ≡ default-alignment → Wrote xs at (nodeStart 130 a) ys p → Wrote ys p (textFlag (codeAt 130 2) ++ write (name buffer-size)) zs q → Wrote zs q (absentText (codeAt 130 3)) vs r →
-      {us : List ℕ} → Wrote vs at (bytes 4 (r - at - 4)) us e → Wrote xs at (write (nodeTree (IrNode.FieldRef unplaced default-metadata buffer-size none))) us r × (r ≡ at + 31)
+  -- the answer of `put_buffer_size`
+  pub buffer-closed : {e a : ℕ} → a ≡ default-alignment → Wrote xs at (nodeStart 130 a) ys p →
+      Wrote ys p (textFlag (codeAt 130 2) ++ write (name buffer-size)) zs q → Wrote zs q (absentText (codeAt 130 3)) vs r →
+      {us : List ℕ} → Wrote vs at (bytes 4 (r - at - 4)) us e →
+      Wrote xs at (write (nodeTree (IrNode.FieldRef unplaced default-metadata buffer-size none))) us r × (r ≡ at + 31)
   unfolding textFlag absentText codeAt partsOf nodeTable nodeTree
   buffer-closed {a = a} i f g h c =
-      let w : Wrote xs at (nodeStart 130 default-alignment) ys p = meta-is 130 i f in
+      let w : Wrote xs at (nodeStart 130 default-alignment) ys p = start-at 130 i f in
       let t : Tree = cons (name buffer-size) (cons (optionalTree name none) nil) in
       let d = node-closed 130 default-alignment t w (parts (name buffer-size) (cons (optionalTree name none) nil) g (parts (optionalTree name none) nil (parts (num 1 0) nil h (no-parts vs r)) (no-parts vs r))) c in
       (d, omega (arith, w .end, g .end, h .end, start-length 130 default-alignment, buffer-length, buffer-flag))
 
-pub path-closed : {xs ys zs vs : List ℕ} {at p q a e : ℕ} (path parameter : Name) → a ≡ default-alignment → Wrote xs at (nodeStart 130 a) ys p → Wrote ys p (write (refParts path parameter)) zs q → Wrote zs at (bytes 4 (q - at - 4)) vs e →
+-- the answer of `put_path_ref`
+pub path-closed : {xs ys zs vs : List ℕ} {at p q a e : ℕ} (path parameter : Name) → a ≡ default-alignment →
+    Wrote xs at (nodeStart 130 a) ys p → Wrote ys p (write (refParts path parameter)) zs q →
+    Wrote zs at (bytes 4 (q - at - 4)) vs e →
     Wrote xs at (write (nodeTree (IrNode.FieldRef unplaced default-metadata path (some parameter)))) vs q
 unfolding nodeTree
-path-closed {xs} {ys} {at = at} {p = p} path n i f g c = node-closed 130 default-alignment (refParts path n) (meta-is 130 i f) g c
+path-closed {xs} {ys} {at = at} {p = p} path n i f g c = node-closed 130 default-alignment (refParts path n) (start-at 130 i f) g c
 
+-- the alignment of a FieldRef node is a number part
 number-in : {xs ys : List ℕ} {at r : ℕ} → Wrote xs at (numberPart (codeAt 130 0) default-alignment) ys r → Wrote xs at (write (num 8 default-alignment)) ys r
 unfolding numberPart codeAt partsOf nodeTable
 number-in f = f
 
 -- the size text: its flag, its length, and its three pieces
-pub size-text : {xs ys zs us vs ws : List ℕ} {at p q u v r n : ℕ} (owner path : Name) → n ≡ length owner + 1 + length path → Wrote xs at (textFlag (codeAt 130 1)) ys p → Wrote ys p (bytes 2 n) zs q → Wrote zs q owner us u →
+pub size-text : {xs ys zs us vs ws : List ℕ} {at p q u v r n : ℕ} (owner path : Name) → n ≡ length owner + 1 + length path →
+    Wrote xs at (textFlag (codeAt 130 1)) ys p → Wrote ys p (bytes 2 n) zs q → Wrote zs q owner us u →
     Wrote us u (ascii ":") vs v → Wrote vs v path ws r → Wrote xs at (write (optionalTree name (some (refText owner path)))) ws r
 unfolding textFlag codeAt partsOf nodeTable write
 size-text {ys = ys} {zs} {p = p} {q} owner path e f g h i j =
     let l : length owner + 1 + length path ≡ length (refText owner path) = omega (arith, length-append owner (ascii ":" ++ path)) in
     both f (both (subst (λ (n : ℕ). Wrote ys p (bytes 2 n) zs q) (e ∙ l) g) (both h (both i j)))
 
-pub size-closed : {xs ys zs us vs ws : List ℕ} {at p q u v a e : ℕ} (owner path parameter : Name) → a ≡ default-alignment → Wrote xs at (opened 130) ys p → Wrote ys p (numberPart (codeAt 130 0) a) zs q →
-    Wrote zs q (write (optionalTree name (some (refText owner path)))) us u → Wrote us u (write (refParts path parameter)) vs v → Wrote vs at (bytes 4 (v - at - 4)) ws e →
-    Wrote xs at (write (nodeTree (IrNode.FieldRef unplaced (record { alignment = default-alignment; size-expr = some (refText owner path) }) path (some parameter)))) ws v
+-- the answer of `put_size_ref`
+pub size-closed : {xs ys zs us vs ws : List ℕ} {at p q u v a e : ℕ} (owner path parameter : Name) → a ≡ default-alignment →
+    Wrote xs at (opened 130) ys p → Wrote ys p (numberPart (codeAt 130 0) a) zs q →
+    Wrote zs q (write (optionalTree name (some (refText owner path)))) us u → Wrote us u (write (refParts path parameter)) vs v →
+    Wrote vs at (bytes 4 (v - at - 4)) ws e →
+    Wrote xs at (write (nodeTree (IrNode.FieldRef unplaced (record {
+      alignment =
+          default-alignment;
+      size-expr = some (refText owner path);
+    }) path (some parameter)))) ws v
 unfolding nodeTree
 size-closed {ys = ys} {zs} {p = p} {q} owner path n i f g h j c =
     let w : Wrote ys p (write (num 8 default-alignment)) zs q = number-in (subst (λ (m : ℕ). Wrote ys p (numberPart (codeAt 130 0) m) zs q) i g) in

@@ -8,15 +8,18 @@ use lib.ListN.{length, set, take, drop, length-drop, take-append-drop, drop-of-l
 use lib.Seq.{length-take-le, take-all, set-out}
 use Rattle.wire.specs.Poke.{poke, Wrote}
 
+-- a byte set behind a part is set in what follows
 set-behind : (a z : List ℕ) (i v : ℕ) → set (a ++ z) (length a + i) v ≡ a ++ set z i v
 set-behind [] z i v = rw zero-add
 set-behind (x ∷ a) z i v = rw suc-add (ap (λ (l : List ℕ). x ∷ l) (set-behind a z i v))
 
+-- so are many
 poke-behind : (a z : List ℕ) (i : ℕ) (b : List ℕ) → poke (a ++ z) (length a + i) b ≡ a ++ poke z i b
 unfolding poke
 poke-behind a z i [] = refl
 poke-behind a z i (v ∷ b) = let e : suc (length a + i) ≡ length a + suc i = omega arith in rw (set-behind a z i v, e) (poke-behind a (set z i v) (suc i) b)
 
+-- a write behind the end changes nothing
 poke-out : (xs : List ℕ) (at : ℕ) (b : List ℕ) → length xs ≤ at → poke xs at b ≡ xs
 unfolding poke
 poke-out xs at [] h = refl
@@ -26,12 +29,15 @@ poke-out xs at (v ∷ b) h = rw (set-out xs at v h) (poke-out xs (suc at) b (ome
 abbrev Tailed : List ℕ → ℕ → List ℕ → List ℕ
 Tailed xs k ys = take k xs ++ (ys ++ drop (length xs - k) (drop k xs))
 
+-- what xs has from k on, as the code lends it
 abbrev tailOf : List ℕ → ℕ → List ℕ
 tailOf xs k = take (length xs - k) (drop k xs)
 
+-- it is all of it
 tail-is : (xs : List ℕ) (k : ℕ) → tailOf xs k ≡ drop k xs
 tail-is xs k = take-all (length xs - k) (drop k xs) (omega (arith, length-drop k xs))
 
+-- nothing stands behind it
 tailed-is : (xs : List ℕ) (k : ℕ) (ys : List ℕ) → Tailed xs k ys ≡ take k xs ++ ys
 tailed-is xs k ys = rw (drop-of-length-le (drop k xs) {i = length xs - k} (omega (arith, length-drop k xs)), append-nil ys)
 

@@ -15,11 +15,13 @@ use Rattle.builder_paths.specs.Joined.{segment, goesOn}
 
 -- ---- a part of a name
 
+-- a name that is compared with two parts is compared part by part
 same-split : (p u m : Name) → same (p ++ u) m ≡ (same p (take (length p) m) && same u (drop (length p) m))
 unfolding same
 same-split [] u m = refl
 same-split (x ∷ p) u [] = refl
-same-split (x ∷ p) u (y ∷ m) = ap (λ (b : Bool). eqb x y && b) (same-split p u m) ∙ sym (and-assoc (eqb x y) (same p (take (length p) m)) (same u (drop (length p) m)))
+same-split (x ∷ p) u (y ∷ m) =
+    ap (λ (b : Bool). eqb x y && b) (same-split p u m) ∙ sym (and-assoc (eqb x y) (same p (take (length p) m)) (same u (drop (length p) m)))
 
 -- whether a part of k bytes stands at i
 abbrev pub Stands : Name → ℕ → Name → ℕ → Bool → Type 0
@@ -36,7 +38,9 @@ module _ (m p : Name) (i : ℕ) where
   unfolding goesOn
   stands-short h l = (λ u. rw (le-leb _ _ h) (sym (same-long (p ++ u) (drop i m) (λ e. omega (arith, e, length-append p u, length-drop i m)))), false-true)
 
-  pub stands-tested : {r : Bool} → i ≤ length m → length p ≤ length m - i → r ≡ same p (take (i + length p - i) (drop i m)) → Stands m i p (length p) r × (r ≡ true → i + length p ≤ length m)
+  -- else it is compared with the bytes at that place
+  pub stands-tested : {r : Bool} → i ≤ length m → length p ≤ length m - i → r ≡ same p (take (i + length p - i) (drop i m)) →
+      Stands m i p (length p) r × (r ≡ true → i + length p ≤ length m)
   unfolding goesOn
   stands-tested {r} h l e =
       let k : i + length p - i ≡ length p = omega arith in
@@ -46,20 +50,24 @@ module _ (m p : Name) (i : ℕ) where
 
 -- ---- a segment and its dot
 
+-- a segment before others has its dot
 pub segment-dot : (left : ℕ) (n : Name) → 1 < left → segment left n ≡ n ++ ascii "."
 unfolding segment
 segment-dot left n h = rw (lt-ltb _ _ h)
 
+-- the last has none
 pub segment-last : (left : ℕ) (n : Name) → left ≤ 1 → segment left n ≡ n
 unfolding segment
 segment-last left n h = rw (le-ltb _ _ h, append-nil n)
 
+-- from behind the end on nothing matches, so that a miss stays a miss
 pub past-end : (m u : Name) → goesOn m (length m + 1) u ≡ false
 unfolding goesOn
 past-end m u = let h : length m < length m + 1 = omega arith in rw (lt-leb _ _ h)
 
 -- ---- the whole name
 
+-- from the first byte on it is the comparison of whole names
 pub all-on : (m n : Name) → goesOn m 0 n ≡ same n m
 unfolding goesOn
 all-on m n = let h : 0 ≤ length m = omega arith in rw (le-leb _ _ h)

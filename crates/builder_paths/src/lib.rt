@@ -8,6 +8,7 @@ ghost use Rattle.blocks.specs.Bytes.{le2};
 ghost use Rattle.blocks.specs.Name.{Name, same};
 ghost use Rattle.accepted.specs.Accepted.{Accepted, tree, nameAt};
 ghost use Rattle.expr.specs.Expr.{ExprKind, exprOf};
+ghost use Rattle.resolved_parts.specs.Types.{Named};
 ghost use Rattle.builder.specs.Names.{join};
 ghost use Rattle.builder.specs.Nodes.{buffer-size};
 ghost use Rattle.wire.specs.Poke.{Wrote};
@@ -30,23 +31,22 @@ fn stands_at(name: &[u8], i: usize, part: &[u8]) -> bool
 
 // The place in the name behind a segment and its dot; one behind the name's end where they do not stand at i.
 fn behind_segment(s: &[u8], at: usize, left: usize, name: &[u8], i: usize) -> usize
-    requires { ⌜ (at + 2 + le2 (now s) at ≤ length (now s)) × (i ≤ 1 + length (now name)) ⌝ }
+    requires { ⌜ Named (now s) at × (i ≤ 1 + length (now name)) ⌝ }
     ensures { λ r. ⌜ ((u : Name) → goesOn (now (name .entry)) i (segment left (nameAt (now (s .entry)) at) ++ u) ≡ goesOn (now (name .entry)) r u) ⌝ }
     ensures { λ r. ⌜ r ≤ 1 + length (now (name .entry)) ⌝ }
 {
-    let from = at + 2;
-    let n = wire::read2(s, at);
-    let to = from + n;
-    if !stands_at(name, i, &s[from..to]) {
+    let n = resolved_parts::name_at(s, at);
+    if !stands_at(name, i, n) {
         return name.len() + 1;
     }
+    let end = i + n.len();
     if 1 < left {
-        if !stands_at(name, i + n, b".") {
+        if !stands_at(name, end, b".") {
             return name.len() + 1;
         }
-        return i + n + 1;
+        return end + 1;
     }
-    i + n
+    end
 }
 
 // Whether the path is `__buffer_size`: the thirteen bytes are matched against the joined segments, which are not copied.
@@ -59,7 +59,7 @@ pub fn is_buffer_size(s: &[u8], at: usize) -> bool
     let mut i = 0;
     while 0 < left {
         i = behind_segment(s, q, left, b"__buffer_size", i);
-        q = q + 2 + wire::read2(s, q);
+        q = resolved_parts::next_name(s, q);
         left -= 1;
     }
     i == 13
@@ -96,7 +96,7 @@ fn path_length(s: &[u8], at: usize) -> usize
     let mut n = 0;
     while 0 < left {
         n += segment_length(s, q, left);
-        q = q + 2 + wire::read2(s, q);
+        q = resolved_parts::next_name(s, q);
         left -= 1;
     }
     n
@@ -119,13 +119,11 @@ pub fn joined_length(s: &[u8], at: usize, depth: usize) -> usize
 
 // A segment and its dot.
 fn put_segment(s: &[u8], at: usize, left: usize, out: &mut [u8], p: usize) -> usize
-    requires { ⌜ (at + 2 + le2 (now s) at ≤ length (now s)) × (length (now s) ≤ 65536) × (p ≤ 1048576) ⌝ }
+    requires { ⌜ Named (now s) at × (length (now s) ≤ 65536) × (p ≤ 1048576) ⌝ }
     ensures { λ r. ⌜ Wrote (now (out .entry)) p (segment left (nameAt (now (s .entry)) at)) (now (out .exit)) r ⌝ }
     ensures { λ r. ⌜ r ≤ p + 1 + le2 (now (s .entry)) at ⌝ }
 {
-    let from = at + 2;
-    let to = from + wire::read2(s, at);
-    let e = wire::put_from(out, p, &s[from..to], 0);
+    let e = wire::put_from(out, p, resolved_parts::name_at(s, at), 0);
     if 1 < left {
         return wire::put_byte(out, e, 0x2E);
     }
@@ -142,7 +140,7 @@ fn put_path(s: &[u8], at: usize, out: &mut [u8], start: usize) -> usize
     let mut p = start;
     while 0 < left {
         p = put_segment(s, q, left, out, p);
-        q = q + 2 + wire::read2(s, q);
+        q = resolved_parts::next_name(s, q);
         left -= 1;
     }
     p

@@ -1,5 +1,5 @@
 -- `builder_nodes::open_node` meets its contract. Assumes nothing.
-use Rattle.builder_nodes.proofs.Parts.{meta-is}
+use Rattle.builder_nodes.proofs.Laws.{start-at}
 use borrow.Author.Needs.{needs}
 use native.Mathlib.Omega.{arith}
 use Rattle.builder_nodes.proofs.open_node.Statement.{statement}
@@ -15,7 +15,7 @@ same-length : tie.Need-same-length
 same-length c = search needs
 
 returns : tie.Need-returns
-returns c = (meta-is _ (c .before .before .before .aligned .ensures) (c .before .before .start-node .ensures .0), c .before .before .start-node .ensures .1)
+returns c = (start-at _ (c .before .before .before .aligned .ensures) (c .before .before .start-node .ensures .0), c .before .before .start-node .ensures .1)
 
 pub open-node-spec : {M : Type 1} → statement M
 open-node-spec =

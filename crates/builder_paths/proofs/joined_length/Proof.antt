@@ -17,7 +17,8 @@ sub-result : tie.Need-sub-result
 sub-result c = search needs
 
 returns-2 : tie.Need-returns-2
-returns-2 c = long-empty (c .before .before .path-length .ensures .0) (c .before .if1 .left) (c .if2 .taken)
+returns-2 c =
+    long-empty (c .before .before .path-length .ensures .0) (c .before .if1 .left) (c .if2 .taken)
 
 mul-result-2 : tie.Need-mul-result-2
 mul-result-2 c = search needs
@@ -26,7 +27,8 @@ add-result : tie.Need-add-result
 add-result c = search needs
 
 returns-3 : tie.Need-returns-3
-returns-3 c = long-both (c .before .before .path-length .ensures .0) (c .before .if1 .left) (c .if2 .left)
+returns-3 c =
+    long-both (c .before .before .path-length .ensures .0) (c .before .if1 .left) (c .if2 .left)
 
 pub joined-length-spec : {M : Type 1} → statement M
 joined-length-spec =

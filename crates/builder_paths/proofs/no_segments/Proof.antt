@@ -13,7 +13,11 @@ read2-requires : tie.Need-read2-requires
 read2-requires c κs = omega (arith, inside (c .before .pre .0) (c .before .pre .1))
 
 returns : tie.Need-returns
-returns c = for-segments (λ ns. _ ≡ noNames ns) (c .before .before .pre .1) (λ l. rw (c .read2 .ensures .0) (no-names l))
+returns c =
+    for-segments
+    (λ ns. _ ≡ noNames ns)
+    (c .before .before .pre .1)
+    (λ l. rw (c .read2 .ensures .0) (no-names l))
 
 pub no-segments-spec : {M : Type 1} → statement M
 no-segments-spec = tie.close (tie.spec add-read2 read2-requires returns)

@@ -19,25 +19,38 @@ read2-requires : tie.Need-read2-requires Inv-loop μ-loop
 read2-requires c κs = omega (arith, inside (c .before .pre .0) (c .before .pre .1))
 
 add-q : tie.Need-add-q Inv-loop μ-loop
-add-q c = omega (arith, inside (c .before .before .pre .0) (c .before .before .pre .1))
+add-q c =
+    let at-start = c .before .before in
+    omega (arith, inside (at-start .pre .0) (at-start .pre .1))
 
 loop-holds : tie.Need-loop-holds Inv-loop μ-loop
-loop-holds c = (begin (λ n. record { is = omega arith }) (c .before .before .pre .0) (c .before .before .pre .1) (c .read2 .ensures .0), omega arith, omega (arith, inside (c .before .before .pre .0) (c .before .before .pre .1)))
+loop-holds c =
+    let at-start = c .before .before in (
+      begin
+          (λ n. record { is = omega arith })
+          (at-start .pre .0)
+          (at-start .pre .1)
+          (c .read2 .ensures .0),
+      omega arith,
+      omega (arith, inside (at-start .pre .0) (at-start .pre .1)),
+    )
 
 segment-length-requires : tie.Need-segment-length-requires Inv-loop μ-loop
-segment-length-requires c κs = next-one _ (c .loop-test .taken) (c .before .loop .inv .0)
+segment-length-requires c κs = next-one _ (c .loop-test .taken) (c .before .loop .inv .0) .inside
 
 add-n : tie.Need-add-n Inv-loop μ-loop
-add-n c = omega (arith, c .before .before .loop .inv, c .segment-length .ensures .1, next-one _ (c .before .loop-test .taken) (c .before .before .loop .inv .0))
+add-n c =
+    let at-loop = c .before .before in
+    omega (
+      arith,
+      at-loop .loop .inv,
+      c .segment-length .ensures .1,
+      next-one _ (c .before .loop-test .taken) (at-loop .loop .inv .0) .inside,
+    )
 
-add-q-2 : tie.Need-add-q-2 Inv-loop μ-loop
-add-q-2 c = omega (arith, next-one _ (c .before .loop-test .taken) (c .before .before .loop .inv .0))
-
-read2-requires-2 : tie.Need-read2-requires-2 Inv-loop μ-loop
-read2-requires-2 c κs = omega (arith, next-one _ (c .before .loop-test .taken) (c .before .before .loop .inv .0))
-
-add-q-3 : tie.Need-add-q-3 Inv-loop μ-loop
-add-q-3 c = omega (arith, c .read22 .ensures .0, next-one _ (c .before .before .loop-test .taken) (c .before .before .before .loop .inv .0))
+next-name-requires : tie.Need-next-name-requires Inv-loop μ-loop
+next-name-requires c κs =
+    next-one _ (c .before .loop-test .taken) (c .before .before .loop .inv .0) .inside
 
 sub-left : tie.Need-sub-left Inv-loop μ-loop
 sub-left c = omega arith
@@ -46,10 +59,34 @@ loop-less : tie.Need-loop-less Inv-loop μ-loop
 loop-less c = omega arith
 
 loop-again : tie.Need-loop-again Inv-loop μ-loop
-loop-again c = (pass-more _ (c .before .before .loop-test .taken) (c .before .segment-length .ensures .0) (c .read22 .ensures .0) (c .before .before .before .loop .inv .0), omega (arith, c .before .before .before .loop .inv .1, c .read22 .ensures .0, c .before .segment-length .ensures .1), omega (arith, c .read22 .ensures .0, next-one _ (c .before .before .loop-test .taken) (c .before .before .before .loop .inv .0)))
+loop-again c =
+    let in-loop = c .before .before in
+    let at-loop = in-loop .before in (
+      pass-more _
+          (in-loop .loop-test .taken)
+          (c .before .segment-length .ensures .0)
+          (c .next-name .ensures)
+          (at-loop .loop .inv .0),
+      omega (
+        arith,
+        at-loop .loop .inv .1,
+        c .next-name .ensures,
+        c .before .segment-length .ensures .1,
+      ),
+      omega (
+        arith,
+        c .next-name .ensures,
+        next-one _ (in-loop .loop-test .taken) (at-loop .loop .inv .0) .inside,
+      ),
+    )
 
 returns : tie.Need-returns Inv-loop μ-loop
-returns c = (λ a path e. pass-end (no-more (c .loop-test .left) (c .before .loop .inv .0) (c .before .before .before .before .pre .1) a path e), omega (arith, c .before .loop .inv, c .before .before .before .before .pre .2))
+returns c =
+    let at-start = c .before .before .before .before in (
+      λ a path e. pass-end
+          (no-more (c .loop-test .left) (c .before .loop .inv .0) (at-start .pre .1) a path e),
+      omega (arith, c .before .loop .inv, at-start .pre .2),
+    )
 
 pub path-length-spec : {M : Type 1} → statement M
 path-length-spec =
@@ -63,9 +100,7 @@ path-length-spec =
     loop-holds
     segment-length-requires
     add-n
-    add-q-2
-    read2-requires-2
-    add-q-3
+    next-name-requires
     sub-left
     loop-less
     loop-again

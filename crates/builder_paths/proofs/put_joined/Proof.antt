@@ -11,7 +11,10 @@ same-length : tie.Need-same-length
 same-length c = search needs
 
 returns : tie.Need-returns
-returns c = put-bare (c .before .before .before .before .if1 .taken) (c .before .before .put-path .ensures)
+returns c =
+    let at-put-path = c .before .before in
+    let at-then1 = at-put-path .before .before in
+    put-bare (at-then1 .if1 .taken) (at-put-path .put-path .ensures)
 
 path-length-requires : tie.Need-path-length-requires
 path-length-requires c κs = search needs
@@ -32,7 +35,18 @@ same-length-2 : tie.Need-same-length-2
 same-length-2 c = search needs
 
 returns-2 : tie.Need-returns-2
-returns-2 c = put-empty (c .before .before .before .before .before .before .before .before .before .before .path-length .ensures .0) (c .before .before .before .before .before .before .before .before .before .before .before .if1 .left) (c .before .before .before .before .before .before .before .before .before .if2 .taken) (c .before .before .before .before .before .before .before .put-prefix .ensures .0) (c .before .before .put-from .ensures .0)
+returns-2 c =
+    let at-put-from = c .before .before in
+    let at-put-prefix = at-put-from .before .before .before .before .before in
+    let at-then2 = at-put-prefix .before .before in
+    let at-path-length = at-then2 .before in
+    let at-else1 = at-path-length .before in
+    put-empty
+    (at-path-length .path-length .ensures .0)
+    (at-else1 .if1 .left)
+    (at-then2 .if2 .taken)
+    (at-put-prefix .put-prefix .ensures .0)
+    (at-put-from .put-from .ensures .0)
 
 put-prefix-requires-2 : tie.Need-put-prefix-requires-2
 put-prefix-requires-2 c κs = search needs
@@ -44,7 +58,18 @@ same-length-3 : tie.Need-same-length-3
 same-length-3 c = search needs
 
 returns-3 : tie.Need-returns-3
-returns-3 c = put-both (c .before .before .before .before .before .before .before .before .before .path-length .ensures .0) (c .before .before .before .before .before .before .before .before .before .before .if1 .left) (c .before .before .before .before .before .before .before .before .if2 .left) (c .before .before .before .before .before .before .put-prefix2 .ensures .0) (c .before .before .put-path2 .ensures)
+returns-3 c =
+    let at-put-path2 = c .before .before in
+    let at-put-prefix2 = at-put-path2 .before .before .before .before in
+    let at-else2 = at-put-prefix2 .before .before in
+    let at-path-length = at-else2 .before in
+    let at-else1 = at-path-length .before in
+    put-both
+    (at-path-length .path-length .ensures .0)
+    (at-else1 .if1 .left)
+    (at-else2 .if2 .left)
+    (at-put-prefix2 .put-prefix2 .ensures .0)
+    (at-put-path2 .put-path2 .ensures)
 
 pub put-joined-spec : {M : Type 1} → statement M
 put-joined-spec =

@@ -11,7 +11,8 @@ use Rattle.builder_paths.proofs.put_prefix.Statement.{statement}
 use Rattle.builder_paths.proofs.put_prefix.Tie as tie
 
 abbrev Inv-loop : tie.InvT-loop
-Inv-loop out₀ depth p₀ k₀ t5 out p k = Wrote out₀ 0 (prefixOf k) out p × (p ≡ 8 * k) × (k ≤ depth) × (length out ≡ length out₀)
+Inv-loop out₀ depth p₀ k₀ t5 out p k =
+    Wrote out₀ 0 (prefixOf k) out p × (p ≡ 8 * k) × (k ≤ depth) × (length out ≡ length out₀)
 
 abbrev μ-loop : tie.MeasureT-loop
 μ-loop out₀ depth p₀ k₀ t5 out p k = depth - k
@@ -23,7 +24,10 @@ slice-aggregate-put-from : tie.Need-slice-aggregate-put-from Inv-loop μ-loop
 slice-aggregate-put-from c = search needs
 
 put-from-requires : tie.Need-put-from-requires Inv-loop μ-loop
-put-from-requires c κs = omega (arith, c .before .before .before .loop .inv .1, c .before .before .before .loop .inv .2, c .before .before .before .before .before .pre)
+put-from-requires c κs =
+    let at-loop = c .before .before .before in
+    let at-start = at-loop .before .before in
+    omega (arith, at-loop .loop .inv .1, at-loop .loop .inv .2, at-start .pre)
 
 add-k : tie.Need-add-k Inv-loop μ-loop
 add-k c = omega arith
@@ -32,13 +36,24 @@ loop-less : tie.Need-loop-less Inv-loop μ-loop
 loop-less c = omega arith
 
 loop-again : tie.Need-loop-again Inv-loop μ-loop
-loop-again c = (one-more _ (c .before .before .before .before .before .before .loop .inv .0) (c .before .before .put-from .ensures .0), omega (arith, c .before .before .before .before .before .before .loop .inv .1, c .before .before .put-from .ensures .1), omega arith, search needs)
+loop-again c =
+    let at-put-from = c .before .before in
+    let at-loop = at-put-from .before .before .before .before in (
+      one-more _ (at-loop .loop .inv .0) (at-put-from .put-from .ensures .0),
+      omega (arith, at-loop .loop .inv .1, at-put-from .put-from .ensures .1),
+      omega arith,
+      search needs,
+    )
 
 same-length : tie.Need-same-length Inv-loop μ-loop
 same-length c = search needs
 
 returns : tie.Need-returns Inv-loop μ-loop
-returns c = put-all (omega (arith, c .before .loop .inv .2, c .loop-test .left)) (c .before .loop .inv .0) (c .before .loop .inv .1)
+returns c =
+    put-all
+    (omega (arith, c .before .loop .inv .2, c .loop-test .left))
+    (c .before .loop .inv .0)
+    (c .before .loop .inv .1)
 
 pub put-prefix-spec : {M : Type 1} → statement M
 put-prefix-spec =

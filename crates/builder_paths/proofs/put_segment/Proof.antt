@@ -1,55 +1,66 @@
 -- `builder_paths::put_segment` meets its contract. Assumes nothing.
+use native.Mathlib.Omega.{arith}
 use borrow.Author.Needs.{needs}
-use Rattle.builder_paths.proofs.Segments.{put-dot, put-last}
+use Rattle.builder_paths.proofs.Segments.{short-name, put-dot, put-last}
 use Rattle.builder_paths.proofs.put_segment.Statement.{statement}
 use Rattle.builder_paths.proofs.put_segment.Tie as tie
 
-add-from : tie.Need-add-from
-add-from c = search needs
-
-read2-requires : tie.Need-read2-requires
-read2-requires c κs = search needs
-
-add-to : tie.Need-add-to
-add-to c = search needs
-
-sub-put-from : tie.Need-sub-put-from
-sub-put-from c = search needs
-
-part-put-from-start : tie.Need-part-put-from-start
-part-put-from-start c = search needs
-
-part-put-from-end : tie.Need-part-put-from-end
-part-put-from-end c = search needs
+name-at-requires : tie.Need-name-at-requires
+name-at-requires c κs = search needs
 
 put-from-requires : tie.Need-put-from-requires
-put-from-requires c κs = search needs
+put-from-requires c κs =
+    let at-start = c .before .before .before .before in
+    omega (arith, short-name (c .name-at .ensures) (at-start .pre .0), at-start .pre .2)
 
 put-byte-requires : tie.Need-put-byte-requires
-put-byte-requires c κs = search needs
+put-byte-requires c κs =
+    let at-put-from = c .before .before .before .before in
+    let at-name-at = at-put-from .before in
+    let at-start = at-name-at .before .before .before .before in
+    omega (
+      arith,
+      at-put-from .put-from .ensures .1,
+      short-name (at-name-at .name-at .ensures) (at-start .pre .0),
+      at-start .pre .2,
+    )
 
 same-length : tie.Need-same-length
 same-length c = search needs
 
 returns : tie.Need-returns
-returns c = put-dot _ _ (c .before .before .before .before .before .before .before .before .before .before .read2 .ensures .0) (c .before .before .before .before .before .before .before .before .before .before .before .before .before .pre .0) (c .before .before .before .before .before .before .before .put-from .ensures .0) (c .before .before .before .before .if1 .taken) (c .before .before .put-byte .ensures .0)
+returns c =
+    let at-put-byte = c .before .before in
+    let at-then1 = at-put-byte .before .before in
+    let at-put-from = at-then1 .before .before .before in
+    let at-name-at = at-put-from .before in
+    let at-start = at-name-at .before .before .before .before in
+    put-dot
+    (at-start .pre .0)
+    (at-name-at .name-at .ensures)
+    (at-put-from .put-from .ensures .0)
+    (at-then1 .if1 .taken)
+    (at-put-byte .put-byte .ensures .0)
 
 same-length-2 : tie.Need-same-length-2
 same-length-2 c = search needs
 
 returns-2 : tie.Need-returns-2
-returns-2 c = put-last _ _ (c .before .before .before .before .before .before .read2 .ensures .0) (c .before .before .before .before .before .before .before .before .before .pre .0) (c .before .before .before .put-from .ensures .0) (c .if1 .left)
+returns-2 c =
+    let at-put-from = c .before .before .before in
+    let at-name-at = at-put-from .before in
+    let at-start = at-name-at .before .before .before .before in
+    put-last
+    (at-start .pre .0)
+    (at-name-at .name-at .ensures)
+    (at-put-from .put-from .ensures .0)
+    (c .if1 .left)
 
 pub put-segment-spec : {M : Type 1} → statement M
 put-segment-spec =
     tie.close
     (tie.spec
-    add-from
-    read2-requires
-    add-to
-    sub-put-from
-    part-put-from-start
-    part-put-from-end
+    name-at-requires
     put-from-requires
     put-byte-requires
     same-length

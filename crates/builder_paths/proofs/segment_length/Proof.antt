@@ -12,10 +12,28 @@ add-result : tie.Need-add-result
 add-result c = search needs
 
 returns : tie.Need-returns
-returns c = long-dot (now (c .before .before .before .args .s)) _ (c .before .read2 .ensures .0) (c .before .before .before .pre) (c .if1 .taken)
+returns c =
+    let at-start = c .before .before .before in
+    long-dot
+    (now (at-start .args .s)) _
+    (at-start .pre)
+    (c .before .read2 .ensures .0)
+    (c .if1 .taken)
 
 returns-2 : tie.Need-returns-2
-returns-2 c = long-last (now (c .before .before .before .args .s)) _ (c .before .read2 .ensures .0) (c .before .before .before .pre) (c .if1 .left)
+returns-2 c =
+    let at-start = c .before .before .before in
+    long-last
+    (now (at-start .args .s)) _
+    (at-start .pre)
+    (c .before .read2 .ensures .0)
+    (c .if1 .left)
 
 pub segment-length-spec : {M : Type 1} → statement M
-segment-length-spec = tie.close (tie.spec read2-requires add-result returns returns-2)
+segment-length-spec =
+    tie.close
+    (tie.spec
+    read2-requires
+    add-result
+    returns
+    returns-2)

@@ -6,13 +6,21 @@ use Rattle.builder_paths.proofs.stands_at.Statement.{statement}
 use Rattle.builder_paths.proofs.stands_at.Tie as tie
 
 returns : tie.Need-returns
-returns c = stands-out (now (c .before .before .before .args .name)) (now (c .before .before .before .args .part)) _ (c .if1 .taken)
+returns c =
+    let at-start = c .before .before .before in
+    stands-out (now (at-start .args .name)) (now (at-start .args .part)) _ (c .if1 .taken)
 
 sub-if2 : tie.Need-sub-if2
 sub-if2 c = search needs
 
 returns-2 : tie.Need-returns-2
-returns-2 c = stands-short (now (c .before .before .before .before .args .name)) (now (c .before .before .before .before .args .part)) _ (c .before .if1 .left) (c .if2 .taken)
+returns-2 c =
+    let at-start = c .before .before .before .before in
+    stands-short
+    (now (at-start .args .name))
+    (now (at-start .args .part)) _
+    (c .before .if1 .left)
+    (c .if2 .taken)
 
 add-end : tie.Need-add-end
 add-end c = search needs
@@ -30,7 +38,16 @@ same-name-requires : tie.Need-same-name-requires
 same-name-requires c κs = search needs
 
 returns-3 : tie.Need-returns-3
-returns-3 c = stands-tested (now (c .before .before .before .before .before .before .args .name)) (now (c .before .before .before .before .before .before .args .part)) _ (c .before .before .before .if1 .left) (c .before .before .if2 .left) (c .same-name .ensures)
+returns-3 c =
+    let at-else2 = c .before .before in
+    let at-else1 = at-else2 .before in
+    let at-start = at-else1 .before .before .before in
+    stands-tested
+    (now (at-start .args .name))
+    (now (at-start .args .part)) _
+    (at-else1 .if1 .left)
+    (at-else2 .if2 .left)
+    (c .same-name .ensures)
 
 pub stands-at-spec : {M : Type 1} → statement M
 stands-at-spec =
