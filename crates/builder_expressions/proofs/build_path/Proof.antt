@@ -13,13 +13,24 @@ enum-known-i : tie.Need-enum-known-i
 enum-known-i c = search needs
 
 returns : tie.Need-returns
-returns c = (record { low = omega arith; high = omega arith; count = omega arith }, ref-long _ _ (c .before .before .before .before .lookup-name .ensures .0) (c .before .before .i .given .1) (c .if1 .taken))
+returns c =
+    let at-i = c .before .before in
+    let at-lookup-name = at-i .before .before in (
+      record { low = omega arith; high = omega arith; count = omega arith },
+      ref-long _ _ (at-lookup-name .lookup-name .ensures .0) (at-i .i .given .1) (c .if1 .taken),
+    )
 
 mul-put-path-ref : tie.Need-mul-put-path-ref
-mul-put-path-ref c = omega (arith, looked-entry (c .before .before .i .given .1) (c .before .before .before .before .lookup-name .ensures .0) .0)
+mul-put-path-ref c =
+    let at-i = c .before .before in
+    let at-lookup-name = at-i .before .before in
+    omega (arith, looked-entry (at-i .i .given .1) (at-lookup-name .lookup-name .ensures .0) .0)
 
 shared-slice-read-put-path-ref : tie.Need-shared-slice-read-put-path-ref
-shared-slice-read-put-path-ref c = omega (arith, looked-entry (c .before .before .before .i .given .1) (c .before .before .before .before .before .lookup-name .ensures .0) .0)
+shared-slice-read-put-path-ref c =
+    let at-i = c .before .before .before in
+    let at-lookup-name = at-i .before .before in
+    omega (arith, looked-entry (at-i .i .given .1) (at-lookup-name .lookup-name .ensures .0) .0)
 
 put-path-ref-requires : tie.Need-put-path-ref-requires
 put-path-ref-requires c κs = search needs
@@ -30,11 +41,23 @@ enum-told c = search needs
 same-length : tie.Need-same-length
 same-length c = search needs
 
+-- Its paths stay: with names in their place the check refuses it.
 returns-2 : tie.Need-returns-2
-returns-2 c = (record { low = omega arith; high = omega arith; count = omega arith }, ref-made _ _ (c .before .before .before .before .before .before .before .before .before .lookup-name .ensures .0) (c .before .before .before .before .before .before .before .i .given .1) (c .before .before .before .before .before .if1 .left) (c .before .before .put-path-ref .ensures .0))
+returns-2 c = (
+  record { low = omega arith; high = omega arith; count = omega arith },
+  ref-made _ _
+      (c .before .before .before .before .before .before .before .before .before .lookup-name
+      .ensures .0)
+      (c .before .before .before .before .before .before .before .i .given .1)
+      (c .before .before .before .before .before .if1 .left)
+      (c .before .before .put-path-ref .ensures .0),
+)
 
 returns-3 : tie.Need-returns-3
-returns-3 c = (record { low = omega arith; high = omega arith; count = omega arith }, ref-missing _ _ (c .before .before .lookup-name .ensures .0) (c .enum-told .given .1))
+returns-3 c = (
+  record { low = omega arith; high = omega arith; count = omega arith },
+  ref-missing _ _ (c .before .before .lookup-name .ensures .0) (c .enum-told .given .1),
+)
 
 pub build-path-spec : {M : Type 1} → statement M
 build-path-spec =

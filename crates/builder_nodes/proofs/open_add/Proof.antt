@@ -14,7 +14,15 @@ same-length : tie.Need-same-length
 same-length c = search needs
 
 returns : tie.Need-returns
-returns c = (start-at 134 (c .before .before .before .default-alignment .ensures) (c .before .before .open-node .ensures .0), c .before .before .open-node .ensures .1)
+returns c =
+    let at-open-node = c .before .before in
+    let at-default-alignment = at-open-node .before in (
+      start-at 134
+          (at-default-alignment .default-alignment .ensures)
+          (at-open-node .open-node .ensures .0),
+      at-open-node .open-node .ensures .1,
+    )
 
 pub open-add-spec : {M : Type 1} → statement M
-open-add-spec = tie.close (tie.spec default-alignment-requires open-node-requires same-length returns)
+open-add-spec =
+    tie.close (tie.spec default-alignment-requires open-node-requires same-length returns)

@@ -9,13 +9,25 @@ open-node-requires : tie.Need-open-node-requires
 open-node-requires c κs = (c .before .before .pre, omega arith, omega arith)
 
 put-number-part-requires : tie.Need-put-number-part-requires
-put-number-part-requires c κs = (omega (arith, c .before .before .before .before .before .before .pre, c .before .before .before .open-node .ensures .1), omega arith, omega arith, omega arith)
+put-number-part-requires c κs =
+    let at-open-node = c .before .before .before in
+    let at-start = at-open-node .before .before .before in (
+      omega (arith, at-start .pre, at-open-node .open-node .ensures .1),
+      omega arith,
+      omega arith,
+      omega arith,
+    )
 
 same-length : tie.Need-same-length
 same-length c = search needs
 
 returns : tie.Need-returns
-returns c = align-started _ (c .before .before .before .before .before .before .open-node .ensures .0) (c .before .before .put-number-part .ensures .0)
+returns c =
+    let at-put-number-part = c .before .before in
+    let at-open-node = at-put-number-part .before .before .before .before in
+    align-started _
+    (at-open-node .open-node .ensures .0)
+    (at-put-number-part .put-number-part .ensures .0)
 
 pub open-align-spec : {M : Type 1} → statement M
 open-align-spec =

@@ -9,13 +9,20 @@ aligned-requires : tie.Need-aligned-requires
 aligned-requires c κs = search needs
 
 start-node-requires : tie.Need-start-node-requires
-start-node-requires c κs = (omega (arith, c .before .before .before .pre .0), c .before .before .before .pre .1, c .before .before .before .pre .2)
+start-node-requires c κs =
+    let at-start = c .before .before .before in
+    (omega (arith, at-start .pre .0), at-start .pre .1, at-start .pre .2)
 
 same-length : tie.Need-same-length
 same-length c = search needs
 
 returns : tie.Need-returns
-returns c = (start-at _ (c .before .before .before .aligned .ensures) (c .before .before .start-node .ensures .0), c .before .before .start-node .ensures .1)
+returns c =
+    let at-start-node = c .before .before in
+    let at-aligned = at-start-node .before in (
+      start-at _ (at-aligned .aligned .ensures) (at-start-node .start-node .ensures .0),
+      at-start-node .start-node .ensures .1,
+    )
 
 pub open-node-spec : {M : Type 1} → statement M
 open-node-spec =

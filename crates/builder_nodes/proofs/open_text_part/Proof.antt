@@ -9,16 +9,33 @@ node-part-requires : tie.Need-node-part-requires
 node-part-requires c κs = (c .before .pre .1, c .before .pre .2, c .before .pre .3)
 
 put-flag-requires : tie.Need-put-flag-requires
-put-flag-requires c κs = omega (arith, c .before .before .before .before .pre .0)
+put-flag-requires c κs =
+    let at-start = c .before .before .before .before in
+    omega (arith, at-start .pre .0)
 
 same-length : tie.Need-same-length
 same-length c = search needs
 
 returns : tie.Need-returns
-returns c = (flag-there (c .before .before .before .before .before .node-part .ensures) (c .before .before .before .before .if1 .taken) (c .before .before .put-flag .ensures .0), (omega (arith, c .before .before .put-flag .ensures .1), omega (arith, c .before .before .put-flag .ensures .1)))
+returns c =
+    let at-put-flag = c .before .before in
+    let at-then1 = at-put-flag .before .before in
+    let at-node-part = at-then1 .before in (
+      flag-there
+          (at-node-part .node-part .ensures)
+          (at-then1 .if1 .taken)
+          (at-put-flag .put-flag .ensures .0),
+      (
+        omega (arith, at-put-flag .put-flag .ensures .1),
+        omega (arith, at-put-flag .put-flag .ensures .1),
+      ),
+    )
 
 returns-2 : tie.Need-returns-2
-returns-2 c = (flag-other (c .before .node-part .ensures) (c .if1 .left), (omega arith, omega arith))
+returns-2 c = (
+  flag-other (c .before .node-part .ensures) (c .if1 .left),
+  (omega arith, omega arith),
+)
 
 pub open-text-part-spec : {M : Type 1} → statement M
 open-text-part-spec =

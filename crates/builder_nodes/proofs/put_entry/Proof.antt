@@ -24,7 +24,12 @@ same-length : tie.Need-same-length
 same-length c = search needs
 
 returns : tie.Need-returns
-returns c = (tail-out _ _ (c .before .before .before .before .if1 .taken) (c .before .before .put-entry-name .ensures .0), (omega arith, omega (arith, c .before .before .put-entry-name .ensures .1)))
+returns c =
+    let at-put-entry-name = c .before .before in
+    let at-then1 = at-put-entry-name .before .before in (
+      tail-out _ _ (at-then1 .if1 .taken) (at-put-entry-name .put-entry-name .ensures .0),
+      (omega arith, omega (arith, at-put-entry-name .put-entry-name .ensures .1)),
+    )
 
 sub-put-entry-name-2 : tie.Need-sub-put-entry-name-2
 sub-put-entry-name-2 c = omega arith
@@ -45,7 +50,12 @@ same-length-2 : tie.Need-same-length-2
 same-length-2 c = search needs
 
 returns-2 : tie.Need-returns-2
-returns-2 c = (tail-in _ _ (c .before .before .before .before .if1 .left) (c .before .before .put-entry-name2 .ensures .0), (omega arith, omega (arith, c .before .before .put-entry-name2 .ensures .1)))
+returns-2 c =
+    let at-put-entry-name2 = c .before .before in
+    let at-else1 = at-put-entry-name2 .before .before in (
+      tail-in _ _ (at-else1 .if1 .left) (at-put-entry-name2 .put-entry-name2 .ensures .0),
+      (omega arith, omega (arith, at-put-entry-name2 .put-entry-name2 .ensures .1)),
+    )
 
 pub put-entry-spec : {M : Type 1} → statement M
 put-entry-spec =

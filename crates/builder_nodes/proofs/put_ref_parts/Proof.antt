@@ -6,10 +6,24 @@ use Rattle.builder_nodes.proofs.put_ref_parts.Statement.{statement}
 use Rattle.builder_nodes.proofs.put_ref_parts.Tie as tie
 
 put-text-part-requires : tie.Need-put-text-part-requires
-put-text-part-requires c κs = (omega (arith, c .before .before .before .before .pre .1, c .before .before .before .before .pre .2), omega arith, omega arith, omega arith)
+put-text-part-requires c κs =
+    let at-start = c .before .before .before .before in
+    (omega (arith, at-start .pre .1, at-start .pre .2), omega arith, omega arith, omega arith)
 
 open-text-part-requires : tie.Need-open-text-part-requires
-open-text-part-requires c κs = (omega (arith, c .before .before .before .before .before .before .before .before .pre .1, c .before .before .before .before .before .before .before .before .pre .2, c .before .before .before .put-text-part .ensures .1), omega arith, omega arith, omega arith)
+open-text-part-requires c κs =
+    let at-put-text-part = c .before .before .before in
+    let at-start = at-put-text-part .before .before .before .before .before in (
+      omega (
+        arith,
+        at-start .pre .1,
+        at-start .pre .2,
+        at-put-text-part .put-text-part .ensures .1,
+      ),
+      omega arith,
+      omega arith,
+      omega arith,
+    )
 
 put-entry-requires : tie.Need-put-entry-requires
 put-entry-requires c κs = search needs
@@ -18,7 +32,31 @@ same-length : tie.Need-same-length
 same-length c = search needs
 
 returns : tie.Need-returns
-returns c = (ref-parts _ _ (c .before .before .before .before .before .before .before .before .before .before .put-text-part .ensures .0) (c .before .before .before .before .before .before .open-text-part .ensures .0) (c .before .before .put-entry .ensures .0), (omega (arith, c .before .before .before .before .before .before .before .before .before .before .put-text-part .ensures .1, c .before .before .before .before .before .before .open-text-part .ensures .1, c .before .before .put-entry .ensures .1), omega (arith, c .before .before .before .before .before .before .before .before .before .before .before .before .before .before .before .pre .2, c .before .before .before .before .before .before .before .before .before .before .put-text-part .ensures .1, c .before .before .before .before .before .before .open-text-part .ensures .1, c .before .before .put-entry .ensures .1)))
+returns c =
+    let at-put-entry = c .before .before in
+    let at-open-text-part = at-put-entry .before .before .before .before in
+    let at-put-text-part = at-open-text-part .before .before .before .before in
+    let at-start = at-put-text-part .before .before .before .before .before in (
+      ref-parts _ _
+          (at-put-text-part .put-text-part .ensures .0)
+          (at-open-text-part .open-text-part .ensures .0)
+          (at-put-entry .put-entry .ensures .0),
+      (
+        omega (
+          arith,
+          at-put-text-part .put-text-part .ensures .1,
+          at-open-text-part .open-text-part .ensures .1,
+          at-put-entry .put-entry .ensures .1,
+        ),
+        omega (
+          arith,
+          at-start .pre .2,
+          at-put-text-part .put-text-part .ensures .1,
+          at-open-text-part .open-text-part .ensures .1,
+          at-put-entry .put-entry .ensures .1,
+        ),
+      ),
+    )
 
 pub put-ref-parts-spec : {M : Type 1} → statement M
 put-ref-parts-spec =

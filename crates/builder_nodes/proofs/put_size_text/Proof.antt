@@ -6,32 +6,109 @@ use native.Mathlib.Omega.{arith}
 use Rattle.builder_nodes.proofs.put_size_text.Statement.{statement}
 use Rattle.builder_nodes.proofs.put_size_text.Tie as tie
 
+-- The places, each seen from a later one: what was known there.
+abbrev at-open-text-part : tie.After-put-le-arg → tie.After-open-text-part
+at-open-text-part r = r .before .before .before
+
+abbrev at-start : tie.After-put-le-arg → tie.Start
+at-start r = at-open-text-part r .before .before .before .before .before
+
 open-text-part-requires : tie.Need-open-text-part-requires
-open-text-part-requires c κs = (omega (arith, c .before .before .before .before .pre .0), omega arith, omega arith, omega arith)
+open-text-part-requires c κs =
+    let at-start = c .before .before .before .before in
+    (omega (arith, at-start .pre .0), omega arith, omega arith, omega arith)
 
 add-put-le : tie.Need-add-put-le
-add-put-le c = omega (arith, c .before .before .before .before .before .before .before .before .pre .1)
+add-put-le c = omega (arith, at-start c .pre .1)
 
 add-put-le-2 : tie.Need-add-put-le-2
-add-put-le-2 c = omega (arith, c .before .before .before .before .before .before .before .before .pre .1)
+add-put-le-2 c = omega (arith, at-start c .pre .1)
 
 put-le-requires : tie.Need-put-le-requires
-put-le-requires c κs = omega (arith, c .before .before .before .before .before .before .before .before .pre .0, c .before .before .before .open-text-part .ensures .1)
+put-le-requires c κs = omega (
+  arith,
+  at-start c .pre .0,
+  at-open-text-part c .open-text-part .ensures .1,
+)
 
 put-from-requires : tie.Need-put-from-requires
-put-from-requires c κs = omega (arith, c .before .before .before .before .before .before .before .before .before .before .before .before .pre .0, c .before .before .before .before .before .before .before .before .before .before .before .before .pre .1, c .before .before .before .before .before .before .before .open-text-part .ensures .1, c .before .before .before .put-le .ensures .1)
+put-from-requires c κs =
+    let at-put-le = c .before .before .before in
+    let at-put-le-arg = at-put-le .before in
+    omega (
+      arith,
+      at-start at-put-le-arg .pre .0,
+      at-start at-put-le-arg .pre .1,
+      at-open-text-part at-put-le-arg .open-text-part .ensures .1,
+      at-put-le .put-le .ensures .1,
+    )
 
 put-byte-requires : tie.Need-put-byte-requires
-put-byte-requires c κs = omega (arith, c .before .before .before .before .before .before .before .before .before .before .before .before .before .before .before .before .pre .0, c .before .before .before .before .before .before .before .before .before .before .before .before .before .before .before .before .pre .1, c .before .before .before .before .before .before .before .before .before .before .before .open-text-part .ensures .1, c .before .before .before .before .before .before .before .put-le .ensures .1, c .before .before .before .put-from .ensures .1)
+put-byte-requires c κs =
+    let at-put-from = c .before .before .before in
+    let at-put-le = at-put-from .before .before .before .before in
+    let at-put-le-arg = at-put-le .before in
+    omega (
+      arith,
+      at-start at-put-le-arg .pre .0,
+      at-start at-put-le-arg .pre .1,
+      at-open-text-part at-put-le-arg .open-text-part .ensures .1,
+      at-put-le .put-le .ensures .1,
+      at-put-from .put-from .ensures .1,
+    )
 
 put-from-requires-2 : tie.Need-put-from-requires-2
-put-from-requires-2 c κs = omega (arith, c .before .before .before .before .before .before .before .before .before .before .before .before .before .before .before .before .before .before .before .before .pre .0, c .before .before .before .before .before .before .before .before .before .before .before .before .before .before .before .before .before .before .before .before .pre .1, c .before .before .before .before .before .before .before .before .before .before .before .before .before .before .before .open-text-part .ensures .1, c .before .before .before .before .before .before .before .before .before .before .before .put-le .ensures .1, c .before .before .before .before .before .before .before .put-from .ensures .1, c .before .before .before .put-byte .ensures .1)
+put-from-requires-2 c κs =
+    let at-put-byte = c .before .before .before in
+    let at-put-from = at-put-byte .before .before .before .before in
+    let at-put-le = at-put-from .before .before .before .before in
+    let at-put-le-arg = at-put-le .before in
+    omega (
+      arith,
+      at-start at-put-le-arg .pre .0,
+      at-start at-put-le-arg .pre .1,
+      at-open-text-part at-put-le-arg .open-text-part .ensures .1,
+      at-put-le .put-le .ensures .1,
+      at-put-from .put-from .ensures .1,
+      at-put-byte .put-byte .ensures .1,
+    )
 
 same-length : tie.Need-same-length
 same-length c = search needs
 
 returns : tie.Need-returns
-returns c = (size-text _ _ refl (c .before .before .before .before .before .before .before .before .before .before .before .before .before .before .before .before .before .before .open-text-part .ensures .0) (c .before .before .before .before .before .before .before .before .before .before .before .before .before .before .put-le .ensures .0) (c .before .before .before .before .before .before .before .before .before .before .put-from .ensures .0) (c .before .before .before .before .before .before .put-byte .ensures .0) (c .before .before .put-from2 .ensures .0), (omega (arith, c .before .before .before .before .before .before .before .before .before .before .before .before .before .before .before .before .before .before .open-text-part .ensures .1, c .before .before .before .before .before .before .before .before .before .before .before .before .before .before .put-le .ensures .1, c .before .before .before .before .before .before .before .before .before .before .put-from .ensures .1, c .before .before .before .before .before .before .put-byte .ensures .1, c .before .before .put-from2 .ensures .1), omega (arith, c .before .before .before .before .before .before .before .before .before .before .before .before .before .before .before .before .before .before .before .before .before .before .before .pre .1, c .before .before .before .before .before .before .before .before .before .before .before .before .before .before .before .before .before .before .open-text-part .ensures .1, c .before .before .before .before .before .before .before .before .before .before .before .before .before .before .put-le .ensures .1, c .before .before .before .before .before .before .before .before .before .before .put-from .ensures .1, c .before .before .before .before .before .before .put-byte .ensures .1, c .before .before .put-from2 .ensures .1)))
+returns c =
+    let at-put-from2 = c .before .before in
+    let at-put-byte = at-put-from2 .before .before .before .before in
+    let at-put-from = at-put-byte .before .before .before .before in
+    let at-put-le = at-put-from .before .before .before .before in
+    let at-put-le-arg = at-put-le .before in (
+      size-text _ _ refl
+          (at-open-text-part at-put-le-arg .open-text-part .ensures .0)
+          (at-put-le .put-le .ensures .0)
+          (at-put-from .put-from .ensures .0)
+          (at-put-byte .put-byte .ensures .0)
+          (at-put-from2 .put-from2 .ensures .0),
+      (
+        omega (
+          arith,
+          at-open-text-part at-put-le-arg .open-text-part .ensures .1,
+          at-put-le .put-le .ensures .1,
+          at-put-from .put-from .ensures .1,
+          at-put-byte .put-byte .ensures .1,
+          at-put-from2 .put-from2 .ensures .1,
+        ),
+        omega (
+          arith,
+          at-start at-put-le-arg .pre .1,
+          at-open-text-part at-put-le-arg .open-text-part .ensures .1,
+          at-put-le .put-le .ensures .1,
+          at-put-from .put-from .ensures .1,
+          at-put-byte .put-byte .ensures .1,
+          at-put-from2 .put-from2 .ensures .1,
+        ),
+      ),
+    )
 
 pub put-size-text-spec : {M : Type 1} → statement M
 put-size-text-spec =

@@ -6,16 +6,37 @@ use Rattle.builder_nodes.proofs.put_text_part.Statement.{statement}
 use Rattle.builder_nodes.proofs.put_text_part.Tie as tie
 
 open-text-part-requires : tie.Need-open-text-part-requires
-open-text-part-requires c κs = (omega (arith, c .before .before .before .pre .0), c .before .before .before .pre .1, c .before .before .before .pre .2, c .before .before .before .pre .3)
+open-text-part-requires c κs =
+    let at-start = c .before .before .before in
+    (omega (arith, at-start .pre .0), at-start .pre .1, at-start .pre .2, at-start .pre .3)
 
 put-name-requires : tie.Need-put-name-requires
-put-name-requires c κs = omega (arith, c .before .before .before .before .before .before .before .pre .0, c .before .before .before .open-text-part .ensures .1)
+put-name-requires c κs =
+    let at-open-text-part = c .before .before .before in
+    let at-start = at-open-text-part .before .before .before .before in
+    omega (arith, at-start .pre .0, at-open-text-part .open-text-part .ensures .1)
 
 same-length : tie.Need-same-length
 same-length c = search needs
 
 returns : tie.Need-returns
-returns c = (both (c .before .before .before .before .before .before .open-text-part .ensures .0) (c .before .before .put-name .ensures .0), (omega (arith, c .before .before .before .before .before .before .open-text-part .ensures .1, c .before .before .put-name .ensures .1), omega (arith, c .before .before .before .before .before .before .open-text-part .ensures .1, c .before .before .put-name .ensures .1)))
+returns c =
+    let at-put-name = c .before .before in
+    let at-open-text-part = at-put-name .before .before .before .before in (
+      both (at-open-text-part .open-text-part .ensures .0) (at-put-name .put-name .ensures .0),
+      (
+        omega (
+          arith,
+          at-open-text-part .open-text-part .ensures .1,
+          at-put-name .put-name .ensures .1,
+        ),
+        omega (
+          arith,
+          at-open-text-part .open-text-part .ensures .1,
+          at-put-name .put-name .ensures .1,
+        ),
+      ),
+    )
 
 pub put-text-part-spec : {M : Type 1} → statement M
 put-text-part-spec =

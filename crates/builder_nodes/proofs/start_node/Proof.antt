@@ -9,16 +9,46 @@ open-block-requires : tie.Need-open-block-requires
 open-block-requires c κs = omega (arith, c .before .before .pre .0)
 
 put-number-part-requires : tie.Need-put-number-part-requires
-put-number-part-requires c κs = (omega (arith, c .before .before .before .before .before .before .pre .0, c .before .before .before .open-block .ensures .1), c .before .before .before .before .before .before .pre .1, c .before .before .before .before .before .before .pre .2, omega arith)
+put-number-part-requires c κs =
+    let at-open-block = c .before .before .before in
+    let at-start = at-open-block .before .before .before in (
+      omega (arith, at-start .pre .0, at-open-block .open-block .ensures .1),
+      at-start .pre .1,
+      at-start .pre .2,
+      omega arith,
+    )
 
 put-absent-requires : tie.Need-put-absent-requires
-put-absent-requires c κs = (omega (arith, c .before .before .before .before .before .before .before .before .before .before .pre .0, c .before .before .before .before .before .before .before .open-block .ensures .1, c .before .before .before .put-number-part .ensures .1), c .before .before .before .before .before .before .before .before .before .before .pre .1, c .before .before .before .before .before .before .before .before .before .before .pre .2, omega arith)
+put-absent-requires c κs =
+    let at-put-number-part = c .before .before .before in
+    let at-open-block = at-put-number-part .before .before .before .before in
+    let at-start = at-open-block .before .before .before in (
+      omega (
+        arith,
+        at-start .pre .0,
+        at-open-block .open-block .ensures .1,
+        at-put-number-part .put-number-part .ensures .1,
+      ),
+      at-start .pre .1,
+      at-start .pre .2,
+      omega arith,
+    )
 
 same-length : tie.Need-same-length
 same-length c = search needs
 
 returns : tie.Need-returns
-returns c = started _ _ (c .before .before .before .before .before .before .before .before .before .before .before .before .before .pre .1) (c .before .before .before .before .before .before .before .before .before .before .before .before .before .pre .2) (c .before .before .before .before .before .before .before .before .before .before .open-block .ensures .0) (c .before .before .before .before .before .before .put-number-part .ensures .0) (c .before .before .put-absent .ensures .0)
+returns c =
+    let at-put-absent = c .before .before in
+    let at-put-number-part = at-put-absent .before .before .before .before in
+    let at-open-block = at-put-number-part .before .before .before .before in
+    let at-start = at-open-block .before .before .before in
+    started _ _
+    (at-start .pre .1)
+    (at-start .pre .2)
+    (at-open-block .open-block .ensures .0)
+    (at-put-number-part .put-number-part .ensures .0)
+    (at-put-absent .put-absent .ensures .0)
 
 pub start-node-spec : {M : Type 1} → statement M
 start-node-spec =
