@@ -163,7 +163,8 @@ module _ {s xs ws ys : List ℕ} {at expr n : ℕ} (owner : Name) (depth : ℕ) 
 
 module _ (owner path : Name) (g : Registry) where
   -- the definition, with the registry read
-  path-steps : build-path owner path g ≡ (need (lookup-name owner path g) MissingParameter >>= (λ p. require (short path) 17 >>= (λ _. give (IrNode.FieldRef unplaced default-metadata path (some p))))) g
+  path-steps : build-path owner path g ≡
+      (need (lookup-name owner path g) MissingParameter >>= (λ p. require (short path) 17 >>= (λ _. give (IrNode.FieldRef unplaced default-metadata path (some p))))) g
   unfolding build-path
   path-steps = reads-then (lookup-name owner path) _ g
 
@@ -437,8 +438,11 @@ module _ {s ws : List ℕ} {n depth expr at kind p : ℕ} {owner : Name} (r : Re
     pub both-within : {m : Built} → Within (l .at) (1024 * (4 + le4 s q)) m →
         (at + 4 ≤ m .at) × (m .at < 2 ^ 61) × Within at (1024 * (4 + le4 s expr)) (record { at = m .at; count = m .count; number = 0 })
     both-within {m} v =
-        let b = right-at in
-        (omega (arith, w .low, v .low), omega (arith, r .cursor, b .1, w .high, v .high), record { low = omega (arith, w .low, v .low); high = omega (arith, b .1, w .high, v .high); count = v .count })
+        let b = right-at in (
+          omega (arith, w .low, v .low),
+          omega (arith, r .cursor, b .1, w .high, v .high),
+          record { low = omega (arith, w .low, v .low); high = omega (arith, b .1, w .high, v .high); count = v .count },
+        )
 
 -- the bytes of a node of two operands
 pub two-written : {xs x₁ x₂ x₃ ys : List ℕ} {at p q u v : ℕ} (k a : ℕ) (m n : Tree) → Wrote xs at (nodeStart k a) x₁ p →

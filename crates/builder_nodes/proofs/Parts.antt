@@ -1,6 +1,6 @@
 -- Nodes written part by part, each as the table of the node kinds says. Assumes nothing.
 use mathlib.Core.Path.{_≡_, refl, sym, _∙_, subst}
-use mathlib.Core.Bool.{true, false, cond}
+use mathlib.Core.Bool.{Bool, true, false, cond}
 use mathlib.Core.List.{List, _++_}
 use mathlib.Core.Option.{some, none}
 use Prim.Native.Nat.{ℕ, _+_, _-_, _≤_}
@@ -18,7 +18,7 @@ use Rattle.ir.specs.Layout.{nodeTree, optionalTree}
 use Rattle.builder.specs.Nodes.{const-or-zero, refText, buffer-size}
 use Rattle.wire.specs.Poke.{Wrote, opened}
 use Rattle.wire.proofs.Laws.{none as nothing, both, parts, no-parts, closed, bytes-length}
-use Rattle.builder_nodes.specs.Built.{nodeStart, numberPart, textFlag, absentText}
+use Rattle.builder_nodes.specs.Built.{nodeStart, numberPart, textFlag}
 use Rattle.builder_nodes.proofs.Laws.{node-closed, align-closed, start-at}
 
 -- ---- one part, by its code in the table
@@ -29,15 +29,10 @@ module _ {xs ys : List ℕ} {at r code c : ℕ} (e : c ≡ code) where
   unfolding numberPart write
   number-there v h f = rw (eq-eqb _ _ (sym e ∙ h)) f
 
-  -- the flag 1 before a text where the table has an optional text
-  pub flag-there : c ≡ 7 → Wrote xs at (write (num 1 (cond true 1 0))) ys r → Wrote xs at (textFlag code) ys r
+  -- the flag of a text where the table has an optional text
+  pub flag-there : (b : Bool) → c ≡ 7 → Wrote xs at (write (num 1 (cond b 1 0))) ys r → Wrote xs at (textFlag b code) ys r
   unfolding textFlag
-  flag-there h f = rw (eq-eqb _ _ (sym e ∙ h)) f
-
-  -- the flag 0 for a text that is absent
-  pub absent-there : c ≡ 7 → Wrote xs at (write (num 1 (cond false 1 0))) ys r → Wrote xs at (absentText code) ys r
-  unfolding absentText
-  absent-there h f = rw (eq-eqb _ _ (sym e ∙ h)) f
+  flag-there b h f = rw (eq-eqb _ _ (sym e ∙ h)) f
 
 module _ {xs : List ℕ} {at code c : ℕ} (e : c ≡ code) where
   -- nothing is written where the table has no number
@@ -45,15 +40,10 @@ module _ {xs : List ℕ} {at code c : ℕ} (e : c ≡ code) where
   unfolding numberPart
   number-other v h = rw (ne-eqb _ _ (λ q. h (e ∙ q))) (nothing xs at)
 
-  -- no flag before a text that is not optional
-  pub flag-other : (c ≡ 7 → ⊥) → Wrote xs at (textFlag code) xs at
+  -- no flag where it has none
+  pub flag-other : (b : Bool) → (c ≡ 7 → ⊥) → Wrote xs at (textFlag b code) xs at
   unfolding textFlag
-  flag-other h = rw (ne-eqb _ _ (λ q. h (e ∙ q))) (nothing xs at)
-
-  -- nothing where the table has no optional text
-  pub absent-other : (c ≡ 7 → ⊥) → Wrote xs at (absentText code) xs at
-  unfolding absentText
-  absent-other h = rw (ne-eqb _ _ (λ q. h (e ∙ q))) (nothing xs at)
+  flag-other b h = rw (ne-eqb _ _ (λ q. h (e ∙ q))) (nothing xs at)
 
 -- ---- the metadata
 
@@ -69,9 +59,9 @@ start-length k a = refl
 
 -- the answer of `start_node`
 pub started : {xs ys zs vs : List ℕ} {at p q r : ℕ} (k a : ℕ) → 128 ≤ k → k ≤ 144 → Wrote xs at (opened k) ys p →
-    Wrote ys p (numberPart (codeAt k 0) a) zs q → Wrote zs q (absentText (codeAt k 1)) vs r →
+    Wrote ys p (numberPart (codeAt k 0) a) zs q → Wrote zs q (textFlag false (codeAt k 1)) vs r →
     Wrote xs at (nodeStart k a) vs r × (r ≡ at + 15)
-unfolding nodeStart numberPart absentText
+unfolding nodeStart numberPart textFlag
 started {xs} {at = at} {r = r} k a l h f g i =
     let m = meta-codes k l h in
     let w : Wrote xs at (nodeStart k a) _ r = both f (both (rw (m .0) at g) (rw (m .1) at i)) in
@@ -113,19 +103,19 @@ abbrev refParts : Name → Name → Tree
 refParts path parameter = cons (name path) (cons (optionalTree name (some parameter)) nil)
 
 -- the path `__buffer_size` has 15 bytes as a text
-buffer-length : length (textFlag (codeAt 130 2) ++ write (name buffer-size)) ≡ 15
+buffer-length : length (textFlag true (codeAt 130 2) ++ write (name buffer-size)) ≡ 15
 unfolding textFlag codeAt partsOf nodeTable write bytes
 buffer-length = refl
 
 -- an absent parameter has one
-buffer-flag : length (absentText (codeAt 130 3)) ≡ 1
-unfolding absentText codeAt partsOf nodeTable write bytes
+buffer-flag : length (textFlag false (codeAt 130 3)) ≡ 1
+unfolding textFlag codeAt partsOf nodeTable write bytes
 buffer-flag = refl
 
 module _ {xs ys zs vs : List ℕ} {at p q r : ℕ} where
   -- the answer of `put_ref_parts`
-  pub ref-parts : (path parameter : Name) → Wrote xs at (textFlag (codeAt 130 2) ++ write (name path)) ys p →
-      Wrote ys p (textFlag (codeAt 130 3)) zs q → Wrote zs q (write (name parameter)) vs r →
+  pub ref-parts : (path parameter : Name) → Wrote xs at (textFlag true (codeAt 130 2) ++ write (name path)) ys p →
+      Wrote ys p (textFlag true (codeAt 130 3)) zs q → Wrote zs q (write (name parameter)) vs r →
       Wrote xs at (write (refParts path parameter)) vs r
   unfolding textFlag codeAt partsOf nodeTable
   ref-parts path n f g h =
@@ -133,14 +123,16 @@ module _ {xs ys zs vs : List ℕ} {at p q r : ℕ} where
 
   -- the answer of `put_buffer_size`
   pub buffer-closed : {e a : ℕ} → a ≡ default-alignment → Wrote xs at (nodeStart 130 a) ys p →
-      Wrote ys p (textFlag (codeAt 130 2) ++ write (name buffer-size)) zs q → Wrote zs q (absentText (codeAt 130 3)) vs r →
+      Wrote ys p (textFlag true (codeAt 130 2) ++ write (name buffer-size)) zs q → Wrote zs q (textFlag false (codeAt 130 3)) vs r →
       {us : List ℕ} → Wrote vs at (bytes 4 (r - at - 4)) us e →
       Wrote xs at (write (nodeTree (IrNode.FieldRef unplaced default-metadata buffer-size none))) us r × (r ≡ at + 31)
-  unfolding textFlag absentText codeAt partsOf nodeTable nodeTree
+  unfolding textFlag codeAt partsOf nodeTable nodeTree
   buffer-closed {a = a} i f g h c =
       let w : Wrote xs at (nodeStart 130 default-alignment) ys p = start-at 130 i f in
       let t : Tree = cons (name buffer-size) (cons (optionalTree name none) nil) in
-      let d = node-closed 130 default-alignment t w (parts (name buffer-size) (cons (optionalTree name none) nil) g (parts (optionalTree name none) nil (parts (num 1 0) nil h (no-parts vs r)) (no-parts vs r))) c in
+      let d = node-closed 130 default-alignment t w
+      (parts (name buffer-size) (cons (optionalTree name none) nil) g
+      (parts (optionalTree name none) nil (parts (num 1 0) nil h (no-parts vs r)) (no-parts vs r))) c in
       (d, omega (arith, w .end, g .end, h .end, start-length 130 default-alignment, buffer-length, buffer-flag))
 
 -- the answer of `put_path_ref`
@@ -158,7 +150,7 @@ number-in f = f
 
 -- the size text: its flag, its length, and its three pieces
 pub size-text : {xs ys zs us vs ws : List ℕ} {at p q u v r n : ℕ} (owner path : Name) → n ≡ length owner + 1 + length path →
-    Wrote xs at (textFlag (codeAt 130 1)) ys p → Wrote ys p (bytes 2 n) zs q → Wrote zs q owner us u →
+    Wrote xs at (textFlag true (codeAt 130 1)) ys p → Wrote ys p (bytes 2 n) zs q → Wrote zs q owner us u →
     Wrote us u (ascii ":") vs v → Wrote vs v path ws r → Wrote xs at (write (optionalTree name (some (refText owner path)))) ws r
 unfolding textFlag codeAt partsOf nodeTable write
 size-text {ys = ys} {zs} {p = p} {q} owner path e f g h i j =

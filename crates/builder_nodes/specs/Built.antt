@@ -1,7 +1,7 @@
 -- What a builder of a node leaves.
 use Prim.Native.Nat.{ℕ, _+_, _≤_, _<_}
 use mathlib.Core.Path.{_≡_}
-use mathlib.Core.Bool.{cond}
+use mathlib.Core.Bool.{Bool, cond}
 use mathlib.Core.List.{List, [], _++_}
 use lib.Dec.{eqb}
 use Rattle.errors.specs.Refusal.{Outcome, done, refused, plain}
@@ -30,13 +30,10 @@ pub record Within (at room : ℕ) (r : Built) : Type 0 where
 unfoldable pub nodeStart : ℕ → ℕ → List ℕ
 nodeStart k a = opened k ++ (write (num 8 a) ++ write (num 1 0))
 
--- How a part of a node is written, by its code in the table of the node kinds: a number (3) in 8 bytes; of a text the flag
--- before it, where it is optional (7); where there is no text, flag 0. Nothing where the part is another.
+-- How a part of a node is written, by its code in the table of the node kinds: a number (3) in 8 bytes; of a text the flag,
+-- where it is optional (7): 1 before a text, 0 where there is none. Nothing where the part is another.
 unfoldable pub numberPart : ℕ → ℕ → List ℕ
 numberPart code v = cond (eqb code 3) (write (num 8 v)) []
 
-unfoldable pub textFlag : ℕ → List ℕ
-textFlag code = cond (eqb code 7) (write (num 1 1)) []
-
-unfoldable pub absentText : ℕ → List ℕ
-absentText code = cond (eqb code 7) (write (num 1 0)) []
+unfoldable pub textFlag : Bool → ℕ → List ℕ
+textFlag there code = cond (eqb code 7) (write (num 1 (cond there 1 0))) []

@@ -1,6 +1,7 @@
 // builder.rs, the small nodes: written into the output, by the table of the node kinds.
 use ir_nodes::NodeMetadata;
 ghost use mathlib.Core.Path.{_≡_};
+ghost use mathlib.Core.Bool.{true};
 ghost use mathlib.Core.List.{_++_};
 ghost use mathlib.Core.Option.{some, none};
 ghost use Prim.Native.Nat.{_+_, _^_, _≤_, _<_};
@@ -13,7 +14,7 @@ ghost use Rattle.ir.specs.Layout.{nodeTree, optionalTree};
 ghost use Rattle.builder.specs.Nodes.{const-or-zero, refText, buffer-size};
 ghost use Rattle.wire.specs.Poke.{Wrote};
 ghost use Rattle.builder_registry.specs.Words.{entryName};
-ghost use Rattle.builder_nodes.specs.Built.{nodeStart, numberPart, textFlag, absentText};
+ghost use Rattle.builder_nodes.specs.Built.{nodeStart, numberPart, textFlag};
 
 // The next cursor, how many entries the registry has, and the number of a refusal or 0.
 pub struct Built {
@@ -34,14 +35,14 @@ fn put_number_part(out: &mut [u8], at: usize, kind: usize, i: usize, v: u64) -> 
     at
 }
 
-// What stands before a text, as part i of a node kind: flag 1 where the part is optional.
-fn open_text_part(out: &mut [u8], at: usize, kind: usize, i: usize) -> usize
+// The flag of a text, as part i of a node kind: whether it is there, where the part is optional.
+fn put_text_flag(out: &mut [u8], at: usize, kind: usize, i: usize, there: bool) -> usize
     requires { ⌜ (at < 2 ^ 61) × (128 ≤ kind) × (kind ≤ 144) × (i < 5) ⌝ }
-    ensures { λ r. ⌜ Wrote (now (out .entry)) at (textFlag (codeAt kind i)) (now (out .exit)) r ⌝ }
+    ensures { λ r. ⌜ Wrote (now (out .entry)) at (textFlag there (codeAt kind i)) (now (out .exit)) r ⌝ }
     ensures { λ r. ⌜ (at ≤ r) × (r ≤ at + 1) ⌝ }
 {
     if ir_nodes::node_part(kind, i) == ir_nodes::OPT_TEXT {
-        return wire::put_flag(out, at, true);
+        return wire::put_flag(out, at, there);
     }
     at
 }
@@ -49,23 +50,11 @@ fn open_text_part(out: &mut [u8], at: usize, kind: usize, i: usize) -> usize
 // A text, as part i of a node kind.
 fn put_text_part(out: &mut [u8], at: usize, kind: usize, i: usize, text: &[u8]) -> usize
     requires { ⌜ (at + length (now text) < 2 ^ 59 + 2 ^ 58) × (128 ≤ kind) × (kind ≤ 144) × (i < 5) ⌝ }
-    ensures { λ r. ⌜ Wrote (now (out .entry)) at (textFlag (codeAt kind i) ++ write (name (now (text .entry)))) (now (out .exit)) r ⌝ }
+    ensures { λ r. ⌜ Wrote (now (out .entry)) at (textFlag true (codeAt kind i) ++ write (name (now (text .entry)))) (now (out .exit)) r ⌝ }
     ensures { λ r. ⌜ (at ≤ r) × (r ≤ at + 3 + length (now (text .entry))) ⌝ }
 {
-    let p = open_text_part(out, at, kind, i);
+    let p = put_text_flag(out, at, kind, i, true);
     wire::put_name(out, p, text)
-}
-
-// No text, as part i of a node kind: flag 0 where the part is optional.
-fn put_absent(out: &mut [u8], at: usize, kind: usize, i: usize) -> usize
-    requires { ⌜ (at < 2 ^ 61) × (128 ≤ kind) × (kind ≤ 144) × (i < 5) ⌝ }
-    ensures { λ r. ⌜ Wrote (now (out .entry)) at (absentText (codeAt kind i)) (now (out .exit)) r ⌝ }
-    ensures { λ r. ⌜ (at ≤ r) × (r ≤ at + 1) ⌝ }
-{
-    if ir_nodes::node_part(kind, i) == ir_nodes::OPT_TEXT {
-        return wire::put_flag(out, at, false);
-    }
-    at
 }
 
 // A node of a kind, as far as its metadata.
@@ -76,7 +65,7 @@ fn start_node(out: &mut [u8], at: usize, kind: usize, meta: NodeMetadata) -> usi
 {
     let p = wire::open_block(out, at, kind as u64);
     let q = put_number_part(out, p, kind, 0, meta.alignment);
-    put_absent(out, q, kind, 1)
+    put_text_flag(out, q, kind, 1, false)
 }
 
 // A node of a kind, as far as its metadata, with no size text.
@@ -165,7 +154,7 @@ fn put_ref_parts(s: &[u8], w: u64, path: &[u8], out: &mut [u8], at: usize) -> us
     ensures { λ r. ⌜ (at ≤ r) × (r ≤ at + 772) ⌝ }
 {
     let p = put_text_part(out, at, 130, 2, path);
-    let q = open_text_part(out, p, 130, 3);
+    let q = put_text_flag(out, p, 130, 3, true);
     put_entry(s, w, out, q)
 }
 
@@ -175,7 +164,7 @@ fn put_size_text(owner: &[u8], path: &[u8], out: &mut [u8], at: usize) -> usize
     ensures { λ r. ⌜ Wrote (now (out .entry)) at (write (optionalTree name (some (refText (now (owner .entry)) (now (path .entry)))))) (now (out .exit)) r ⌝ }
     ensures { λ r. ⌜ (at ≤ r) × (r ≤ at + 258) ⌝ }
 {
-    let p = open_text_part(out, at, 130, 1);
+    let p = put_text_flag(out, at, 130, 1, true);
     let q = wire::put_le(out, p, 2, (owner.len() + 1 + path.len()) as u64);
     let u = wire::put_from(out, q, owner, 0);
     let v = wire::put_byte(out, u, 0x3A);
@@ -216,7 +205,7 @@ pub fn put_buffer_size(out: &mut [u8], at: usize) -> usize
 {
     let p = open_node(out, at, 130, NodeMetadata::default_alignment());
     let q = put_text_part(out, p, 130, 2, b"__buffer_size");
-    let u = put_absent(out, q, 130, 3);
+    let u = put_text_flag(out, q, 130, 3, false);
     wire::close_block(out, at, u);
     u
 }

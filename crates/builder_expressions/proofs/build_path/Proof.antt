@@ -41,16 +41,18 @@ enum-told c = search needs
 same-length : tie.Need-same-length
 same-length c = search needs
 
--- Its paths stay: with names in their place the check refuses it.
 returns-2 : tie.Need-returns-2
 returns-2 c = (
   record { low = omega arith; high = omega arith; count = omega arith },
-  ref-made _ _
-      (c .before .before .before .before .before .before .before .before .before .lookup-name
-      .ensures .0)
-      (c .before .before .before .before .before .before .before .i .given .1)
-      (c .before .before .before .before .before .if1 .left)
-      (c .before .before .put-path-ref .ensures .0),
+  let at-put-path-ref = c .before .before in
+      let at-else1 = at-put-path-ref .before .before .before in
+      let at-i = at-else1 .before .before in
+      let at-lookup-name = at-i .before .before in
+      ref-made _ _
+      (at-lookup-name .lookup-name .ensures .0)
+      (at-i .i .given .1)
+      (at-else1 .if1 .left)
+      (at-put-path-ref .put-path-ref .ensures .0),
 )
 
 returns-3 : tie.Need-returns-3

@@ -27,8 +27,8 @@ put-text-part-requires c κs =
       omega arith,
     )
 
-put-absent-requires : tie.Need-put-absent-requires
-put-absent-requires c κs =
+put-text-flag-requires : tie.Need-put-text-flag-requires
+put-text-flag-requires c κs =
     let at-put-text-part = c .before .before .before in
     let at-open-node = at-put-text-part .before .before .before .before .before in (
       omega (
@@ -44,21 +44,21 @@ put-absent-requires c κs =
 
 close-block-requires : tie.Need-close-block-requires
 close-block-requires c κs =
-    let at-put-absent = c .before .before .before in
-    let at-put-text-part = at-put-absent .before .before .before .before in
+    let at-put-text-flag = c .before .before .before in
+    let at-put-text-part = at-put-text-flag .before .before .before .before in
     let at-open-node = at-put-text-part .before .before .before .before .before in (
       omega (
         arith,
         at-open-node .open-node .ensures .1,
         at-put-text-part .put-text-part .ensures .1,
-        at-put-absent .put-absent .ensures .1,
+        at-put-text-flag .put-text-flag .ensures .1,
       ),
       omega (
         arith,
         at-start (at-open-node .before) .pre,
         at-open-node .open-node .ensures .1,
         at-put-text-part .put-text-part .ensures .1,
-        at-put-absent .put-absent .ensures .1,
+        at-put-text-flag .put-text-flag .ensures .1,
       ),
     )
 
@@ -68,15 +68,15 @@ same-length c = search needs
 returns : tie.Need-returns
 returns c =
     let at-close-block = c .before .before in
-    let at-put-absent = at-close-block .before .before .before .before in
-    let at-put-text-part = at-put-absent .before .before .before .before in
+    let at-put-text-flag = at-close-block .before .before .before .before in
+    let at-put-text-part = at-put-text-flag .before .before .before .before in
     let at-open-node = at-put-text-part .before .before .before .before .before in
     let at-default-alignment = at-open-node .before in
     buffer-closed
     (at-default-alignment .default-alignment .ensures)
     (at-open-node .open-node .ensures .0)
     (at-put-text-part .put-text-part .ensures .0)
-    (at-put-absent .put-absent .ensures .0)
+    (at-put-text-flag .put-text-flag .ensures .0)
     (at-close-block .close-block .ensures .0)
 
 pub put-buffer-size-spec : {M : Type 1} → statement M
@@ -87,7 +87,7 @@ put-buffer-size-spec =
     open-node-requires
     slice-aggregate-put-text-part
     put-text-part-requires
-    put-absent-requires
+    put-text-flag-requires
     close-block-requires
     same-length
     returns)

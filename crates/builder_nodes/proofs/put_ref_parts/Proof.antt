@@ -10,8 +10,8 @@ put-text-part-requires c κs =
     let at-start = c .before .before .before .before in
     (omega (arith, at-start .pre .1, at-start .pre .2), omega arith, omega arith, omega arith)
 
-open-text-part-requires : tie.Need-open-text-part-requires
-open-text-part-requires c κs =
+put-text-flag-requires : tie.Need-put-text-flag-requires
+put-text-flag-requires c κs =
     let at-put-text-part = c .before .before .before in
     let at-start = at-put-text-part .before .before .before .before .before in (
       omega (
@@ -34,25 +34,25 @@ same-length c = search needs
 returns : tie.Need-returns
 returns c =
     let at-put-entry = c .before .before in
-    let at-open-text-part = at-put-entry .before .before .before .before in
-    let at-put-text-part = at-open-text-part .before .before .before .before in
+    let at-put-text-flag = at-put-entry .before .before .before .before in
+    let at-put-text-part = at-put-text-flag .before .before .before .before in
     let at-start = at-put-text-part .before .before .before .before .before in (
       ref-parts _ _
           (at-put-text-part .put-text-part .ensures .0)
-          (at-open-text-part .open-text-part .ensures .0)
+          (at-put-text-flag .put-text-flag .ensures .0)
           (at-put-entry .put-entry .ensures .0),
       (
         omega (
           arith,
           at-put-text-part .put-text-part .ensures .1,
-          at-open-text-part .open-text-part .ensures .1,
+          at-put-text-flag .put-text-flag .ensures .1,
           at-put-entry .put-entry .ensures .1,
         ),
         omega (
           arith,
           at-start .pre .2,
           at-put-text-part .put-text-part .ensures .1,
-          at-open-text-part .open-text-part .ensures .1,
+          at-put-text-flag .put-text-flag .ensures .1,
           at-put-entry .put-entry .ensures .1,
         ),
       ),
@@ -63,7 +63,7 @@ put-ref-parts-spec =
     tie.close
     (tie.spec
     put-text-part-requires
-    open-text-part-requires
+    put-text-flag-requires
     put-entry-requires
     same-length
     returns)

@@ -7,14 +7,14 @@ use Rattle.builder_nodes.proofs.put_size_text.Statement.{statement}
 use Rattle.builder_nodes.proofs.put_size_text.Tie as tie
 
 -- The places, each seen from a later one: what was known there.
-abbrev at-open-text-part : tie.After-put-le-arg → tie.After-open-text-part
-at-open-text-part r = r .before .before .before
+abbrev at-put-text-flag : tie.After-put-le-arg → tie.After-put-text-flag
+at-put-text-flag r = r .before .before .before
 
 abbrev at-start : tie.After-put-le-arg → tie.Start
-at-start r = at-open-text-part r .before .before .before .before .before
+at-start r = at-put-text-flag r .before .before .before .before .before
 
-open-text-part-requires : tie.Need-open-text-part-requires
-open-text-part-requires c κs =
+put-text-flag-requires : tie.Need-put-text-flag-requires
+put-text-flag-requires c κs =
     let at-start = c .before .before .before .before in
     (omega (arith, at-start .pre .0), omega arith, omega arith, omega arith)
 
@@ -28,7 +28,7 @@ put-le-requires : tie.Need-put-le-requires
 put-le-requires c κs = omega (
   arith,
   at-start c .pre .0,
-  at-open-text-part c .open-text-part .ensures .1,
+  at-put-text-flag c .put-text-flag .ensures .1,
 )
 
 put-from-requires : tie.Need-put-from-requires
@@ -39,7 +39,7 @@ put-from-requires c κs =
       arith,
       at-start at-put-le-arg .pre .0,
       at-start at-put-le-arg .pre .1,
-      at-open-text-part at-put-le-arg .open-text-part .ensures .1,
+      at-put-text-flag at-put-le-arg .put-text-flag .ensures .1,
       at-put-le .put-le .ensures .1,
     )
 
@@ -52,7 +52,7 @@ put-byte-requires c κs =
       arith,
       at-start at-put-le-arg .pre .0,
       at-start at-put-le-arg .pre .1,
-      at-open-text-part at-put-le-arg .open-text-part .ensures .1,
+      at-put-text-flag at-put-le-arg .put-text-flag .ensures .1,
       at-put-le .put-le .ensures .1,
       at-put-from .put-from .ensures .1,
     )
@@ -67,7 +67,7 @@ put-from-requires-2 c κs =
       arith,
       at-start at-put-le-arg .pre .0,
       at-start at-put-le-arg .pre .1,
-      at-open-text-part at-put-le-arg .open-text-part .ensures .1,
+      at-put-text-flag at-put-le-arg .put-text-flag .ensures .1,
       at-put-le .put-le .ensures .1,
       at-put-from .put-from .ensures .1,
       at-put-byte .put-byte .ensures .1,
@@ -84,7 +84,7 @@ returns c =
     let at-put-le = at-put-from .before .before .before .before in
     let at-put-le-arg = at-put-le .before in (
       size-text _ _ refl
-          (at-open-text-part at-put-le-arg .open-text-part .ensures .0)
+          (at-put-text-flag at-put-le-arg .put-text-flag .ensures .0)
           (at-put-le .put-le .ensures .0)
           (at-put-from .put-from .ensures .0)
           (at-put-byte .put-byte .ensures .0)
@@ -92,7 +92,7 @@ returns c =
       (
         omega (
           arith,
-          at-open-text-part at-put-le-arg .open-text-part .ensures .1,
+          at-put-text-flag at-put-le-arg .put-text-flag .ensures .1,
           at-put-le .put-le .ensures .1,
           at-put-from .put-from .ensures .1,
           at-put-byte .put-byte .ensures .1,
@@ -101,7 +101,7 @@ returns c =
         omega (
           arith,
           at-start at-put-le-arg .pre .1,
-          at-open-text-part at-put-le-arg .open-text-part .ensures .1,
+          at-put-text-flag at-put-le-arg .put-text-flag .ensures .1,
           at-put-le .put-le .ensures .1,
           at-put-from .put-from .ensures .1,
           at-put-byte .put-byte .ensures .1,
@@ -114,7 +114,7 @@ pub put-size-text-spec : {M : Type 1} → statement M
 put-size-text-spec =
     tie.close
     (tie.spec
-    open-text-part-requires
+    put-text-flag-requires
     add-put-le
     add-put-le-2
     put-le-requires

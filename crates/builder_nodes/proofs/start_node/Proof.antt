@@ -18,8 +18,8 @@ put-number-part-requires c κs =
       omega arith,
     )
 
-put-absent-requires : tie.Need-put-absent-requires
-put-absent-requires c κs =
+put-text-flag-requires : tie.Need-put-text-flag-requires
+put-text-flag-requires c κs =
     let at-put-number-part = c .before .before .before in
     let at-open-block = at-put-number-part .before .before .before .before in
     let at-start = at-open-block .before .before .before in (
@@ -39,8 +39,8 @@ same-length c = search needs
 
 returns : tie.Need-returns
 returns c =
-    let at-put-absent = c .before .before in
-    let at-put-number-part = at-put-absent .before .before .before .before in
+    let at-put-text-flag = c .before .before in
+    let at-put-number-part = at-put-text-flag .before .before .before .before in
     let at-open-block = at-put-number-part .before .before .before .before in
     let at-start = at-open-block .before .before .before in
     started _ _
@@ -48,7 +48,7 @@ returns c =
     (at-start .pre .2)
     (at-open-block .open-block .ensures .0)
     (at-put-number-part .put-number-part .ensures .0)
-    (at-put-absent .put-absent .ensures .0)
+    (at-put-text-flag .put-text-flag .ensures .0)
 
 pub start-node-spec : {M : Type 1} → statement M
 start-node-spec =
@@ -56,6 +56,6 @@ start-node-spec =
     (tie.spec
     open-block-requires
     put-number-part-requires
-    put-absent-requires
+    put-text-flag-requires
     same-length
     returns)

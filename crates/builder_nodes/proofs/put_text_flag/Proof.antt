@@ -1,9 +1,9 @@
--- `builder_nodes::put_absent` meets its contract: the table says whether the part is optional. Assumes nothing.
-use Rattle.builder_nodes.proofs.Parts.{absent-there, absent-other}
+-- `builder_nodes::put_text_flag` meets its contract: the table says whether the part is optional. Assumes nothing.
+use Rattle.builder_nodes.proofs.Parts.{flag-there, flag-other}
 use borrow.Author.Needs.{needs}
 use native.Mathlib.Omega.{arith}
-use Rattle.builder_nodes.proofs.put_absent.Statement.{statement}
-use Rattle.builder_nodes.proofs.put_absent.Tie as tie
+use Rattle.builder_nodes.proofs.put_text_flag.Statement.{statement}
+use Rattle.builder_nodes.proofs.put_text_flag.Tie as tie
 
 node-part-requires : tie.Need-node-part-requires
 node-part-requires c κs = (c .before .pre .1, c .before .pre .2, c .before .pre .3)
@@ -21,8 +21,8 @@ returns c =
     let at-put-flag = c .before .before in
     let at-then1 = at-put-flag .before .before in
     let at-node-part = at-then1 .before in (
-      absent-there
-          (at-node-part .node-part .ensures)
+      flag-there
+          (at-node-part .node-part .ensures) _
           (at-then1 .if1 .taken)
           (at-put-flag .put-flag .ensures .0),
       (
@@ -33,12 +33,12 @@ returns c =
 
 returns-2 : tie.Need-returns-2
 returns-2 c = (
-  absent-other (c .before .node-part .ensures) (c .if1 .left),
+  flag-other (c .before .node-part .ensures) _ (c .if1 .left),
   (omega arith, omega arith),
 )
 
-pub put-absent-spec : {M : Type 1} → statement M
-put-absent-spec =
+pub put-text-flag-spec : {M : Type 1} → statement M
+put-text-flag-spec =
     tie.close
     (tie.spec
     node-part-requires
