@@ -133,7 +133,7 @@ abbrev pub Leaves : (s xs : List ℕ) (at : ℕ) (ws ys : List ℕ) (r : Built) 
 Leaves s xs at ws ys r owner depth expr n =
     (a : Accepted s 64 91 expr) → Builds s xs at ws ys r (build-expr-ir owner (prefixOf depth) (exprOf (tree a)) (entriesOf s ws n))
 
--- the same, told by what the definition gives
+-- the same, from what the definition gives
 module _ {s xs ws ys : List ℕ} {at : ℕ} {r : Built} where
   -- a node that was made and written
   pub makes : {x : Outcome (IrNode × Registry)} {n : ℕ} (y : IrNode) → r .number ≡ 0 → r .count ≡ n →

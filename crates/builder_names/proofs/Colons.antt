@@ -131,7 +131,7 @@ place-missing s i h e = rw (split-missing s i h e)
 
 pub ruleset splits = (split-more, split-fits, split-found, place-found, split-missing, place-missing)
 
--- ---- the place as the code has it, an enum that is told apart
+-- ---- the place as the code has it, by the variant of the answer
 
 -- what the answer of `last_colons` says where it is a place
 pub parts-at : (s : Name) (x : Split) (i : ℕ) → Parts s x → x ≡ At i → Parts s (At i)

@@ -170,8 +170,8 @@ module _ (s : List ℕ) (w : ℕ) where
   entry-made e = rw (ne-eqb (madeOf w) 0 e)
 
   -- the answer of `has_owner`
-  pub owner-told : (o n : Name) (b : Bool) → n ≡ held s (ownerAt w) → b ≡ same o n → b ≡ same o (entryOf s w .owner)
-  owner-told o n b e f = f ∙ ap (same o) (e ∙ sym owner-is)
+  pub owner-test : (o n : Name) (b : Bool) → n ≡ held s (ownerAt w) → b ≡ same o n → b ≡ same o (entryOf s w .owner)
+  owner-test o n b e f = f ∙ ap (same o) (e ∙ sym owner-is)
 
   module _ (o : Name) (x : Option Name) (t : Bool) (e : t ≡ same o (entryOf s w .owner)) where
     -- the answer of `has_key` for another owner

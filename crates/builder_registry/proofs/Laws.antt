@@ -28,7 +28,7 @@ held-name {s} {at} n = rw (le-leb (at + 2 + le2 s at) (length s) (n .inside), le
 pub standing : {s ws us : List ℕ} {n m : ℕ} → Standing s ws n → length us ≡ length ws → m ≤ 512 → Standing s us m
 standing a e h = record { size = a .size; words = rw e (a .words); count = h }
 
--- ---- what an answer says, told by its number or its variant
+-- ---- what an answer says, by its number or its variant
 
 -- a change that was not refused gives the registry that the words hold
 pub kept-done : {s us : List ℕ} {r : Held} {x : Outcome (Unit × Registry)} → Kept s us r x → r .number ≡ 0 → x ≡ done (tt, entriesOf s us (r .count))

@@ -1,4 +1,5 @@
--- `builder_expressions::build_literal` meets its contract. Assumes nothing.
+-- `builder_expressions::build_literal` meets its contract: a negative literal is refused, any other becomes a Const node.
+-- Assumes nothing.
 use borrow.Author.Needs.{needs}
 use native.Mathlib.Omega.{arith}
 use Rattle.expr_parts.proofs.Laws.{literal-at}

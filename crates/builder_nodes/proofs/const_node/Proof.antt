@@ -1,4 +1,4 @@
--- `builder_nodes::const_node` meets its contract. Assumes nothing.
+-- `builder_nodes::const_node` meets its contract: the head, the value, then the length. Assumes nothing.
 use Rattle.builder_nodes.proofs.Parts.{const-closed}
 use borrow.Author.Needs.{needs}
 use native.Mathlib.Omega.{arith}

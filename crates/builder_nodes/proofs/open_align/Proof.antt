@@ -1,4 +1,4 @@
--- `builder_nodes::open_align` meets its contract. Assumes nothing.
+-- `builder_nodes::open_align` meets its contract: the head of an AlignUp node and its alignment. Assumes nothing.
 use Rattle.builder_nodes.proofs.Parts.{align-started}
 use borrow.Author.Needs.{needs}
 use native.Mathlib.Omega.{arith}

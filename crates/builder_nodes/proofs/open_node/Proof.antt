@@ -1,4 +1,4 @@
--- `builder_nodes::open_node` meets its contract. Assumes nothing.
+-- `builder_nodes::open_node` meets its contract: that of `start_node`, for metadata of this alignment. Assumes nothing.
 use Rattle.builder_nodes.proofs.Laws.{start-at}
 use borrow.Author.Needs.{needs}
 use native.Mathlib.Omega.{arith}

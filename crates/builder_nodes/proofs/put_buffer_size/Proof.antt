@@ -1,4 +1,4 @@
--- `builder_nodes::put_buffer_size` meets its contract. Assumes nothing.
+-- `builder_nodes::put_buffer_size` meets its contract: the head, the path, no parameter, then the length. Assumes nothing.
 use Rattle.builder_nodes.proofs.Parts.{buffer-closed}
 use borrow.Author.Needs.{needs}
 use native.Mathlib.Omega.{arith}

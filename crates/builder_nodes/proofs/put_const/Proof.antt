@@ -1,4 +1,4 @@
--- `builder_nodes::put_const` meets its contract. Assumes nothing.
+-- `builder_nodes::put_const` meets its contract: that of `const_node`. Assumes nothing.
 use borrow.Author.Needs.{needs}
 use native.Mathlib.Omega.{arith}
 use Rattle.builder_nodes.proofs.put_const.Statement.{statement}

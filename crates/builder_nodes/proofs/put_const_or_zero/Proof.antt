@@ -1,4 +1,5 @@
--- `builder_nodes::put_const_or_zero` meets its contract. Assumes nothing.
+-- `builder_nodes::put_const_or_zero` meets its contract: a ZeroSize node for 0, else a Const node inside an AlignUp node.
+-- Assumes nothing.
 use Rattle.builder_nodes.proofs.Parts.{zero-closed, value-closed}
 use borrow.Author.Needs.{needs}
 use native.Mathlib.Omega.{arith}

@@ -1,4 +1,5 @@
--- `builder_nodes::put_entry` meets its contract. Assumes nothing.
+-- `builder_nodes::put_entry` meets its contract: a write at the start of the rest of the output is a write at the cursor.
+-- Assumes nothing.
 use Rattle.builder_nodes.proofs.Tail.{tail-in, tail-out}
 use borrow.Author.Needs.{needs}
 use native.Mathlib.Omega.{arith}

@@ -1,4 +1,4 @@
--- `builder_nodes::put_path_ref` meets its contract. Assumes nothing.
+-- `builder_nodes::put_path_ref` meets its contract: the head, the parts of the reference, then the length. Assumes nothing.
 use Rattle.builder_nodes.proofs.Parts.{path-closed}
 use borrow.Author.Needs.{needs}
 use native.Mathlib.Omega.{arith}

@@ -1,4 +1,5 @@
--- `builder_nodes::put_ref_parts` meets its contract. Assumes nothing.
+-- `builder_nodes::put_ref_parts` meets its contract: the path, a flag and the entry's name one behind the other. Assumes
+-- nothing.
 use Rattle.builder_nodes.proofs.Parts.{ref-parts}
 use borrow.Author.Needs.{needs}
 use native.Mathlib.Omega.{arith}

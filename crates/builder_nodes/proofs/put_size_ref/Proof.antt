@@ -1,4 +1,5 @@
--- `builder_nodes::put_size_ref` meets its contract. Assumes nothing.
+-- `builder_nodes::put_size_ref` meets its contract: a node with a size text, so its metadata is written part by part.
+-- Assumes nothing.
 use denote.Ref.{now}
 use Rattle.builder_nodes.proofs.Parts.{size-closed}
 use borrow.Author.Needs.{needs}

@@ -1,4 +1,5 @@
--- `builder_nodes::put_size_text` meets its contract. Assumes nothing.
+-- `builder_nodes::put_size_text` meets its contract: flag, length, owner, colon and path one behind the other. Assumes
+-- nothing.
 use mathlib.Core.Path.{refl}
 use Rattle.builder_nodes.proofs.Parts.{size-text}
 use borrow.Author.Needs.{needs}

@@ -1,4 +1,4 @@
--- `builder_nodes::put_text_part` meets its contract. Assumes nothing.
+-- `builder_nodes::put_text_part` meets its contract: the flag, where the part is optional, then the name. Assumes nothing.
 use Rattle.wire.proofs.Laws.{both}
 use borrow.Author.Needs.{needs}
 use native.Mathlib.Omega.{arith}

@@ -1,4 +1,5 @@
--- `builder_paths::joined_length` meets its contract. Assumes nothing.
+-- `builder_paths::joined_length` meets its contract: eight bytes for each array, and the last dot only before a path.
+-- Assumes nothing.
 use Rattle.builder_paths.proofs.Paths.{long-bare, long-empty, long-both}
 use borrow.Author.Needs.{needs}
 use Rattle.builder_paths.proofs.joined_length.Statement.{statement}

@@ -1,4 +1,4 @@
--- `builder_paths::no_segments` meets its contract. Assumes nothing.
+-- `builder_paths::no_segments` meets its contract: the count of the accepted list is read. Assumes nothing.
 use mathlib.Core.Path.{_≡_}
 use native.Mathlib.Omega.{arith}
 use Rattle.builder_paths.specs.Joined.{noNames}

@@ -1,4 +1,5 @@
--- `builder_paths::put_joined` meets its contract. Assumes nothing.
+-- `builder_paths::put_joined` meets its contract: the prefix and the path one behind the other; of an empty path the last
+-- dot is left out. Assumes nothing.
 use Rattle.builder_paths.proofs.Paths.{put-bare, put-empty, put-both}
 use borrow.Author.Needs.{needs}
 use Rattle.builder_paths.proofs.put_joined.Statement.{statement}

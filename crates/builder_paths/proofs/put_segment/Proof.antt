@@ -1,4 +1,4 @@
--- `builder_paths::put_segment` meets its contract. Assumes nothing.
+-- `builder_paths::put_segment` meets its contract: the name, and a dot unless it is the last. Assumes nothing.
 use native.Mathlib.Omega.{arith}
 use borrow.Author.Needs.{needs}
 use Rattle.builder_paths.proofs.Segments.{short-name, put-dot, put-last}

@@ -1,4 +1,5 @@
--- `builder_paths::segment_length` meets its contract. Assumes nothing.
+-- `builder_paths::segment_length` meets its contract: the name's length, and one for the dot unless it is the last. Assumes
+-- nothing.
 use borrow.Author.Needs.{needs}
 use denote.Ref.{now}
 use Rattle.builder_paths.proofs.Segments.{long-dot, long-last}

@@ -1,4 +1,5 @@
--- `builder_paths::stands_at` meets its contract. Assumes nothing.
+-- `builder_paths::stands_at` meets its contract: the part is compared with as many bytes of the name, where there are so
+-- many. Assumes nothing.
 use borrow.Author.Needs.{needs}
 use denote.Ref.{now}
 use Rattle.builder_paths.proofs.Match.{stands-out, stands-short, stands-tested}

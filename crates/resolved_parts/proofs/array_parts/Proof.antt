@@ -1,4 +1,4 @@
--- `array_parts` meets its contract.
+-- `array_parts` meets its contract: behind the head stand the flag, the element and the size, whose offsets the code sums.
 use borrow.Author.Needs.{needs}
 use mathlib.Core.Path.{refl}
 use native.Mathlib.Omega.{arith}

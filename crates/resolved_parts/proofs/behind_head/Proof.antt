@@ -1,4 +1,4 @@
--- `behind_head` meets its contract.
+-- `behind_head` meets its contract: the alignment's eight bytes and the references block are passed.
 use borrow.Author.Needs.{needs}
 use native.Mathlib.Omega.{arith}
 use Rattle.resolved_parts.proofs.Head.{bounds, head-end}

@@ -1,4 +1,4 @@
--- `enum_parts` meets its contract.
+-- `enum_parts` meets its contract: behind the head stands the tag expression, behind it the count of the variants.
 use borrow.Author.Needs.{needs}
 use native.Mathlib.Omega.{arith}
 use Rattle.resolved_parts.proofs.Each.{enum-inside, enum-at}

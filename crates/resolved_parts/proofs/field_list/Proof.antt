@@ -1,4 +1,4 @@
--- `field_list` meets its contract.
+-- `field_list` meets its contract: behind the head of a struct or a union stands the count of its fields.
 use borrow.Author.Needs.{needs}
 use native.Mathlib.Omega.{arith}
 use Rattle.resolved_parts.proofs.Each.{fields-held, fields-at}

@@ -1,4 +1,4 @@
--- `field_parts` meets its contract.
+-- `field_parts` meets its contract: the flag behind the name says whether an offset stands before the type.
 use mathlib.Core.Path.{refl}
 use native.Mathlib.Omega.{arith}
 use Rattle.resolved_parts.proofs.Fields.{field-inside, field-some, field-none}

@@ -1,4 +1,4 @@
--- `owner_paths` meets its contract.
+-- `owner_paths` meets its contract: the paths stand behind the owner's name.
 use Rattle.resolved_parts.proofs.Fields.{owner-named, owner-at}
 use Rattle.resolved_parts.proofs.owner_paths.Statement.{statement}
 use Rattle.resolved_parts.proofs.owner_paths.Tie as tie

@@ -1,4 +1,4 @@
--- `sized_list` meets its contract.
+-- `sized_list` meets its contract: behind the head of a size-discriminated union stands the count of its variants.
 use borrow.Author.Needs.{needs}
 use native.Mathlib.Omega.{arith}
 use Rattle.resolved_parts.proofs.Each.{sized-held, sized-at}

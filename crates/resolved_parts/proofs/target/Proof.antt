@@ -1,4 +1,4 @@
--- `target` meets its contract.
+-- `target` meets its contract: the target's name stands behind the head.
 use borrow.Author.Needs.{needs}
 use Rattle.resolved_parts.proofs.Each.{target-at}
 use Rattle.resolved_parts.proofs.target.Statement.{statement}

@@ -1,4 +1,4 @@
--- `type_head` meets its contract.
+-- `type_head` meets its contract: the size's flag says whether a constant size stands before the alignment.
 use borrow.Author.Needs.{needs}
 use native.Mathlib.Omega.{arith}
 use Rattle.resolved_parts.proofs.Head.{bounds, head-const, head-variable}

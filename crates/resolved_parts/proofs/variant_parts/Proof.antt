@@ -1,4 +1,4 @@
--- `variant_parts` meets its contract.
+-- `variant_parts` meets its contract: the number stands behind the name, the type behind the number.
 use native.Mathlib.Omega.{arith}
 use Rattle.resolved_parts.proofs.Fields.{variant-inside, variant-at}
 use Rattle.resolved_parts.proofs.variant_parts.Statement.{statement}
