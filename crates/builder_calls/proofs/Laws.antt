@@ -2,11 +2,10 @@
 use mathlib.Core.Path.{_≡_, refl, sym, _∙_, ap, subst}
 use mathlib.Core.List.{List, [], _∷_}
 use mathlib.Core.Option.{some, none}
-use Prim.Native.Nat.{ℕ, zero, suc, _+_, _-_, _≤_, _<_}
+use Prim.Native.Nat.{ℕ, zero, suc, _+_, _-_, _^_, _≤_, _<_}
 use native.Mathlib.Numerals.{sub-one}
 use native.Mathlib.Omega.{arith}
-use lib.ListN.{length, drop, length-drop}
-use lib.Seq.{length-take-le}
+use lib.ListN.{length}
 use borrow.Author.Tests.{lt-ltb, le-ltb}
 use Rattle.errors.specs.Refusal.{Outcome, done, refused, plain}
 use Rattle.errors.specs.Refusal.{_>>=_ as _andThen_}
@@ -34,29 +33,34 @@ use Rattle.wire.specs.Poke.{Wrote, opened}
 use Rattle.wire.proofs.Laws.{both, parts, no-parts, closed}
 use Rattle.resolved_parts.specs.declared.TypeHead.{TypeHead}
 use Rattle.resolved_parts.specs.Types.{Named, PathsAt, OwnerAt, HeadAt, TargetAt, ownersOf, textsOf}
-use Rattle.resolved_parts.proofs.Laws.{named}
 use Rattle.builder_registry.specs.declared.Held.{Held}
 use Rattle.builder_registry.specs.Words.{Kept, held, entriesOf}
 use Rattle.builder_registry.proofs.Laws.{held-name}
+use Rattle.builder_registry.proofs.Names.{held-bound}
+use Rattle.builder_registry.proofs.Extend.{named}
 use Rattle.builder_nodes.specs.declared.Built.{Built}
-use Rattle.builder_nodes.specs.Built.{Builds, nodeStart}
+use Rattle.builder_nodes.specs.Built.{Builds, Within, nodeStart}
 use Rattle.builder_nodes.proofs.Laws.{node-closed}
 use Rattle.builder_calls.specs.declared.Collected.{Collected}
-use Rattle.builder_calls.specs.Collected.{pathsIn, Collects}
+use Rattle.builder_calls.specs.Collected.{pathsIn, Collects, Fills}
 use Rattle.builder_calls.specs.Call.{callOf}
-use Rattle.builder_calls.proofs.Collecting.{entered, one-long, one-short, paths-more, owners-count, refusal, collects-done, collects-refused, collects-none, stopped, joined}
+use Rattle.builder_calls.proofs.Collecting.{Behind, collectPaths, collectOwners, entered, one-long, one-short, paths-more, owners-count, refusal, collects-done, collects-refused, collects-none, stopped, joined}
 
 -- ---- an argument
 
 -- a name of an accepted set has at most 255 bytes
 pub short-name : {s o : List ℕ} (owner : ℕ) → o ≡ nameAt s owner → Named s owner → length o ≤ 255
-short-name {s} owner e n =
-    let l : length (nameAt s owner) ≡ le2 s owner = length-take-le (le2 s owner) (drop (owner + 2) s) (rw length-drop (omega (arith, n .inside))) in
-    omega (arith, ap length e, l, n .short)
+short-name {s} owner e n = rw (e, ← held-name n) (held-bound s owner)
+
+-- where an argument ends: the head of its block has 6 bytes, and its name stands there twice, each behind its length
+pub argument-ends : {at b u v m k made n : ℕ} → b ≡ at + 6 → u ≡ b + (2 + k) → v ≡ u + (2 + k) → m ≡ k → m ≤ 255 → made < 512 → n ≤ 512 →
+    Fills at made (record { at = v; count = n; made = made + 1; number = 0 })
+argument-ends eb eu ev e l f h = record { low = omega arith; high = omega arith; more = omega arith; most = omega arith; count = h }
 
 -- the bytes of an argument
-argument-puts : {xs x₁ x₂ x₃ ys : List ℕ} {at b u v q : ℕ} (n : Name) → Wrote xs at (opened 164) x₁ b → Wrote x₁ b (write (name n)) x₂ u → Wrote x₂ u (write (name n)) x₃ v →
-    Wrote x₃ at (bytes 4 (v - at - 4)) ys q → Wrote xs at (write (entriesTree argumentTree (argument n ∷ []))) ys v
+argument-puts : {xs x₁ x₂ x₃ ys : List ℕ} {at b u v q : ℕ} (n : Name) → Wrote xs at (opened 164) x₁ b → Wrote x₁ b (write (name n)) x₂ u →
+    Wrote x₂ u (write (name n)) x₃ v → Wrote x₃ at (bytes 4 (v - at - 4)) ys q →
+    Wrote xs at (write (entriesTree argumentTree (argument n ∷ []))) ys v
 unfolding entriesTree
 argument-puts {ys} {v} n w₁ w₂ w₃ w₄ =
     parts (argumentTree (argument n)) nil
@@ -64,148 +68,188 @@ argument-puts {ys} {v} n w₁ w₂ w₃ w₄ =
     (no-parts ys v)
 
 module _ (s xs : List ℕ) (at owner path made : ℕ) (o p : List ℕ) (g₀ : Registry) (eo : o ≡ nameAt s owner) (ep : p ≡ nameAt s path) where
-  -- the same of the names' offsets
-  renamed : {us ys : List ℕ} {r : Collected} → ((before : List IrArgument) → length before ≡ made → Collects s xs at before us ys r (collect-paths o (p ∷ []) before g₀)) →
-      (before : List IrArgument) → length before ≡ made → Collects s xs at before us ys r (collect-paths (nameAt s owner) (nameAt s path ∷ []) before g₀)
+  -- what is said of the two names is said of their offsets
+  renamed : {us ys : List ℕ} {r : Collected} → Behind s xs at made us ys r (collectPaths o (p ∷ []) g₀) →
+      Behind s xs at made us ys r (collectPaths (nameAt s owner) (nameAt s path ∷ []) g₀)
   renamed {us} {ys} {r} h before e =
       subst (λ (z : Name). Collects s xs at before us ys r (collect-paths z (nameAt s path ∷ []) before g₀)) eo
       (subst (λ (z : Name). Collects s xs at before us ys r (collect-paths o (z ∷ []) before g₀)) ep (h before e))
 
-  pub argument-long : {us ys : List ℕ} {m q c k : ℕ} → m ≡ length (canonical-name o p) → 255 < m → (before : List IrArgument) → length before ≡ made →
-      Collects s xs at before us ys (record { at = q; count = c; made = k; number = 17 }) (collect-paths (nameAt s owner) (nameAt s path ∷ []) before g₀)
+  -- the canonical name is too long
+  pub argument-long : {us ys : List ℕ} {m q c k : ℕ} → m ≡ length (canonical-name o p) → 255 < m →
+      Behind s xs at made us ys (record { at = q; count = c; made = k; number = 17 }) (collectPaths (nameAt s owner) (nameAt s path ∷ []) g₀)
   argument-long el h = renamed (λ before e. refusal 17 (one-long o p before g₀ (omega (arith, el))) refl (omega arith))
 
-  module _ (us : List ℕ) (m : ℕ) (h : Held) (no : Named s owner) (np : Named s path) (el : m ≡ length (canonical-name o p)) (l : m ≤ 255) (k : Kept s us h (ensure (held s owner) (held s path) g₀)) where
+  module _ (us : List ℕ) (m : ℕ) (h : Held) (no : Named s owner) (np : Named s path) (el : m ≡ length (canonical-name o p)) (l : m ≤ 255)
+      (k : Kept s us h (ensure (held s owner) (held s path) g₀)) where
     -- what is entered, by the names
     kept-names : Kept s us h (ensure o p g₀)
     kept-names =
         subst (λ (z : Name). Kept s us h (ensure z p g₀)) (held-name no ∙ sym eo)
         (subst (λ (z : Name). Kept s us h (ensure (held s owner) z g₀)) (held-name np ∙ sym ep) k)
 
-    -- a path of this length, once it is entered
-    after-entry : {ys : List ℕ} {r : Collected} → ((before : List IrArgument) → length before ≡ made → (x : Outcome (Unit {0} × Registry)) → Kept s us h x → Collects s xs at before us ys r (_andThen_ x (entered o p before g₀))) →
-        (before : List IrArgument) → length before ≡ made → Collects s xs at before us ys r (collect-paths (nameAt s owner) (nameAt s path ∷ []) before g₀)
-    after-entry {ys} {r} f = renamed (λ before e. subst (Collects s xs at before us ys r) (sym (one-short o p before g₀ (omega (arith, el)))) (f before e (ensure o p g₀) kept-names))
+    -- what the outcome of entering the path decides
+    abbrev Entered : List ℕ → Collected → Type 0
+    Entered ys r = (before : List IrArgument) → length before ≡ made → (x : Outcome (Unit {0} × Registry)) → Kept s us h x →
+        Collects s xs at before us ys r (_andThen_ x (entered o p before g₀))
 
-    pub argument-full : {ys : List ℕ} {q c j : ℕ} → (h .number ≡ 0 → ⊥) → (before : List IrArgument) → length before ≡ made →
-        Collects s xs at before us ys (record { at = q; count = c; made = j; number = h .number }) (collect-paths (nameAt s owner) (nameAt s path ∷ []) before g₀)
+    -- a path of this length, once it is entered
+    after-entry : {ys : List ℕ} {r : Collected} → Entered ys r → Behind s xs at made us ys r (collectPaths (nameAt s owner) (nameAt s path ∷ []) g₀)
+    after-entry {ys} {r} f =
+        renamed
+        (λ before e. subst
+        (Collects s xs at before us ys r)
+        (sym (one-short o p before g₀ (omega (arith, el))))
+        (f before e (ensure o p g₀) kept-names))
+
+    -- the registry is full
+    pub argument-full : {ys : List ℕ} {q c j : ℕ} → (h .number ≡ 0 → ⊥) →
+        Behind s xs at made us ys (record { at = q; count = c; made = j; number = h .number }) (collectPaths (nameAt s owner) (nameAt s path ∷ []) g₀)
     unfolding _andThen_
     argument-full {ys} {q} {c} {j} z = after-entry go
       where
-        go : (before : List IrArgument) → length before ≡ made → (x : Outcome (Unit {0} × Registry)) → Kept s us h x → Collects s xs at before us ys (record { at = q; count = c; made = j; number = h .number }) (_andThen_ x (entered o p before g₀))
+        go : Entered ys (record { at = q; count = c; made = j; number = h .number })
         go before e _ (Kept.kept g y w) = absurd (z y)
         go before e _ (Kept.not i y w) = Collects.not i y w
 
-    pub argument-many : {ys : List ℕ} {q c j : ℕ} → h .number ≡ 0 → 512 ≤ made → (before : List IrArgument) → length before ≡ made →
-        Collects s xs at before us ys (record { at = q; count = c; made = j; number = 17 }) (collect-paths (nameAt s owner) (nameAt s path ∷ []) before g₀)
+    -- there are 512 arguments already
+    pub argument-many : {ys : List ℕ} {q c j : ℕ} → h .number ≡ 0 → 512 ≤ made →
+        Behind s xs at made us ys (record { at = q; count = c; made = j; number = 17 }) (collectPaths (nameAt s owner) (nameAt s path ∷ []) g₀)
     unfolding _andThen_ _>>=_ require refuse
     argument-many {ys} {q} {c} {j} z f = after-entry go
       where
-        go : (before : List IrArgument) → length before ≡ made → (x : Outcome (Unit {0} × Registry)) → Kept s us h x → Collects s xs at before us ys (record { at = q; count = c; made = j; number = 17 }) (_andThen_ x (entered o p before g₀))
+        go : Entered ys (record { at = q; count = c; made = j; number = 17 })
         go before e _ (Kept.kept g y w) = rw (le-ltb (length before) 512 (omega arith)) (Collects.not 17 refl (omega arith))
         go before e _ (Kept.not i y w) = absurd (let u : ⊥ = omega arith in u)
 
-    pub argument-done : {x₁ x₂ x₃ ys : List ℕ} {b u v q : ℕ} → h .number ≡ 0 → made < 512 → Wrote xs at (opened 164) x₁ b → Wrote x₁ b (write (name (canonical-name o p))) x₂ u → Wrote x₂ u (write (name (canonical-name o p))) x₃ v →
-        Wrote x₃ at (bytes 4 (v - at - 4)) ys q → (before : List IrArgument) → length before ≡ made →
-        Collects s xs at before us ys (record { at = v; count = h .count; made = made + 1; number = 0 }) (collect-paths (nameAt s owner) (nameAt s path ∷ []) before g₀)
+    -- the argument was written
+    pub argument-done : {x₁ x₂ x₃ ys : List ℕ} {b u v q : ℕ} → h .number ≡ 0 → made < 512 → Wrote xs at (opened 164) x₁ b →
+        Wrote x₁ b (write (name (canonical-name o p))) x₂ u → Wrote x₂ u (write (name (canonical-name o p))) x₃ v →
+        Wrote x₃ at (bytes 4 (v - at - 4)) ys q →
+        Behind s xs at made us ys (record { at = v; count = h .count; made = made + 1; number = 0 }) (collectPaths (nameAt s owner) (nameAt s path ∷ []) g₀)
     unfolding _andThen_ _>>=_ require give
     argument-done {ys} {v} z f w₁ w₂ w₃ w₄ = after-entry go
       where
-        go : (before : List IrArgument) → length before ≡ made → (x : Outcome (Unit {0} × Registry)) → Kept s us h x → Collects s xs at before us ys (record { at = v; count = h .count; made = made + 1; number = 0 }) (_andThen_ x (entered o p before g₀))
+        go : Entered ys (record { at = v; count = h .count; made = made + 1; number = 0 })
         go before e _ (Kept.kept g y w) =
-            rw (lt-ltb (length before) 512 (omega arith)) (Collects.made (argument (canonical-name o p) ∷ []) g refl (omega arith) w (argument-puts (canonical-name o p) w₁ w₂ w₃ w₄))
+            rw
+            (lt-ltb (length before) 512 (omega arith))
+            (Collects.made (argument (canonical-name o p) ∷ []) g refl (omega arith) w (argument-puts (canonical-name o p) w₁ w₂ w₃ w₄))
         go before e _ (Kept.not i y w) = absurd (let u : ⊥ = omega arith in u)
 
 -- ---- the paths of an owner
 
 module _ {s : List ℕ} {left path : ℕ} (z : left ≡ 0 → ⊥) (l : Entries s Item.names left path) where
-  -- the next path
+  -- the next path, and the list behind it
   next-path : After l (name (nameAt s path)) (path + 2 + le2 s path)
   next-path = name-entry l (omega arith) .2
 
+  -- it is a name inside the set
   pub path-named : Named s path
-  path-named = named (omega (arith, next-path .inside, l .fits)) (name-entry l (omega arith) .0)
+  path-named = named l (omega arith)
 
+  -- the list behind it, where the code goes on
   pub path-rest : {u : ℕ} → u ≡ le2 s path → Entries s Item.names (left - 1) (path + 2 + u)
-  path-rest e = subst (λ (k : ℕ). Entries s Item.names (left - 1) (path + 2 + k)) (sym e) (next-path .rest)
+  path-rest e = rw e (next-path .rest)
 
-  -- the first path, then the others
-  first-path : (o : Name) (before : List IrArgument) (g : Registry) →
-      collect-paths o (textsOf (l .got .0)) before g ≡ _andThen_ (collect-paths o (nameAt s path ∷ []) before g) (λ x. collect-paths o (textsOf (next-path .rest .got .0)) (x .0) (x .1))
+  -- the definition on the list: the first path, then the others
+  first-path : (o : Name) (before : List IrArgument) (g : Registry) → collect-paths o (textsOf (l .got .0)) before g ≡
+      _andThen_ (collect-paths o (nameAt s path ∷ []) before g) (λ x. collect-paths o (textsOf (next-path .rest .got .0)) (x .0) (x .1))
   unfolding entries
-  first-path o before g = ap (λ (t : Tree). collect-paths o (textsOf t) before g) (next-path .tree) ∙ paths-more o (nameAt s path) (textsOf (next-path .rest .got .0)) before g
+  first-path o before g =
+      ap (λ (t : Tree). collect-paths o (textsOf t) before g) (next-path .tree)
+      ∙ paths-more o (nameAt s path) (textsOf (next-path .rest .got .0)) before g
 
-pub paths-none : {s xs ws : List ℕ} {at n left path made : ℕ} (o : Name) → left ≡ 0 → (l : Entries s Item.names left path) (before : List IrArgument) → length before ≡ made →
-    Collects s xs at before ws xs (record { at = at; count = n; made = made; number = 0 }) (collect-paths o (textsOf (l .got .0)) before (entriesOf s ws n))
+-- no path is left
+pub paths-none : {s xs ws : List ℕ} {at n left path made : ℕ} (o : Name) → left ≡ 0 → (l : Entries s Item.names left path) →
+    Behind s xs at made ws xs (record { at = at; count = n; made = made; number = 0 }) (collectPaths o (textsOf (l .got .0)) (entriesOf s ws n))
 unfolding entries collect-paths give
 paths-none {s} {xs} {ws} {at} {n} {made} o z l before e =
-    subst (λ (t : Tree). Collects s xs at before ws xs (record { at = at; count = n; made = made; number = 0 }) (collect-paths o (textsOf t) before (entriesOf s ws n)))
-    (sym (ap (λ (y : Tree × ℕ). y .0) (none-left l (omega arith)))) (collects-none e)
+    subst
+    (λ (t : Tree). Collects s xs at before ws xs
+    (record { at = at; count = n; made = made; number = 0 })
+    (collect-paths o (textsOf t) before (entriesOf s ws n)))
+    (sym (ap (λ (y : Tree × ℕ). y .0) (none-left l (omega arith))))
+    (collects-none e)
 
 module _ {s xs vs zs : List ℕ} {at left path made : ℕ} {a : Collected} (o : Name) (g : Registry) (z : left ≡ 0 → ⊥)
-    (f : (before : List IrArgument) → length before ≡ made → Collects s xs at before vs zs a (collect-paths o (nameAt s path ∷ []) before g)) where
-  pub paths-stop : (a .number ≡ 0 → ⊥) → (l : Entries s Item.names left path) (before : List IrArgument) → length before ≡ made → Collects s xs at before vs zs a (collect-paths o (textsOf (l .got .0)) before g)
+    (f : Behind s xs at made vs zs a (collectPaths o (nameAt s path ∷ []) g)) where
+  -- the first path was refused
+  pub paths-stop : (a .number ≡ 0 → ⊥) → (l : Entries s Item.names left path) → Behind s xs at made vs zs a (collectPaths o (textsOf (l .got .0)) g)
   paths-stop y l before e = subst (Collects s xs at before vs zs a) (sym (first-path z l o before g)) (stopped _ (f before e) y)
 
+  -- the first path's argument, then those of the others
   pub paths-go : {us ys : List ℕ} {u : ℕ} {r : Collected} → a .number ≡ 0 → u ≡ le2 s path →
-      ((l : Entries s Item.names (left - 1) (path + 2 + u)) (before : List IrArgument) → length before ≡ a .made → Collects s zs (a .at) before us ys r (collect-paths o (textsOf (l .got .0)) before (entriesOf s vs (a .count)))) →
-      (l : Entries s Item.names left path) (before : List IrArgument) → length before ≡ made → Collects s xs at before us ys r (collect-paths o (textsOf (l .got .0)) before g)
+      ((l : Entries s Item.names (left - 1) (path + 2 + u)) → Behind s zs (a .at) (a .made) us ys r (collectPaths o (textsOf (l .got .0)) (entriesOf s vs (a .count)))) →
+      (l : Entries s Item.names left path) → Behind s xs at made us ys r (collectPaths o (textsOf (l .got .0)) g)
   paths-go {us} {ys} {u} {r} y eu h l before e =
-      let k : (l : Entries s Item.names (left - 1) (path + 2 + le2 s path)) (before : List IrArgument) → length before ≡ a .made → Collects s zs (a .at) before us ys r (collect-paths o (textsOf (l .got .0)) before (entriesOf s vs (a .count))) =
-      subst (λ (j : ℕ). (l : Entries s Item.names (left - 1) (path + 2 + j)) (before : List IrArgument) → length before ≡ a .made → Collects s zs (a .at) before us ys r (collect-paths o (textsOf (l .got .0)) before (entriesOf s vs (a .count)))) eu h in
-      subst (Collects s xs at before us ys r) (sym (first-path z l o before g)) (joined _ (f before e) y (λ b i. k (next-path z l .rest) b i))
+      subst (Collects s xs at before us ys r) (sym (first-path z l o before g)) (joined _ (f before e) y ((rw eu at h) (next-path z l .rest)))
 
 -- ---- owners
 
 module _ {s : List ℕ} {left owner : ℕ} (z : left ≡ 0 → ⊥) (l : Listed s 37 37 left owner) where
+  -- the next owner
   abbrev pub owner-here : Accepted s 37 37 owner
   owner-here = block-entry l (omega arith) .child
 
+  -- it lies inside the set
   pub owner-inside : owner + 4 + le4 s owner ≤ length s
   owner-inside = omega (arith, block-entry l (omega arith) .after .inside, l .fits)
 
+  -- the list behind it
   owner-next : After l (tree owner-here) (owner + 4 + le4 s owner)
   owner-next = block-entry l (omega arith) .after
 
+  -- the same, where the code goes on
   pub owner-rest : {u : ℕ} → u ≡ le4 s owner → Listed s 37 37 (left - 1) (owner + 4 + u)
-  owner-rest e = subst (λ (k : ℕ). Listed s 37 37 (left - 1) (owner + 4 + k)) (sym e) (owner-next .rest)
+  owner-rest e = rw e (owner-next .rest)
 
-  -- the first owner, then the others
+  -- the definition on the list: the first owner, then the others
   first-owner : {q : ℕ} (w : OwnerAt owner-here q) (before : List IrArgument) (g : Registry) →
       collect-callee-arguments (entries ownerOf (l .got .0)) before g ≡
       _andThen_ (collect-paths (nameAt s (owner + 6)) (textsOf (w .paths .list .got .0)) before g) (λ x. collect-callee-arguments (entries ownerOf (owner-next .rest .got .0)) (x .0) (x .1))
   unfolding entries collect-callee-arguments _>>=_
   first-owner w before g =
       ap (λ (t : Tree). collect-callee-arguments (entries ownerOf t) before g) (owner-next .tree)
-      ∙ ap (λ (o : Owner). _andThen_ (collect-paths (o .name) (o .paths) before g) (λ x. collect-callee-arguments (entries ownerOf (owner-next .rest .got .0)) (x .0) (x .1))) (w .is)
+      ∙ ap
+      (λ (o : Owner). _andThen_
+      (collect-paths (o .name) (o .paths) before g)
+      (λ x. collect-callee-arguments (entries ownerOf (owner-next .rest .got .0)) (x .0) (x .1)))
+      (w .is)
 
-pub owners-none : {s xs ws : List ℕ} {at n left owner made : ℕ} → left ≡ 0 → (l : Listed s 37 37 left owner) (before : List IrArgument) → length before ≡ made →
-    Collects s xs at before ws xs (record { at = at; count = n; made = made; number = 0 }) (collect-callee-arguments (entries ownerOf (l .got .0)) before (entriesOf s ws n))
+-- no owner is left
+pub owners-none : {s xs ws : List ℕ} {at n left owner made : ℕ} → left ≡ 0 → (l : Listed s 37 37 left owner) →
+    Behind s xs at made ws xs (record { at = at; count = n; made = made; number = 0 }) (collectOwners (entries ownerOf (l .got .0)) (entriesOf s ws n))
 unfolding entries collect-callee-arguments give
 owners-none {s} {xs} {ws} {at} {n} {made} z l before e =
-    subst (λ (t : Tree). Collects s xs at before ws xs (record { at = at; count = n; made = made; number = 0 }) (collect-callee-arguments (entries ownerOf t) before (entriesOf s ws n)))
-    (sym (ap (λ (y : Tree × ℕ). y .0) (none-left l (omega arith)))) (collects-none e)
+    subst
+    (λ (t : Tree). Collects s xs at before ws xs
+    (record { at = at; count = n; made = made; number = 0 })
+    (collect-callee-arguments (entries ownerOf t) before (entriesOf s ws n)))
+    (sym (ap (λ (y : Tree × ℕ). y .0) (none-left l (omega arith))))
+    (collects-none e)
 
-module _ {s xs vs zs : List ℕ} {at left owner q few made : ℕ} {a : Collected} (g : Registry) (z : left ≡ 0 → ⊥) (w : (b : Accepted s 37 37 owner) → OwnerAt b q) (ef : few ≡ le2 s q)
-    (f : (l : Entries s Item.names few (q + 2)) (before : List IrArgument) → length before ≡ made → Collects s xs at before vs zs a (collect-paths (nameAt s (owner + 6)) (textsOf (l .got .0)) before g)) where
+module _ {s xs vs zs : List ℕ} {at left owner q count made : ℕ} {a : Collected} (g : Registry) (z : left ≡ 0 → ⊥)
+    (w : (b : Accepted s 37 37 owner) → OwnerAt b q) (ef : count ≡ le2 s q)
+    (f : (l : Entries s Item.names count (q + 2)) → Behind s xs at made vs zs a (collectPaths (nameAt s (owner + 6)) (textsOf (l .got .0)) g)) where
   -- the arguments of the first owner
-  of-owner : (l : Listed s 37 37 left owner) (before : List IrArgument) → length before ≡ made →
-      Collects s xs at before vs zs a (collect-paths (nameAt s (owner + 6)) (textsOf (w (owner-here z l) .paths .list .got .0)) before g)
-  of-owner l =
-      let k : (l : Entries s Item.names (le2 s q) (q + 2)) (before : List IrArgument) → length before ≡ made → Collects s xs at before vs zs a (collect-paths (nameAt s (owner + 6)) (textsOf (l .got .0)) before g) =
-      subst (λ (j : ℕ). (l : Entries s Item.names j (q + 2)) (before : List IrArgument) → length before ≡ made → Collects s xs at before vs zs a (collect-paths (nameAt s (owner + 6)) (textsOf (l .got .0)) before g)) ef f in
-      k (w (owner-here z l) .paths .list)
+  of-owner : (l : Listed s 37 37 left owner) →
+      Behind s xs at made vs zs a (collectPaths (nameAt s (owner + 6)) (textsOf (w (owner-here z l) .paths .list .got .0)) g)
+  of-owner l = (rw ef at f) (w (owner-here z l) .paths .list)
 
-  pub owners-stop : (a .number ≡ 0 → ⊥) → (l : Listed s 37 37 left owner) (before : List IrArgument) → length before ≡ made → Collects s xs at before vs zs a (collect-callee-arguments (entries ownerOf (l .got .0)) before g)
+  -- the first owner was refused
+  pub owners-stop : (a .number ≡ 0 → ⊥) → (l : Listed s 37 37 left owner) → Behind s xs at made vs zs a (collectOwners (entries ownerOf (l .got .0)) g)
   owners-stop y l before e = subst (Collects s xs at before vs zs a) (sym (first-owner z l (w (owner-here z l)) before g)) (stopped _ (of-owner l before e) y)
 
+  -- the first owner's arguments, then those of the others
   pub owners-go : {us ys : List ℕ} {u : ℕ} {r : Collected} → a .number ≡ 0 → u ≡ le4 s owner →
-      ((l : Listed s 37 37 (left - 1) (owner + 4 + u)) (before : List IrArgument) → length before ≡ a .made → Collects s zs (a .at) before us ys r (collect-callee-arguments (entries ownerOf (l .got .0)) before (entriesOf s vs (a .count)))) →
-      (l : Listed s 37 37 left owner) (before : List IrArgument) → length before ≡ made → Collects s xs at before us ys r (collect-callee-arguments (entries ownerOf (l .got .0)) before g)
+      ((l : Listed s 37 37 (left - 1) (owner + 4 + u)) → Behind s zs (a .at) (a .made) us ys r (collectOwners (entries ownerOf (l .got .0)) (entriesOf s vs (a .count)))) →
+      (l : Listed s 37 37 left owner) → Behind s xs at made us ys r (collectOwners (entries ownerOf (l .got .0)) g)
   owners-go {us} {ys} {u} {r} y eu h l before e =
-      let k : (l : Listed s 37 37 (left - 1) (owner + 4 + le4 s owner)) (before : List IrArgument) → length before ≡ a .made → Collects s zs (a .at) before us ys r (collect-callee-arguments (entries ownerOf (l .got .0)) before (entriesOf s vs (a .count))) =
-      subst (λ (j : ℕ). (l : Listed s 37 37 (left - 1) (owner + 4 + j)) (before : List IrArgument) → length before ≡ a .made → Collects s zs (a .at) before us ys r (collect-callee-arguments (entries ownerOf (l .got .0)) before (entriesOf s vs (a .count)))) eu h in
-      subst (Collects s xs at before us ys r) (sym (first-owner z l (w (owner-here z l)) before g)) (joined _ (of-owner l before e) y (λ b i. k (owner-next z l .rest) b i))
+      subst
+      (Collects s xs at before us ys r)
+      (sym (first-owner z l (w (owner-here z l)) before g))
+      (joined _ (of-owner l before e) y ((rw eu at h) (owner-next z l .rest)))
 
 -- ---- counting
 
@@ -213,6 +257,7 @@ module _ {s xs vs zs : List ℕ} {at left owner q few made : ℕ} {a : Collected
 pub record Counts (n : ℕ) (w u : Tree) : Type 0 where
   pub is : pathsIn (entries ownerOf w) ≡ n + pathsIn (entries ownerOf u)
 
+-- an accepted list of n names has n names
 texts-count : {s : List ℕ} {n at : ℕ} (l : Entries s Item.names n at) → length (textsOf (l .got .0)) ≡ n
 unfolding entries
 texts-count {s} {n} {at} l = go n at l
@@ -229,15 +274,19 @@ pub owners : {s : List ℕ} {at : ℕ} (a : Accepted s 32 32 at) → Sole a (Ite
 unfolding partsOf findRow grammar nodeTable
 owners a = sole a refl Counted.ascending
 
+-- the count of owners lies inside the set
 pub owners-inside : {s : List ℕ} {at : ℕ} → Accepted s 32 32 at → at + 6 + 2 ≤ length s
 owners-inside a = owners a .inside
 
-pub owners-few : {s : List ℕ} {at : ℕ} → Accepted s 32 32 at → le2 s (at + 6) ≤ 64
-owners-few a = owners a .few
+-- a block has at most 64 owners
+pub owners-most : {s : List ℕ} {at : ℕ} → Accepted s 32 32 at → le2 s (at + 6) ≤ 64
+owners-most a = owners a .few
 
+-- the list behind the count
 abbrev pub owners-list : {s : List ℕ} {at : ℕ} → Accepted s 32 32 at → Listed s 37 37 (le2 s (at + 6)) (at + 6 + 2)
 owners-list a = owners a .list
 
+-- the owners of the block are those of the list
 owners-are : {s : List ℕ} {at : ℕ} (a : Accepted s 32 32 at) → ownersOf (tree a) ≡ entries ownerOf (owners-list a .got .0)
 owners-are a = ap (entries ownerOf) (owners a .tree)
 
@@ -245,6 +294,7 @@ owners-are a = ap (entries ownerOf) (owners a .tree)
 abbrev pub Count : List ℕ → ℕ → ℕ → ℕ → ℕ → Type 0
 Count s b left at n = Left (Counts n) s (Item.blocks 37 37) (le2 s (b + 6)) (b + 6 + 2) left at
 
+-- before the loop no owner is passed
 pub count-begin : {s : List ℕ} (b : ℕ) {left : ℕ} → Accepted s 32 32 b → left ≡ le2 s (b + 6) → Count s b left (b + 6 + 2) 0
 count-begin {s} b a e = subst (λ (k : ℕ). Count s b k (b + 6 + 2) 0) (sym e) (starts (λ t. record { is = omega arith }) (owners-list a))
 
@@ -253,87 +303,126 @@ module _ {s : List ℕ} (b : ℕ) {left at n : ℕ} where
   pub count-here : 0 < left → Count s b left at n → Accepted s 37 37 at
   count-here h c = block-entry (c .here) h .child
 
+  -- it lies inside the set
   pub count-inside : 0 < left → Count s b left at n → at + 4 + le4 s at ≤ length s
   count-inside h c = omega (arith, block-entry (c .here) h .after .inside, c .here .fits)
 
-  pub count-next : {q u v : ℕ} → 0 < left → ((a : Accepted s 37 37 at) → OwnerAt a q) → u ≡ le2 s q → v ≡ le4 s at → Count s b left at n → Count s b (left - 1) (at + 4 + v) (n + u)
+  -- its paths are counted
+  pub count-next : {q u v : ℕ} → 0 < left → ((a : Accepted s 37 37 at) → OwnerAt a q) → u ≡ le2 s q → v ≡ le4 s at → Count s b left at n →
+      Count s b (left - 1) (at + 4 + v) (n + u)
   unfolding entries pathsIn
   count-next {q} {u} {v} h w eu ev c =
       subst (λ (k : ℕ). Count s b (left - 1) (at + 4 + k) (n + u)) (sym ev)
       (steps (λ r. tree (block-entry r h .child)) (λ r. block-entry r h .after) (λ r x y p. record { is = p .is ∙ one r y }) c)
     where
-      one : (r : Listed s 37 37 left at) (y : Tree) → n + pathsIn (entries ownerOf (cons (tree (block-entry r h .child)) y)) ≡ n + u + pathsIn (entries ownerOf y)
+      one : (r : Listed s 37 37 left at) (y : Tree) →
+          n + pathsIn (entries ownerOf (cons (tree (block-entry r h .child)) y)) ≡ n + u + pathsIn (entries ownerOf y)
       one r y =
           let o = w (block-entry r h .child) in
-          let l : length (ownerOf (tree (block-entry r h .child)) .paths) ≡ le2 s q = ap (λ (z : Owner). length (z .paths)) (o .is) ∙ texts-count (o .paths .list) in
+          let l : length (ownerOf (tree (block-entry r h .child)) .paths) ≡ le2 s q = ap (λ (z : Owner). length (z .paths)) (o .is)
+          ∙ texts-count (o .paths .list) in
           omega (arith, l, eu)
 
+  -- behind the last owner the count is that of all paths
   pub count-end : left ≤ 0 → Count s b left at n → (a : Accepted s 32 32 b) → n ≡ pathsIn (ownersOf (tree a))
   unfolding entries pathsIn
   count-end h c a = let e = ended h c (owners-list a) .0 .is in omega (arith, e, ap pathsIn (owners-are a))
 
 -- ---- the call
 
-pub paths-list : {s : List ℕ} {q few : ℕ} → few ≡ le2 s q → PathsAt s q → Entries s Item.names few (q + 2)
-paths-list {s} {q} e p = subst (λ (k : ℕ). Entries s Item.names k (q + 2)) (sym e) (p .list)
+-- the paths of an owner, by the count that the code read
+pub paths-list : {s : List ℕ} {q count : ℕ} → count ≡ le2 s q → PathsAt s q → Entries s Item.names count (q + 2)
+paths-list e p = rw e (p .list)
 
+-- the owners of a block, by the count that the code read
 pub owners-at : {s : List ℕ} {q left : ℕ} → left ≡ le2 s (q + 6) → Accepted s 32 32 q → Listed s 37 37 left (q + 6 + 2)
-owners-at {s} {q} e a = subst (λ (k : ℕ). Listed s 37 37 k (q + 6 + 2)) (sym e) (owners-list a)
+owners-at e a = rw e (owners-list a)
 
-module _ {s x₃ x₄ us : List ℕ} {v callee left : ℕ} {h : TypeHead} {r : Collected} (g : Registry) (hd : (a : Accepted s 1 7 callee) → HeadAt a h) (el : left ≡ le2 s (h .references + 6))
-    (f : (l : Listed s 37 37 left (h .references + 6 + 2)) (before : List IrArgument) → length before ≡ 0 → Collects s x₃ v before us x₄ r (collect-callee-arguments (entries ownerOf (l .got .0)) before g)) where
+module _ {s x₃ x₄ us : List ℕ} {v callee left : ℕ} {h : TypeHead} {r : Collected} (g : Registry)
+    (hd : (a : Accepted s 1 7 callee) → HeadAt a h) (el : left ≡ le2 s (h .references + 6))
+    (f : (l : Listed s 37 37 left (h .references + 6 + 2)) → Behind s x₃ v 0 us x₄ r (collectOwners (entries ownerOf (l .got .0)) g)) where
+  -- the arguments of a call are those of its type's references
   call-arguments : (a : Accepted s 1 7 callee) → Collects s x₃ v [] us x₄ r (collect-callee-arguments (head (typeOf (tree a)) .dynamic-params) [] g)
   call-arguments a =
-      let k : (l : Listed s 37 37 (le2 s (h .references + 6)) (h .references + 6 + 2)) (before : List IrArgument) → length before ≡ 0 → Collects s x₃ v before us x₄ r (collect-callee-arguments (entries ownerOf (l .got .0)) before g) =
-      subst (λ (j : ℕ). (l : Listed s 37 37 j (h .references + 6 + 2)) (before : List IrArgument) → length before ≡ 0 → Collects s x₃ v before us x₄ r (collect-callee-arguments (entries ownerOf (l .got .0)) before g)) el f in
-      subst (λ (os : List Owner). Collects s x₃ v [] us x₄ r (collect-callee-arguments os [] g)) (sym (hd a .owners ∙ owners-are (hd a .references))) (k (owners-list (hd a .references)) [] refl)
+      rw (hd a .owners, owners-are (hd a .references)) ((rw el at f) (owners-list (hd a .references)) [] refl)
 
   module _ {xs ys : List ℕ} {at : ℕ} (nm : List ℕ) (alignment : ℕ) where
-    pub call-stop : {q c : ℕ} → (r .number ≡ 0 → ⊥) → (a : Accepted s 1 7 callee) → Builds s xs at us ys (record { at = q; count = c; number = r .number }) (callOf (typeOf (tree a)) nm alignment g)
+    -- an argument was refused
+    pub call-stop : {q c : ℕ} → (r .number ≡ 0 → ⊥) → (a : Accepted s 1 7 callee) →
+        Builds s xs at us ys (record { at = q; count = c; number = r .number }) (callOf (typeOf (tree a)) nm alignment g)
     unfolding callOf
     call-stop {q} {c} z a =
         let d = collects-refused z (call-arguments a) in
         subst (Builds s xs at us ys (record { at = q; count = c; number = r .number })) (sym (step-refused _ _ g (d .0))) (Builds.not (r .number) refl (d .1))
 
     -- the bytes of the call
-    call-puts : {x₁ x₂ : List ℕ} {p u q : ℕ} (few : ℕ) (as′ : List IrArgument) → few ≡ length as′ → Wrote xs at (nodeStart 133 alignment) x₁ p → Wrote x₁ p (write (name nm)) x₂ u → Wrote x₂ u (bytes 2 few) x₃ v →
-        Wrote x₃ v (write (entriesTree argumentTree as′)) x₄ (r .at) → Wrote x₄ at (bytes 4 (r .at - at - 4)) ys q → Wrote xs at (write (nodeTree (IrNode.CallNested unplaced (aligned alignment) nm as′))) ys (r .at)
+    call-puts : {x₁ x₂ : List ℕ} {p u q : ℕ} (count : ℕ) (as′ : List IrArgument) → count ≡ length as′ →
+        Wrote xs at (nodeStart 133 alignment) x₁ p → Wrote x₁ p (write (name nm)) x₂ u → Wrote x₂ u (bytes 2 count) x₃ v →
+        Wrote x₃ v (write (entriesTree argumentTree as′)) x₄ (r .at) → Wrote x₄ at (bytes 4 (r .at - at - 4)) ys q →
+        Wrote xs at (write (nodeTree (IrNode.CallNested unplaced (aligned alignment) nm as′))) ys (r .at)
     unfolding nodeTree write
-    call-puts {x₂} {u} few as′ e w₁ w₂ w₃ w₄ w₅ =
+    call-puts {x₂} {u} count as′ e w₁ w₂ w₃ w₄ w₅ =
         let w : Wrote x₂ u (bytes 2 (length as′)) x₃ v = subst (λ (k : ℕ). Wrote x₂ u (bytes 2 k) x₃ v) e w₃ in
-        node-closed 133 alignment (cons (name nm) (cons (listTree argumentTree as′) nil)) w₁
-        (parts (name nm) (cons (listTree argumentTree as′) nil) w₂ (parts (listTree argumentTree as′) nil (parts (num 2 (length as′)) (entriesTree argumentTree as′) w w₄) (no-parts x₄ (r .at)))) w₅
+        node-closed 133 alignment
+        (cons (name nm) (cons (listTree argumentTree as′) nil)) w₁
+        (parts
+        (name nm)
+        (cons (listTree argumentTree as′) nil) w₂
+        (parts (listTree argumentTree as′) nil (parts (num 2 (length as′)) (entriesTree argumentTree as′) w w₄) (no-parts x₄ (r .at)))) w₅
 
-    pub call-done : {x₁ x₂ : List ℕ} {p u q : ℕ} (few : ℕ) → ((a : Accepted s 32 32 (h .references)) → few ≡ pathsIn (ownersOf (tree a))) → Wrote xs at (nodeStart 133 alignment) x₁ p → Wrote x₁ p (write (name nm)) x₂ u → Wrote x₂ u (bytes 2 few) x₃ v →
-        r .number ≡ 0 → Wrote x₄ at (bytes 4 (r .at - at - 4)) ys q → (a : Accepted s 1 7 callee) → Builds s xs at us ys (record { at = r .at; count = r .count; number = 0 }) (callOf (typeOf (tree a)) nm alignment g)
+    -- the call was written
+    pub call-done : {x₁ x₂ : List ℕ} {p u q : ℕ} (count : ℕ) →
+        ((a : Accepted s 32 32 (h .references)) → count ≡ pathsIn (ownersOf (tree a))) → Wrote xs at (nodeStart 133 alignment) x₁ p →
+        Wrote x₁ p (write (name nm)) x₂ u → Wrote x₂ u (bytes 2 count) x₃ v → r .number ≡ 0 → Wrote x₄ at (bytes 4 (r .at - at - 4)) ys q →
+        (a : Accepted s 1 7 callee) →
+        Builds s xs at us ys (record { at = r .at; count = r .count; number = 0 }) (callOf (typeOf (tree a)) nm alignment g)
     unfolding callOf give
-    call-done few ef w₁ w₂ w₃ z w₅ a =
+    call-done count ef w₁ w₂ w₃ z w₅ a =
         let d = collects-done z (call-arguments a) in
         let m = owners-count (head (typeOf (tree a)) .dynamic-params) [] g _ (d .1) in
-        let e : few ≡ length (d .0) = omega (arith, m, ef (hd a .references), ap pathsIn (hd a .owners)) in
-        subst (Builds s xs at us ys (record { at = r .at; count = r .count; number = 0 })) (sym (step-done _ _ g (d .1)))
-        (Builds.made (IrNode.CallNested unplaced (aligned alignment) nm (d .0), entriesOf s us (r .count)) refl refl (call-puts few (d .0) e w₁ w₂ w₃ (d .3) w₅))
+        let e : count ≡ length (d .0) = omega (arith, m, ef (hd a .references), ap pathsIn (hd a .owners)) in
+        subst
+        (Builds s xs at us ys (record { at = r .at; count = r .count; number = 0 }))
+        (sym (step-done _ _ g (d .1)))
+        (Builds.made
+        (IrNode.CallNested unplaced (aligned alignment) nm (d .0), entriesOf s us (r .count)) refl refl
+        (call-puts count (d .0) e w₁ w₂ w₃ (d .3) w₅))
+
+-- where a call ends: the head of its node, the name, the count of arguments, and the arguments
+pub call-ends : {at p u v k : ℕ} {r : Collected} → p ≡ at + 15 → u ≡ p + (2 + k) → v ≡ u + 2 → k ≤ 255 → Fills v 0 r →
+    Within at (2 ^ 19) (record { at = r .at; count = r .count; number = 0 })
+call-ends ep eu ev h f = record { low = omega arith; high = omega arith; count = f .count }
 
 -- ---- a type reference
 
-typeref-is : (types : List ResolvedType) (h : Head) (target : Name) (g : Registry) {t : ResolvedType} → get-type-info target types ≡ some t → build-typeref-node types h target g ≡ callOf t target (h .alignment) g
+-- the target is in the set: the call of it
+typeref-is : (types : List ResolvedType) (h : Head) (target : Name) (g : Registry) {t : ResolvedType} →
+    get-type-info target types ≡ some t → build-typeref-node types h target g ≡ callOf t target (h .alignment) g
 unfolding build-typeref-node callOf
 typeref-is types h target g e = need-some 15 _ g e
 
-typeref-none : (types : List ResolvedType) (h : Head) (target : Name) (g : Registry) → get-type-info target types ≡ none → build-typeref-node types h target g ≡ refused (plain 15)
+-- it is not: refusal 15
+typeref-none : (types : List ResolvedType) (h : Head) (target : Name) (g : Registry) → get-type-info target types ≡ none →
+    build-typeref-node types h target g ≡ refused (plain 15)
 unfolding build-typeref-node
 typeref-none types h target g e = need-none 15 _ g e
 
-found-at : {s : List ℕ} {n : Name} {ts : List ResolvedType} {f : Found} {o : ℕ} → f ≡ At o → TypeFound s n ts f → (a : Accepted s 1 7 o) × (get-type-info n ts ≡ some (typeOf (tree a)))
-found-at {s} {n} {ts} {o} e (TypeFound.at {o = p} a g) = let i : p ≡ o = cc in subst (λ (k : ℕ). (a : Accepted s 1 7 k) × (get-type-info n ts ≡ some (typeOf (tree a)))) i (a, g)
+-- a lookup that found a type: the type is accepted, and it is the answer
+found-at : {s : List ℕ} {n : Name} {ts : List ResolvedType} {f : Found} {o : ℕ} → f ≡ At o → TypeFound s n ts f →
+    (a : Accepted s 1 7 o) × (get-type-info n ts ≡ some (typeOf (tree a)))
+found-at {s} {n} {ts} {o} e (TypeFound.at {o = p} a g) =
+    let i : p ≡ o = cc in
+    subst (λ (k : ℕ). (a : Accepted s 1 7 k) × (get-type-info n ts ≡ some (typeOf (tree a)))) i (a, g)
 found-at e (TypeFound.missing g) = let z : _≡_ {A = ℕ} 0 1 = cc in absurd (omega arith)
 
+-- a lookup that found nothing
 found-none : {s : List ℕ} {n : Name} {ts : List ResolvedType} {f : Found} → f ≡ Missing → TypeFound s n ts f → get-type-info n ts ≡ none
 found-none e (TypeFound.at a g) = let z : _≡_ {A = ℕ} 0 1 = cc in absurd (omega arith)
 found-none e (TypeFound.missing g) = g
 
--- what a call of the type asks for
-pub callee-at : {s : List ℕ} {n : Name} {f : Found} {o : ℕ} → f ≡ At o → (t : Tree) × (readSet s ≡ done t) → ((t : Tree) → readSet s ≡ done t → TypeFound s n (typesOf t) f) → Accepted s 1 7 o
+-- the type that is called is accepted
+pub callee-at : {s : List ℕ} {n : Name} {f : Found} {o : ℕ} → f ≡ At o → (t : Tree) × (readSet s ≡ done t) →
+    ((t : Tree) → readSet s ≡ done t → TypeFound s n (typesOf t) f) → Accepted s 1 7 o
 callee-at e (t, d) k = found-at e (k t d) .0
 
 module _ {s : List ℕ} {kind q : ℕ} {nm : List ℕ} {f : Found} (g : Registry) (tq : (a : Accepted s 1 7 kind) → TargetAt a q) (en : nm ≡ nameAt s q)
@@ -342,15 +431,27 @@ module _ {s : List ℕ} {kind q : ℕ} {nm : List ℕ} {f : Found} (g : Registry
   target-is : (a : Accepted s 1 7 kind) {target : Name} → kindOf (typeOf (tree a)) ≡ ResolvedTypeKind.TypeRef target → nm ≡ target
   target-is a e = let i = tq a .is in cc
 
-  pub typeref-missing : {xs us ys : List ℕ} {at p c : ℕ} → f ≡ Missing → (t : Tree) (a : Accepted s 1 7 kind) (target : Name) → readSet s ≡ done t → kindOf (typeOf (tree a)) ≡ ResolvedTypeKind.TypeRef target →
+  -- no type has the name
+  pub typeref-missing : {xs us ys : List ℕ} {at p c : ℕ} → f ≡ Missing → (t : Tree) (a : Accepted s 1 7 kind) (target : Name) →
+      readSet s ≡ done t → kindOf (typeOf (tree a)) ≡ ResolvedTypeKind.TypeRef target →
       Builds s xs at us ys (record { at = p; count = c; number = 15 }) (build-typeref-node (typesOf t) (head (typeOf (tree a))) target g)
   typeref-missing {xs} {us} {ys} {at} {p} {c} e t a target d i =
-      subst (λ (z : Name). Builds s xs at us ys (record { at = p; count = c; number = 15 }) (build-typeref-node (typesOf t) (head (typeOf (tree a))) z g)) (target-is a i)
-      (subst (Builds s xs at us ys (record { at = p; count = c; number = 15 })) (sym (typeref-none (typesOf t) (head (typeOf (tree a))) nm g (found-none e (k t d)))) (Builds.not 15 refl (omega arith)))
+      subst
+      (λ (z : Name). Builds s xs at us ys
+      (record { at = p; count = c; number = 15 })
+      (build-typeref-node (typesOf t) (head (typeOf (tree a))) z g))
+      (target-is a i)
+      (subst
+      (Builds s xs at us ys (record { at = p; count = c; number = 15 }))
+      (sym (typeref-none (typesOf t) (head (typeOf (tree a))) nm g (found-none e (k t d))))
+      (Builds.not 15 refl (omega arith)))
 
-  pub typeref-done : {xs us ys : List ℕ} {at : ℕ} {h : TypeHead} {callee : ℕ} {r : Built} → ((a : Accepted s 1 7 kind) → HeadAt a h) → f ≡ At callee →
-      ((a : Accepted s 1 7 callee) → Builds s xs at us ys r (callOf (typeOf (tree a)) nm (h .alignment) g)) →
-      (t : Tree) (a : Accepted s 1 7 kind) (target : Name) → readSet s ≡ done t → kindOf (typeOf (tree a)) ≡ ResolvedTypeKind.TypeRef target → Builds s xs at us ys r (build-typeref-node (typesOf t) (head (typeOf (tree a))) target g)
+  -- the call of the type that was found
+  pub typeref-done : {xs us ys : List ℕ} {at : ℕ} {h : TypeHead} {callee : ℕ} {r : Built} → ((a : Accepted s 1 7 kind) → HeadAt a h) →
+      f ≡ At callee → ((a : Accepted s 1 7 callee) → Builds s xs at us ys r (callOf (typeOf (tree a)) nm (h .alignment) g)) →
+      (t : Tree) (a : Accepted s 1 7 kind) (target : Name) → readSet s ≡ done t →
+      kindOf (typeOf (tree a)) ≡ ResolvedTypeKind.TypeRef target →
+      Builds s xs at us ys r (build-typeref-node (typesOf t) (head (typeOf (tree a))) target g)
   typeref-done {xs} {us} {ys} {at} {h} {r} hd e b t a target d i =
       let w = found-at e (k t d) in
       subst (λ (z : Name). Builds s xs at us ys r (build-typeref-node (typesOf t) (head (typeOf (tree a))) z g)) (target-is a i)

@@ -7,6 +7,7 @@ use Rattle.ir.specs.Ir.{IrNode, aligned, unplaced}
 use Rattle.builder.specs.Registry.{Build, _>>=_, give}
 use Rattle.builder.specs.Nodes.{collect-callee-arguments}
 
+-- the call of a type under this name, with the alignment of the reference
 unfoldable pub callOf : ResolvedType → Name → ℕ → Build IrNode
 callOf t target alignment = do
   xs ← collect-callee-arguments (head t .dynamic-params) []

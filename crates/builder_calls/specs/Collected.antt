@@ -38,7 +38,7 @@ pub record Fills (at made : ℕ) (r : Collected) : Type 0 where
 -- the registry, the arguments that are there, and a cursor with room for the others
 pub record Room (s ws : List ℕ) (n made at : ℕ) : Type 0 where
   pub standing : Standing s ws n
-  pub few : made ≤ 512
+  pub most : made ≤ 512
   pub cursor : at < 2 ^ 57 + 520 * made
 
 -- the names of an owner and of a path

@@ -159,8 +159,8 @@ fn put_owners(
         };
     }
     let q = resolved_parts::owner_paths(s, owner);
-    let few = wire::read2(s, q);
-    let r = put_arguments(s, words, n, owner + 6, few, q + 2, made, out, at);
+    let path_count = wire::read2(s, q);
+    let r = put_arguments(s, words, n, owner + 6, path_count, q + 2, made, out, at);
     if r.number != 0 {
         return r;
     }
@@ -187,11 +187,11 @@ fn put_call(
     ensures { λ r. ⌜ ((a : Accepted (now (s .entry)) 1 7 callee) → Builds (now (s .entry)) (now (out .entry)) at (now (words .exit)) (now (out .exit)) r (callOf (typeOf (tree a)) (now (name .entry)) alignment (entriesOf (now (s .entry)) (now (words .entry)) n))) ⌝ }
 {
     let references = resolved_parts::type_head(s, callee).references;
-    let few = count_paths(s, references);
+    let path_count = count_paths(s, references);
     let left = wire::read2(s, references + 6);
     let p = builder_nodes::open_node(out, at, 133, alignment);
     let u = wire::put_name(out, p, name);
-    let v = wire::put_le(out, u, 2, few as u64);
+    let v = wire::put_le(out, u, 2, path_count as u64);
     let r = put_owners(s, words, n, left, references + 6 + 2, 0, out, v);
     if r.number != 0 {
         return Built {

@@ -34,64 +34,79 @@ use Rattle.builder_sums.proofs.Chosen.{picks-are}
 
 -- ---- a sum leaves the registry as it was
 
+-- an answer with the registry as it was
 abbrev leaving : {A : Type 0} → Registry → Outcome A → Outcome (A × Registry)
 leaving g (done a) = done (a, g)
 leaving g (refused q) = refused q
 
+-- the node of a reference whose parameter was found
 abbrev refNode : Name → Name → Name → IrNode
 refNode owner path parameter = IrNode.FieldRef unplaced (record { alignment = default-alignment; size-expr = some (refText owner path) }) path (some parameter)
 
+-- a reference: its parameter has to be found, and the text owner.path to be short enough
 abbrev refIf : Name → Name → Option Name → Bool → Outcome IrNode
 refIf owner path none b = refused (plain MissingParameter)
 refIf owner path (some x) false = refused (plain 17)
 refIf owner path (some x) true = done (refNode owner path x)
 
+-- the sum of nodes; there is none of no node
 abbrev sumIf : List IrNode → Outcome IrNode
 sumIf [] = refused (plain MissingDynamicRefs)
 sumIf (n ∷ ns) = done (add-all n ns)
 
-abbrev consIf : Outcome IrNode → Outcome (List IrNode) → Outcome (List IrNode)
-consIf (refused q) o = refused q
-consIf (done n) (refused q) = refused q
-consIf (done n) (done ns) = done (n ∷ ns)
+-- two answers, the first before the second: the first refusal decides
+abbrev inOrder : {A B C : Type 0} → (A → B → C) → Outcome A → Outcome B → Outcome C
+inOrder f (refused q) o = refused q
+inOrder f (done a) (refused q) = refused q
+inOrder f (done a) (done b) = done (f a b)
 
+-- one node, then others
+abbrev consIf : Outcome IrNode → Outcome (List IrNode) → Outcome (List IrNode)
+consIf = inOrder (λ n ns. n ∷ ns)
+
+-- the sum of nodes that were all made
 abbrev thenSum : Outcome (List IrNode) → Outcome IrNode
 thenSum (refused q) = refused q
 thenSum (done ns) = sumIf ns
 
+-- the Add of two nodes
 abbrev addIf : Outcome IrNode → Outcome IrNode → Outcome IrNode
-addIf (refused q) o = refused q
-addIf (done l) (refused q) = refused q
-addIf (done l) (done r) = done (IrNode.Binary unplaced default-metadata BinaryOp.AddChecked l r)
+addIf = inOrder (IrNode.Binary unplaced default-metadata BinaryOp.AddChecked)
 
-add-last : (n : IrNode) (ns : List IrNode) (m : IrNode) → add-all n (ns ++ (m ∷ [])) ≡ IrNode.Binary unplaced default-metadata BinaryOp.AddChecked (add-all n ns) m
+-- one node more is added last
+add-last : (n : IrNode) (ns : List IrNode) (m : IrNode) →
+    add-all n (ns ++ (m ∷ [])) ≡ IrNode.Binary unplaced default-metadata BinaryOp.AddChecked (add-all n ns) m
 unfolding add-all
 add-last n [] m = refl
 add-last n (k ∷ ns) m = add-last (IrNode.Binary unplaced default-metadata BinaryOp.AddChecked n k) ns m
 
+-- nodes, then one more
 abbrev lastIf : Outcome (List IrNode) → Outcome IrNode → Outcome (List IrNode)
-lastIf (refused q) o = refused q
-lastIf (done ns) (refused q) = refused q
-lastIf (done ns) (done n) = done (ns ++ (n ∷ []))
+lastIf = inOrder (λ ns n. ns ++ (n ∷ []))
 
 module _ (owner : Name) (g : Registry) where
+  -- the reference of one path
   refOf : Name → Outcome IrNode
   refOf path = refIf owner path (lookup-name owner path g) (short (refText owner path))
 
+  -- the references of paths, in their order
   refs : List Name → Outcome (List IrNode)
   refs [] = done []
   refs (p ∷ ps) = consIf (refOf p) (refs ps)
 
+  -- a reference leaves the registry as it was
   ref-is : (path : Name) → build-ref owner path g ≡ leaving g (refOf path)
   unfolding build-ref _>>=_ _andThen_ reads need require give refuse refOf
   ref-is path = go (lookup-name owner path g) (short (refText owner path))
     where
       go : (o : Option Name) (b : Bool) →
-          _andThen_ (need o MissingParameter g) (λ x. _andThen_ (require b 17 (x .1)) (λ y. done (refNode owner path (x .0), y .1))) ≡ leaving g (refIf owner path o b)
+          _andThen_ (need o MissingParameter g) (λ x. _andThen_ (require b 17 (x .1)) (λ y. done (refNode owner path (x .0), y .1))) ≡
+          leaving g (refIf owner path o b)
       go none b = refl
       go (some x) false = refl
       go (some x) true = refl
 
+  -- so do many
   refs-are : (ps : List Name) → build-field-ref-nodes owner ps g ≡ leaving g (refs ps)
   unfolding build-field-ref-nodes _>>=_ _andThen_ reads need require give refuse refs refOf
   refs-are [] = refl
@@ -105,6 +120,7 @@ module _ (owner : Name) (g : Registry) where
       go (some x) true (done ns) e = rw e
       go (some x) true (refused q) e = rw e
 
+  -- and their sum
   sum-is : (ps : List Name) → sum-refs owner ps g ≡ leaving g (thenSum (refs ps))
   unfolding sum-refs _>>=_ _andThen_ combine-checked-add give refuse
   sum-is ps = rw (refs-are ps) (go (refs ps))
@@ -114,6 +130,7 @@ module _ (owner : Name) (g : Registry) where
       go (done []) = refl
       go (done (n ∷ ns)) = refl
 
+  -- references of one path more: those before it, then its own
   refs-last : (ps : List Name) (p : Name) → refs (ps ++ (p ∷ [])) ≡ lastIf (refs ps) (refOf p)
   unfolding refs
   refs-last [] p = go (refOf p)
@@ -123,12 +140,14 @@ module _ (owner : Name) (g : Registry) where
       go (refused q) = refl
   refs-last (x ∷ ps) p = go (refOf x) (refs ps) (refOf p) (refs-last ps p)
     where
-      go : {y : Outcome (List IrNode)} (a : Outcome IrNode) (z : Outcome (List IrNode)) (c : Outcome IrNode) → y ≡ lastIf z c → consIf a y ≡ lastIf (consIf a z) c
+      go : {y : Outcome (List IrNode)} (a : Outcome IrNode) (z : Outcome (List IrNode)) (c : Outcome IrNode) → y ≡ lastIf z c →
+          consIf a y ≡ lastIf (consIf a z) c
       go (refused q) z c e = refl
       go (done n) (refused q) c e = rw e
       go (done n) (done ns) (refused q) e = rw e
       go (done n) (done ns) (done m) e = rw e
 
+  -- the sum of one reference is that reference
   sum-one : (p : Name) → sum-refs owner (p ∷ []) g ≡ build-ref owner p g
   unfolding refs add-all
   sum-one p = sum-is (p ∷ []) ∙ go (refOf p) ∙ sym (ref-is p)
@@ -140,78 +159,107 @@ module _ (owner : Name) (g : Registry) where
   -- the sum of a list that is not empty, and one more
   sum-last : (x : Name) (ps : List Name) (p : Name) → sum-refs owner ((x ∷ ps) ++ (p ∷ [])) g ≡ leaving g (addIf (thenSum (refs (x ∷ ps))) (refOf p))
   unfolding refs
-  sum-last x ps p = sum-is ((x ∷ ps) ++ (p ∷ [])) ∙ ap (λ (z : Outcome (List IrNode)). leaving g (thenSum (consIf (refOf x) z))) (refs-last ps p) ∙ go (refOf x) (refs ps) (refOf p)
+  sum-last x ps p =
+      sum-is ((x ∷ ps) ++ (p ∷ []))
+      ∙ ap (λ (z : Outcome (List IrNode)). leaving g (thenSum (consIf (refOf x) z))) (refs-last ps p)
+      ∙ go (refOf x) (refs ps) (refOf p)
     where
-      go : (a : Outcome IrNode) (z : Outcome (List IrNode)) (c : Outcome IrNode) → leaving g (thenSum (consIf a (lastIf z c))) ≡ leaving g (addIf (thenSum (consIf a z)) c)
+      go : (a : Outcome IrNode) (z : Outcome (List IrNode)) (c : Outcome IrNode) →
+          leaving g (thenSum (consIf a (lastIf z c))) ≡ leaving g (addIf (thenSum (consIf a z)) c)
       go (refused q) z c = refl
       go (done n) (refused q) c = refl
       go (done n) (done ns) (refused q) = refl
       go (done n) (done ns) (done m) = ap (λ (y : IrNode). done (y, g)) (add-last n ns m)
 
--- ---- what a builder that leaves the registry tells
+-- ---- what a builder that leaves the registry gives
 
+-- a builder that leaves the registry gave no refusal: the node that it wrote
 built-done : {s xs us ys : List ℕ} {at : ℕ} {r : Built} (g : Registry) (o : Outcome IrNode) → r .number ≡ 0 → Builds s xs at us ys r (leaving g o) →
     (n : IrNode) × (o ≡ done n) × Wrote xs at (write (nodeTree n)) ys (r .at)
 built-done g (done n) z (Builds.made x e f w) = (n, refl, w)
 built-done g (refused q) z (Builds.not k e h) = absurd (omega arith)
 
-built-refused : {s xs us ys : List ℕ} {at : ℕ} {r : Built} (g : Registry) (o : Outcome IrNode) → (r .number ≡ 0 → ⊥) → Builds s xs at us ys r (leaving g o) → (0 < r .number) × (o ≡ refused (plain (r .number)))
+-- it gave one: the number of the refusal
+built-refused : {s xs us ys : List ℕ} {at : ℕ} {r : Built} (g : Registry) (o : Outcome IrNode) → (r .number ≡ 0 → ⊥) →
+    Builds s xs at us ys r (leaving g o) → (0 < r .number) × (o ≡ refused (plain (r .number)))
 built-refused g (done n) z (Builds.made x e f w) = absurd (z e)
 built-refused g (refused q) z (Builds.not k e h) = rw e (h, refl)
 
 -- ---- one reference, in the code's form
 
+-- a lookup that found an entry: the entry's name is the answer
 pub looked-at : {s ws : List ℕ} {n i : ℕ} {f : Found} {o : Option Name} → f ≡ At i → Looked s ws n f o → (i < n) × (o ≡ some (entryName s (getD ws i 0)))
 looked-at {i} e (Looked.at {i = j} h) = let z : j ≡ i = cc in rw (← z) (h, refl)
 looked-at e Looked.missing = let z : _≡_ {A = ℕ} 0 1 = cc in absurd (omega arith)
 
+-- a lookup that found nothing
 pub looked-none : {s ws : List ℕ} {n : ℕ} {f : Found} {o : Option Name} → f ≡ Missing → Looked s ws n f o → o ≡ none
 looked-none e (Looked.at h) = let z : _≡_ {A = ℕ} 0 1 = cc in absurd (omega arith)
 looked-none e Looked.missing = refl
 
-pub entry-in : {s ws : List ℕ} {n i : ℕ} {f : Found} {o : Option Name} → f ≡ At i → Looked s ws n f o → i < n
-entry-in e l = looked-at e l .0
-
+-- how long the text owner.path is
 ref-length : (owner path : Name) → length (refText owner path) ≡ length owner + (1 + length path)
 ref-length owner path = simp length-append (omega arith)
 
-module _ {s ws : List ℕ} {n : ℕ} {f : Found} (owner : Name) {path name : Name} (e : path ≡ name) (l : Looked s ws n f (lookup-name owner path (entriesOf s ws n))) where
+module _ {s ws : List ℕ} {n : ℕ} {f : Found} (owner : Name) {path name : Name} (e : path ≡ name)
+    (l : Looked s ws n f (lookup-name owner path (entriesOf s ws n))) where
   module _ {xs ys : List ℕ} {at : ℕ} {r : Built} where
-    leads : {o : Option Name} {b : Bool} → lookup-name owner path (entriesOf s ws n) ≡ o → short (refText owner path) ≡ b → Builds s xs at ws ys r (leaving (entriesOf s ws n) (refIf owner path o b)) →
+    -- what the lookup and the test of the length decide of the reference
+    leads : {o : Option Name} {b : Bool} → lookup-name owner path (entriesOf s ws n) ≡ o → short (refText owner path) ≡ b →
+        Builds s xs at ws ys r (leaving (entriesOf s ws n) (refIf owner path o b)) →
         Builds s xs at ws ys r (build-ref owner name (entriesOf s ws n))
     unfolding refOf
     leads {o} {b} h k c =
-        subst (λ (p : Name). Builds s xs at ws ys r (build-ref owner p (entriesOf s ws n))) e
-        (subst (λ (z : Outcome (IrNode × Registry)). Builds s xs at ws ys r z) (sym (ref-is owner (entriesOf s ws n) path ∙ ap (λ (z : Option Name). leaving (entriesOf s ws n) (refIf owner path z (short (refText owner path)))) h ∙ ap (λ (z : Bool). leaving (entriesOf s ws n) (refIf owner path o z)) k)) c)
+        subst
+        (λ (p : Name). Builds s xs at ws ys r (build-ref owner p (entriesOf s ws n))) e
+        (subst
+        (λ (z : Outcome (IrNode × Registry)). Builds s xs at ws ys r z)
+        (sym
+        (ref-is owner (entriesOf s ws n) path
+        ∙ ap (λ (z : Option Name). leaving (entriesOf s ws n) (refIf owner path z (short (refText owner path)))) h
+        ∙ ap (λ (z : Bool). leaving (entriesOf s ws n) (refIf owner path o z)) k)) c)
 
   module _ {xs ys : List ℕ} {at : ℕ} where
+    -- no entry has the path
     pub ref-missing : f ≡ Missing → Builds s xs at ws ys (record { at = at; count = n; number = 12 }) (build-ref owner name (entriesOf s ws n))
     ref-missing m = leads (looked-none m l) refl (Builds.not 12 refl (omega arith))
 
-    pub ref-long : {i : ℕ} → f ≡ At i → 255 < length owner + (1 + length path) → Builds s xs at ws ys (record { at = at; count = n; number = 17 }) (build-ref owner name (entriesOf s ws n))
+    -- the text owner.path is too long
+    pub ref-long : {i : ℕ} → f ≡ At i → 255 < length owner + (1 + length path) →
+        Builds s xs at ws ys (record { at = at; count = n; number = 17 }) (build-ref owner name (entriesOf s ws n))
     ref-long m h = leads (looked-at m l .1) (lt-leb (length (refText owner path)) 255 (omega (arith, ref-length owner path))) (Builds.not 17 refl (omega arith))
 
-    pub ref-done : {i w r : ℕ} → f ≡ At i → length owner + (1 + length path) ≤ 255 → w ≡ getD ws i 0 → Wrote xs at (write (nodeTree (refNode owner path (entryName s w)))) ys r →
+    -- the reference was written
+    pub ref-done : {i w r : ℕ} → f ≡ At i → length owner + (1 + length path) ≤ 255 → w ≡ getD ws i 0 →
+        Wrote xs at (write (nodeTree (refNode owner path (entryName s w)))) ys r →
         Builds s xs at ws ys (record { at = r; count = n; number = 0 }) (build-ref owner name (entriesOf s ws n))
     ref-done {i} {w} {r} m h d v =
-        leads (looked-at m l .1) (le-leb (length (refText owner path)) 255 (omega (arith, ref-length owner path)))
-        (Builds.made (refNode owner path (entryName s (getD ws i 0)), entriesOf s ws n) refl refl (subst (λ (z : ℕ). Wrote xs at (write (nodeTree (refNode owner path (entryName s z)))) ys r) d v))
+        leads
+        (looked-at m l .1)
+        (le-leb (length (refText owner path)) 255 (omega (arith, ref-length owner path)))
+        (Builds.made
+        (refNode owner path (entryName s (getD ws i 0)), entriesOf s ws n) refl refl
+        (subst (λ (z : ℕ). Wrote xs at (write (nodeTree (refNode owner path (entryName s z)))) ys r) d v))
 
 -- ---- a sum, in the code's form
 
-pub sum-first : {s xs us ys : List ℕ} {at k : ℕ} {r : Built} (owner : Name) (cs : List Name) (g : Registry) → k ≡ 1 → 0 < length cs → Builds s xs at us ys r (build-ref owner (getD cs 0 []) g) →
-    Builds s xs at us ys r (sum-refs owner (take k cs) g)
+-- the sum of the first path alone
+pub sum-first : {s xs us ys : List ℕ} {at k : ℕ} {r : Built} (owner : Name) (cs : List Name) (g : Registry) → k ≡ 1 → 0 < length cs →
+    Builds s xs at us ys r (build-ref owner (getD cs 0 []) g) → Builds s xs at us ys r (sum-refs owner (take k cs) g)
 sum-first owner [] g e h b = absurd (omega arith)
 sum-first owner (c ∷ cs) g e h b = rw (e, sum-one owner g c) b
 
--- the sum of one less, and the last reference
+-- the sum of one less
 abbrev before : Name → List Name → ℕ → Registry → Outcome IrNode
 before owner cs k g = thenSum (refs owner g (take (k - 1) cs))
 
+-- the last reference
 abbrev last : Name → List Name → ℕ → Registry → Outcome IrNode
 last owner cs k g = refOf owner g (getD cs (k - 1) [])
 
-whole : (owner : Name) (cs : List Name) (k : ℕ) (g : Registry) → 0 < k → (k ≡ 1 → ⊥) → k ≤ length cs → sum-refs owner (take k cs) g ≡ leaving g (addIf (before owner cs k g) (last owner cs k g))
+-- the sum of k, for k over 1, is the Add of the sum of k - 1 and the last reference
+whole : (owner : Name) (cs : List Name) (k : ℕ) (g : Registry) → 0 < k → (k ≡ 1 → ⊥) → k ≤ length cs →
+    sum-refs owner (take k cs) g ≡ leaving g (addIf (before owner cs k g) (last owner cs k g))
 whole owner cs zero g a b c = absurd (omega arith)
 whole owner cs (suc zero) g a b c = absurd (b refl)
 whole owner [] (suc (suc m)) g a b c = absurd (omega arith)
@@ -219,47 +267,65 @@ whole owner (x ∷ cs) (suc (suc m)) g a b c =
     rw sub-one
     (ap (λ (ps : List Name). sum-refs owner ps g) (take-suc (x ∷ cs) (suc m) [] (omega arith)) ∙ sum-last owner g x (take m cs) (getD (x ∷ cs) (suc m) []))
 
-module _ {s xs ws x₁ x₂ : List ℕ} {at k p : ℕ} {l : Built} (owner : Name) (cs : List Name) (n : ℕ) (h : 0 < k) (h₁ : k ≡ 1 → ⊥) (h₂ : k ≤ length cs) (w : Wrote xs at (nodeStart 134 1) x₁ p)
+module _ {s xs ws x₁ x₂ : List ℕ} {at k p : ℕ} {l : Built} (owner : Name) (cs : List Name) (n : ℕ) (h : 0 < k) (h₁ : k ≡ 1 → ⊥)
+    (h₂ : k ≤ length cs) (w : Wrote xs at (nodeStart 134 1) x₁ p)
     (b : Builds s x₁ p ws x₂ l (sum-refs owner (take (k - 1) cs) (entriesOf s ws n))) where
+  -- the sum of one less, as it was built
   front : Builds s x₁ p ws x₂ l (leaving (entriesOf s ws n) (before owner cs k (entriesOf s ws n)))
   front = rw (← sum-is owner (entriesOf s ws n) (take (k - 1) cs)) b
 
-  pub sum-stops : {ys : List ℕ} → (l .number ≡ 0 → ⊥) → Builds s xs at ws ys (record { at = at; count = n; number = l .number }) (sum-refs owner (take k cs) (entriesOf s ws n))
+  -- that sum was refused
+  pub sum-stops : {ys : List ℕ} → (l .number ≡ 0 → ⊥) →
+      Builds s xs at ws ys (record { at = at; count = n; number = l .number }) (sum-refs owner (take k cs) (entriesOf s ws n))
   sum-stops z = let d = built-refused (entriesOf s ws n) (before owner cs k (entriesOf s ws n)) z front in
       rw (whole owner cs k (entriesOf s ws n) h h₁ h₂, d .1) (Builds.not (l .number) refl (d .0))
 
   module _ {x₃ : List ℕ} {m : Built} (z : l .number ≡ 0) (v : Builds s x₂ (l .at) ws x₃ m (build-ref owner (getD cs (k - 1) []) (entriesOf s ws n))) where
+    -- the last reference, as it was built
     back : Builds s x₂ (l .at) ws x₃ m (leaving (entriesOf s ws n) (last owner cs k (entriesOf s ws n)))
     back = rw (← ref-is owner (entriesOf s ws n) (getD cs (k - 1) [])) v
 
-    pub sum-stops-last : {ys : List ℕ} → (m .number ≡ 0 → ⊥) → Builds s xs at ws ys (record { at = at; count = n; number = m .number }) (sum-refs owner (take k cs) (entriesOf s ws n))
+    -- the last reference was refused
+    pub sum-stops-last : {ys : List ℕ} → (m .number ≡ 0 → ⊥) →
+        Builds s xs at ws ys (record { at = at; count = n; number = m .number }) (sum-refs owner (take k cs) (entriesOf s ws n))
     sum-stops-last y =
         let d = built-done (entriesOf s ws n) (before owner cs k (entriesOf s ws n)) z front in
         let q = built-refused (entriesOf s ws n) (last owner cs k (entriesOf s ws n)) y back in
         rw (whole owner cs k (entriesOf s ws n) h h₁ h₂, d .1, q .1) (Builds.not (m .number) refl (q .0))
 
-    pub sum-done : {ys : List ℕ} {q : ℕ} → m .number ≡ 0 → Wrote x₃ at (bytes 4 (m .at - at - 4)) ys q → Builds s xs at ws ys (record { at = m .at; count = n; number = 0 }) (sum-refs owner (take k cs) (entriesOf s ws n))
+    -- both were written, and the length of the Add is patched in
+    pub sum-done : {ys : List ℕ} {q : ℕ} → m .number ≡ 0 → Wrote x₃ at (bytes 4 (m .at - at - 4)) ys q →
+        Builds s xs at ws ys (record { at = m .at; count = n; number = 0 }) (sum-refs owner (take k cs) (entriesOf s ws n))
     unfolding nodeTree
     sum-done y u =
         let d = built-done (entriesOf s ws n) (before owner cs k (entriesOf s ws n)) z front in
         let q = built-done (entriesOf s ws n) (last owner cs k (entriesOf s ws n)) y back in
-        rw (whole owner cs k (entriesOf s ws n) h h₁ h₂, d .1, q .1)
-        (Builds.made (IrNode.Binary unplaced default-metadata BinaryOp.AddChecked (d .0) (q .0), entriesOf s ws n) refl refl
-        (node-closed 134 1 (cons (nodeTree (d .0)) (cons (nodeTree (q .0)) nil)) w (parts (nodeTree (d .0)) (cons (nodeTree (q .0)) nil) (d .2) (parts (nodeTree (q .0)) nil (q .2) (no-parts x₃ (m .at)))) u))
+        rw
+        (whole owner cs k (entriesOf s ws n) h h₁ h₂, d .1, q .1)
+        (Builds.made
+        (IrNode.Binary unplaced default-metadata BinaryOp.AddChecked (d .0) (q .0), entriesOf s ws n) refl refl
+        (node-closed 134 1
+        (cons (nodeTree (d .0)) (cons (nodeTree (q .0)) nil)) w
+        (parts (nodeTree (d .0)) (cons (nodeTree (q .0)) nil) (d .2) (parts (nodeTree (q .0)) nil (q .2) (no-parts x₃ (m .at)))) u))
 
 -- ---- where the cursor goes
 
+-- a refusal leaves the cursor where it was
 pub stopped : {at room n no : ℕ} → n ≤ 512 → Within at room (record { at = at; count = n; number = no })
 stopped h = record { low = omega arith; high = omega arith; count = h }
 
+-- what stays within some room stays within more
 pub widened : {at room more : ℕ} {r : Built} → room ≤ more → Within at room r → Within at more r
 widened h w = record { low = w .low; high = omega (arith, w .high); count = w .count }
 
-pub sum-within : {at k p n : ℕ} {l m : Built} → 0 < k → n ≤ 512 → p ≡ at + 15 → Within p (1115 * (k - 1)) l → Within (l .at) 1100 m → Within at (1115 * k) (record { at = m .at; count = n; number = 0 })
+-- the Add has the 15 bytes of its head, the sum of one less and one reference
+pub sum-within : {at k p n : ℕ} {l m : Built} → 0 < k → n ≤ 512 → p ≡ at + 15 → Within p (1115 * (k - 1)) l → Within (l .at) 1100 m →
+    Within at (1115 * k) (record { at = m .at; count = n; number = 0 })
 sum-within h e f a b = record { low = omega (arith, a .low, b .low); high = omega (arith, a .high, b .high); count = e }
 
 -- ---- all the chosen paths
 
+-- no path is chosen: refusal 11
 pub sum-none : {s xs us ys : List ℕ} {at n k q : ℕ} (owner : Name) (only : Bool) (g : Registry) → k ≡ length (picks s only q) → k ≡ 0 → (p : PathsAt s q) →
     Builds s xs at us ys (record { at = at; count = n; number = 11 }) (sum-refs owner (chosen only (textsOf (p .list .got .0))) g)
 unfolding refs
@@ -269,6 +335,8 @@ sum-none {s} {xs} {us} {ys} {at} {n} {q} owner only g e z p = rw (picks-are only
     go [] h = rw (sum-is owner g []) (Builds.not 11 refl (omega arith))
     go (x ∷ ps) h = absurd (omega arith)
 
-pub sum-all : {s xs us ys : List ℕ} {at k : ℕ} {r : Built} (owner : Name) (only : Bool) (q : ℕ) (g : Registry) → k ≡ length (picks s only q) → Builds s xs at us ys r (sum-refs owner (take k (picks s only q)) g) →
-    (p : PathsAt s q) → Builds s xs at us ys r (sum-refs owner (chosen only (textsOf (p .list .got .0))) g)
+-- the sum of all the chosen paths
+pub sum-all : {s xs us ys : List ℕ} {at k : ℕ} {r : Built} (owner : Name) (only : Bool) (q : ℕ) (g : Registry) →
+    k ≡ length (picks s only q) → Builds s xs at us ys r (sum-refs owner (take k (picks s only q)) g) → (p : PathsAt s q) →
+    Builds s xs at us ys r (sum-refs owner (chosen only (textsOf (p .list .got .0))) g)
 sum-all {s} owner only q g e b p = rw (picks-are only p) (rw (e, take-length (picks s only q)) at b)

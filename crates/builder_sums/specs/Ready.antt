@@ -13,6 +13,7 @@ abbrev pub chosen : Bool → List Name → List Name
 chosen true ps = payload-paths ps
 chosen false ps = ps
 
+-- whether there is a name at all
 abbrev pub someName : List Name → Bool
 someName [] = false
 someName (n ∷ ns) = true

@@ -1,6 +1,10 @@
+-- `put_argument`: the canonical name is measured (17 if it is over 255 bytes), the path is entered in the registry, the arguments are counted
+-- (17 if there are 512), and the argument is written: a block 164 with the name twice. The laws `argument-..` say at each return what
+-- `collect-paths` of one path gives behind the arguments that are there.
 use borrow.Author.Needs.{needs}
 use native.Mathlib.Omega.{arith}
-use Rattle.builder_calls.proofs.Laws.{argument-long, argument-full, argument-many, argument-done, short-name}
+use Rattle.builder_calls.proofs.Collecting.{fills-none}
+use Rattle.builder_calls.proofs.Laws.{argument-ends, argument-long, argument-full, argument-many, argument-done, short-name}
 use Rattle.builder_calls.proofs.put_argument.Statement.{statement}
 use Rattle.builder_calls.proofs.put_argument.Tie as tie
 
@@ -13,38 +17,153 @@ name-at-requires-2 c κs = search needs
 canonical-length-requires : tie.Need-canonical-length-requires
 canonical-length-requires c κs = search needs
 
+-- The places, each seen from a later one: what was known there.
+abbrev at-canonical-length : tie.Else1 → tie.After-canonical-length
+at-canonical-length r = r .before
+
+abbrev at-name-at2 : tie.Else1 → tie.After-name-at2
+at-name-at2 r = at-canonical-length r .before
+
+abbrev at-name-at : tie.Else1 → tie.After-name-at
+at-name-at r = at-name-at2 r .before
+
+abbrev at-start : tie.Else1 → tie.Start
+at-start r = at-name-at r .before .before .before .before
+
 returns : tie.Need-returns
-returns c = (record { low = omega arith; high = omega arith; more = omega arith; most = omega (arith, c .before .before .before .before .before .before .before .pre .room .few); count = omega (arith, c .before .before .before .before .before .before .before .pre .room .standing .count) }, argument-long _ _ _ _ _ _ _ _ _ (c .before .before .before .name-at .ensures) (c .before .before .name-at2 .ensures) (c .before .canonical-length .ensures) (c .if1 .taken))
+returns c =
+    let at-name-at2 = c .before .before in
+    let at-name-at = at-name-at2 .before in
+    let at-start = at-name-at .before .before .before .before in (
+      fills-none (at-start .pre .room),
+      argument-long _ _ _ _ _ _ _ _ _
+          (at-name-at .name-at .ensures)
+          (at-name-at2 .name-at2 .ensures)
+          (c .before .canonical-length .ensures)
+          (c .if1 .taken),
+    )
 
 ensure-requires : tie.Need-ensure-requires
-ensure-requires c κs = (c .before .before .before .before .before .before .before .before .pre .room .standing, omega (arith, c .before .before .before .before .before .before .before .before .pre .owned .inside, c .before .before .before .before .before .before .before .before .pre .room .standing .size), omega (arith, c .before .before .before .before .before .before .before .before .pre .named .inside, c .before .before .before .before .before .before .before .before .pre .room .standing .size))
+ensure-requires c κs =
+    let at-else1 = c .before in (
+      at-start at-else1 .pre .room .standing,
+      omega (
+        arith,
+        at-start at-else1 .pre .owned .inside,
+        at-start at-else1 .pre .room .standing .size,
+      ),
+      omega (
+        arith,
+        at-start at-else1 .pre .named .inside,
+        at-start at-else1 .pre .room .standing .size,
+      ),
+    )
 
 same-length : tie.Need-same-length
 same-length c = search needs
 
 returns-2 : tie.Need-returns-2
-returns-2 c = (record { low = omega arith; high = omega arith; more = omega arith; most = omega (arith, c .before .before .before .before .before .before .before .before .before .before .before .before .before .pre .room .few); count = omega (arith, c .before .before .before .before .before .before .before .before .before .before .before .before .before .pre .room .standing .count) }, argument-full _ _ _ _ _ _ _ _ _ (c .before .before .before .before .before .before .before .before .before .name-at .ensures) (c .before .before .before .before .before .before .before .before .name-at2 .ensures) _ _ _ (c .before .before .before .before .before .before .before .before .before .before .before .before .before .pre .owned) (c .before .before .before .before .before .before .before .before .before .before .before .before .before .pre .named) (c .before .before .before .before .before .before .before .canonical-length .ensures) (c .before .before .before .before .before .before .if1 .left) (c .before .before .before .before .ensure .ensures .1) (c .if2 .taken))
+returns-2 c =
+    let at-ensure = c .before .before .before .before in
+    let at-else1 = at-ensure .before .before in (
+      fills-none (at-start at-else1 .pre .room),
+      argument-full _ _ _ _ _ _ _ _ _
+          (at-name-at at-else1 .name-at .ensures)
+          (at-name-at2 at-else1 .name-at2 .ensures) _ _ _
+          (at-start at-else1 .pre .owned)
+          (at-start at-else1 .pre .named)
+          (at-canonical-length at-else1 .canonical-length .ensures)
+          (at-else1 .if1 .left)
+          (at-ensure .ensure .ensures .1)
+          (c .if2 .taken),
+    )
 
 same-length-2 : tie.Need-same-length-2
 same-length-2 c = search needs
 
 returns-3 : tie.Need-returns-3
-returns-3 c = (record { low = omega arith; high = omega arith; more = omega arith; most = omega (arith, c .before .before .before .before .before .before .before .before .before .before .before .before .before .before .pre .room .few); count = omega (arith, c .before .before .before .before .before .before .before .before .before .before .before .before .before .before .pre .room .standing .count) }, argument-many _ _ _ _ _ _ _ _ _ (c .before .before .before .before .before .before .before .before .before .before .name-at .ensures) (c .before .before .before .before .before .before .before .before .before .name-at2 .ensures) _ _ _ (c .before .before .before .before .before .before .before .before .before .before .before .before .before .before .pre .owned) (c .before .before .before .before .before .before .before .before .before .before .before .before .before .before .pre .named) (c .before .before .before .before .before .before .before .before .canonical-length .ensures) (c .before .before .before .before .before .before .before .if1 .left) (c .before .before .before .before .before .ensure .ensures .1) (c .before .if2 .left) (c .if3 .taken))
+returns-3 c =
+    let at-ensure = c .before .before .before .before .before in
+    let at-else1 = at-ensure .before .before in (
+      fills-none (at-start at-else1 .pre .room),
+      argument-many _ _ _ _ _ _ _ _ _
+          (at-name-at at-else1 .name-at .ensures)
+          (at-name-at2 at-else1 .name-at2 .ensures) _ _ _
+          (at-start at-else1 .pre .owned)
+          (at-start at-else1 .pre .named)
+          (at-canonical-length at-else1 .canonical-length .ensures)
+          (at-else1 .if1 .left)
+          (at-ensure .ensure .ensures .1)
+          (c .before .if2 .left)
+          (c .if3 .taken),
+    )
 
 open-block-requires : tie.Need-open-block-requires
-open-block-requires c κs = omega (arith, c .before .before .before .before .before .before .before .before .before .before .before .before .before .before .before .pre .room .cursor, c .before .before .before .before .before .before .before .before .before .before .before .before .before .before .before .pre .room .few)
+open-block-requires c κs =
+    let at-else1 = c .before .before .before .before .before .before .before .before in
+    omega (arith, at-start at-else1 .pre .room .cursor, at-start at-else1 .pre .room .most)
 
 put-canonical-name-requires : tie.Need-put-canonical-name-requires
-put-canonical-name-requires c κs = omega (arith, c .before .before .before .open-block .ensures .1, c .before .before .before .before .before .before .before .before .before .before .before .before .before .before .before .before .before .before .before .pre .room .cursor, c .before .before .before .before .before .before .before .before .before .before .before .before .before .before .before .before .before .before .before .pre .room .few, short-name _ (c .before .before .before .before .before .before .before .before .before .before .before .before .before .before .before .name-at .ensures) (c .before .before .before .before .before .before .before .before .before .before .before .before .before .before .before .before .before .before .before .pre .owned), short-name _ (c .before .before .before .before .before .before .before .before .before .before .before .before .before .before .name-at2 .ensures) (c .before .before .before .before .before .before .before .before .before .before .before .before .before .before .before .before .before .before .before .pre .named))
+put-canonical-name-requires c κs =
+    let at-open-block = c .before .before .before in
+    let at-else1 = at-open-block .before .before .before .before .before .before .before .before .before in
+    let known = at-start at-else1 .pre in
+    omega (
+      arith,
+      at-open-block .open-block .ensures .1,
+      known .room .cursor,
+      known .room .most,
+      short-name _ (at-name-at at-else1 .name-at .ensures) (known .owned),
+      short-name _ (at-name-at2 at-else1 .name-at2 .ensures) (known .named),
+    )
 
 put-canonical-name-requires-2 : tie.Need-put-canonical-name-requires-2
-put-canonical-name-requires-2 c κs = omega (arith, c .before .before .before .put-canonical-name .ensures .1, c .before .before .before .before .before .before .before .before .before .before .before .before .before .before .before .before .before .canonical-length .ensures, c .before .before .before .before .before .before .before .before .before .before .before .before .before .before .before .before .if1 .left, c .before .before .before .before .before .before .before .open-block .ensures .1, c .before .before .before .before .before .before .before .before .before .before .before .before .before .before .before .before .before .before .before .before .before .before .before .pre .room .cursor, c .before .before .before .before .before .before .before .before .before .before .before .before .before .before .before .before .before .before .before .before .before .before .before .pre .room .few, short-name _ (c .before .before .before .before .before .before .before .before .before .before .before .before .before .before .before .before .before .before .before .name-at .ensures) (c .before .before .before .before .before .before .before .before .before .before .before .before .before .before .before .before .before .before .before .before .before .before .before .pre .owned), short-name _ (c .before .before .before .before .before .before .before .before .before .before .before .before .before .before .before .before .before .before .name-at2 .ensures) (c .before .before .before .before .before .before .before .before .before .before .before .before .before .before .before .before .before .before .before .before .before .before .before .pre .named))
+put-canonical-name-requires-2 c κs =
+    let at-put-canonical-name = c .before .before .before in
+    let at-open-block = at-put-canonical-name .before .before .before .before in
+    let at-else1 = at-open-block .before .before .before .before .before .before .before .before .before in
+    let known = at-start at-else1 .pre in
+    omega (
+      arith,
+      at-put-canonical-name .put-canonical-name .ensures .1,
+      at-canonical-length at-else1 .canonical-length .ensures,
+      at-else1 .if1 .left,
+      at-open-block .open-block .ensures .1,
+      known .room .cursor,
+      known .room .most,
+      short-name _ (at-name-at at-else1 .name-at .ensures) (known .owned),
+      short-name _ (at-name-at2 at-else1 .name-at2 .ensures) (known .named),
+    )
 
 close-block-requires : tie.Need-close-block-requires
-close-block-requires c κs = (omega (arith, c .before .before .before .put-canonical-name2 .ensures .1, c .before .before .before .before .before .before .before .put-canonical-name .ensures .1, c .before .before .before .before .before .before .before .before .before .before .before .open-block .ensures .1), omega (arith, c .before .before .before .put-canonical-name2 .ensures .1, c .before .before .before .before .before .before .before .put-canonical-name .ensures .1, c .before .before .before .before .before .before .before .before .before .before .before .before .before .before .before .before .before .before .before .before .before .canonical-length .ensures, c .before .before .before .before .before .before .before .before .before .before .before .before .before .before .before .before .before .before .before .before .if1 .left, c .before .before .before .before .before .before .before .before .before .before .before .open-block .ensures .1, c .before .before .before .before .before .before .before .before .before .before .before .before .before .before .before .before .before .before .before .before .before .before .before .before .before .before .before .pre .room .cursor, c .before .before .before .before .before .before .before .before .before .before .before .before .before .before .before .before .before .before .before .before .before .before .before .before .before .before .before .pre .room .few))
+close-block-requires c κs =
+    let at-put-canonical-name2 = c .before .before .before in
+    let at-put-canonical-name = at-put-canonical-name2 .before .before .before .before in
+    let at-open-block = at-put-canonical-name .before .before .before .before in
+    let at-else3 = at-open-block .before .before in
+    let at-ensure = at-else3 .before .before .before .before .before in
+    let at-else1 = at-ensure .before .before in
+    let ends = argument-ends
+    (at-open-block .open-block .ensures .1)
+    (at-put-canonical-name .put-canonical-name .ensures .1)
+    (at-put-canonical-name2 .put-canonical-name2 .ensures .1)
+    (at-canonical-length at-else1 .canonical-length .ensures)
+    (at-else1 .if1 .left)
+    (at-else3 .if3 .left)
+    (at-ensure .ensure .ensures .0) in (
+      omega (
+        arith,
+        at-put-canonical-name2 .put-canonical-name2 .ensures .1,
+        at-put-canonical-name .put-canonical-name .ensures .1,
+        at-open-block .open-block .ensures .1,
+      ),
+      omega (arith, ends .high, at-start at-else1 .pre .room .cursor, at-start at-else1 .pre .room .most),
+    )
 
 add-t15 : tie.Need-add-t15
-add-t15 c = omega (arith, c .before .before .before .before .before .before .before .before .before .before .before .before .before .before .before .before .if3 .left)
+add-t15 c =
+    let at-else3 = c .before .before .before .before .before .before .before .before .before .before .before .before .before .before .before .before in
+    omega (arith, at-else3 .if3 .left)
 
 same-length-3 : tie.Need-same-length-3
 same-length-3 c = search needs
@@ -53,7 +172,32 @@ same-length-4 : tie.Need-same-length-4
 same-length-4 c = search needs
 
 returns-4 : tie.Need-returns-4
-returns-4 c = (record { low = omega (arith, c .before .before .before .before .before .before .put-canonical-name2 .ensures .1, c .before .before .before .before .before .before .before .before .before .before .put-canonical-name .ensures .1, c .before .before .before .before .before .before .before .before .before .before .before .before .before .before .open-block .ensures .1); high = omega (arith, c .before .before .before .before .before .before .put-canonical-name2 .ensures .1, c .before .before .before .before .before .before .before .before .before .before .put-canonical-name .ensures .1, c .before .before .before .before .before .before .before .before .before .before .before .before .before .before .before .before .before .before .before .before .before .before .before .before .canonical-length .ensures, c .before .before .before .before .before .before .before .before .before .before .before .before .before .before .before .before .before .before .before .before .before .before .before .if1 .left, c .before .before .before .before .before .before .before .before .before .before .before .before .before .before .open-block .ensures .1); more = omega arith; most = omega (arith, c .before .before .before .before .before .before .before .before .before .before .before .before .before .before .before .before .if3 .left); count = c .before .before .before .before .before .before .before .before .before .before .before .before .before .before .before .before .before .before .before .before .before .ensure .ensures .0 }, argument-done _ _ _ _ _ _ _ _ _ (c .before .before .before .before .before .before .before .before .before .before .before .before .before .before .before .before .before .before .before .before .before .before .before .before .before .before .name-at .ensures) (c .before .before .before .before .before .before .before .before .before .before .before .before .before .before .before .before .before .before .before .before .before .before .before .before .before .name-at2 .ensures) _ _ _ (c .before .before .before .before .before .before .before .before .before .before .before .before .before .before .before .before .before .before .before .before .before .before .before .before .before .before .before .before .before .before .pre .owned) (c .before .before .before .before .before .before .before .before .before .before .before .before .before .before .before .before .before .before .before .before .before .before .before .before .before .before .before .before .before .before .pre .named) (c .before .before .before .before .before .before .before .before .before .before .before .before .before .before .before .before .before .before .before .before .before .before .before .before .canonical-length .ensures) (c .before .before .before .before .before .before .before .before .before .before .before .before .before .before .before .before .before .before .before .before .before .before .before .if1 .left) (c .before .before .before .before .before .before .before .before .before .before .before .before .before .before .before .before .before .before .before .before .before .ensure .ensures .1) (c .before .before .before .before .before .before .before .before .before .before .before .before .before .before .before .before .before .if2 .left) (c .before .before .before .before .before .before .before .before .before .before .before .before .before .before .before .before .if3 .left) (c .before .before .before .before .before .before .before .before .before .before .before .before .before .before .open-block .ensures .0) (c .before .before .before .before .before .before .before .before .before .before .put-canonical-name .ensures .0) (c .before .before .before .before .before .before .put-canonical-name2 .ensures .0) (c .before .before .close-block .ensures .0))
+returns-4 c =
+    let at-close-block = c .before .before in
+    let at-put-canonical-name2 = at-close-block .before .before .before .before in
+    let at-put-canonical-name = at-put-canonical-name2 .before .before .before .before in
+    let at-open-block = at-put-canonical-name .before .before .before .before in
+    let at-else3 = at-open-block .before .before in
+    let at-else2 = at-else3 .before in
+    let at-ensure = at-else2 .before .before .before .before in
+    let at-else1 = at-ensure .before .before in (
+      argument-ends
+          (at-open-block .open-block .ensures .1)
+          (at-put-canonical-name .put-canonical-name .ensures .1)
+          (at-put-canonical-name2 .put-canonical-name2 .ensures .1)
+          (at-canonical-length at-else1 .canonical-length .ensures)
+          (at-else1 .if1 .left)
+          (at-else3 .if3 .left)
+          (at-ensure .ensure .ensures .0),
+      argument-done _ _ _ _ _ _ _ _ _ (at-name-at at-else1 .name-at .ensures)
+          (at-name-at2 at-else1 .name-at2 .ensures) _ _ _ (at-start at-else1 .pre .owned)
+          (at-start at-else1 .pre .named) (at-canonical-length at-else1 .canonical-length .ensures)
+          (at-else1 .if1 .left) (at-ensure .ensure .ensures .1) (at-else2 .if2 .left)
+          (at-else3 .if3 .left) (at-open-block .open-block .ensures .0)
+          (at-put-canonical-name .put-canonical-name .ensures .0)
+          (at-put-canonical-name2 .put-canonical-name2 .ensures .0)
+          (at-close-block .close-block .ensures .0),
+    )
 
 pub put-argument-spec : {M : Type 1} → statement M
 put-argument-spec =

@@ -10,7 +10,10 @@ use Rattle.builder_parameters.proofs.before_element.Statement.{statemen
 use Rattle.builder_parameters.proofs.before_element.Tie as tie
 
 abbrev Inv-loop : tie.InvT-loop
-Inv-loop name from₀ to₀ e from to = (from ≤ to) × (to ≤ length name) × (before-element (split name) ≡ before (take (to - from) (drop from name)) (behind name to))
+Inv-loop name from₀ to₀ e from to =
+    (from ≤ to) ×
+    (to ≤ length name) ×
+    (before-element (split name) ≡ before (take (to - from) (drop from name)) (behind name to))
 
 abbrev μ-loop : tie.MeasureT-loop
 μ-loop name from₀ to₀ e from to = length name - to
@@ -34,10 +37,23 @@ same-name-requires : tie.Need-same-name-requires Inv-loop μ-loop
 same-name-requires c κs = search needs
 
 returns : tie.Need-returns Inv-loop μ-loop
-returns c = element-first _ (c .before .before .before .before .segment-end .ensures .0) (c .before .same-name .ensures) (c .if1 .taken)
+returns c =
+    let at-segment-end = c .before .before .before .before in
+    element-first _
+    (at-segment-end .segment-end .ensures .0)
+    (c .before .same-name .ensures)
+    (c .if1 .taken)
 
 loop-holds : tie.Need-loop-holds Inv-loop μ-loop
-loop-holds c = (omega arith, c .before .before .before .before .segment-end .ensures .1 .1, begins _ (c .before .before .before .before .segment-end .ensures .0) (c .before .same-name .ensures) (c .if1 .left))
+loop-holds c =
+    let at-segment-end = c .before .before .before .before in (
+      omega arith,
+      at-segment-end .segment-end .ensures .1 .1,
+      begins _
+          (at-segment-end .segment-end .ensures .0)
+          (c .before .same-name .ensures)
+          (c .if1 .left),
+    )
 
 add-next : tie.Need-add-next Inv-loop μ-loop
 add-next c = omega (arith, c .loop-test .taken)
@@ -61,16 +77,46 @@ same-name-requires-2 : tie.Need-same-name-requires-2 Inv-loop μ-loop
 same-name-requires-2 c κs = search needs
 
 returns-2 : tie.Need-returns-2 Inv-loop μ-loop
-returns-2 c = element-next _ _ _ (c .before .before .before .before .before .before .loop .inv .2) (c .before .before .before .before .before .loop-test .taken) (c .before .before .before .before .segment-end2 .ensures .0) (c .before .same-name2 .ensures) (c .before .before .before .before .before .before .loop .inv .0) (c .if2 .taken)
+returns-2 c =
+    let at-segment-end2 = c .before .before .before .before in
+    let in-loop = at-segment-end2 .before in
+    let at-loop = in-loop .before in
+    element-next _ _ _
+    (at-loop .loop .inv .2)
+    (in-loop .loop-test .taken)
+    (at-segment-end2 .segment-end2 .ensures .0)
+    (c .before .same-name2 .ensures)
+    (at-loop .loop .inv .0)
+    (c .if2 .taken)
 
 loop-less : tie.Need-loop-less Inv-loop μ-loop
-loop-less c = omega (arith, c .before .before .before .before .segment-end2 .ensures .1 .0, c .before .before .before .before .before .loop-test .taken)
+loop-less c =
+    let at-segment-end2 = c .before .before .before .before in
+    let in-loop = at-segment-end2 .before in
+    omega (arith, at-segment-end2 .segment-end2 .ensures .1 .0, in-loop .loop-test .taken)
 
 loop-again : tie.Need-loop-again Inv-loop μ-loop
-loop-again c = (c .before .before .before .before .segment-end2 .ensures .1 .0, c .before .before .before .before .segment-end2 .ensures .1 .1, goes-on _ _ _ (c .before .before .before .before .before .before .loop .inv .2) (c .before .before .before .before .before .loop-test .taken) (c .before .before .before .before .segment-end2 .ensures .0) (c .before .same-name2 .ensures) (c .if2 .left))
+loop-again c =
+    let at-segment-end2 = c .before .before .before .before in
+    let in-loop = at-segment-end2 .before in
+    let at-loop = in-loop .before in (
+      at-segment-end2 .segment-end2 .ensures .1 .0,
+      at-segment-end2 .segment-end2 .ensures .1 .1,
+      goes-on _ _ _
+          (at-loop .loop .inv .2)
+          (in-loop .loop-test .taken)
+          (at-segment-end2 .segment-end2 .ensures .0)
+          (c .before .same-name2 .ensures)
+          (c .if2 .left),
+    )
 
 returns-3 : tie.Need-returns-3 Inv-loop μ-loop
 returns-3 c = no-element _ _ _ (c .before .loop .inv .2) (c .loop-test .left)
 
 pub before-element-spec : {M : Type 1} → statement M
-before-element-spec = tie.close (tie.spec Inv-loop μ-loop segment-end-requires sub-same-name part-same-name-start part-same-name-end slice-aggregate-same-name same-name-requires returns loop-holds add-next segment-end-requires-2 sub-same-name-2 part-same-name-start-2 part-same-name-end-2 slice-aggregate-same-name-2 same-name-requires-2 returns-2 loop-less loop-again returns-3)
+before-element-spec =
+    tie.close
+    (tie.spec Inv-loop μ-loop segment-end-requires sub-same-name part-same-name-start
+    part-same-name-end slice-aggregate-same-name same-name-requires returns loop-holds add-next
+    segment-end-requires-2 sub-same-name-2 part-same-name-start-2 part-same-name-end-2
+    slice-aggregate-same-name-2 same-name-requires-2 returns-2 loop-less loop-again returns-3)

@@ -16,29 +16,74 @@ shared-slice-read-w c = search needs
 name-length-requires : tie.Need-name-length-requires
 name-length-requires c κs = search needs
 
+-- The places, each seen from a later one: what was known there.
+abbrev at-start : tie.After-put-entry-name → tie.Start
+at-start r = r .before .before .before .before .before .before .before .before .before
+
 returns : tie.Need-returns
-returns c = other-length (c .before .before .before .before .before .before .before .args .name .now) _ refl (c .before .name-length .ensures .0) (λ e. c .if1 .taken (sym e))
+returns c =
+    let at-start = c .before .before .before .before .before .before .before in
+    other-length
+    (at-start .args .name .now) _ refl
+    (c .before .name-length .ensures .0)
+    (λ e. c .if1 .taken (sym e))
 
 put-entry-name-requires : tie.Need-put-entry-name-requires
 put-entry-name-requires c κs = search needs
 
 sub-same-name : tie.Need-sub-same-name
-sub-same-name c = behind-length _ (c .before .before .put-entry-name .ensures .0) (c .before .before .put-entry-name .ensures .1 .1) (c .before .before .before .before .before .before .before .before .before .before .before .pre .2) (c .before .before .put-entry-name .kept .1 .1 .0) .low
+sub-same-name c =
+    let at-put-entry-name = c .before .before in
+    behind-length _
+    (at-put-entry-name .put-entry-name .ensures .0)
+    (at-put-entry-name .put-entry-name .ensures .1 .1)
+    (at-start at-put-entry-name .pre .2)
+    (at-put-entry-name .put-entry-name .kept .1 .1 .0) .low
 
 part-same-name-start : tie.Need-part-same-name-start
-part-same-name-start c = omega (arith, behind-length _ (c .before .before .before .put-entry-name .ensures .0) (c .before .before .before .put-entry-name .ensures .1 .1) (c .before .before .before .before .before .before .before .before .before .before .before .before .pre .2) (c .before .before .before .put-entry-name .kept .1 .1 .0))
+part-same-name-start c =
+    let at-put-entry-name = c .before .before .before in
+    let at-start = at-put-entry-name .before .before .before .before .before .before .before .before .before in
+    omega (
+      arith,
+      behind-length _
+          (at-put-entry-name .put-entry-name .ensures .0)
+          (at-put-entry-name .put-entry-name .ensures .1 .1)
+          (at-start .pre .2)
+          (at-put-entry-name .put-entry-name .kept .1 .1 .0),
+    )
 
 part-same-name-end : tie.Need-part-same-name-end
-part-same-name-end c = omega (arith, behind-length _ (c .before .before .before .put-entry-name .ensures .0) (c .before .before .before .put-entry-name .ensures .1 .1) (c .before .before .before .before .before .before .before .before .before .before .before .before .pre .2) (c .before .before .before .put-entry-name .kept .1 .1 .0))
+part-same-name-end c =
+    let at-put-entry-name = c .before .before .before in
+    let at-start = at-put-entry-name .before .before .before .before .before .before .before .before .before in
+    omega (
+      arith,
+      behind-length _
+          (at-put-entry-name .put-entry-name .ensures .0)
+          (at-put-entry-name .put-entry-name .ensures .1 .1)
+          (at-start .pre .2)
+          (at-put-entry-name .put-entry-name .kept .1 .1 .0),
+    )
 
 same-name-requires : tie.Need-same-name-requires
 same-name-requires c κs = search needs
 
 same-length : tie.Need-same-length
-same-length c = c .before .before .before .before .before .put-entry-name .kept .1 .1 .0
+same-length c =
+    let at-put-entry-name = c .before .before .before .before .before in
+    at-put-entry-name .put-entry-name .kept .1 .1 .0
 
 returns-2 : tie.Need-returns-2
-returns-2 c = same-parts refl (behind-length _ (c .before .before .before .before .before .put-entry-name .ensures .0) (c .before .before .before .before .before .put-entry-name .ensures .1 .1) (c .before .before .before .before .before .before .before .before .before .before .before .before .before .before .pre .2) (c .before .before .before .before .before .put-entry-name .kept .1 .1 .0) .is) (c .same-name .ensures)
+returns-2 c =
+    let at-put-entry-name = c .before .before .before .before .before in
+    same-parts refl
+    (behind-length _
+    (at-put-entry-name .put-entry-name .ensures .0)
+    (at-put-entry-name .put-entry-name .ensures .1 .1)
+    (at-start at-put-entry-name .pre .2)
+    (at-put-entry-name .put-entry-name .kept .1 .1 .0) .is)
+    (c .same-name .ensures)
 
 pub has-name-spec : {M : Type 1} → statement M
 has-name-spec =

@@ -17,13 +17,40 @@ put-entry-name-requires : tie.Need-put-entry-name-requires
 put-entry-name-requires c κs = search needs
 
 sub-name : tie.Need-sub-name
-sub-name c = behind-length _ (c .before .before .put-entry-name .ensures .0) (c .before .before .put-entry-name .ensures .1 .1) (c .before .before .before .before .before .before .before .before .before .pre .0 .first) (c .before .before .put-entry-name .kept .1 .1 .0) .low
+sub-name c =
+    let at-put-entry-name = c .before .before in
+    let at-start = at-put-entry-name .before .before .before .before .before .before .before in
+    behind-length _
+    (at-put-entry-name .put-entry-name .ensures .0)
+    (at-put-entry-name .put-entry-name .ensures .1 .1)
+    (at-start .pre .0 .first)
+    (at-put-entry-name .put-entry-name .kept .1 .1 .0) .low
 
 part-name-start : tie.Need-part-name-start
-part-name-start c = omega (arith, behind-length _ (c .before .before .before .put-entry-name .ensures .0) (c .before .before .before .put-entry-name .ensures .1 .1) (c .before .before .before .before .before .before .before .before .before .before .pre .0 .first) (c .before .before .before .put-entry-name .kept .1 .1 .0))
+part-name-start c =
+    let at-put-entry-name = c .before .before .before in
+    let at-start = at-put-entry-name .before .before .before .before .before .before .before in
+    omega (
+      arith,
+      behind-length _
+          (at-put-entry-name .put-entry-name .ensures .0)
+          (at-put-entry-name .put-entry-name .ensures .1 .1)
+          (at-start .pre .0 .first)
+          (at-put-entry-name .put-entry-name .kept .1 .1 .0),
+    )
 
 part-name-end : tie.Need-part-name-end
-part-name-end c = omega (arith, behind-length _ (c .before .before .before .put-entry-name .ensures .0) (c .before .before .before .put-entry-name .ensures .1 .1) (c .before .before .before .before .before .before .before .before .before .before .pre .0 .first) (c .before .before .before .put-entry-name .kept .1 .1 .0))
+part-name-end c =
+    let at-put-entry-name = c .before .before .before in
+    let at-start = at-put-entry-name .before .before .before .before .before .before .before in
+    omega (
+      arith,
+      behind-length _
+          (at-put-entry-name .put-entry-name .ensures .0)
+          (at-put-entry-name .put-entry-name .ensures .1 .1)
+          (at-start .pre .0 .first)
+          (at-put-entry-name .put-entry-name .kept .1 .1 .0),
+    )
 
 place-requires : tie.Need-place-requires
 place-requires c κs = search needs
@@ -56,7 +83,45 @@ wide-requires : tie.Need-wide-requires
 wide-requires c κs = search needs
 
 is-new-requires : tie.Need-is-new-requires
-is-new-requires c κs = (c .before .before .before .before .before .before .before .before .before .before .before .before .before .before .before .before .pre .0 .standing, omega (arith, c .before .before .before .before .before .before .before .before .before .before .before .before .before .before .before .before .pre .1, asked-within _ (c .before .before .before .before .before .before .before .before .before .before .before .before .before .before .before .before .pre .2) (behind-length _ (c .before .before .before .before .before .before .before .before .before .put-entry-name .ensures .0) (c .before .before .before .before .before .before .before .before .before .put-entry-name .ensures .1 .1) (c .before .before .before .before .before .before .before .before .before .before .before .before .before .before .before .before .pre .0 .first) (c .before .before .before .before .before .before .before .before .before .put-entry-name .kept .1 .1 .0) .is) (c .before .before .before .before .place .ensures .0) (c .before .wide .ensures)), c .before .before .before .before .before .before .before .before .before .before .before .before .before .before .before .before .pre .0 .second, asked-links _ (c .before .before .before .before .before .before .before .before .before .before .before .before .before .before .before .before .pre .2) (behind-length _ (c .before .before .before .before .before .before .before .before .before .put-entry-name .ensures .0) (c .before .before .before .before .before .before .before .before .before .put-entry-name .ensures .1 .1) (c .before .before .before .before .before .before .before .before .before .before .before .before .before .before .before .before .pre .0 .first) (c .before .before .before .before .before .before .before .before .before .put-entry-name .kept .1 .1 .0) .is) (c .before .before .before .before .place .ensures .0) (placed (c .before .before .before .before .before .before .before .before .before .before .before .before .before .before .before .before .pre .0 .standing) (c .before .before .before .before .before .before .before .before .before .before .before .before .before .before .before .before .pre .1) .0) (c .before .wide .ensures), asked-place _ (c .before .before .before .before .before .before .before .before .before .before .before .before .before .before .before .before .pre .2) (behind-length _ (c .before .before .before .before .before .before .before .before .before .put-entry-name .ensures .0) (c .before .before .before .before .before .before .before .before .before .put-entry-name .ensures .1 .1) (c .before .before .before .before .before .before .before .before .before .before .before .before .before .before .before .before .pre .0 .first) (c .before .before .before .before .before .before .before .before .before .put-entry-name .kept .1 .1 .0) .is) (c .before .before .before .before .place .ensures .0) (c .before .wide .ensures))
+is-new-requires c κs =
+    let at-place = c .before .before .before .before in
+    let at-put-entry-name = at-place .before .before .before .before .before in
+    let at-start = at-put-entry-name .before .before .before .before .before .before .before in (
+      at-start .pre .0 .standing,
+      omega (
+        arith,
+        at-start .pre .1,
+        asked-within _
+            (at-start .pre .2)
+            (behind-length _
+            (at-put-entry-name .put-entry-name .ensures .0)
+            (at-put-entry-name .put-entry-name .ensures .1 .1)
+            (at-start .pre .0 .first)
+            (at-put-entry-name .put-entry-name .kept .1 .1 .0) .is)
+            (at-place .place .ensures .0)
+            (c .before .wide .ensures),
+      ),
+      at-start .pre .0 .second,
+      asked-links _
+          (at-start .pre .2)
+          (behind-length _
+          (at-put-entry-name .put-entry-name .ensures .0)
+          (at-put-entry-name .put-entry-name .ensures .1 .1)
+          (at-start .pre .0 .first)
+          (at-put-entry-name .put-entry-name .kept .1 .1 .0) .is)
+          (at-place .place .ensures .0)
+          (placed (at-start .pre .0 .standing) (at-start .pre .1) .0)
+          (c .before .wide .ensures),
+      asked-place _
+          (at-start .pre .2)
+          (behind-length _
+          (at-put-entry-name .put-entry-name .ensures .0)
+          (at-put-entry-name .put-entry-name .ensures .1 .1)
+          (at-start .pre .0 .first)
+          (at-put-entry-name .put-entry-name .kept .1 .1 .0) .is)
+          (at-place .place .ensures .0)
+          (c .before .wide .ensures),
+    )
 
 same-length : tie.Need-same-length
 same-length c = search needs
@@ -65,7 +130,32 @@ same-length-2 : tie.Need-same-length-2
 same-length-2 c = search needs
 
 returns : tie.Need-returns
-returns c = (asked-all _ (c .before .before .before .before .before .before .before .before .before .before .before .before .before .before .before .before .before .before .before .pre .2) (behind-length _ (c .before .before .before .before .before .before .before .before .before .before .before .before .put-entry-name .ensures .0) (c .before .before .before .before .before .before .before .before .before .before .before .before .put-entry-name .ensures .1 .1) (c .before .before .before .before .before .before .before .before .before .before .before .before .before .before .before .before .before .before .before .pre .0 .first) (c .before .before .before .before .before .before .before .before .before .before .before .before .put-entry-name .kept .1 .1 .0) .is) (c .before .before .before .before .before .before .before .place .ensures .0) (c .before .before .before .before .wide .ensures) (c .before .before .is-new .ensures), linked-more _ (c .before .before .before .before .before .before .before .before .before .before .before .before .before .before .before .before .before .before .before .pre .2) (behind-length _ (c .before .before .before .before .before .before .before .before .before .before .before .before .put-entry-name .ensures .0) (c .before .before .before .before .before .before .before .before .before .before .before .before .put-entry-name .ensures .1 .1) (c .before .before .before .before .before .before .before .before .before .before .before .before .before .before .before .before .before .before .before .pre .0 .first) (c .before .before .before .before .before .before .before .before .before .before .before .before .put-entry-name .kept .1 .1 .0) .is) (c .before .before .before .before .before .before .before .place .ensures .0) (placed (c .before .before .before .before .before .before .before .before .before .before .before .before .before .before .before .before .before .before .before .pre .0 .standing) (c .before .before .before .before .before .before .before .before .before .before .before .before .before .before .before .before .before .before .before .pre .1) .0))
+returns c =
+    let at-is-new = c .before .before in
+    let at-wide = at-is-new .before .before in
+    let at-place = at-wide .before .before .before in
+    let at-put-entry-name = at-place .before .before .before .before .before in
+    let at-start = at-put-entry-name .before .before .before .before .before .before .before in (
+      asked-all _
+          (at-start .pre .2)
+          (behind-length _
+          (at-put-entry-name .put-entry-name .ensures .0)
+          (at-put-entry-name .put-entry-name .ensures .1 .1)
+          (at-start .pre .0 .first)
+          (at-put-entry-name .put-entry-name .kept .1 .1 .0) .is)
+          (at-place .place .ensures .0)
+          (at-wide .wide .ensures)
+          (at-is-new .is-new .ensures),
+      linked-more _
+          (at-start .pre .2)
+          (behind-length _
+          (at-put-entry-name .put-entry-name .ensures .0)
+          (at-put-entry-name .put-entry-name .ensures .1 .1)
+          (at-start .pre .0 .first)
+          (at-put-entry-name .put-entry-name .kept .1 .1 .0) .is)
+          (at-place .place .ensures .0)
+          (placed (at-start .pre .0 .standing) (at-start .pre .1) .0),
+    )
 
 pub is-first-spec : {M : Type 1} → statement M
 is-first-spec =

@@ -16,10 +16,13 @@ returns : tie.Need-returns
 returns c = λ a. no-array a (λ e. c .if1 .taken (c .before .read2 .ensures .0 ∙ e))
 
 array-parts-requires : tie.Need-array-parts-requires
-array-parts-requires c κs = (c .before .before .before .pre, sym (c .before .read2 .ensures .0) ∙ c .if1 .left)
+array-parts-requires c κs =
+    let at-start = c .before .before .before in
+    (at-start .pre, sym (c .before .read2 .ensures .0) ∙ c .if1 .left)
 
 returns-2 : tie.Need-returns-2
 returns-2 c = λ a. an-array a (c .array-parts .ensures a)
 
 pub is-jagged-spec : {M : Type 1} → statement M
-is-jagged-spec = tie.close (tie.spec add-read2 read2-requires returns array-parts-requires returns-2)
+is-jagged-spec =
+    tie.close (tie.spec add-read2 read2-requires returns array-parts-requires returns-2)

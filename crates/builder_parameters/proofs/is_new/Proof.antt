@@ -14,35 +14,100 @@ Inv-loop s words n links i name b₀ j₀ b j = Left s words name i j × (length
 abbrev μ-loop : tie.MeasureT-loop
 μ-loop s words n links i name b₀ j₀ b j = j
 
+-- The places, each seen from a later one: what was known there.
+abbrev at-has-name : tie.After-b Inv-loop μ-loop → tie.After-has-name Inv-loop μ-loop
+at-has-name r = r .before
+
+abbrev in-loop : tie.After-b Inv-loop μ-loop → tie.In-loop Inv-loop μ-loop
+in-loop r = at-has-name r .before .before
+
+abbrev at-loop : tie.After-b Inv-loop μ-loop → tie.At-loop Inv-loop μ-loop
+at-loop r = in-loop r .before
+
+abbrev at-start : tie.After-b Inv-loop μ-loop → tie.Start Inv-loop μ-loop
+at-start r = at-loop r .before .before .before .before .before
+
 loop-holds : tie.Need-loop-holds Inv-loop μ-loop
-loop-holds c = (record { within = omega arith; place = c .before .before .before .before .pre .4; is = refl }, refl)
+loop-holds c =
+    let at-start = c .before .before .before .before in
+    (record { within = omega arith; place = at-start .pre .4; is = refl }, refl)
 
 sub-j : tie.Need-sub-j Inv-loop μ-loop
 sub-j c = omega (arith, c .loop-test .taken)
 
 has-name-requires : tie.Need-has-name-requires Inv-loop μ-loop
-has-name-requires c κs = (c .before .before .before .before .before .before .before .pre .0, omega (arith, c .before .before .before .before .before .before .before .pre .1, c .before .before .loop .inv .0 .within, c .before .loop-test .taken), omega (arith, c .before .before .before .before .before .before .before .pre .2, c .before .before .loop .inv .1))
+has-name-requires c κs =
+    let at-loop = c .before .before in
+    let at-start = at-loop .before .before .before .before .before in (
+      at-start .pre .0,
+      omega (arith, at-start .pre .1, at-loop .loop .inv .0 .within, c .before .loop-test .taken),
+      omega (arith, at-start .pre .2, at-loop .loop .inv .1),
+    )
 
 same-length : tie.Need-same-length Inv-loop μ-loop
-same-length c = c .before .before .before .has-name .kept .1 .1 .1 .1 .1 .0 ∙ c .before .before .before .before .before .before .loop .inv .1
+same-length c =
+    let at-b = c .before .before in
+    at-has-name at-b .has-name .kept .1 .1 .1 .1 .1 .0 ∙ at-loop at-b .loop .inv .1
 
 returns : tie.Need-returns Inv-loop μ-loop
-returns c = met _ _ _ (c .before .before .before .before .before .loop-test .taken) (c .before .before .before .before .before .before .loop .inv .0 .is) (c .before .before .before .has-name .ensures) (c .if1 .taken)
+returns c =
+    let at-b = c .before .before in
+    met _ _ _
+    (in-loop at-b .loop-test .taken)
+    (at-loop at-b .loop .inv .0 .is)
+    (at-has-name at-b .has-name .ensures)
+    (c .if1 .taken)
 
 mul-wide : tie.Need-mul-wide Inv-loop μ-loop
-mul-wide c = omega (arith, c .before .before .before .before .before .before .before .before .before .before .before .pre .0 .count, c .before .before .before .before .before .before .before .before .before .before .before .pre .1, c .before .before .before .before .before .before .loop .inv .0 .within, c .before .before .before .before .before .loop-test .taken)
+mul-wide c =
+    let at-b = c .before .before in
+    omega (
+      arith,
+      at-start at-b .pre .0 .count,
+      at-start at-b .pre .1,
+      at-loop at-b .loop .inv .0 .within,
+      in-loop at-b .loop-test .taken,
+    )
 
 element-copy-out-wide : tie.Need-element-copy-out-wide Inv-loop μ-loop
-element-copy-out-wide c = omega (arith, c .before .before .before .before .before .before .before .before .before .before .before .pre .0 .count, c .before .before .before .before .before .before .before .before .before .before .before .pre .1, c .before .before .before .before .before .before .loop .inv .0 .within, c .before .before .before .before .before .loop-test .taken)
+element-copy-out-wide c =
+    let at-b = c .before .before in
+    omega (
+      arith,
+      at-start at-b .pre .0 .count,
+      at-start at-b .pre .1,
+      at-loop at-b .loop .inv .0 .within,
+      in-loop at-b .loop-test .taken,
+    )
 
 wide-requires : tie.Need-wide-requires Inv-loop μ-loop
 wide-requires c κs = search needs
 
 loop-less : tie.Need-loop-less Inv-loop μ-loop
-loop-less c = next (c .before .before .before .before .before .before .before .before .before .before .before .before .before .args .links .now) (c .before .before .before .before .before .before .before .before .before .before .before .before .before .pre .3) (c .before .before .before .before .before .before .before .before .loop .inv .0) (c .before .before .before .before .before .before .before .loop-test .taken) (c .before .before .before .before .before .has-name .ensures) (c .before .before .if1 .left) (c .wide .ensures) .1
+loop-less c =
+    let at-b = c .before .before .before .before in
+    next
+    (at-start at-b .args .links .now)
+    (at-start at-b .pre .3)
+    (at-loop at-b .loop .inv .0)
+    (in-loop at-b .loop-test .taken)
+    (at-has-name at-b .has-name .ensures)
+    (c .before .before .if1 .left)
+    (c .wide .ensures) .1
 
 loop-again : tie.Need-loop-again Inv-loop μ-loop
-loop-again c = (next (c .before .before .before .before .before .before .before .before .before .before .before .before .before .args .links .now) (c .before .before .before .before .before .before .before .before .before .before .before .before .before .pre .3) (c .before .before .before .before .before .before .before .before .loop .inv .0) (c .before .before .before .before .before .before .before .loop-test .taken) (c .before .before .before .before .before .has-name .ensures) (c .before .before .if1 .left) (c .wide .ensures) .0, c .before .before .before .before .before .has-name .kept .1 .1 .1 .1 .1 .0 ∙ c .before .before .before .before .before .before .before .before .loop .inv .1)
+loop-again c =
+    let at-b = c .before .before .before .before in (
+      next
+          (at-start at-b .args .links .now)
+          (at-start at-b .pre .3)
+          (at-loop at-b .loop .inv .0)
+          (in-loop at-b .loop-test .taken)
+          (at-has-name at-b .has-name .ensures)
+          (c .before .before .if1 .left)
+          (c .wide .ensures) .0,
+      at-has-name at-b .has-name .kept .1 .1 .1 .1 .1 .0 ∙ at-loop at-b .loop .inv .1,
+    )
 
 same-length-2 : tie.Need-same-length-2 Inv-loop μ-loop
 same-length-2 c = c .before .loop .inv .1

@@ -21,7 +21,11 @@ shared-slice-read-result : tie.Need-shared-slice-read-result
 shared-slice-read-result c = omega arith
 
 returns-3 : tie.Need-returns-3
-returns-3 c = (colon _ _ (c .before .before .before .if1 .left) (c .before .if2 .left), λ e. omega arith)
+returns-3 c =
+    let at-else1 = c .before .before .before in
+    (colon _ _ (at-else1 .if1 .left) (c .before .if2 .left), λ e. omega arith)
 
 pub is-pair-spec : {M : Type 1} → statement M
-is-pair-spec = tie.close (tie.spec add-j returns shared-slice-read-if2 returns-2 shared-slice-read-result returns-3)
+is-pair-spec =
+    tie.close
+    (tie.spec add-j returns shared-slice-read-if2 returns-2 shared-slice-read-result returns-3)

@@ -25,7 +25,11 @@ mul-h : tie.Need-mul-h Inv-loop μ-loop
 mul-h c = omega arith
 
 shared-slice-read-wide : tie.Need-shared-slice-read-wide Inv-loop μ-loop
-shared-slice-read-wide c = omega (arith, c .before .loop-test .taken, c .before .before .loop .inv .0)
+shared-slice-read-wide c = omega (
+  arith,
+  c .before .loop-test .taken,
+  c .before .before .loop .inv .0,
+)
 
 wide-requires : tie.Need-wide-requires Inv-loop μ-loop
 wide-requires c κs = search needs
@@ -37,7 +41,17 @@ loop-less : tie.Need-loop-less Inv-loop μ-loop
 loop-less c = omega arith
 
 loop-again : tie.Need-loop-again Inv-loop μ-loop
-loop-again c = (omega (arith, c .before .before .before .loop .inv .0), fold-more _ _ _ _ (c .before .before .loop-test .taken) (c .before .before .before .loop .inv .0) (c .before .before .before .loop .inv .1) (c .wide .ensures .0), omega (arith, c .wide .ensures .1))
+loop-again c =
+    let in-loop = c .before .before in
+    let at-loop = in-loop .before in (
+      omega (arith, at-loop .loop .inv .0),
+      fold-more _ _ _ _
+          (in-loop .loop-test .taken)
+          (at-loop .loop .inv .0)
+          (at-loop .loop .inv .1)
+          (c .wide .ensures .0),
+      omega (arith, c .wide .ensures .1),
+    )
 
 returns : tie.Need-returns Inv-loop μ-loop
 returns c = (fold-end _ _ _ (c .loop-test .left) (c .before .loop .inv .1), omega arith)

@@ -8,67 +8,162 @@ use Rattle.builder_parameters.proofs.put_parameters.Statement.{statemen
 use Rattle.builder_parameters.proofs.put_parameters.Tie as tie
 
 abbrev Inv-loop : tie.InvT-loop
-Inv-loop s words n kind out₀ at a₀ b₀ table₀ links₀ jagged p₀ count₀ i₀ out a b table links p count i = Going s words n kind at out₀ table links a b out p count i
+Inv-loop s words n kind out₀ at a₀ b₀ table₀ links₀ jagged p₀ count₀ i₀ out a b table links p count i =
+    Going s words n kind at out₀ table links a b out p count i
 
 abbrev μ-loop : tie.MeasureT-loop
-μ-loop s words n kind out₀ at a₀ b₀ table₀ links₀ jagged p₀ count₀ i₀ out a b table links p count i = n - i
+μ-loop s words n kind out₀ at a₀ b₀ table₀ links₀ jagged p₀ count₀ i₀ out a b table links p count i =
+    n - i
+
+-- The places, each seen from a later one: what was known there.
+abbrev in-loop : tie.After-b Inv-loop μ-loop → tie.In-loop Inv-loop μ-loop
+in-loop r = r .before .before .before .before
+
+abbrev at-loop : tie.After-b Inv-loop μ-loop → tie.At-loop Inv-loop μ-loop
+at-loop r = in-loop r .before
+
+abbrev at-any-jagged : tie.After-b Inv-loop μ-loop → tie.After-any-jagged Inv-loop μ-loop
+at-any-jagged r = at-loop r .before
+
+abbrev at-start : tie.After-b Inv-loop μ-loop → tie.Start Inv-loop μ-loop
+at-start r = at-any-jagged r .before .before .before .before
 
 any-jagged-requires : tie.Need-any-jagged-requires Inv-loop μ-loop
-any-jagged-requires c κs = c .before .before .before .pre .type-at
+any-jagged-requires c κs =
+    let at-start = c .before .before .before in
+    at-start .pre .type-at
 
 add-p : tie.Need-add-p Inv-loop μ-loop
-add-p c = omega (arith, c .before .before .before .before .pre .cursor)
+add-p c =
+    let at-start = c .before .before .before .before in
+    omega (arith, at-start .pre .cursor)
 
 loop-holds : tie.Need-loop-holds Inv-loop μ-loop
 loop-holds c = going-first _ _ _ _ _ _ refl refl
 
 slice-aggregate-is-listed : tie.Need-slice-aggregate-is-listed Inv-loop μ-loop
-slice-aggregate-is-listed c = c .before .before .before .before .loop .inv .first
+slice-aggregate-is-listed c =
+    let at-loop = c .before .before .before .before in
+    at-loop .loop .inv .first
 
 slice-aggregate-is-listed-2 : tie.Need-slice-aggregate-is-listed-2 Inv-loop μ-loop
-slice-aggregate-is-listed-2 c = c .before .before .before .before .before .loop .inv .second
+slice-aggregate-is-listed-2 c = at-loop c .loop .inv .second
 
 is-listed-requires : tie.Need-is-listed-requires Inv-loop μ-loop
-is-listed-requires c κs = (going-asks (c .before .before .before .before .before .loop .inv) (c .before .before .before .before .before .before .before .before .before .before .pre) (c .before .before .before .before .before .before .any-jagged .ensures), c .before .before .before .before .loop-test .taken, c .before .before .before .before .before .loop .inv .linked)
+is-listed-requires c κs = (
+  going-asks (at-loop c .loop .inv) (at-start c .pre) (at-any-jagged c .any-jagged .ensures),
+  in-loop c .loop-test .taken,
+  at-loop c .loop .inv .linked,
+)
 
 add-i : tie.Need-add-i Inv-loop μ-loop
-add-i c = omega (arith, c .before .before .before .before .before .before .before .before .before .before .before .before .before .before .pre .standing .count, c .before .before .before .before .before .before .before .before .loop-test .taken)
+add-i c =
+    let at-b = c .before .before .before .before in
+    omega (arith, at-start at-b .pre .standing .count, in-loop at-b .loop-test .taken)
 
 loop-less : tie.Need-loop-less Inv-loop μ-loop
-loop-less c = omega (arith, c .before .before .before .before .before .before .before .before .loop-test .taken)
+loop-less c =
+    let at-b = c .before .before .before .before in
+    omega (arith, in-loop at-b .loop-test .taken)
 
 loop-again : tie.Need-loop-again Inv-loop μ-loop
-loop-again c = going-pass (c .before .before .before .before .before .before .before .before .before .loop .inv) (c .before .before .before .before .before .before .before .before .loop-test .taken) (c .before .before .before .is-listed .ensures .0) (c .before .before .before .is-listed .ensures .1) (c .before .before .before .is-listed .kept .1 .1 .1 .1 .1 .1 .1 .1 .0) (c .before .before .before .is-listed .kept .1 .1 .1 .1 .1 .1 .1 .1 .1 .0) (c .if1 .taken)
+loop-again c =
+    let at-is-listed = c .before .before .before in
+    let at-b = at-is-listed .before in
+    going-pass
+    (at-loop at-b .loop .inv)
+    (in-loop at-b .loop-test .taken)
+    (at-is-listed .is-listed .ensures .0)
+    (at-is-listed .is-listed .ensures .1)
+    (at-is-listed .is-listed .kept .1 .1 .1 .1 .1 .1 .1 .1 .0)
+    (at-is-listed .is-listed .kept .1 .1 .1 .1 .1 .1 .1 .1 .1 .0)
+    (c .if1 .taken)
 
 mul-put-parameter : tie.Need-mul-put-parameter Inv-loop μ-loop
-mul-put-parameter c = omega (arith, placed (c .before .before .before .before .before .before .before .before .before .before .before .before .before .before .pre .standing) (c .before .before .before .before .before .before .before .before .loop-test .taken) .0)
+mul-put-parameter c =
+    let at-b = c .before .before .before .before in
+    omega (arith, placed (at-start at-b .pre .standing) (in-loop at-b .loop-test .taken) .0)
 
 shared-slice-read-put-parameter : tie.Need-shared-slice-read-put-parameter Inv-loop μ-loop
-shared-slice-read-put-parameter c = placed (c .before .before .before .before .before .before .before .before .before .before .before .before .before .before .before .pre .standing) (c .before .before .before .before .before .before .before .before .before .loop-test .taken) .1
+shared-slice-read-put-parameter c =
+    let at-b = c .before .before .before .before .before in
+    placed (at-start at-b .pre .standing) (in-loop at-b .loop-test .taken) .1
 
 put-parameter-requires : tie.Need-put-parameter-requires Inv-loop μ-loop
-put-parameter-requires c κs = (c .before .before .before .before .before .before .before .before .before .before .before .before .before .before .before .before .pre .standing .size, omega (arith, c .before .before .before .before .before .before .before .before .before .before .before .before .before .before .before .before .pre .cursor, c .before .before .before .before .before .before .before .before .before .before .before .before .before .before .before .before .pre .standing .count, c .before .before .before .before .before .before .before .before .before .before .before .loop .inv .high, c .before .before .before .before .before .before .before .before .before .before .before .loop .inv .few))
+put-parameter-requires c κs =
+    let at-b = c .before .before .before .before .before .before in (
+      at-start at-b .pre .standing .size,
+      omega (
+        arith,
+        at-start at-b .pre .cursor,
+        at-start at-b .pre .standing .count,
+        at-loop at-b .loop .inv .high,
+        at-loop at-b .loop .inv .few,
+      ),
+    )
 
 add-count : tie.Need-add-count Inv-loop μ-loop
-add-count c = omega (arith, c .before .before .before .before .before .before .before .before .before .before .before .before .before .before .before .before .before .before .before .pre .standing .count, c .before .before .before .before .before .before .before .before .before .before .before .before .before .loop-test .taken, c .before .before .before .before .before .before .before .before .before .before .before .before .before .before .loop .inv .fewer)
+add-count c =
+    let at-b = c .before .before .before .before .before .before .before .before .before in
+    omega (
+      arith,
+      at-start at-b .pre .standing .count,
+      in-loop at-b .loop-test .taken,
+      at-loop at-b .loop .inv .fewer,
+    )
 
 add-i-2 : tie.Need-add-i-2 Inv-loop μ-loop
-add-i-2 c = omega (arith, c .before .before .before .before .before .before .before .before .before .before .before .before .before .before .before .before .before .before .before .pre .standing .count, c .before .before .before .before .before .before .before .before .before .before .before .before .before .loop-test .taken)
+add-i-2 c =
+    let at-b = c .before .before .before .before .before .before .before .before .before in
+    omega (arith, at-start at-b .pre .standing .count, in-loop at-b .loop-test .taken)
 
 loop-less-2 : tie.Need-loop-less-2 Inv-loop μ-loop
-loop-less-2 c = omega (arith, c .before .before .before .before .before .before .before .before .before .before .before .before .before .loop-test .taken)
+loop-less-2 c =
+    let at-b = c .before .before .before .before .before .before .before .before .before in
+    omega (arith, in-loop at-b .loop-test .taken)
 
 loop-again-2 : tie.Need-loop-again-2 Inv-loop μ-loop
-loop-again-2 c = going-put (c .before .before .before .before .before .before .before .before .before .before .before .before .before .before .loop .inv) (c .before .before .before .before .before .before .before .before .before .before .before .before .before .loop-test .taken) (c .before .before .before .before .before .before .before .before .is-listed .ensures .0) (c .before .before .before .before .before .before .before .before .is-listed .ensures .1) (c .before .before .before .before .before .before .before .before .is-listed .kept .1 .1 .1 .1 .1 .1 .1 .1 .0) (c .before .before .before .before .before .before .before .before .is-listed .kept .1 .1 .1 .1 .1 .1 .1 .1 .1 .0) (c .before .before .before .before .before .if1 .left) (c .before .before .put-parameter .ensures .0) (c .before .before .put-parameter .ensures .1) (c .before .before .put-parameter .kept .1 .1 .0)
+loop-again-2 c =
+    let at-put-parameter = c .before .before in
+    let at-else1 = at-put-parameter .before .before .before in
+    let at-is-listed = at-else1 .before .before .before in
+    let at-b = at-is-listed .before in
+    going-put
+    (at-loop at-b .loop .inv)
+    (in-loop at-b .loop-test .taken)
+    (at-is-listed .is-listed .ensures .0)
+    (at-is-listed .is-listed .ensures .1)
+    (at-is-listed .is-listed .kept .1 .1 .1 .1 .1 .1 .1 .1 .0)
+    (at-is-listed .is-listed .kept .1 .1 .1 .1 .1 .1 .1 .1 .1 .0)
+    (at-else1 .if1 .left)
+    (at-put-parameter .put-parameter .ensures .0)
+    (at-put-parameter .put-parameter .ensures .1)
+    (at-put-parameter .put-parameter .kept .1 .1 .0)
 
 put-le-requires : tie.Need-put-le-requires Inv-loop μ-loop
-put-le-requires c κs = omega (arith, c .before .before .before .before .before .before .before .pre .cursor)
+put-le-requires c κs =
+    let at-start = c .before .before .before .before .before .before .before in
+    omega (arith, at-start .pre .cursor)
 
 same-length : tie.Need-same-length Inv-loop μ-loop
-same-length c = c .before .before .put-le .kept .0 ∙ c .before .before .before .before .before .loop .inv .long
+same-length c =
+    let at-put-le = c .before .before in
+    let at-loop = at-put-le .before .before .before in
+    at-put-le .put-le .kept .0 ∙ at-loop .loop .inv .long
 
 returns : tie.Need-returns Inv-loop μ-loop
-returns c = (going-end (c .before .before .before .before .before .loop .inv) (c .before .before .before .before .before .before .before .before .before .before .pre) (c .before .before .before .before .loop-test .left) (c .before .before .put-le .ensures .0), going-high (c .before .before .before .before .before .loop .inv) (c .before .before .before .before .before .before .before .before .before .before .pre))
+returns c =
+    let at-put-le = c .before .before in
+    let after-loop = at-put-le .before .before in
+    let at-loop = after-loop .before in
+    let at-start = at-loop .before .before .before .before .before in (
+      going-end
+          (at-loop .loop .inv)
+          (at-start .pre)
+          (after-loop .loop-test .left)
+          (at-put-le .put-le .ensures .0),
+      going-high (at-loop .loop .inv) (at-start .pre),
+    )
 
 pub put-parameters-spec : {M : Type 1} → statement M
 put-parameters-spec =

@@ -1,3 +1,4 @@
+-- `has_payload`: there is such a path if their count is not 0.
 use Rattle.builder_sums.proofs.Chosen.{payload-is}
 use borrow.Author.Needs.{needs}
 use Rattle.builder_sums.proofs.has_payload.Statement.{statement}

@@ -1,6 +1,8 @@
+-- `put_ref`: the lookup of the path under the owner, then the test of the length of owner.path, in the order of the definition
+-- (`ref-is`); where both pass, the reference is written.
 use mathlib.Core.Path.{refl, _∙_}
 use native.Mathlib.Omega.{arith}
-use Rattle.builder_sums.proofs.Sums.{entry-in, ref-missing, ref-long, ref-done}
+use Rattle.builder_sums.proofs.Sums.{stopped, looked-at, ref-missing, ref-long, ref-done}
 use borrow.Author.Needs.{needs}
 use Rattle.builder_sums.proofs.put_ref.Statement.{statement}
 use Rattle.builder_sums.proofs.put_ref.Tie as tie
@@ -23,14 +25,36 @@ add-if1 c = search needs
 add-if1-2 : tie.Need-add-if1-2
 add-if1-2 c = search needs
 
+-- The places, each seen from a later one: what was known there.
+abbrev at-lookup-name : tie.After-e → tie.After-lookup-name
+at-lookup-name r = r .before .before
+
+abbrev at-start : tie.After-e → tie.Start
+at-start r = at-lookup-name r .before .before .before .before .before .before .before
+
 returns : tie.Need-returns
-returns c = (search needs, ref-long _ (c .before .before .before .before .before .name-at .ensures ∙ c .before .before .before .before .before .before .chosen-path .ensures .1) (c .before .before .before .before .lookup-name .ensures) (c .before .before .e .given .1) (c .if1 .taken))
+returns c =
+    let at-e = c .before .before in
+    let at-name-at = at-lookup-name at-e .before in (
+      stopped (at-start at-e .pre .0 .standing .count),
+      ref-long _
+          (at-name-at .name-at .ensures ∙ at-name-at .before .chosen-path .ensures .1)
+          (at-lookup-name at-e .lookup-name .ensures)
+          (at-e .e .given .1)
+          (c .if1 .taken),
+    )
 
 mul-put-size-ref : tie.Need-mul-put-size-ref
-mul-put-size-ref c = omega (arith, entry-in (c .before .before .e .given .1) (c .before .before .before .before .lookup-name .ensures), c .before .before .before .before .before .before .before .before .before .before .before .pre .0 .standing)
+mul-put-size-ref c =
+    let at-e = c .before .before in
+    let found = looked-at (at-e .e .given .1) (at-lookup-name at-e .lookup-name .ensures) in
+    omega (arith, found .0, at-start at-e .pre .0 .standing)
 
 shared-slice-read-put-size-ref : tie.Need-shared-slice-read-put-size-ref
-shared-slice-read-put-size-ref c = omega (arith, entry-in (c .before .before .before .e .given .1) (c .before .before .before .before .before .lookup-name .ensures), c .before .before .before .before .before .before .before .before .before .before .before .before .pre .0 .standing)
+shared-slice-read-put-size-ref c =
+    let at-e = c .before .before .before in
+    let found = looked-at (at-e .e .given .1) (at-lookup-name at-e .lookup-name .ensures) in
+    omega (arith, found .0, at-start at-e .pre .0 .standing)
 
 put-size-ref-requires : tie.Need-put-size-ref-requires
 put-size-ref-requires c κs = search needs
@@ -42,10 +66,35 @@ same-length : tie.Need-same-length
 same-length c = search needs
 
 returns-2 : tie.Need-returns-2
-returns-2 c = (search needs, ref-done _ (c .before .before .before .before .before .before .before .before .before .before .name-at .ensures ∙ c .before .before .before .before .before .before .before .before .before .before .before .chosen-path .ensures .1) (c .before .before .before .before .before .before .before .before .before .lookup-name .ensures) (c .before .before .before .before .before .before .before .e .given .1) (c .before .before .before .before .before .if1 .left) refl (c .before .before .put-size-ref .ensures .0))
+returns-2 c =
+    let at-put-size-ref = c .before .before in
+    let at-else1 = at-put-size-ref .before .before .before in
+    let at-e = at-else1 .before .before in
+    let at-name-at = at-lookup-name at-e .before in (
+      record {
+        low = omega (arith, at-put-size-ref .put-size-ref .ensures .1);
+        high = omega (arith, at-put-size-ref .put-size-ref .ensures .1);
+        count = at-start at-e .pre .0 .standing .count;
+      },
+      ref-done _
+          (at-name-at .name-at .ensures ∙ at-name-at .before .chosen-path .ensures .1)
+          (at-lookup-name at-e .lookup-name .ensures)
+          (at-e .e .given .1)
+          (at-else1 .if1 .left) refl
+          (at-put-size-ref .put-size-ref .ensures .0),
+    )
 
 returns-3 : tie.Need-returns-3
-returns-3 c = (search needs, ref-missing _ (c .before .before .before .name-at .ensures ∙ c .before .before .before .before .chosen-path .ensures .1) (c .before .before .lookup-name .ensures) (c .enum-told .given .1))
+returns-3 c =
+    let at-lookup-name = c .before .before in
+    let at-name-at = at-lookup-name .before in
+    let at-start = at-name-at .before .before .before .before .before .before in (
+      stopped (at-start .pre .0 .standing .count),
+      ref-missing _
+          (at-name-at .name-at .ensures ∙ at-name-at .before .chosen-path .ensures .1)
+          (at-lookup-name .lookup-name .ensures)
+          (c .enum-told .given .1),
+    )
 
 pub put-ref-spec : {M : Type 1} → statement M
 put-ref-spec =

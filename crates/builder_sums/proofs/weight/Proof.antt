@@ -1,3 +1,4 @@
+-- `weight`: a path counts 1 if it is chosen, else 0. Where only payload sizes are chosen, the test of its ending decides (`weighs`).
 use native.Mathlib.Omega.{arith}
 use Rattle.builder_sums.proofs.Chosen.{weighs}
 use borrow.Author.Needs.{needs}
@@ -14,10 +15,28 @@ ends-with-requires : tie.Need-ends-with-requires
 ends-with-requires c κs = search needs
 
 returns : tie.Need-returns
-returns c = (weighs (c .before .before .before .before .if1 .taken) (c .before .before .before .name-at .ensures) (c .before .ends-with .ensures) 1 (rw (c .if2 .taken)), omega arith)
+returns c =
+    let at-name-at = c .before .before .before in
+    let at-then1 = at-name-at .before in (
+      weighs
+          (at-then1 .if1 .taken)
+          (at-name-at .name-at .ensures)
+          (c .before .ends-with .ensures) 1
+          (rw (c .if2 .taken)),
+      omega arith,
+    )
 
 returns-2 : tie.Need-returns-2
-returns-2 c = (weighs (c .before .before .before .before .if1 .taken) (c .before .before .before .name-at .ensures) (c .before .ends-with .ensures) 0 (rw (c .if2 .left)), omega arith)
+returns-2 c =
+    let at-name-at = c .before .before .before in
+    let at-then1 = at-name-at .before in (
+      weighs
+          (at-then1 .if1 .taken)
+          (at-name-at .name-at .ensures)
+          (c .before .ends-with .ensures) 0
+          (rw (c .if2 .left)),
+      omega arith,
+    )
 
 returns-3 : tie.Need-returns-3
 returns-3 c = search needs

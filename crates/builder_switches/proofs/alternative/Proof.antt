@@ -9,22 +9,53 @@ field-parts-requires : tie.Need-field-parts-requires
 field-parts-requires c κs = search (needs, at-kind (c .if1 .taken) (c .before .before .pre .block))
 
 type-head-requires : tie.Need-type-head-requires
-type-head-requires c κs = search (needs, c .field-parts .ensures (at-kind (c .before .if1 .taken) (c .before .before .before .pre .block)) .type)
+type-head-requires c κs =
+    let at-start = c .before .before .before in
+    search (
+      needs,
+      c .field-parts .ensures (at-kind (c .before .if1 .taken) (at-start .pre .block)) .type,
+    )
 
 returns : tie.Need-returns
-returns c = alt-union (c .before .before .if1 .taken) (c .before .field-parts .ensures) (c .type-head .ensures)
+returns c =
+    alt-union
+    (c .before .before .if1 .taken)
+    (c .before .field-parts .ensures)
+    (c .type-head .ensures)
 
 variant-parts-requires : tie.Need-variant-parts-requires
-variant-parts-requires c κs = search (needs, not-union (c .before .before .pre .kind) (c .if1 .left))
+variant-parts-requires c κs = search (
+  needs,
+  not-union (c .before .before .pre .kind) (c .if1 .left),
+)
 
 type-head-requires-2 : tie.Need-type-head-requires-2
-type-head-requires-2 c κs = search (needs, c .variant-parts .ensures (c .before .before .before .pre .block) .type)
+type-head-requires-2 c κs =
+    let at-start = c .before .before .before in
+    search (needs, c .variant-parts .ensures (at-start .pre .block) .type)
 
 returns-2 : tie.Need-returns-2
-returns-2 c = alt-enum (c .before .before .variant-parts .ensures) (c .before .type-head2 .ensures) (c .if2 .taken)
+returns-2 c =
+    alt-enum
+    (c .before .before .variant-parts .ensures)
+    (c .before .type-head2 .ensures)
+    (c .if2 .taken)
 
 returns-3 : tie.Need-returns-3
-returns-3 c = alt-sized (c .before .before .variant-parts .ensures) (c .before .type-head2 .ensures) (omega (arith, c .before .before .before .before .before .pre .kind .low, c .before .before .before .before .before .pre .kind .high, c .before .before .before .if1 .left, c .if2 .left))
+returns-3 c =
+    let at-variant-parts = c .before .before in
+    let at-else1 = at-variant-parts .before in
+    let at-start = at-else1 .before .before in
+    alt-sized
+    (at-variant-parts .variant-parts .ensures)
+    (c .before .type-head2 .ensures)
+    (omega (
+      arith,
+      at-start .pre .kind .low,
+      at-start .pre .kind .high,
+      at-else1 .if1 .left,
+      c .if2 .left,
+    ))
 
 pub alternative-spec : {M : Type 1} → statement M
 alternative-spec =

@@ -10,29 +10,86 @@ use Rattle.builder_switches.proofs.build_enum_node.Tie as tie
 type-head-requires : tie.Need-type-head-requires
 type-head-requires c κs = search needs
 
+-- The places, each seen from a later one: what was known there.
+abbrev at-type-head : tie.After-extend-with → tie.After-type-head
+at-type-head r = r .before .before
+
+abbrev at-start : tie.After-extend-with → tie.Start
+at-start r = at-type-head r .before .before .before .before
+
 extend-with-requires : tie.Need-extend-with-requires
-extend-with-requires c κs = (c .before .before .before .before .before .pre .standing, c .before .type-head .ensures (c .before .before .before .before .before .pre .type-at) .references)
+extend-with-requires c κs =
+    let at-start = c .before .before .before .before .before in
+    (at-start .pre .standing, c .before .type-head .ensures (at-start .pre .type-at) .references)
 
 same-length : tie.Need-same-length
 same-length c = search needs
 
 returns : tie.Need-returns
-returns c = (stopped (c .before .before .before .before .before .before .before .before .before .before .pre .standing .count), λ a e vs q. enum-refs-stop _ (c .before .before .before .before .before .before .type-head .ensures) (c .before .before .before .before .extend-with .ensures .1) (c .if1 .taken) a e vs q)
+returns c =
+    let at-extend-with = c .before .before .before .before in (
+      stopped (at-start at-extend-with .pre .standing .count),
+      λ a e vs q. enum-refs-stop _
+          (at-type-head at-extend-with .type-head .ensures)
+          (at-extend-with .extend-with .ensures .1)
+          (c .if1 .taken) a e vs q,
+    )
 
 enum-parts-requires : tie.Need-enum-parts-requires
 enum-parts-requires c κs = search needs
 
 enum-tag-parameter-requires : tie.Need-enum-tag-parameter-requires
-enum-tag-parameter-requires c κs = record { standing = standing (c .before .before .before .before .before .before .before .before .before .before .before .before .pre .standing) (omega arith) (c .before .before .before .before .before .before .extend-with .ensures .0); named = c .before .before .before .before .before .before .before .before .type-head .ensures (c .before .before .before .before .before .before .before .before .before .before .before .before .pre .type-at) .named; expr = c .before .enum-parts .ensures (c .before .before .before .before .before .before .before .before .before .before .before .before .pre .type-at) .tag }
+enum-tag-parameter-requires c κs =
+    let at-extend-with = c .before .before .before .before .before .before in
+    let at-type-head = at-extend-with .before .before in
+    let at-start = at-type-head .before .before .before .before in record {
+      standing = standing
+          (at-start .pre .standing)
+          (omega arith)
+          (at-extend-with .extend-with .ensures .0);
+      named = at-type-head .type-head .ensures (at-start .pre .type-at) .named;
+      expr = c .before .enum-parts .ensures (at-start .pre .type-at) .tag;
+    }
 
 same-length-2 : tie.Need-same-length-2
 same-length-2 c = search needs
 
 returns-2 : tie.Need-returns-2
-returns-2 c = (stopped (c .before .before .before .before .before .before .before .before .before .before .before .before .before .before .before .before .before .pre .standing .count), λ a e vs q. enum-tag-stops _ (c .before .before .before .before .before .before .before .before .before .before .before .before .before .type-head .ensures) (c .before .before .before .before .before .before .before .before .before .before .before .extend-with .ensures .1) (c .before .before .before .before .before .before .before .if1 .left) (c .before .before .before .before .before .before .enum-parts .ensures) (c .before .before .before .before .enum-tag-parameter .ensures .1) (c .if2 .taken) a e vs q)
+returns-2 c =
+    let at-enum-tag-parameter = c .before .before .before .before in
+    let at-enum-parts = at-enum-tag-parameter .before .before in
+    let at-else1 = at-enum-parts .before in
+    let at-extend-with = at-else1 .before .before .before .before in (
+      stopped (at-start at-extend-with .pre .standing .count),
+      λ a e vs q. enum-tag-stops _
+          (at-type-head at-extend-with .type-head .ensures)
+          (at-extend-with .extend-with .ensures .1)
+          (at-else1 .if1 .left)
+          (at-enum-parts .enum-parts .ensures)
+          (at-enum-tag-parameter .enum-tag-parameter .ensures .1)
+          (c .if2 .taken) a e vs q,
+    )
 
 put-switch-requires : tie.Need-put-switch-requires
-put-switch-requires c κs = record { standing = standing (c .before .before .before .before .before .before .before .before .before .before .before .before .before .before .before .before .before .before .before .pre .standing) (omega arith) (c .before .before .before .before .before .before .enum-tag-parameter .ensures .0); type-at = c .before .before .before .before .before .before .before .before .before .before .before .before .before .before .before .before .before .before .before .pre .type-at; within = tag-in (c .before .before .if2 .left) (c .before .before .before .before .before .before .enum-tag-parameter .ensures .1 (c .before .before .before .before .before .before .before .before .enum-parts .ensures (c .before .before .before .before .before .before .before .before .before .before .before .before .before .before .before .before .before .before .before .pre .type-at) .tag)); kind = record { low = omega arith; high = omega arith }; list = c .before .before .before .before .before .before .before .before .enum-parts .ensures (c .before .before .before .before .before .before .before .before .before .before .before .before .before .before .before .before .before .before .before .pre .type-at) .list; few = c .before .before .before .before .before .before .before .before .enum-parts .ensures (c .before .before .before .before .before .before .before .before .before .before .before .before .before .before .before .before .before .before .before .pre .type-at) .few; cursor = c .before .before .before .before .before .before .before .before .before .before .before .before .before .before .before .before .before .before .before .pre .cursor }
+put-switch-requires c κs =
+    let at-else2 = c .before .before in
+    let at-enum-tag-parameter = at-else2 .before .before .before .before in
+    let at-enum-parts = at-enum-tag-parameter .before .before in
+    let at-start = at-enum-parts .before .before .before .before .before .before .before .before .before .before .before in record {
+      standing = standing
+          (at-start .pre .standing)
+          (omega arith)
+          (at-enum-tag-parameter .enum-tag-parameter .ensures .0);
+      type-at = at-start .pre .type-at;
+      within = tag-in
+          (at-else2 .if2 .left)
+          (at-enum-tag-parameter .enum-tag-parameter .ensures .1
+          (at-enum-parts .enum-parts .ensures (at-start .pre .type-at) .tag));
+      kind = record { low = omega arith; high = omega arith };
+      list = at-enum-parts .enum-parts .ensures (at-start .pre .type-at) .list;
+      few = at-enum-parts .enum-parts .ensures (at-start .pre .type-at) .few;
+      cursor = at-start .pre .cursor;
+    }
 
 same-length-3 : tie.Need-same-length-3
 same-length-3 c = search needs
@@ -41,7 +98,23 @@ same-length-4 : tie.Need-same-length-4
 same-length-4 c = search needs
 
 returns-3 : tie.Need-returns-3
-returns-3 c = (c .before .before .put-switch .ensures .0, λ a e vs q. enum-done _ (c .before .before .before .before .before .before .before .before .before .before .before .before .before .before .before .before .before .before .type-head .ensures) (c .before .before .before .before .before .before .before .before .before .before .before .before .before .before .before .before .extend-with .ensures .1) (c .before .before .before .before .before .before .before .before .before .before .before .before .if1 .left) (c .before .before .before .before .before .before .before .before .before .before .before .enum-parts .ensures) (c .before .before .before .before .before .before .before .before .before .enum-tag-parameter .ensures .1) (c .before .before .before .before .before .if2 .left) (c .before .before .put-switch .ensures .1) a e vs q)
+returns-3 c =
+    let at-put-switch = c .before .before in
+    let at-else2 = at-put-switch .before .before .before in
+    let at-enum-tag-parameter = at-else2 .before .before .before .before in
+    let at-enum-parts = at-enum-tag-parameter .before .before in
+    let at-else1 = at-enum-parts .before in
+    let at-extend-with = at-else1 .before .before .before .before in (
+      at-put-switch .put-switch .ensures .0,
+      λ a e vs q. enum-done _
+          (at-type-head at-extend-with .type-head .ensures)
+          (at-extend-with .extend-with .ensures .1)
+          (at-else1 .if1 .left)
+          (at-enum-parts .enum-parts .ensures)
+          (at-enum-tag-parameter .enum-tag-parameter .ensures .1)
+          (at-else2 .if2 .left)
+          (at-put-switch .put-switch .ensures .1) a e vs q,
+    )
 
 pub build-enum-node-spec : {M : Type 1} → statement M
 build-enum-node-spec =

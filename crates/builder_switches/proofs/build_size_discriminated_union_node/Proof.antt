@@ -10,14 +10,35 @@ use Rattle.builder_switches.proofs.build_size_discriminated_union_node.
 type-head-requires : tie.Need-type-head-requires
 type-head-requires c κs = search needs
 
+-- The places, each seen from a later one: what was known there.
+abbrev at-extend-with : tie.Else1 → tie.After-extend-with
+at-extend-with r = r .before .before .before .before
+
+abbrev at-type-head : tie.Else1 → tie.After-type-head
+at-type-head r = at-extend-with r .before .before
+
+abbrev at-start : tie.Else1 → tie.Start
+at-start r = at-type-head r .before .before .before .before
+
 extend-with-requires : tie.Need-extend-with-requires
-extend-with-requires c κs = (c .before .before .before .before .before .pre .standing, c .before .type-head .ensures (c .before .before .before .before .before .pre .type-at) .references)
+extend-with-requires c κs =
+    let at-start = c .before .before .before .before .before in
+    (at-start .pre .standing, c .before .type-head .ensures (at-start .pre .type-at) .references)
 
 same-length : tie.Need-same-length
 same-length c = search needs
 
 returns : tie.Need-returns
-returns c = (stopped (c .before .before .before .before .before .before .before .before .before .before .pre .standing .count), λ a vs q. sized-refs-stop _ (c .before .before .before .before .before .before .type-head .ensures) (c .before .before .before .before .extend-with .ensures .1) (c .if1 .taken) a vs q)
+returns c =
+    let at-extend-with = c .before .before .before .before in
+    let at-type-head = at-extend-with .before .before in
+    let at-start = at-type-head .before .before .before .before in (
+      stopped (at-start .pre .standing .count),
+      λ a vs q. sized-refs-stop _
+          (at-type-head .type-head .ensures)
+          (at-extend-with .extend-with .ensures .1)
+          (c .if1 .taken) a vs q,
+    )
 
 sized-list-requires : tie.Need-sized-list-requires
 sized-list-requires c κs = search needs
@@ -26,22 +47,78 @@ same-length-2 : tie.Need-same-length-2
 same-length-2 c = search needs
 
 returns-2 : tie.Need-returns-2
-returns-2 c = (stopped (c .before .before .before .before .before .before .before .before .before .before .before .before .before .pre .standing .count), λ a vs q. sized-none _ (c .before .before .before .before .before .before .before .before .before .type-head .ensures) (c .before .before .before .before .before .before .before .extend-with .ensures .1) (c .before .before .before .if1 .left) (c .before .before .sized-list .ensures) (c .if2 .taken) a vs q)
+returns-2 c =
+    let at-sized-list = c .before .before in
+    let at-else1 = at-sized-list .before in (
+      stopped (at-start at-else1 .pre .standing .count),
+      λ a vs q. sized-none _
+          (at-type-head at-else1 .type-head .ensures)
+          (at-extend-with at-else1 .extend-with .ensures .1)
+          (at-else1 .if1 .left)
+          (at-sized-list .sized-list .ensures)
+          (c .if2 .taken) a vs q,
+    )
 
 add-add-synthetic : tie.Need-add-add-synthetic
-add-add-synthetic c = omega (arith, c .before .before .before .before .before .before .before .before .before .before .type-head .ensures (c .before .before .before .before .before .before .before .before .before .before .before .before .before .before .pre .type-at) .named .inside, c .before .before .before .before .before .before .before .before .before .before .before .before .before .before .pre .standing .size)
+add-add-synthetic c =
+    let at-else1 = c .before .before .before .before in
+    omega (
+      arith,
+      at-type-head at-else1 .type-head .ensures (at-start at-else1 .pre .type-at) .named .inside,
+      at-start at-else1 .pre .standing .size,
+    )
 
 add-synthetic-requires : tie.Need-add-synthetic-requires
-add-synthetic-requires c κs = (standing (c .before .before .before .before .before .before .before .before .before .before .before .before .before .before .pre .standing) (omega arith) (c .before .before .before .before .before .before .before .before .extend-with .ensures .0), omega (arith, c .before .before .before .before .before .before .before .before .before .before .type-head .ensures (c .before .before .before .before .before .before .before .before .before .before .before .before .before .before .pre .type-at) .named .inside, c .before .before .before .before .before .before .before .before .before .before .before .before .before .before .pre .standing .size), (omega arith, omega arith))
+add-synthetic-requires c κs =
+    let at-extend-with = c .before .before .before .before .before .before .before .before in
+    let at-type-head = at-extend-with .before .before in
+    let at-start = at-type-head .before .before .before .before in (
+      standing (at-start .pre .standing) (omega arith) (at-extend-with .extend-with .ensures .0),
+      omega (
+        arith,
+        at-type-head .type-head .ensures (at-start .pre .type-at) .named .inside,
+        at-start .pre .standing .size,
+      ),
+      (omega arith, omega arith),
+    )
 
 same-length-3 : tie.Need-same-length-3
 same-length-3 c = search needs
 
 returns-3 : tie.Need-returns-3
-returns-3 c = (stopped (c .before .before .before .before .before .before .before .before .before .before .before .before .before .before .before .before .before .before .before .pre .standing .count), λ a vs q. sized-tag-stops _ (c .before .before .before .before .before .before .before .before .before .before .before .before .before .before .before .type-head .ensures) (c .before .before .before .before .before .before .before .before .before .before .before .before .before .extend-with .ensures .1) (c .before .before .before .before .before .before .before .before .before .if1 .left) (c .before .before .before .before .before .before .before .before .sized-list .ensures) (c .before .before .before .before .before .before .if2 .left) (c .before .before .before .before .add-synthetic .ensures .1) (c .if3 .taken) a vs q)
+returns-3 c =
+    let at-add-synthetic = c .before .before .before .before in
+    let at-else2 = at-add-synthetic .before .before in
+    let at-sized-list = at-else2 .before .before in
+    let at-else1 = at-sized-list .before in (
+      stopped (at-start at-else1 .pre .standing .count),
+      λ a vs q. sized-tag-stops _
+          (at-type-head at-else1 .type-head .ensures)
+          (at-extend-with at-else1 .extend-with .ensures .1)
+          (at-else1 .if1 .left)
+          (at-sized-list .sized-list .ensures)
+          (at-else2 .if2 .left)
+          (at-add-synthetic .add-synthetic .ensures .1)
+          (c .if3 .taken) a vs q,
+    )
 
 put-switch-requires : tie.Need-put-switch-requires
-put-switch-requires c κs = record { standing = standing (c .before .before .before .before .before .before .before .before .before .before .before .before .before .before .before .before .before .before .before .before .before .pre .standing) (omega arith) (c .before .before .before .before .before .before .add-synthetic .ensures .0); type-at = c .before .before .before .before .before .before .before .before .before .before .before .before .before .before .before .before .before .before .before .before .before .pre .type-at; within = tag-in (c .before .before .if3 .left) (c .before .before .before .before .before .before .add-synthetic .ensures .1); kind = record { low = omega arith; high = omega arith }; list = c .before .before .before .before .before .before .before .before .before .before .sized-list .ensures (c .before .before .before .before .before .before .before .before .before .before .before .before .before .before .before .before .before .before .before .before .before .pre .type-at) .list; few = c .before .before .before .before .before .before .before .before .before .before .sized-list .ensures (c .before .before .before .before .before .before .before .before .before .before .before .before .before .before .before .before .before .before .before .before .before .pre .type-at) .few; cursor = c .before .before .before .before .before .before .before .before .before .before .before .before .before .before .before .before .before .before .before .before .before .pre .cursor }
+put-switch-requires c κs =
+    let at-else3 = c .before .before in
+    let at-add-synthetic = at-else3 .before .before .before .before in
+    let at-sized-list = at-add-synthetic .before .before .before .before in
+    let at-start = at-sized-list .before .before .before .before .before .before .before .before .before .before .before in record {
+      standing = standing
+          (at-start .pre .standing)
+          (omega arith)
+          (at-add-synthetic .add-synthetic .ensures .0);
+      type-at = at-start .pre .type-at;
+      within = tag-in (at-else3 .if3 .left) (at-add-synthetic .add-synthetic .ensures .1);
+      kind = record { low = omega arith; high = omega arith };
+      list = at-sized-list .sized-list .ensures (at-start .pre .type-at) .list;
+      few = at-sized-list .sized-list .ensures (at-start .pre .type-at) .few;
+      cursor = at-start .pre .cursor;
+    }
 
 same-length-4 : tie.Need-same-length-4
 same-length-4 c = search needs
@@ -50,7 +127,24 @@ same-length-5 : tie.Need-same-length-5
 same-length-5 c = search needs
 
 returns-4 : tie.Need-returns-4
-returns-4 c = (c .before .before .put-switch .ensures .0, λ a vs q. sized-done _ (c .before .before .before .before .before .before .before .before .before .before .before .before .before .before .before .before .before .before .before .before .type-head .ensures) (c .before .before .before .before .before .before .before .before .before .before .before .before .before .before .before .before .before .before .extend-with .ensures .1) (c .before .before .before .before .before .before .before .before .before .before .before .before .before .before .if1 .left) (c .before .before .before .before .before .before .before .before .before .before .before .before .before .sized-list .ensures) (c .before .before .before .before .before .before .before .before .before .before .before .if2 .left) (c .before .before .before .before .before .before .before .before .before .add-synthetic .ensures .1) (c .before .before .before .before .before .if3 .left) (c .before .before .put-switch .ensures .1) a vs q)
+returns-4 c =
+    let at-put-switch = c .before .before in
+    let at-else3 = at-put-switch .before .before .before in
+    let at-add-synthetic = at-else3 .before .before .before .before in
+    let at-else2 = at-add-synthetic .before .before in
+    let at-sized-list = at-else2 .before .before in
+    let at-else1 = at-sized-list .before in (
+      at-put-switch .put-switch .ensures .0,
+      λ a vs q. sized-done _
+          (at-type-head at-else1 .type-head .ensures)
+          (at-extend-with at-else1 .extend-with .ensures .1)
+          (at-else1 .if1 .left)
+          (at-sized-list .sized-list .ensures)
+          (at-else2 .if2 .left)
+          (at-add-synthetic .add-synthetic .ensures .1)
+          (at-else3 .if3 .left)
+          (at-put-switch .put-switch .ensures .1) a vs q,
+    )
 
 pub build-size-discriminated-union-node-spec : {M : Type 1} → statement M
 build-size-discriminated-union-node-spec =

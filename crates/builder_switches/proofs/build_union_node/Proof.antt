@@ -10,32 +10,105 @@ use Rattle.builder_switches.proofs.build_union_node.Tie as tie
 type-head-requires : tie.Need-type-head-requires
 type-head-requires c κs = search needs
 
+-- The places, each seen from a later one: what was known there.
+abbrev at-type-head : tie.After-extend-with → tie.After-type-head
+at-type-head r = r .before .before
+
+abbrev at-start : tie.After-extend-with → tie.Start
+at-start r = at-type-head r .before .before .before .before
+
 extend-with-requires : tie.Need-extend-with-requires
-extend-with-requires c κs = (c .before .before .before .before .before .pre .standing, c .before .type-head .ensures (c .before .before .before .before .before .pre .type-at) .references)
+extend-with-requires c κs =
+    let at-start = c .before .before .before .before .before in
+    (at-start .pre .standing, c .before .type-head .ensures (at-start .pre .type-at) .references)
 
 same-length : tie.Need-same-length
 same-length c = search needs
 
 returns : tie.Need-returns
-returns c = (stopped (c .before .before .before .before .before .before .before .before .before .before .pre .standing .count), λ a fs q. union-refs-stop _ (c .before .before .before .before .before .before .type-head .ensures) (c .before .before .before .before .extend-with .ensures .1) (c .if1 .taken) a fs q)
+returns c =
+    let at-extend-with = c .before .before .before .before in (
+      stopped (at-start at-extend-with .pre .standing .count),
+      λ a fs q. union-refs-stop _
+          (at-type-head at-extend-with .type-head .ensures)
+          (at-extend-with .extend-with .ensures .1)
+          (c .if1 .taken) a fs q,
+    )
 
 add-add-synthetic : tie.Need-add-add-synthetic
-add-add-synthetic c = omega (arith, c .before .before .before .before .before .before .before .type-head .ensures (c .before .before .before .before .before .before .before .before .before .before .before .pre .type-at) .named .inside, c .before .before .before .before .before .before .before .before .before .before .before .pre .standing .size)
+add-add-synthetic c =
+    let at-extend-with = c .before .before .before .before .before in
+    omega (
+      arith,
+      at-type-head at-extend-with .type-head .ensures
+          (at-start at-extend-with .pre .type-at) .named .inside,
+      at-start at-extend-with .pre .standing .size,
+    )
 
 add-synthetic-requires : tie.Need-add-synthetic-requires
-add-synthetic-requires c κs = (standing (c .before .before .before .before .before .before .before .before .before .before .before .pre .standing) (omega arith) (c .before .before .before .before .before .extend-with .ensures .0), omega (arith, c .before .before .before .before .before .before .before .type-head .ensures (c .before .before .before .before .before .before .before .before .before .before .before .pre .type-at) .named .inside, c .before .before .before .before .before .before .before .before .before .before .before .pre .standing .size), (omega arith, omega arith))
+add-synthetic-requires c κs =
+    let at-extend-with = c .before .before .before .before .before in
+    let at-type-head = at-extend-with .before .before in
+    let at-start = at-type-head .before .before .before .before in (
+      standing (at-start .pre .standing) (omega arith) (at-extend-with .extend-with .ensures .0),
+      omega (
+        arith,
+        at-type-head .type-head .ensures (at-start .pre .type-at) .named .inside,
+        at-start .pre .standing .size,
+      ),
+      (omega arith, omega arith),
+    )
 
 same-length-2 : tie.Need-same-length-2
 same-length-2 c = search needs
 
 returns-2 : tie.Need-returns-2
-returns-2 c = (stopped (c .before .before .before .before .before .before .before .before .before .before .before .before .before .before .before .before .pre .standing .count), λ a fs q. union-tag-stops _ (c .before .before .before .before .before .before .before .before .before .before .before .before .type-head .ensures) (c .before .before .before .before .before .before .before .before .before .before .extend-with .ensures .1) (c .before .before .before .before .before .before .if1 .left) (c .before .before .before .before .add-synthetic .ensures .1) (c .if2 .taken) a fs q)
+returns-2 c =
+    let at-add-synthetic = c .before .before .before .before in
+    let at-else1 = at-add-synthetic .before .before in
+    let at-extend-with = at-else1 .before .before .before .before in (
+      stopped (at-start at-extend-with .pre .standing .count),
+      λ a fs q. union-tag-stops _
+          (at-type-head at-extend-with .type-head .ensures)
+          (at-extend-with .extend-with .ensures .1)
+          (at-else1 .if1 .left)
+          (at-add-synthetic .add-synthetic .ensures .1)
+          (c .if2 .taken) a fs q,
+    )
 
 field-list-requires : tie.Need-field-list-requires
-field-list-requires c κs = search (needs, union-kind (c .before .before .before .before .before .before .before .before .before .before .before .before .before .before .before .before .pre .kind-is), c .before .before .before .before .before .before .before .before .before .before .before .before .before .before .before .before .pre .type-at, c .before .before .before .before .before .before .before .before .before .before .before .before .before .before .before .before .pre .standing)
+field-list-requires c κs =
+    let at-extend-with = c .before .before .before .before .before .before .before .before .before .before in
+    search (
+      needs,
+      union-kind (at-start at-extend-with .pre .kind-is),
+      at-start at-extend-with .pre .type-at,
+      at-start at-extend-with .pre .standing,
+    )
 
+-- Its paths stay: with names in their place the check refuses it.
 put-switch-requires : tie.Need-put-switch-requires
-put-switch-requires c κs = record { standing = standing (c .before .before .before .before .before .before .before .before .before .before .before .before .before .before .before .before .before .before .before .pre .standing) (omega arith) (c .before .before .before .before .before .before .before .add-synthetic .ensures .0); type-at = c .before .before .before .before .before .before .before .before .before .before .before .before .before .before .before .before .before .before .before .pre .type-at; within = tag-in (c .before .before .before .if2 .left) (c .before .before .before .before .before .before .before .add-synthetic .ensures .1); kind = record { low = omega arith; high = omega arith }; list = c .before .before .field-list .ensures (c .before .before .before .before .before .before .before .before .before .before .before .before .before .before .before .before .before .before .before .pre .type-at) .list; few = c .before .before .field-list .ensures (c .before .before .before .before .before .before .before .before .before .before .before .before .before .before .before .before .before .before .before .pre .type-at) .few; cursor = c .before .before .before .before .before .before .before .before .before .before .before .before .before .before .before .before .before .before .before .pre .cursor }
+put-switch-requires c κs = record {
+  standing = standing
+      (c .before .before .before .before .before .before .before .before .before .before .before
+      .before .before .before .before .before .before .before .before .pre .standing)
+      (omega arith)
+      (c .before .before .before .before .before .before .before .add-synthetic .ensures .0);
+  type-at = c .before .before .before .before .before .before .before .before .before .before
+      .before .before .before .before .before .before .before .before .before .pre .type-at;
+  within = tag-in
+      (c .before .before .before .if2 .left)
+      (c .before .before .before .before .before .before .before .add-synthetic .ensures .1);
+  kind = record { low = omega arith; high = omega arith };
+  list = c .before .before .field-list .ensures
+      (c .before .before .before .before .before .before .before .before .before .before .before
+      .before .before .before .before .before .before .before .before .pre .type-at) .list;
+  few = c .before .before .field-list .ensures
+      (c .before .before .before .before .before .before .before .before .before .before .before
+      .before .before .before .before .before .before .before .before .pre .type-at) .few;
+  cursor = c .before .before .before .before .before .before .before .before .before .before .before
+      .before .before .before .before .before .before .before .before .pre .cursor;
+}
 
 same-length-3 : tie.Need-same-length-3
 same-length-3 c = search needs
@@ -44,7 +117,24 @@ same-length-4 : tie.Need-same-length-4
 same-length-4 c = search needs
 
 returns-3 : tie.Need-returns-3
-returns-3 c = (c .before .before .put-switch .ensures .0, λ a fs q. union-done _ (c .before .before .before .before .before .before .before .before .before .before .before .before .before .before .before .before .before .before .type-head .ensures) (c .before .before .before .before .before .before .before .before .before .before .before .before .before .before .before .before .extend-with .ensures .1) (c .before .before .before .before .before .before .before .before .before .before .before .before .if1 .left) (c .before .before .before .before .before .before .before .before .before .before .add-synthetic .ensures .1) (c .before .before .before .before .before .before .if2 .left) (c .before .before .before .before .before .before .before .before .before .before .before .before .before .before .before .before .before .before .before .before .before .before .pre .kind-is) (c .before .before .before .before .before .field-list .ensures) (c .before .before .put-switch .ensures .1) a fs q)
+returns-3 c =
+    let at-put-switch = c .before .before in
+    let at-field-list = at-put-switch .before .before .before in
+    let at-else2 = at-field-list .before in
+    let at-add-synthetic = at-else2 .before .before .before .before in
+    let at-else1 = at-add-synthetic .before .before in
+    let at-extend-with = at-else1 .before .before .before .before in (
+      at-put-switch .put-switch .ensures .0,
+      λ a fs q. union-done _
+          (at-type-head at-extend-with .type-head .ensures)
+          (at-extend-with .extend-with .ensures .1)
+          (at-else1 .if1 .left)
+          (at-add-synthetic .add-synthetic .ensures .1)
+          (at-else2 .if2 .left)
+          (at-start at-extend-with .pre .kind-is)
+          (at-field-list .field-list .ensures)
+          (at-put-switch .put-switch .ensures .1) a fs q,
+    )
 
 pub build-union-node-spec : {M : Type 1} → statement M
 build-union-node-spec =

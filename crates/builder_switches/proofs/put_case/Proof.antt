@@ -12,41 +12,151 @@ use Rattle.builder_switches.proofs.put_case.Tie as tie
 alternative-requires : tie.Need-alternative-requires
 alternative-requires c κs = search needs
 
+-- The places, each seen from a later one: what was known there.
+abbrev at-open-block : tie.After-put-le → tie.After-open-block
+at-open-block r = r .before .before .before .before
+
+abbrev at-alternative : tie.After-put-le → tie.After-alternative
+at-alternative r = at-open-block r .before .before
+
+abbrev at-start : tie.After-put-le → tie.Start
+at-start r = at-alternative r .before .before .before .before
+
 open-block-requires : tie.Need-open-block-requires
-open-block-requires c κs = omega (arith, c .before .before .before .before .before .pre .cursor)
+open-block-requires c κs =
+    let at-start = c .before .before .before .before .before in
+    omega (arith, at-start .pre .cursor)
 
 put-le-requires : tie.Need-put-le-requires
-put-le-requires c κs = omega (arith, c .before .before .before .before .before .before .before .before .before .pre .cursor, c .before .before .before .open-block .ensures .1)
+put-le-requires c κs =
+    let at-open-block = c .before .before .before in
+    let at-start = at-open-block .before .before .before .before .before .before in
+    omega (arith, at-start .pre .cursor, at-open-block .open-block .ensures .1)
 
 add-put-node : tie.Need-add-put-node
-add-put-node c = omega (arith, block-in (c .before .before .before .before .before .before .before .before .before .before .before .before .pre .block))
+add-put-node c = omega (arith, block-in (at-start (c .before .before) .pre .block))
 
 put-node-requires : tie.Need-put-node-requires
-put-node-requires c κs = record { standing = c .before .before .before .before .before .before .before .before .before .before .before .before .before .pre .standing; references-at = c .before .before .before .before .before .before .before .before .before .before .before .before .before .pre .references-at; named = c .before .before .before .before .before .before .before .before .before .alternative .ensures (c .before .before .before .before .before .before .before .before .before .before .before .before .before .pre .block) .named; cursor = omega (arith, c .before .before .before .before .before .before .before .before .before .before .before .before .before .pre .cursor, c .before .before .before .before .before .before .before .open-block .ensures .1, c .before .before .before .put-le .ensures .1) }
+put-node-requires c κs =
+    let at-put-le = c .before .before .before in record {
+      standing = at-start at-put-le .pre .standing;
+      references-at = at-start at-put-le .pre .references-at;
+      named = at-alternative at-put-le .alternative .ensures
+          (at-start at-put-le .pre .block) .named;
+      cursor = omega (
+        arith,
+        at-start at-put-le .pre .cursor,
+        at-open-block at-put-le .open-block .ensures .1,
+        at-put-le .put-le .ensures .1,
+      );
+    }
 
 same-length : tie.Need-same-length
 same-length c = search needs
 
 returns : tie.Need-returns
-returns c = (stopped (c .before .before .before .before .before .before .before .before .before .before .before .before .before .before .before .before .before .before .pre .standing .count), λ d a. case-stops _ (c .before .before .before .before .before .before .before .before .before .before .before .before .before .before .alternative .ensures) (c .before .before .before .before .before .before .before .before .before .before .before .before .open-block .ensures .0) (c .before .before .before .before .before .before .before .before .put-le .ensures .0) (c .before .before .before .before .put-node .ensures .1) (c .if1 .taken) d a)
+returns c =
+    let at-put-node = c .before .before .before .before in
+    let at-put-le = at-put-node .before .before .before .before in (
+      stopped (at-start at-put-le .pre .standing .count),
+      λ d a. case-stops _
+          (at-alternative at-put-le .alternative .ensures)
+          (at-open-block at-put-le .open-block .ensures .0)
+          (at-put-le .put-le .ensures .0)
+          (at-put-node .put-node .ensures .1)
+          (c .if1 .taken) d a,
+    )
 
 add-name-at : tie.Need-add-name-at
-add-name-at c = omega (arith, block-in (c .before .before .before .before .before .before .before .before .before .before .before .before .before .before .before .before .before .before .pre .block))
+add-name-at c =
+    let at-start = c .before .before .before .before .before .before .before .before .before .before
+    .before .before .before .before .before .before .before .before in
+    omega (arith, block-in (at-start .pre .block))
 
 name-at-requires : tie.Need-name-at-requires
-name-at-requires c κs = search (needs, c .before .before .before .before .before .before .before .before .before .before .before .before .before .before .alternative .ensures (c .before .before .before .before .before .before .before .before .before .before .before .before .before .before .before .before .before .before .pre .block) .named, c .before .before .before .before .before .before .before .before .before .before .before .before .before .before .before .before .before .before .pre .standing)
+name-at-requires c κs =
+    let at-put-le = c .before .before .before .before .before .before .before .before in
+    search (
+      needs,
+      at-alternative at-put-le .alternative .ensures (at-start at-put-le .pre .block) .named,
+      at-start at-put-le .pre .standing,
+    )
 
 put-owner-parameters-requires : tie.Need-put-owner-parameters-requires
-put-owner-parameters-requires c κs = (standing (c .before .before .before .before .before .before .before .before .before .before .before .before .before .before .before .before .before .before .before .before .pre .standing) refl (c .before .before .before .before .before .before .put-node .ensures .0 .count), omega (arith, c .before .before .before .before .before .before .before .before .before .before .before .before .before .before .before .before .before .before .before .before .pre .cursor, c .before .before .before .before .before .before .before .before .before .before .before .before .before .before .open-block .ensures .1, c .before .before .before .before .before .before .before .before .before .before .put-le .ensures .1, c .before .before .before .before .before .before .put-node .ensures .0 .high))
+put-owner-parameters-requires c κs =
+    let at-put-node = c .before .before .before .before .before .before in
+    let at-put-le = at-put-node .before .before .before .before in (
+      standing (at-start at-put-le .pre .standing) refl (at-put-node .put-node .ensures .0 .count),
+      omega (
+        arith,
+        at-start at-put-le .pre .cursor,
+        at-open-block at-put-le .open-block .ensures .1,
+        at-put-le .put-le .ensures .1,
+        at-put-node .put-node .ensures .0 .high,
+      ),
+    )
 
 close-block-requires : tie.Need-close-block-requires
-close-block-requires c κs = (omega (arith, c .before .before .before .before .before .before .before .before .before .before .before .before .before .before .before .before .before .before .open-block .ensures .1, c .before .before .before .before .before .before .before .before .before .before .before .before .before .before .put-le .ensures .1, c .before .before .before .before .before .before .before .before .before .before .put-node .ensures .0 .low, c .before .before .before .put-owner-parameters .ensures .1 .0), omega (arith, c .before .before .before .before .before .before .before .before .before .before .before .before .before .before .before .before .before .before .before .before .before .before .before .before .pre .cursor, c .before .before .before .before .before .before .before .before .before .before .before .before .before .before .before .before .before .before .open-block .ensures .1, c .before .before .before .before .before .before .before .before .before .before .before .before .before .before .put-le .ensures .1, c .before .before .before .before .before .before .before .before .before .before .put-node .ensures .0 .high, c .before .before .before .put-owner-parameters .ensures .1 .1))
+close-block-requires c κs =
+    let at-put-owner-parameters = c .before .before .before in
+    let at-put-node = at-put-owner-parameters .before .before .before .before .before .before .before in
+    let at-put-le = at-put-node .before .before .before .before in (
+      omega (
+        arith,
+        at-open-block at-put-le .open-block .ensures .1,
+        at-put-le .put-le .ensures .1,
+        at-put-node .put-node .ensures .0 .low,
+        at-put-owner-parameters .put-owner-parameters .ensures .1 .0,
+      ),
+      omega (
+        arith,
+        at-start at-put-le .pre .cursor,
+        at-open-block at-put-le .open-block .ensures .1,
+        at-put-le .put-le .ensures .1,
+        at-put-node .put-node .ensures .0 .high,
+        at-put-owner-parameters .put-owner-parameters .ensures .1 .1,
+      ),
+    )
 
 same-length-2 : tie.Need-same-length-2
 same-length-2 c = search needs
 
 returns-2 : tie.Need-returns-2
-returns-2 c = (ends-at (omega (arith, c .before .before .before .before .before .before .before .before .before .before .before .before .before .before .before .before .before .before .before .before .before .open-block .ensures .1, c .before .before .before .before .before .before .before .before .before .before .before .before .before .before .before .before .before .put-le .ensures .1, c .before .before .before .before .before .before .before .before .before .before .before .before .before .put-node .ensures .0 .low, c .before .before .before .before .before .before .put-owner-parameters .ensures .1 .0)) (omega (arith, c .before .before .before .before .before .before .before .before .before .before .before .before .before .before .before .before .before .before .before .before .before .open-block .ensures .1, c .before .before .before .before .before .before .before .before .before .before .before .before .before .before .before .before .before .put-le .ensures .1, c .before .before .before .before .before .before .before .before .before .before .before .before .before .put-node .ensures .0 .high, c .before .before .before .before .before .before .put-owner-parameters .ensures .1 .1)) (c .before .before .before .before .before .before .before .before .before .before .before .before .before .put-node .ensures .0 .count), λ d a. case-done _ (c .before .before .before .before .before .before .before .before .before .before .before .before .before .before .before .before .before .before .before .before .before .before .before .alternative .ensures) (c .before .before .before .before .before .before .before .before .before .before .before .before .before .before .before .before .before .before .before .before .before .open-block .ensures .0) (c .before .before .before .before .before .before .before .before .before .before .before .before .before .before .before .before .before .put-le .ensures .0) (c .before .before .before .before .before .before .before .before .before .before .before .before .before .put-node .ensures .1) (c .before .before .before .before .before .before .before .before .before .if1 .left) (c .before .before .before .before .before .before .before .before .name-at .ensures) (c .before .before .before .before .before .before .put-owner-parameters .ensures .0) (c .before .before .close-block .ensures .0) d a)
+returns-2 c =
+    let at-close-block = c .before .before in
+    let at-put-owner-parameters = at-close-block .before .before .before .before in
+    let at-name-at = at-put-owner-parameters .before .before in
+    let at-else1 = at-name-at .before in
+    let at-put-node = at-else1 .before .before .before .before in
+    let at-put-le = at-put-node .before .before .before .before in
+    let at-open-block = at-put-le .before .before .before .before in
+    let at-alternative = at-open-block .before .before in (
+      ends-at
+          (omega (
+            arith,
+            at-open-block .open-block .ensures .1,
+            at-put-le .put-le .ensures .1,
+            at-put-node .put-node .ensures .0 .low,
+            at-put-owner-parameters .put-owner-parameters .ensures .1 .0,
+          ))
+          (omega (
+            arith,
+            at-open-block .open-block .ensures .1,
+            at-put-le .put-le .ensures .1,
+            at-put-node .put-node .ensures .0 .high,
+            at-put-owner-parameters .put-owner-parameters .ensures .1 .1,
+          ))
+          (at-put-node .put-node .ensures .0 .count),
+      λ d a. case-done _
+          (at-alternative .alternative .ensures)
+          (at-open-block .open-block .ensures .0)
+          (at-put-le .put-le .ensures .0)
+          (at-put-node .put-node .ensures .1)
+          (at-else1 .if1 .left)
+          (at-name-at .name-at .ensures)
+          (at-put-owner-parameters .put-owner-parameters .ensures .0)
+          (at-close-block .close-block .ensures .0) d a,
+    )
 
 pub put-case-spec : {M : Type 1} → statement M
 put-case-spec =

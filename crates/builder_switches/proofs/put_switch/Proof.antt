@@ -10,41 +10,191 @@ use Rattle.builder_switches.proofs.put_switch.Tie as tie
 type-head-requires : tie.Need-type-head-requires
 type-head-requires c κs = search needs
 
+-- The places, each seen from a later one: what was known there.
+abbrev at-put-entry-name : tie.After-put-le → tie.After-put-entry-name
+at-put-entry-name r = r .before .before .before .before
+
+abbrev at-open-node : tie.After-put-le → tie.After-open-node
+at-open-node r = at-put-entry-name r .before .before .before .before .before
+
+abbrev at-type-head : tie.After-put-le → tie.After-type-head
+at-type-head r = at-open-node r .before .before
+
+abbrev at-start : tie.After-put-le → tie.Start
+at-start r = at-type-head r .before .before .before .before
+
 open-node-requires : tie.Need-open-node-requires
-open-node-requires c κs = search (needs, start-60 _ (c .before .before .before .before .before .pre .cursor))
+open-node-requires c κs =
+    let at-start = c .before .before .before .before .before in
+    search (needs, start-60 _ (at-start .pre .cursor))
 
 mul-put-entry-name : tie.Need-mul-put-entry-name
-mul-put-entry-name c = omega (arith, c .before .before .before .before .before .before .before .before .pre .within, c .before .before .before .before .before .before .before .before .pre .standing .count)
+mul-put-entry-name c =
+    let at-start = c .before .before .before .before .before .before .before .before in
+    omega (arith, at-start .pre .within, at-start .pre .standing .count)
 
 shared-slice-read-put-entry-name : tie.Need-shared-slice-read-put-entry-name
-shared-slice-read-put-entry-name c = omega (arith, c .before .before .before .before .before .before .before .before .before .pre .within, c .before .before .before .before .before .before .before .before .before .pre .standing .count, c .before .before .before .before .before .before .before .before .before .pre .standing .words)
+shared-slice-read-put-entry-name c =
+    let at-start = c .before .before .before .before .before .before .before .before .before in
+    omega (
+      arith,
+      at-start .pre .within,
+      at-start .pre .standing .count,
+      at-start .pre .standing .words,
+    )
 
 put-entry-name-requires : tie.Need-put-entry-name-requires
-put-entry-name-requires c κs = search (needs, tag-59 _ _ (c .before .before .before .before .before .before .before .before .before .before .pre .cursor) (c .before .before .before .before .open-node .ensures .1), c .before .before .before .before .before .before .before .before .before .before .pre .standing)
+put-entry-name-requires c κs =
+    let at-open-node = c .before .before .before .before in
+    let at-start = at-open-node .before .before .before .before .before .before in
+    search (
+      needs,
+      tag-59 _ _ (at-start .pre .cursor) (at-open-node .open-node .ensures .1),
+      at-start .pre .standing,
+    )
 
 put-le-requires : tie.Need-put-le-requires
-put-le-requires c κs = omega (arith, c .before .before .before .before .before .before .before .before .before .before .before .before .before .before .pre .cursor, c .before .before .before .before .before .before .before .before .open-node .ensures .1, c .before .before .before .put-entry-name .ensures .1 .1)
+put-le-requires c κs =
+    let at-put-entry-name = c .before .before .before in
+    let at-open-node = at-put-entry-name .before .before .before .before .before in
+    let at-start = at-open-node .before .before .before .before .before .before in
+    omega (
+      arith,
+      at-start .pre .cursor,
+      at-open-node .open-node .ensures .1,
+      at-put-entry-name .put-entry-name .ensures .1 .1,
+    )
 
 put-cases-requires : tie.Need-put-cases-requires
-put-cases-requires c κs = record { standing = c .before .before .before .before .before .before .before .before .before .before .before .before .before .before .before .before .before .before .pre .standing; references-at = c .before .before .before .before .before .before .before .before .before .before .before .before .before .before .type-head .ensures (c .before .before .before .before .before .before .before .before .before .before .before .before .before .before .before .before .before .before .pre .type-at) .references; kind = c .before .before .before .before .before .before .before .before .before .before .before .before .before .before .before .before .before .before .pre .kind; list = c .before .before .before .before .before .before .before .before .before .before .before .before .before .before .before .before .before .before .pre .list; few = c .before .before .before .before .before .before .before .before .before .before .before .before .before .before .before .before .before .before .pre .few; cursor = omega (arith, c .before .before .before .before .before .before .before .before .before .before .before .before .before .before .before .before .before .before .pre .cursor, c .before .before .before .before .before .before .before .before .before .before .before .before .open-node .ensures .1, c .before .before .before .before .before .before .before .put-entry-name .ensures .1 .1, c .before .before .before .put-le .ensures .1) }
+put-cases-requires c κs =
+    let at-put-le = c .before .before .before in record {
+      standing = at-start at-put-le .pre .standing;
+      references-at = at-type-head at-put-le .type-head .ensures
+          (at-start at-put-le .pre .type-at) .references;
+      kind = at-start at-put-le .pre .kind;
+      list = at-start at-put-le .pre .list;
+      few = at-start at-put-le .pre .few;
+      cursor = omega (
+        arith,
+        at-start at-put-le .pre .cursor,
+        at-open-node at-put-le .open-node .ensures .1,
+        at-put-entry-name at-put-le .put-entry-name .ensures .1 .1,
+        at-put-le .put-le .ensures .1,
+      );
+    }
 
 same-length : tie.Need-same-length
 same-length c = search needs
 
 returns : tie.Need-returns
-returns c = (stopped (c .before .before .before .before .before .before .before .before .before .before .before .before .before .before .before .before .before .before .before .before .before .before .before .pre .standing .count), λ a l. switch-stops _ _ (c .before .before .before .before .before .before .before .before .before .before .before .before .before .before .before .before .before .before .before .type-head .ensures) (c .before .before .before .before .before .before .before .before .before .before .before .before .before .before .before .before .before .open-node .ensures .0) (c .before .before .before .before .before .before .before .before .before .before .before .before .put-entry-name .ensures .0) (c .before .before .before .before .before .before .before .before .put-le .ensures .0) (c .before .before .before .before .put-cases .ensures .1) (c .if1 .taken) a l)
+returns c =
+    let at-put-cases = c .before .before .before .before in
+    let at-put-le = at-put-cases .before .before .before .before in (
+      stopped (at-start at-put-le .pre .standing .count),
+      λ a l. switch-stops _ _
+          (at-type-head at-put-le .type-head .ensures)
+          (at-open-node at-put-le .open-node .ensures .0)
+          (at-put-entry-name at-put-le .put-entry-name .ensures .0)
+          (at-put-le .put-le .ensures .0)
+          (at-put-cases .put-cases .ensures .1)
+          (c .if1 .taken) a l,
+    )
 
 put-flag-requires : tie.Need-put-flag-requires
-put-flag-requires c κs = omega (arith, c .before .before .before .before .before .before .before .before .before .before .before .before .before .before .before .before .before .before .before .before .before .before .before .before .pre .cursor, c .before .before .before .before .before .before .before .before .before .before .before .before .before .before .before .before .before .before .before .before .before .before .before .before .pre .few, c .before .before .before .before .before .before .before .before .before .before .before .before .before .before .before .before .before .before .open-node .ensures .1, c .before .before .before .before .before .before .before .before .before .before .before .before .before .put-entry-name .ensures .1 .1, c .before .before .before .before .before .before .before .before .before .put-le .ensures .1, c .before .before .before .before .before .put-cases .ensures .0 .high)
+put-flag-requires c κs =
+    let at-put-cases = c .before .before .before .before .before in
+    let at-put-le = at-put-cases .before .before .before .before in
+    omega (
+      arith,
+      at-start at-put-le .pre .cursor,
+      at-start at-put-le .pre .few,
+      at-open-node at-put-le .open-node .ensures .1,
+      at-put-entry-name at-put-le .put-entry-name .ensures .1 .1,
+      at-put-le .put-le .ensures .1,
+      at-put-cases .put-cases .ensures .0 .high,
+    )
 
 close-block-requires : tie.Need-close-block-requires
-close-block-requires c κs = (omega (arith, c .before .before .before .before .before .before .before .before .before .before .before .before .before .before .before .before .before .before .before .before .before .before .open-node .ensures .1, c .before .before .before .before .before .before .before .before .before .before .before .before .before .before .before .before .before .put-entry-name .ensures .1 .0, c .before .before .before .before .before .before .before .before .before .before .before .before .before .put-le .ensures .1, c .before .before .before .before .before .before .before .before .before .put-cases .ensures .0 .low, c .before .before .before .put-flag .ensures .1), omega (arith, c .before .before .before .before .before .before .before .before .before .before .before .before .before .before .before .before .before .before .before .before .before .before .before .before .before .before .before .before .pre .cursor, c .before .before .before .before .before .before .before .before .before .before .before .before .before .before .before .before .before .before .before .before .before .before .before .before .before .before .before .before .pre .few, c .before .before .before .before .before .before .before .before .before .before .before .before .before .before .before .before .before .before .before .before .before .before .open-node .ensures .1, c .before .before .before .before .before .before .before .before .before .before .before .before .before .before .before .before .before .put-entry-name .ensures .1 .1, c .before .before .before .before .before .before .before .before .before .before .before .before .before .put-le .ensures .1, c .before .before .before .before .before .before .before .before .before .put-cases .ensures .0 .high, c .before .before .before .put-flag .ensures .1))
+close-block-requires c κs =
+    let at-put-flag = c .before .before .before in
+    let at-put-cases = at-put-flag .before .before .before .before .before .before in
+    let at-put-le = at-put-cases .before .before .before .before in (
+      omega (
+        arith,
+        at-open-node at-put-le .open-node .ensures .1,
+        at-put-entry-name at-put-le .put-entry-name .ensures .1 .0,
+        at-put-le .put-le .ensures .1,
+        at-put-cases .put-cases .ensures .0 .low,
+        at-put-flag .put-flag .ensures .1,
+      ),
+      omega (
+        arith,
+        at-start at-put-le .pre .cursor,
+        at-start at-put-le .pre .few,
+        at-open-node at-put-le .open-node .ensures .1,
+        at-put-entry-name at-put-le .put-entry-name .ensures .1 .1,
+        at-put-le .put-le .ensures .1,
+        at-put-cases .put-cases .ensures .0 .high,
+        at-put-flag .put-flag .ensures .1,
+      ),
+    )
 
 same-length-2 : tie.Need-same-length-2
-same-length-2 c = omega (arith, c .before .before .before .before .before .before .before .before .before .before .before .before .before .before .before .before .before .before .before .before .before .before .before .before .before .open-node .kept .0, c .before .before .before .before .before .before .before .before .before .before .before .before .before .before .before .before .before .before .before .before .put-entry-name .kept .1 .1 .0, c .before .before .before .before .before .before .before .before .before .before .before .before .before .before .before .before .put-le .kept .0, c .before .before .before .before .before .before .before .before .before .before .before .before .put-cases .kept .1 .1 .1 .1 .1 .1 .1 .0, c .before .before .before .before .before .before .put-flag .kept .0, c .before .before .close-block .kept .0)
+same-length-2 c =
+    let at-close-block = c .before .before in
+    let at-put-flag = at-close-block .before .before .before .before in
+    let at-put-cases = at-put-flag .before .before .before .before .before .before in
+    let at-put-le = at-put-cases .before .before .before .before in
+    omega (
+      arith,
+      at-open-node at-put-le .open-node .kept .0,
+      at-put-entry-name at-put-le .put-entry-name .kept .1 .1 .0,
+      at-put-le .put-le .kept .0,
+      at-put-cases .put-cases .kept .1 .1 .1 .1 .1 .1 .1 .0,
+      at-put-flag .put-flag .kept .0,
+      at-close-block .close-block .kept .0,
+    )
 
 returns-2 : tie.Need-returns-2
-returns-2 c = (ends-at (omega (arith, c .before .before .before .before .before .before .before .before .before .before .before .before .before .before .before .before .before .before .before .before .before .before .before .before .before .open-node .ensures .1, c .before .before .before .before .before .before .before .before .before .before .before .before .before .before .before .before .before .before .before .before .put-entry-name .ensures .1 .0, c .before .before .before .before .before .before .before .before .before .before .before .before .before .before .before .before .put-le .ensures .1, c .before .before .before .before .before .before .before .before .before .before .before .before .put-cases .ensures .0 .low, c .before .before .before .before .before .before .put-flag .ensures .1)) (omega (arith, c .before .before .before .before .before .before .before .before .before .before .before .before .before .before .before .before .before .before .before .before .before .before .before .before .before .before .before .before .before .before .before .pre .few, c .before .before .before .before .before .before .before .before .before .before .before .before .before .before .before .before .before .before .before .before .before .before .before .before .before .open-node .ensures .1, c .before .before .before .before .before .before .before .before .before .before .before .before .before .before .before .before .before .before .before .before .put-entry-name .ensures .1 .1, c .before .before .before .before .before .before .before .before .before .before .before .before .before .before .before .before .put-le .ensures .1, c .before .before .before .before .before .before .before .before .before .before .before .before .put-cases .ensures .0 .high, c .before .before .before .before .before .before .put-flag .ensures .1)) (c .before .before .before .before .before .before .before .before .before .before .before .before .put-cases .ensures .0 .count), λ a l. switch-done _ _ (c .before .before .before .before .before .before .before .before .before .before .before .before .before .before .before .before .before .before .before .before .before .before .before .before .before .before .before .type-head .ensures) (c .before .before .before .before .before .before .before .before .before .before .before .before .before .before .before .before .before .before .before .before .before .before .before .before .before .open-node .ensures .0) (c .before .before .before .before .before .before .before .before .before .before .before .before .before .before .before .before .before .before .before .before .put-entry-name .ensures .0) (c .before .before .before .before .before .before .before .before .before .before .before .before .before .before .before .before .put-le .ensures .0) (c .before .before .before .before .before .before .before .before .before .before .before .before .put-cases .ensures .1) (c .before .before .before .before .before .before .before .before .if1 .left) (c .before .before .before .before .before .before .put-flag .ensures .0) (c .before .before .close-block .ensures .0) a l)
+returns-2 c =
+    let at-close-block = c .before .before in
+    let at-put-flag = at-close-block .before .before .before .before in
+    let at-else1 = at-put-flag .before .before in
+    let at-put-cases = at-else1 .before .before .before .before in
+    let at-put-le = at-put-cases .before .before .before .before in
+    let at-put-entry-name = at-put-le .before .before .before .before in
+    let at-open-node = at-put-entry-name .before .before .before .before .before in
+    let at-type-head = at-open-node .before .before in
+    let at-start = at-type-head .before .before .before .before in (
+      ends-at
+          (omega (
+            arith,
+            at-open-node .open-node .ensures .1,
+            at-put-entry-name .put-entry-name .ensures .1 .0,
+            at-put-le .put-le .ensures .1,
+            at-put-cases .put-cases .ensures .0 .low,
+            at-put-flag .put-flag .ensures .1,
+          ))
+          (omega (
+            arith,
+            at-start .pre .few,
+            at-open-node .open-node .ensures .1,
+            at-put-entry-name .put-entry-name .ensures .1 .1,
+            at-put-le .put-le .ensures .1,
+            at-put-cases .put-cases .ensures .0 .high,
+            at-put-flag .put-flag .ensures .1,
+          ))
+          (at-put-cases .put-cases .ensures .0 .count),
+      λ a l. switch-done _ _
+          (at-type-head .type-head .ensures)
+          (at-open-node .open-node .ensures .0)
+          (at-put-entry-name .put-entry-name .ensures .0)
+          (at-put-le .put-le .ensures .0)
+          (at-put-cases .put-cases .ensures .1)
+          (at-else1 .if1 .left)
+          (at-put-flag .put-flag .ensures .0)
+          (at-close-block .close-block .ensures .0) a l,
+    )
 
 pub put-switch-spec : {M : Type 1} → statement M
 put-switch-spec =

@@ -10,8 +10,27 @@ use Rattle.builder_switches.proofs.tag_lookup.Tie as tie
 joined-length-requires : tie.Need-joined-length-requires
 joined-length-requires c κs = search needs
 
+-- The places, each seen from a later one: what was known there.
+abbrev at-put-joined : tie.After-path3 → tie.After-put-joined
+at-put-joined r = r .before .before
+
+abbrev at-else1 : tie.After-path3 → tie.Else1
+at-else1 r = at-put-joined r .before .before
+
+abbrev at-joined-length : tie.After-path3 → tie.After-joined-length
+at-joined-length r = at-else1 r .before
+
+abbrev at-start : tie.After-path3 → tie.Start
+at-start r = at-joined-length r .before .before .before .before
+
 returns : tie.Need-returns
-returns c = λ a path x. tag-long _ (c .before .joined-length .ensures) (c .if1 .taken) (c .before .before .before .before .before .pre .0 .standing) (c .before .before .before .before .before .pre .0 .owned) a path x
+returns c =
+    let at-start = c .before .before .before .before .before in
+    λ a path x. tag-long _
+    (c .before .joined-length .ensures)
+    (c .if1 .taken)
+    (at-start .pre .0 .standing)
+    (at-start .pre .0 .owned) a path x
 
 slice-aggregate-put-joined : tie.Need-slice-aggregate-put-joined
 slice-aggregate-put-joined c = search needs
@@ -20,13 +39,16 @@ put-joined-requires : tie.Need-put-joined-requires
 put-joined-requires c κs = search needs
 
 array-share-prefix-path : tie.Need-array-share-prefix-path
-array-share-prefix-path c = omega (arith, c .before .before .before .if1 .left)
+array-share-prefix-path c =
+    let at-else1 = c .before .before .before in
+    omega (arith, at-else1 .if1 .left)
 
 slice-aggregate-lookup-name : tie.Need-slice-aggregate-lookup-name
-slice-aggregate-lookup-name c = part-long _ _ (c .before .before .before .before .if1 .left) (c .before .before .put-joined .kept .1 .1 .1 .0)
+slice-aggregate-lookup-name c =
+    part-long _ _ (at-else1 c .if1 .left) (at-put-joined c .put-joined .kept .1 .1 .1 .0)
 
 lookup-name-requires : tie.Need-lookup-name-requires
-lookup-name-requires c κs = c .before .before .before .before .before .before .before .before .before .pre .0 .standing
+lookup-name-requires c κs = at-start c .pre .0 .standing
 
 enum-known-i : tie.Need-enum-known-i
 enum-known-i c = search needs
@@ -35,19 +57,43 @@ enum-told : tie.Need-enum-told
 enum-told c = search needs
 
 array-share-prefix-path-2 : tie.Need-array-share-prefix-path-2
-array-share-prefix-path-2 c = omega (arith, c .before .before .before .before .before .before .before .if1 .left)
+array-share-prefix-path-2 c = omega (arith, at-else1 (c .before .before .before) .if1 .left)
 
 slice-aggregate-lookup-qualified : tie.Need-slice-aggregate-lookup-qualified
-slice-aggregate-lookup-qualified c = part-long _ _ (c .before .before .before .before .before .before .before .before .if1 .left) (c .before .before .before .before .before .before .put-joined .kept .1 .1 .1 .0)
+slice-aggregate-lookup-qualified c =
+    let at-path3 = c .before .before .before .before in
+    part-long _ _
+    (at-else1 at-path3 .if1 .left)
+    (at-put-joined at-path3 .put-joined .kept .1 .1 .1 .0)
 
 lookup-qualified-requires : tie.Need-lookup-qualified-requires
-lookup-qualified-requires c κs = c .before .before .before .before .before .before .before .before .before .before .before .before .before .pre .0 .standing
+lookup-qualified-requires c κs =
+    let at-path3 = c .before .before .before .before in
+    at-start at-path3 .pre .0 .standing
 
 returns-2 : tie.Need-returns-2
-returns-2 c = λ a path x. tag-found _ (c .before .before .before .before .before .before .before .before .before .joined-length .ensures) (c .before .before .before .before .before .before .before .before .if1 .left) refl (c .before .before .before .before .before .before .put-joined .ensures) (c .before .before .before .lookup-name .ensures) (c .before .i .given .1) a path x
+returns-2 c =
+    let at-lookup-name = c .before .before .before in
+    let at-path3 = at-lookup-name .before in
+    λ a path x. tag-found _
+    (at-joined-length at-path3 .joined-length .ensures)
+    (at-else1 at-path3 .if1 .left) refl
+    (at-put-joined at-path3 .put-joined .ensures)
+    (at-lookup-name .lookup-name .ensures)
+    (c .before .i .given .1) a path x
 
 returns-3 : tie.Need-returns-3
-returns-3 c = λ a path x. tag-other _ (c .before .before .before .before .before .before .before .before .before .before .joined-length .ensures) (c .before .before .before .before .before .before .before .before .before .if1 .left) refl (c .before .before .before .before .before .before .before .put-joined .ensures) (c .before .before .before .before .lookup-name .ensures) (c .before .before .enum-told .given .1) (c .lookup-qualified .ensures) a path x
+returns-3 c =
+    let at-enum-told = c .before .before in
+    let at-lookup-name = at-enum-told .before .before in
+    let at-path3 = at-lookup-name .before in
+    λ a path x. tag-other _
+    (at-joined-length at-path3 .joined-length .ensures)
+    (at-else1 at-path3 .if1 .left) refl
+    (at-put-joined at-path3 .put-joined .ensures)
+    (at-lookup-name .lookup-name .ensures)
+    (at-enum-told .enum-told .given .1)
+    (c .lookup-qualified .ensures) a path x
 
 pub tag-lookup-spec : {M : Type 1} → statement M
 tag-lookup-spec =
