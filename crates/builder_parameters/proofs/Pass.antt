@@ -22,8 +22,8 @@ use Rattle.builder_parameters.proofs.Links.{linked-none}
 
 -- i of the n entries were passed
 pub record Going (s ws : List ℕ) (n type at : ℕ) (before table links a b out : List ℕ) (p count i : ℕ) : Type 0 where
-  pub few : i ≤ n
-  pub fewer : count ≤ i
+  pub within : i ≤ n
+  pub counted : count ≤ i
   pub low : at + 2 ≤ p
   pub high : p ≤ at + 2 + 700 * i
   pub first : 520 ≡ length a
@@ -35,8 +35,8 @@ pub record Going (s ws : List ℕ) (n type at : ℕ) (before table links a b out
 
 pub going-first : (s ws : List ℕ) (n type at : ℕ) (out : List ℕ) {a b : List ℕ} → 520 ≡ length a → 520 ≡ length b → Going s ws n type at out (replicate 2039 0) (replicate 512 0) a b out (at + 2) 0 0
 going-first s ws n type at out e f = record {
-  few = omega arith;
-  fewer = omega arith;
+  within = omega arith;
+  counted = omega arith;
   low = omega arith;
   high = omega arith;
   first = e;
@@ -55,8 +55,8 @@ module _ {s ws : List ℕ} {n type at : ℕ} {before table links a b out : List 
     -- an entry that is not listed
     pub going-pass : not r ≡ true → Going s ws n type at before table′ links′ a′ b′ out p count (i + 1)
     going-pass f = record {
-      few = omega arith;
-      fewer = omega (arith, g .fewer);
+      within = omega arith;
+      counted = omega (arith, g .counted);
       low = g .low;
       high = omega (arith, g .high);
       first = g .first ∙ sym ea;
@@ -71,8 +71,8 @@ module _ {s ws : List ℕ} {n type at : ℕ} {before table links a b out : List 
     pub going-put : {out′ : List ℕ} {q : ℕ} → not r ≡ false → Wrote out p (write (parameterTree (entryOf s (getD ws i 0) .parameter))) out′ q → (p ≤ q) × (q ≤ p + 700) → length out′ ≡ length out →
         Going s ws n type at before table′ links′ a′ b′ out′ q (count + 1) (i + 1)
     going-put f v l eo = record {
-      few = omega arith;
-      fewer = omega (arith, g .fewer);
+      within = omega arith;
+      counted = omega (arith, g .counted);
       low = omega (arith, g .low, l .0);
       high = omega (arith, g .high, l .1);
       first = g .first ∙ sym ea;
@@ -91,4 +91,4 @@ module _ {s ws : List ℕ} {n type at : ℕ} {before table links a b out : List 
       counted-last t s ws n (all-placed (c .standing)) (count-end t s ws count (g .counts x) h) (from-first t s ws n (g .writes x out p (all-put out p t s ws h))) v
 
   pub going-high : Ready s ws n type at → (at ≤ p) × (p ≤ at + 400000)
-  going-high c = (omega (arith, g .low), omega (arith, g .high, g .few, c .standing .count))
+  going-high c = (omega (arith, g .low), omega (arith, g .high, g .within, c .standing .count))

@@ -1,7 +1,8 @@
--- `builder_parameters::has_name` meets its contract. Assumes nothing.
+-- `has_name`: names of other lengths differ (`other-length`); one of the same length is written into the buffer and compared.
 use mathlib.Core.Path.{refl, sym}
-use Rattle.builder_parameters.proofs.Segments.{behind-length}
+use Rattle.builder_parameters.proofs.Segments.{BehindLength, behind-length}
 use Rattle.builder_parameters.proofs.Listed.{other-length, same-parts}
+use Rattle.builder_parameters.specs.Listed.{nameIn}
 use native.Mathlib.Omega.{arith}
 use borrow.Author.Needs.{needs}
 use Rattle.builder_parameters.proofs.has_name.Statement.{statement}
@@ -20,6 +21,16 @@ name-length-requires c κs = search needs
 abbrev at-start : tie.After-put-entry-name → tie.Start
 at-start r = r .before .before .before .before .before .before .before .before .before
 
+-- the entry's name stands in the buffer, behind its length
+name-put : (r : tie.After-put-entry-name) →
+    BehindLength (nameIn (at-start r .args .s .now) (at-start r .args .words .now) (at-start r .args .j)) (r .put-entry-name .last .1 .1 .0) (r .put-entry-name .result)
+name-put r =
+    behind-length _
+    (r .put-entry-name .ensures .0)
+    (r .put-entry-name .ensures .1 .1)
+    (at-start r .pre .2)
+    (r .put-entry-name .kept .1 .1 .0)
+
 returns : tie.Need-returns
 returns c =
     let at-start = c .before .before .before .before .before .before .before in
@@ -32,39 +43,13 @@ put-entry-name-requires : tie.Need-put-entry-name-requires
 put-entry-name-requires c κs = search needs
 
 sub-same-name : tie.Need-sub-same-name
-sub-same-name c =
-    let at-put-entry-name = c .before .before in
-    behind-length _
-    (at-put-entry-name .put-entry-name .ensures .0)
-    (at-put-entry-name .put-entry-name .ensures .1 .1)
-    (at-start at-put-entry-name .pre .2)
-    (at-put-entry-name .put-entry-name .kept .1 .1 .0) .low
+sub-same-name c = name-put (c .before .before) .low
 
 part-same-name-start : tie.Need-part-same-name-start
-part-same-name-start c =
-    let at-put-entry-name = c .before .before .before in
-    let at-start = at-put-entry-name .before .before .before .before .before .before .before .before .before in
-    omega (
-      arith,
-      behind-length _
-          (at-put-entry-name .put-entry-name .ensures .0)
-          (at-put-entry-name .put-entry-name .ensures .1 .1)
-          (at-start .pre .2)
-          (at-put-entry-name .put-entry-name .kept .1 .1 .0),
-    )
+part-same-name-start c = omega (arith, name-put (c .before .before .before))
 
 part-same-name-end : tie.Need-part-same-name-end
-part-same-name-end c =
-    let at-put-entry-name = c .before .before .before in
-    let at-start = at-put-entry-name .before .before .before .before .before .before .before .before .before in
-    omega (
-      arith,
-      behind-length _
-          (at-put-entry-name .put-entry-name .ensures .0)
-          (at-put-entry-name .put-entry-name .ensures .1 .1)
-          (at-start .pre .2)
-          (at-put-entry-name .put-entry-name .kept .1 .1 .0),
-    )
+part-same-name-end c = omega (arith, name-put (c .before .before .before))
 
 same-name-requires : tie.Need-same-name-requires
 same-name-requires c κs = search needs
@@ -77,13 +62,7 @@ same-length c =
 returns-2 : tie.Need-returns-2
 returns-2 c =
     let at-put-entry-name = c .before .before .before .before .before in
-    same-parts refl
-    (behind-length _
-    (at-put-entry-name .put-entry-name .ensures .0)
-    (at-put-entry-name .put-entry-name .ensures .1 .1)
-    (at-start at-put-entry-name .pre .2)
-    (at-put-entry-name .put-entry-name .kept .1 .1 .0) .is)
-    (c .same-name .ensures)
+    same-parts refl (name-put at-put-entry-name .is) (c .same-name .ensures)
 
 pub has-name-spec : {M : Type 1} → statement M
 has-name-spec =

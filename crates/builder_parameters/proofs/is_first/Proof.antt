@@ -1,7 +1,9 @@
--- `builder_parameters::is_first` meets its contract. Assumes nothing.
-use Rattle.builder_parameters.proofs.Segments.{behind-length}
+-- `is_first`: the entry's name is written into the first buffer and its place in the table found; the entry is linked in front of the last one of
+-- that place (`linked-more`), and the earlier ones of the place are asked for the name (`asked-..`).
+use Rattle.builder_parameters.proofs.Segments.{BehindLength, behind-length}
 use Rattle.builder_parameters.proofs.Listed.{placed}
 use Rattle.builder_parameters.proofs.Links.{linked-more, asked-within, asked-links, asked-place, asked-all}
+use Rattle.builder_parameters.specs.Listed.{nameIn}
 use native.Mathlib.Omega.{arith}
 use borrow.Author.Needs.{needs}
 use Rattle.builder_parameters.proofs.is_first.Statement.{statement}
@@ -16,41 +18,31 @@ shared-slice-read-put-entry-name c = search needs
 put-entry-name-requires : tie.Need-put-entry-name-requires
 put-entry-name-requires c κs = search needs
 
-sub-name : tie.Need-sub-name
-sub-name c =
-    let at-put-entry-name = c .before .before in
-    let at-start = at-put-entry-name .before .before .before .before .before .before .before in
+-- The places, each seen from a later one: what was known there.
+abbrev at-start : tie.After-put-entry-name → tie.Start
+at-start r = r .before .before .before .before .before .before .before
+
+abbrev at-put-entry-name : tie.After-place → tie.After-put-entry-name
+at-put-entry-name r = r .before .before .before .before .before
+
+-- the entry's name stands in the buffer, behind its length
+name-put : (r : tie.After-put-entry-name) →
+    BehindLength (nameIn (at-start r .args .s .now) (at-start r .args .words .now) (at-start r .args .i)) (r .put-entry-name .last .1 .1 .0) (r .put-entry-name .result)
+name-put r =
     behind-length _
-    (at-put-entry-name .put-entry-name .ensures .0)
-    (at-put-entry-name .put-entry-name .ensures .1 .1)
-    (at-start .pre .0 .first)
-    (at-put-entry-name .put-entry-name .kept .1 .1 .0) .low
+    (r .put-entry-name .ensures .0)
+    (r .put-entry-name .ensures .1 .1)
+    (at-start r .pre .0 .first)
+    (r .put-entry-name .kept .1 .1 .0)
+
+sub-name : tie.Need-sub-name
+sub-name c = name-put (c .before .before) .low
 
 part-name-start : tie.Need-part-name-start
-part-name-start c =
-    let at-put-entry-name = c .before .before .before in
-    let at-start = at-put-entry-name .before .before .before .before .before .before .before in
-    omega (
-      arith,
-      behind-length _
-          (at-put-entry-name .put-entry-name .ensures .0)
-          (at-put-entry-name .put-entry-name .ensures .1 .1)
-          (at-start .pre .0 .first)
-          (at-put-entry-name .put-entry-name .kept .1 .1 .0),
-    )
+part-name-start c = omega (arith, name-put (c .before .before .before))
 
 part-name-end : tie.Need-part-name-end
-part-name-end c =
-    let at-put-entry-name = c .before .before .before in
-    let at-start = at-put-entry-name .before .before .before .before .before .before .before in
-    omega (
-      arith,
-      behind-length _
-          (at-put-entry-name .put-entry-name .ensures .0)
-          (at-put-entry-name .put-entry-name .ensures .1 .1)
-          (at-start .pre .0 .first)
-          (at-put-entry-name .put-entry-name .kept .1 .1 .0),
-    )
+part-name-end c = omega (arith, name-put (c .before .before .before))
 
 place-requires : tie.Need-place-requires
 place-requires c κs = search needs
@@ -84,43 +76,19 @@ wide-requires c κs = search needs
 
 is-new-requires : tie.Need-is-new-requires
 is-new-requires c κs =
-    let at-place = c .before .before .before .before in
-    let at-put-entry-name = at-place .before .before .before .before .before in
-    let at-start = at-put-entry-name .before .before .before .before .before .before .before in (
-      at-start .pre .0 .standing,
-      omega (
-        arith,
-        at-start .pre .1,
-        asked-within _
-            (at-start .pre .2)
-            (behind-length _
-            (at-put-entry-name .put-entry-name .ensures .0)
-            (at-put-entry-name .put-entry-name .ensures .1 .1)
-            (at-start .pre .0 .first)
-            (at-put-entry-name .put-entry-name .kept .1 .1 .0) .is)
-            (at-place .place .ensures .0)
-            (c .before .wide .ensures),
-      ),
-      at-start .pre .0 .second,
+    let at-wide = c .before in
+    let at-place = at-wide .before .before .before in
+    let known = at-start (at-put-entry-name at-place) .pre in
+    let named = name-put (at-put-entry-name at-place) .is in (
+      known .0 .standing,
+      omega (arith, known .1, asked-within _ (known .2) named (at-place .place .ensures .0) (at-wide .wide .ensures)),
+      known .0 .second,
       asked-links _
-          (at-start .pre .2)
-          (behind-length _
-          (at-put-entry-name .put-entry-name .ensures .0)
-          (at-put-entry-name .put-entry-name .ensures .1 .1)
-          (at-start .pre .0 .first)
-          (at-put-entry-name .put-entry-name .kept .1 .1 .0) .is)
+          (known .2) named
           (at-place .place .ensures .0)
-          (placed (at-start .pre .0 .standing) (at-start .pre .1) .0)
-          (c .before .wide .ensures),
-      asked-place _
-          (at-start .pre .2)
-          (behind-length _
-          (at-put-entry-name .put-entry-name .ensures .0)
-          (at-put-entry-name .put-entry-name .ensures .1 .1)
-          (at-start .pre .0 .first)
-          (at-put-entry-name .put-entry-name .kept .1 .1 .0) .is)
-          (at-place .place .ensures .0)
-          (c .before .wide .ensures),
+          (placed (known .0 .standing) (known .1) .0)
+          (at-wide .wide .ensures),
+      asked-place _ (known .2) named (at-place .place .ensures .0) (at-wide .wide .ensures),
     )
 
 same-length : tie.Need-same-length
@@ -134,27 +102,14 @@ returns c =
     let at-is-new = c .before .before in
     let at-wide = at-is-new .before .before in
     let at-place = at-wide .before .before .before in
-    let at-put-entry-name = at-place .before .before .before .before .before in
-    let at-start = at-put-entry-name .before .before .before .before .before .before .before in (
+    let known = at-start (at-put-entry-name at-place) .pre in
+    let named = name-put (at-put-entry-name at-place) .is in (
       asked-all _
-          (at-start .pre .2)
-          (behind-length _
-          (at-put-entry-name .put-entry-name .ensures .0)
-          (at-put-entry-name .put-entry-name .ensures .1 .1)
-          (at-start .pre .0 .first)
-          (at-put-entry-name .put-entry-name .kept .1 .1 .0) .is)
+          (known .2) named
           (at-place .place .ensures .0)
           (at-wide .wide .ensures)
           (at-is-new .is-new .ensures),
-      linked-more _
-          (at-start .pre .2)
-          (behind-length _
-          (at-put-entry-name .put-entry-name .ensures .0)
-          (at-put-entry-name .put-entry-name .ensures .1 .1)
-          (at-start .pre .0 .first)
-          (at-put-entry-name .put-entry-name .kept .1 .1 .0) .is)
-          (at-place .place .ensures .0)
-          (placed (at-start .pre .0 .standing) (at-start .pre .1) .0),
+      linked-more _ (known .2) named (at-place .place .ensures .0) (placed (known .0 .standing) (known .1) .0),
     )
 
 pub is-first-spec : {M : Type 1} → statement M

@@ -98,7 +98,7 @@ put-parameter-requires c κs =
         at-start at-b .pre .cursor,
         at-start at-b .pre .standing .count,
         at-loop at-b .loop .inv .high,
-        at-loop at-b .loop .inv .few,
+        at-loop at-b .loop .inv .within,
       ),
     )
 
@@ -109,7 +109,7 @@ add-count c =
       arith,
       at-start at-b .pre .standing .count,
       in-loop at-b .loop-test .taken,
-      at-loop at-b .loop .inv .fewer,
+      at-loop at-b .loop .inv .counted,
     )
 
 add-i-2 : tie.Need-add-i-2 Inv-loop μ-loop
