@@ -46,6 +46,7 @@ no-array {at} a n =
     (λ u k l h. each (λ k. false ≡ orElse false (jaggedOf (kindOf (typeOf (block at k u))))) 4 1 (refl, (refl, (refl, (refl, tt)))) k l (omega arith))
     (λ u k l h. each (λ k. false ≡ orElse false (jaggedOf (kindOf (typeOf (block at k u))))) 2 6 (refl, (refl, tt)) k (omega arith) (omega arith))
 
+-- kind 5 says itself whether it is jagged
 pub an-array : {s : List ℕ} {at : ℕ} (a : Accepted s 1 7 at) {r : ArrayParts} → ArrayAt a r → r .jagged ≡ orElse false (jaggedOf (kindOf (typeOf (tree a))))
 an-array a h = ap (λ (k : ResolvedTypeKind). orElse false (jaggedOf k)) (sym (h .is))
 
@@ -64,32 +65,41 @@ abbrev pub within : Name → Tree → Bool
 within n u = has-jagged n (fields (fieldsIn (view thingOf u)))
 
 module _ {s : List ℕ} {at : ℕ} {a : Accepted s 33 33 at} {r : FieldParts} (f : FieldAt a r) (n : Name) (u : Tree) where
-  of-field : {b j : Bool} → same (nameAt s (at + 6)) n ≡ b → orElse false (jaggedOf (kindOf (typeOf (tree (f .type))))) ≡ j → within n (cons (tree a) u) ≡ ((b && j) || within n u)
+  -- the first field decides, or the fields behind it do
+  of-field : {b j : Bool} → same (nameAt s (at + 6)) n ≡ b → orElse false (jaggedOf (kindOf (typeOf (tree (f .type))))) ≡ j →
+      within n (cons (tree a) u) ≡ ((b && j) || within n u)
   unfolding has-jagged
   of-field {b} {j} p q =
-      ap (has-jagged n) (f .is u) ∙ ap (λ (c : Bool). (c && orElse false (jaggedOf (kindOf (typeOf (tree (f .type)))))) || within n u) p ∙ ap (λ (c : Bool). (b && c) || within n u) q
+      ap (has-jagged n) (f .is u)
+      ∙ ap (λ (c : Bool). (c && orElse false (jaggedOf (kindOf (typeOf (tree (f .type)))))) || within n u) p
+      ∙ ap (λ (c : Bool). (b && c) || within n u) q
 
   -- it has another name
   pub other-field : {o : Name} {b : Bool} → o ≡ nameAt s (at + 6) → b ≡ same o n → not b ≡ true → within n (cons (tree a) u) ≡ within n u
   other-field e g h = of-field (ap (λ (m : Name). same m n) (sym e) ∙ sym g ∙ was-false _ h) refl
 
   -- it has the name
-  pub that-field : {o : Name} {b j : Bool} → o ≡ nameAt s (at + 6) → b ≡ same o n → not b ≡ false → ((t : Accepted s 1 7 (r .kind)) → j ≡ orElse false (jaggedOf (kindOf (typeOf (tree t))))) →
+  pub that-field : {o : Name} {b j : Bool} → o ≡ nameAt s (at + 6) → b ≡ same o n → not b ≡ false →
+      ((t : Accepted s 1 7 (r .kind)) → j ≡ orElse false (jaggedOf (kindOf (typeOf (tree t))))) →
       within n (cons (tree a) u) ≡ (j || within n u)
   that-field e g h k = of-field (ap (λ (m : Name). same m n) (sym e) ∙ sym g ∙ was-true _ h) (sym (k (f .type)))
 
   -- it is no jagged array
-  pub plain-field : {j : Bool} → ((t : Accepted s 1 7 (r .kind)) → j ≡ orElse false (jaggedOf (kindOf (typeOf (tree t))))) → j ≡ false → within n (cons (tree a) u) ≡ within n u
+  pub plain-field : {j : Bool} → ((t : Accepted s 1 7 (r .kind)) → j ≡ orElse false (jaggedOf (kindOf (typeOf (tree t))))) → j ≡ false →
+      within n (cons (tree a) u) ≡ within n u
   plain-field k h = of-field refl (sym (k (f .type)) ∙ h) ∙ ap (λ (c : Bool). c || within n u) (neither (same (nameAt s (at + 6)) n))
     where
       neither : (b : Bool) → (b && false) ≡ false
       neither true = refl
       neither false = refl
 
-module _ {s : List ℕ} {at : ℕ} (n : Name) {r : Bool} (g : (b : Accepted s 33 33 at) (u : Tree) → within n (cons (tree b) u) ≡ (r || within n u)) (b : Accepted s 33 33 at) (u : Tree) where
+module _ {s : List ℕ} {at : ℕ} (n : Name) {r : Bool}
+    (g : (b : Accepted s 33 33 at) (u : Tree) → within n (cons (tree b) u) ≡ (r || within n u)) (b : Accepted s 33 33 at) (u : Tree) where
+  -- a field that is one ends the search
   pub hits : r ≡ true → within n (cons (tree b) u) ≡ true
   hits h = g b u ∙ ap (λ (c : Bool). c || within n u) h
 
+  -- a field that is none leaves it to those behind it
   pub misses : r ≡ false → within n (cons (tree b) u) ≡ within n u
   misses h = g b u ∙ ap (λ (c : Bool). c || within n u) h
 
@@ -104,28 +114,44 @@ abbrev pub Search : (Name → Type 0) → List ℕ → ℕ → ℕ → ℕ → �
 Search N s count first left at = Left (Passed N) s (Item.blocks 33 33) count first left at
 
 module _ {s : List ℕ} {kind : ℕ} {a : Accepted s 1 7 kind} {r : ListParts} (f : FieldsAt a r) (N : Name → Type 0) where
+  -- before the loop no field is passed
   pub begin : Search N s (r .count) (r .first) (r .count) (r .first)
   begin = starts (λ t. record { is = λ n h. refl }) (f .list)
 
   module _ {left at : ℕ} (e : le2 s (kind + 4) ≡ 2) {n : Name} (m : N n) (c : Search N s (r .count) (r .first) left at) where
-    pub found : (h : 0 < left) → ((b : Accepted s 33 33 at) (u : Tree) → within n (cons (tree b) u) ≡ true) → true ≡ has-jagged n (fieldsOf (kindOf (typeOf (tree a))))
+    -- the field at hand is one: so the struct has one
+    pub found : (h : 0 < left) → ((b : Accepted s 33 33 at) (u : Tree) → within n (cons (tree b) u) ≡ true) →
+        true ≡ has-jagged n (fieldsOf (kindOf (typeOf (tree a))))
     found h g =
         let w = c .whole (f .list) in
         let k = block-entry (w .0) h in
-        sym (ap (λ (q : ResolvedTypeKind). has-jagged n (fieldsOf q)) (f .struct e) ∙ w .1 .is n m ∙ ap (within n) (k .after .tree) ∙ g (k .child) (k .after .rest .got .0))
+        sym
+        (ap (λ (q : ResolvedTypeKind). has-jagged n (fieldsOf q)) (f .struct e)
+        ∙ w .1 .is n m
+        ∙ ap (within n) (k .after .tree)
+        ∙ g (k .child) (k .after .rest .got .0))
 
+    -- no field is left: it has none
     pub not-found : left ≤ 0 → false ≡ has-jagged n (fieldsOf (kindOf (typeOf (tree a))))
     unfolding has-jagged fields fieldsIn view
     not-found h = sym (ap (λ (q : ResolvedTypeKind). has-jagged n (fieldsOf q)) (f .struct e) ∙ ended h c (f .list) .0 .is n m)
 
 module _ {N : Name → Type 0} {s : List ℕ} {count first left at : ℕ} (h : 0 < left) where
+  -- the field at hand is accepted
   pub next-field : Search N s count first left at → Accepted s 33 33 at
   next-field c = block-entry (c .here) h .child
 
-  pub go-on : {z : ℕ} → ((n : Name) → N n → (b : Accepted s 33 33 at) (u : Tree) → within n (cons (tree b) u) ≡ within n u) → z ≡ le4 s at → Search N s count first left at → Search N s count first (left - 1) (at + 4 + z)
+  -- a field that is none is passed
+  pub go-on : {z : ℕ} → ((n : Name) → N n → (b : Accepted s 33 33 at) (u : Tree) → within n (cons (tree b) u) ≡ within n u) → z ≡ le4 s at →
+      Search N s count first left at → Search N s count first (left - 1) (at + 4 + z)
   go-on {z} g e c =
-      subst (λ (k : ℕ). Search N s count first (left - 1) (at + 4 + k)) (sym e)
-      (steps (λ l. block-entry l h .child .got .0) (λ l. block-entry l h .after) (λ l w t q. record { is = λ n m. q .is n m ∙ g n m (block-entry l h .child) t }) c)
+      subst
+      (λ (k : ℕ). Search N s count first (left - 1) (at + 4 + k))
+      (sym e)
+      (steps
+      (λ l. block-entry l h .child .got .0)
+      (λ l. block-entry l h .after)
+      (λ l w t q. record { is = λ n m. q .is n m ∙ g n m (block-entry l h .child) t }) c)
 
 -- ---- names of elements
 
@@ -134,19 +160,26 @@ none-before : (fs : List ResolvedField) → ((n : Name) → false ≡ has-jagged
 none-before fs h none = refl
 none-before fs h (some n) = sym (h n)
 
+-- a type that is no struct has no jagged array
 pub no-struct : {s : List ℕ} {at k : ℕ} → k ≡ le2 s (at + 4) → (k ≡ 2 → ⊥) → Jagged s at false
 unfolding is-jagged-element-parameter has-jagged
 no-struct {s} {at} e n = record {
   struct = λ z. false-true z;
-  no-element = λ z a m. none-before (fieldsOf (kindOf (typeOf (tree a)))) (λ o. ap (has-jagged o) (sym (no-fields a (λ u. n (e ∙ u))))) (before-element (split (replace-colons m)));
+  no-element = λ z a m. none-before
+      (fieldsOf (kindOf (typeOf (tree a))))
+      (λ o. ap (has-jagged o) (sym (no-fields a (λ u. n (e ∙ u)))))
+      (before-element (split (replace-colons m)));
 }
 
-pub no-jagged : {s : List ℕ} {at k : ℕ} → k ≡ le2 s (at + 4) → k ≡ 2 → ((a : Accepted s 1 7 at) (n : Name) → false ≡ has-jagged n (fieldsOf (kindOf (typeOf (tree a))))) → Jagged s at false
+-- a struct in which no field is one
+pub no-jagged : {s : List ℕ} {at k : ℕ} → k ≡ le2 s (at + 4) → k ≡ 2 →
+    ((a : Accepted s 1 7 at) (n : Name) → false ≡ has-jagged n (fieldsOf (kindOf (typeOf (tree a))))) → Jagged s at false
 unfolding is-jagged-element-parameter
 no-jagged e f h = record {
   struct = λ z. sym e ∙ f;
   no-element = λ z a m. none-before (fieldsOf (kindOf (typeOf (tree a)))) (h a) (before-element (split (replace-colons m)));
 }
 
+-- a struct in which a field is one
 pub one-jagged : {s : List ℕ} {at k : ℕ} → k ≡ le2 s (at + 4) → k ≡ 2 → Jagged s at true
 one-jagged e f = record { struct = λ z. sym e ∙ f; no-element = λ z. false-true (sym z) }

@@ -31,6 +31,7 @@ use Rattle.builder_parameters.specs.Listed.{nameIn, names, lists, Room, 
 
 -- ---- two names
 
+-- names of two lengths are not the same
 pub other-length : (m n : Name) {k l : ℕ} → k ≡ length m → l ≡ length n → (k ≡ l → ⊥) → false ≡ same m n
 other-length m n e f h = go (same m n) refl
   where
@@ -38,12 +39,14 @@ other-length m n e f h = go (same m n) refl
     go true g = absurd (h (e ∙ ap (λ (z : Name). length z) (same-eq m n g) ∙ sym f))
     go false g = refl
 
+-- the names that were compared are those that are meant
 pub same-parts : {a b m n : Name} {r : Bool} → a ≡ m → b ≡ n → r ≡ same a b → r ≡ same m n
 same-parts e f g = rw (← e, ← f) g
 
 -- ---- a name among the earlier ones
 
 module _ (s ws : List ℕ) (m : Name) {j : ℕ} (h : 0 < j) where
+  -- a name is among the first j if the last of them has it or the others do
   name-step : among m (names s ws j) ≡ (same m (nameIn s ws (j - 1)) || among m (names s ws (j - 1)))
   unfolding names among
   name-step =
@@ -51,12 +54,15 @@ module _ (s ws : List ℕ) (m : Name) {j : ℕ} (h : 0 < j) where
       ap (λ (k : ℕ). among m (names s ws k)) e
 
   module _ {b r : Bool} (g : b ≡ among m (names s ws j)) (e : r ≡ same m (nameIn s ws (j - 1))) where
+    -- the last of them has it: the name is not new
     pub met : r ≡ true → false ≡ not b
     met t = sym (ap not (g ∙ name-step ∙ ap (λ (b : Bool). b || among m (names s ws (j - 1))) (sym e ∙ t)))
 
+    -- it has not: the others decide
     pub unmet : r ≡ false → b ≡ among m (names s ws (j - 1))
     unmet t = g ∙ name-step ∙ ap (λ (b : Bool). b || among m (names s ws (j - 1))) (sym e ∙ t)
 
+-- there is no other: the name is new
 pub none-met : (s ws : List ℕ) (m : Name) {j : ℕ} {b : Bool} → j ≤ 0 → b ≡ among m (names s ws j) → true ≡ not b
 unfolding names among
 none-met s ws m {j} h g =
@@ -65,22 +71,29 @@ none-met s ws m {j} h g =
 
 -- ---- an element of a jagged array
 
-pub found-part : {n : Name} {g : Segment} {o : Option Name} (from to : ℕ) → Found n g o → g ≡ Part from to → (from ≤ to) × (to ≤ length n) × (o ≡ some (take (to - from) (drop from n)))
+-- a segment that was found: where it lies, and that it is the answer
+pub found-part : {n : Name} {g : Segment} {o : Option Name} (from to : ℕ) → Found n g o → g ≡ Part from to →
+    (from ≤ to) × (to ≤ length n) × (o ≡ some (take (to - from) (drop from n)))
 found-part from to (Found.part {from = f} {to = t} h l) e = let a : f ≡ from = cc in let b : t ≡ to = cc in (omega arith, omega arith, rw (a, b) refl)
 found-part from to Found.missing e = let z : _≡_ {A = ℕ} 0 1 = cc in absurd (omega arith)
 
+-- no segment was found
 found-none : {n : Name} {g : Segment} {o : Option Name} → Found n g o → g ≡ Missing → o ≡ none
 found-none (Found.part h l) e = let z : _≡_ {A = ℕ} 0 1 = cc in absurd (omega arith)
 found-none Found.missing e = refl
 
 module _ {m : Name} (n : Name) (f : m ≡ replace-colons n) (t : ResolvedType) {g : Segment} (w : Found m g (before-element (split m))) where
+  -- the segment before `element`, in the name with `.` for `::`
   segment-is : before-element (split m) ≡ before-element (split (replace-colons n))
   segment-is = ap (λ (z : Name). before-element (split z)) f
 
-  pub element-yes : (from to : ℕ) {r : Bool} → g ≡ Part from to → r ≡ has-jagged (take (to - from) (drop from m)) (fieldsOf (kindOf t)) → r ≡ is-jagged-element-parameter t n
+  -- there is one: whether the struct has a jagged array of that name
+  pub element-yes : (from to : ℕ) {r : Bool} → g ≡ Part from to → r ≡ has-jagged (take (to - from) (drop from m)) (fieldsOf (kindOf t)) →
+      r ≡ is-jagged-element-parameter t n
   unfolding is-jagged-element-parameter
   element-yes from to p q = q ∙ ap (jagged-before (fieldsOf (kindOf t))) (sym (sym segment-is ∙ found-part from to w p .2))
 
+  -- there is none: the entry is no element
   pub element-no : g ≡ Missing → false ≡ is-jagged-element-parameter t n
   unfolding is-jagged-element-parameter
   element-no p = ap (jagged-before (fieldsOf (kindOf t))) (sym (sym segment-is ∙ found-none w p))
@@ -88,9 +101,11 @@ module _ {m : Name} (n : Name) (f : m ≡ replace-colons n) (t : ResolvedType) {
 -- ---- whether an entry is listed
 
 module _ (t : ResolvedType) (s ws : List ℕ) (i : ℕ) {f : Bool} (e : f ≡ not (among (nameIn s ws i) (names s ws i))) where
+  -- an entry whose name an earlier one has is not listed
   pub not-first : not f ≡ true → false ≡ lists t s ws i
   not-first h = ap (λ (b : Bool). b && not (is-jagged-element-parameter t (nameIn s ws i))) (sym (was-false f h) ∙ e)
 
+  -- another one is listed if it is no element of a jagged array
   pub first-listed : {r : Bool} → not f ≡ false → r ≡ is-jagged-element-parameter t (nameIn s ws i) → not r ≡ lists t s ws i
   first-listed {r} h g =
       ap not g ∙ ap (λ (b : Bool). b && not (is-jagged-element-parameter t (nameIn s ws i))) (sym (was-true f h) ∙ e)
@@ -103,19 +118,36 @@ listed t s ws i zero = []
 listed t s ws i (suc k) = cond (lists t s ws i) (entryOf s (getD ws i 0) .parameter ∷ listed t s ws (i + 1) k) (listed t s ws (i + 1) k)
 
 module _ (t : ResolvedType) (s ws : List ℕ) {i n : ℕ} where
-  listed-step : i < n → listed t s ws i (n - i) ≡ cond (lists t s ws i) (entryOf s (getD ws i 0) .parameter ∷ listed t s ws (i + 1) (n - (i + 1))) (listed t s ws (i + 1) (n - (i + 1)))
+  -- what is listed from i on: the entry at i, if it is, and the rest
+  listed-step : i < n →
+      listed t s ws i (n - i) ≡ cond (lists t s ws i) (entryOf s (getD ws i 0) .parameter ∷ listed t s ws (i + 1) (n - (i + 1))) (listed t s ws (i + 1) (n - (i + 1)))
   unfolding listed
   listed-step h =
       let e : n - i ≡ suc (n - (i + 1)) = omega arith in
       ap (listed t s ws i) e
 
   module _ {r : Bool} (h : i < n) (e : r ≡ lists t s ws i) where
+    -- it is not
     pub listed-no : not r ≡ true → listed t s ws i (n - i) ≡ listed t s ws (i + 1) (n - (i + 1))
-    listed-no f = listed-step h ∙ ap (λ (b : Bool). cond b (entryOf s (getD ws i 0) .parameter ∷ listed t s ws (i + 1) (n - (i + 1))) (listed t s ws (i + 1) (n - (i + 1)))) (sym e ∙ was-false r f)
+    listed-no f =
+        listed-step h
+        ∙ ap
+        (λ (b : Bool). cond b
+        (entryOf s (getD ws i 0) .parameter ∷ listed t s ws (i + 1) (n - (i + 1)))
+        (listed t s ws (i + 1) (n - (i + 1))))
+        (sym e ∙ was-false r f)
 
+    -- it is
     pub listed-yes : not r ≡ false → listed t s ws i (n - i) ≡ entryOf s (getD ws i 0) .parameter ∷ listed t s ws (i + 1) (n - (i + 1))
-    listed-yes f = listed-step h ∙ ap (λ (b : Bool). cond b (entryOf s (getD ws i 0) .parameter ∷ listed t s ws (i + 1) (n - (i + 1))) (listed t s ws (i + 1) (n - (i + 1)))) (sym e ∙ was-true r f)
+    listed-yes f =
+        listed-step h
+        ∙ ap
+        (λ (b : Bool). cond b
+        (entryOf s (getD ws i 0) .parameter ∷ listed t s ws (i + 1) (n - (i + 1)))
+        (listed t s ws (i + 1) (n - (i + 1))))
+        (sym e ∙ was-true r f)
 
+  -- behind the last entry nothing is
   pub listed-end : n ≤ i → listed t s ws i (n - i) ≡ []
   unfolding listed
   listed-end h =
@@ -143,10 +175,12 @@ module _ {s ws : List ℕ} {seen : List Name} {i : ℕ} (c : Seen seen s ws i) w
   unfolding names among
   seen-new = record { is = λ m. rw add-one (ap (λ (b : Bool). same m (nameIn s ws i) || b) (c .is m)) }
 
+-- a test turned round
 turned : {A : Type 0} (b : Bool) (x y : A) → cond b x y ≡ cond (not b) y x
 turned true x y = refl
 turned false x y = refl
 
+-- from entry i on the definition lists what the code does, with the names of the earlier entries as those that were seen
 listed-from : (t : ResolvedType) (s ws : List ℕ) (k i : ℕ) (seen : List Name) → i + k ≤ length ws → Seen seen s ws i →
     filter-jagged-element-parameters t (firsts seen (map (entryOf s) (take k (drop i ws)))) ≡ listed t s ws i k
 unfolding firsts filter-jagged-element-parameters listed
@@ -167,12 +201,23 @@ listed-from t s ws (suc k) i seen h c =
 
     go : (b : Bool) → among (nameIn s ws i) seen ≡ b → ((l : List Name) → Seen l s ws (i + 1) → filter-jagged-element-parameters t (firsts l es) ≡ rest) →
         filter-jagged-element-parameters t (cond b (firsts seen es) (p ∷ firsts (nameIn s ws i ∷ seen) es)) ≡ cond (lists t s ws i) (p ∷ rest) rest
-    go true e ih = ih seen (seen-again c e) ∙ ap (λ (b : Bool). cond (not b && not (is-jagged-element-parameter t (nameIn s ws i))) (p ∷ rest) rest) (sym e ∙ c .is (nameIn s ws i))
+    go true e ih =
+        ih seen (seen-again c e)
+        ∙ ap
+        (λ (b : Bool). cond (not b && not (is-jagged-element-parameter t (nameIn s ws i))) (p ∷ rest) rest)
+        (sym e ∙ c .is (nameIn s ws i))
     go false e ih =
-        ap (λ (l : List IrParameter). cond (is-jagged-element-parameter t (nameIn s ws i)) l (p ∷ l)) (ih (nameIn s ws i ∷ seen) (seen-new c)) ∙ turned (is-jagged-element-parameter t (nameIn s ws i)) rest (p ∷ rest) ∙
-        ap (λ (b : Bool). cond (not b && not (is-jagged-element-parameter t (nameIn s ws i))) (p ∷ rest) rest) (sym e ∙ c .is (nameIn s ws i))
+        ap
+        (λ (l : List IrParameter). cond (is-jagged-element-parameter t (nameIn s ws i)) l (p ∷ l))
+        (ih (nameIn s ws i ∷ seen) (seen-new c))
+        ∙ turned (is-jagged-element-parameter t (nameIn s ws i)) rest (p ∷ rest)
+        ∙ ap
+        (λ (b : Bool). cond (not b && not (is-jagged-element-parameter t (nameIn s ws i))) (p ∷ rest) rest)
+        (sym e ∙ c .is (nameIn s ws i))
 
-pub listed-is : (t : ResolvedType) (s ws : List ℕ) (n : ℕ) → n ≤ length ws → filter-jagged-element-parameters t (into-parameters (entriesOf s ws n)) ≡ listed t s ws 0 n
+-- so it does from the first on
+pub listed-is : (t : ResolvedType) (s ws : List ℕ) (n : ℕ) → n ≤ length ws →
+    filter-jagged-element-parameters t (into-parameters (entriesOf s ws n)) ≡ listed t s ws 0 n
 unfolding into-parameters entriesOf names among
 listed-is t s ws n h = listed-from t s ws n 0 [] (omega arith) (record { is = λ m. refl })
 
@@ -183,20 +228,26 @@ abbrev pub left : ResolvedType → List ℕ → List ℕ → ℕ → ℕ → Lis
 left t s ws i n = write (entriesTree parameterTree (listed t s ws i (n - i)))
 
 module _ {xs ys : List ℕ} {p q : ℕ} (t : ResolvedType) (s ws : List ℕ) {i n : ℕ} {r : Bool} (h : i < n) (e : r ≡ lists t s ws i) where
+  -- an entry that is not listed writes nothing
   pub pass : not r ≡ true → Wrote xs p (left t s ws (i + 1) n) ys q → Wrote xs p (left t s ws i n) ys q
   pass f w = subst (λ (l : List IrParameter). Wrote xs p (write (entriesTree parameterTree l)) ys q) (sym (listed-no t s ws h e f)) w
 
-  pub put : {zs : List ℕ} {u : ℕ} → not r ≡ false → Wrote xs p (write (parameterTree (entryOf s (getD ws i 0) .parameter))) ys q → Wrote ys q (left t s ws (i + 1) n) zs u → Wrote xs p (left t s ws i n) zs u
+  -- one that is listed is written in front of the rest
+  pub put : {zs : List ℕ} {u : ℕ} → not r ≡ false → Wrote xs p (write (parameterTree (entryOf s (getD ws i 0) .parameter))) ys q →
+      Wrote ys q (left t s ws (i + 1) n) zs u → Wrote xs p (left t s ws i n) zs u
   unfolding entriesTree
   put {zs} {u} f v w =
       subst (λ (l : List IrParameter). Wrote xs p (write (entriesTree parameterTree l)) zs u) (sym (listed-yes t s ws h e f))
       (parts (parameterTree (entryOf s (getD ws i 0) .parameter)) (entriesTree parameterTree (listed t s ws (i + 1) (n - (i + 1)))) v w)
 
+-- nothing is left
 pub all-put : (xs : List ℕ) (p : ℕ) (t : ResolvedType) (s ws : List ℕ) {i n : ℕ} → n ≤ i → Wrote xs p (left t s ws i n) xs p
 unfolding entriesTree
 all-put xs p t s ws h = subst (λ (l : List IrParameter). Wrote xs p (write (entriesTree parameterTree l)) xs p) (sym (listed-end t s ws h)) (no-parts xs p)
 
-pub from-first : {xs ys : List ℕ} {p q : ℕ} (t : ResolvedType) (s ws : List ℕ) (n : ℕ) → Wrote xs p (left t s ws 0 n) ys q → Wrote xs p (write (entriesTree parameterTree (listed t s ws 0 n))) ys q
+-- before the loop all is left
+pub from-first : {xs ys : List ℕ} {p q : ℕ} (t : ResolvedType) (s ws : List ℕ) (n : ℕ) → Wrote xs p (left t s ws 0 n) ys q →
+    Wrote xs p (write (entriesTree parameterTree (listed t s ws 0 n))) ys q
 from-first {xs} {ys} {p} {q} t s ws n w =
     let e : n - 0 ≡ n = omega arith in
     subst (λ (k : ℕ). Wrote xs p (write (entriesTree parameterTree (listed t s ws 0 k))) ys q) e w
@@ -207,6 +258,7 @@ from-first {xs} {ys} {p} {q} t s ws n w =
 abbrev pub Counts : ResolvedType → List ℕ → List ℕ → ℕ → ℕ → ℕ → Type 0
 Counts t s ws n i k = k + length (listed t s ws i (n - i)) ≡ length (listed t s ws 0 n)
 
+-- before the loop nothing is counted
 pub count-none : (t : ResolvedType) (s ws : List ℕ) (n : ℕ) → Counts t s ws n 0 0
 count-none t s ws n =
     let e : n - 0 ≡ n = omega arith in
@@ -215,24 +267,28 @@ count-none t s ws n =
 
 module _ (t : ResolvedType) (s ws : List ℕ) {i n : ℕ} (k : ℕ) (c : Counts t s ws n i k) where
   module _ {r : Bool} (h : i < n) (e : r ≡ lists t s ws i) where
+    -- an entry that is not listed is not counted
     pub count-pass : not r ≡ true → Counts t s ws n (i + 1) k
     count-pass f = let l = ap (λ (l : List IrParameter). length l) (listed-no t s ws h e f) in omega arith
 
+    -- one that is listed is
     pub count-more : not r ≡ false → Counts t s ws n (i + 1) (k + 1)
     count-more f = let l = ap (λ (l : List IrParameter). length l) (listed-yes t s ws h e f) in omega arith
 
+  -- at the end all that are listed are counted
   pub count-end : n ≤ i → k ≡ length (listed t s ws 0 n)
   count-end h = let l = ap (λ (l : List IrParameter). length l) (listed-end t s ws h) in omega arith
 
--- behind their count
-counted : {xs ys zs : List ℕ} {p q u : ℕ} (t : ResolvedType) (s ws : List ℕ) (n : ℕ) {k : ℕ} → n ≤ length ws → k ≡ length (listed t s ws 0 n) → Wrote xs p (bytes 2 k) ys q →
-    Wrote ys q (write (entriesTree parameterTree (listed t s ws 0 n))) zs u → Wrote xs p (write (listTree parameterTree (filter-jagged-element-parameters t (into-parameters (entriesOf s ws n))))) zs u
+-- the count, and the parameters behind it
+counted : {xs ys zs : List ℕ} {p q u : ℕ} (t : ResolvedType) (s ws : List ℕ) (n : ℕ) {k : ℕ} → n ≤ length ws →
+    k ≡ length (listed t s ws 0 n) → Wrote xs p (bytes 2 k) ys q → Wrote ys q (write (entriesTree parameterTree (listed t s ws 0 n))) zs u →
+    Wrote xs p (write (listTree parameterTree (filter-jagged-element-parameters t (into-parameters (entriesOf s ws n))))) zs u
 unfolding write
 counted {xs} {ys} {zs} {p} {q} {u} t s ws n h e v w =
     subst (λ (l : List IrParameter). Wrote xs p (write (listTree parameterTree l)) zs u) (sym (listed-is t s ws n h))
     (parts (num 2 (length (listed t s ws 0 n))) (entriesTree parameterTree (listed t s ws 0 n)) (subst (λ (m : ℕ). Wrote xs p (bytes 2 m) ys q) e v) w)
 
--- a store behind a write
+-- a store behind a write may come first
 set-behind : (xs : List ℕ) (i j x : ℕ) (cs : List ℕ) → i + length cs ≤ j → set (poke xs i cs) j x ≡ poke (set xs j x) i cs
 unfolding poke
 set-behind xs i j x [] h = refl
@@ -244,9 +300,11 @@ unfolding poke
 poke-before xs i j cs [] h = refl
 poke-before xs i j cs (b ∷ bs) h = rw (set-behind xs i j b cs h) (poke-before (set xs j b) i (suc j) cs bs (omega arith))
 
--- their count is written last
-pub counted-last : {xs ys zs : List ℕ} {p q u : ℕ} (t : ResolvedType) (s ws : List ℕ) (n : ℕ) {k : ℕ} → n ≤ length ws → k ≡ length (listed t s ws 0 n) →
-    Wrote xs (p + 2) (write (entriesTree parameterTree (listed t s ws 0 n))) ys u → Wrote ys p (bytes 2 k) zs q → Wrote xs p (write (listTree parameterTree (filter-jagged-element-parameters t (into-parameters (entriesOf s ws n))))) zs u
+-- the count may be written last
+pub counted-last : {xs ys zs : List ℕ} {p q u : ℕ} (t : ResolvedType) (s ws : List ℕ) (n : ℕ) {k : ℕ} → n ≤ length ws →
+    k ≡ length (listed t s ws 0 n) → Wrote xs (p + 2) (write (entriesTree parameterTree (listed t s ws 0 n))) ys u →
+    Wrote ys p (bytes 2 k) zs q →
+    Wrote xs p (write (listTree parameterTree (filter-jagged-element-parameters t (into-parameters (entriesOf s ws n))))) zs u
 counted-last {xs} {ys} {zs} {p} {q} {u} t s ws n {k} h e w v =
     let l : length (bytes 2 k) ≡ 2 = bytes-length 2 k in
     let first : Wrote xs p (bytes 2 k) (poke xs p (bytes 2 k)) (p + 2) = record { end = rw l; left = refl } in
@@ -258,6 +316,7 @@ counted-last {xs} {ys} {zs} {p} {q} {u} t s ws n {k} h e w v =
 
 -- ---- room for two names
 
+-- buffers of the same length have the same room
 pub same-room : {s ws : List ℕ} {n : ℕ} {a b c d : List ℕ} → Room s ws n a b → length c ≡ length a → length d ≡ length b → Room s ws n c d
 same-room r e f = record { standing = r .standing; first = rw e (r .first); second = rw f (r .second) }
 
@@ -265,8 +324,14 @@ same-room r e f = record { standing = r .standing; first = rw e (r .first); seco
 pub placed : {s ws : List ℕ} {n i : ℕ} → Standing s ws n → i < n → (i < 512) × (i < length ws)
 placed a h = let k = a .count in let w = a .words in (omega (arith, h, k), omega (arith, h, k, w))
 
-pub asks : {s ws : List ℕ} {n type at : ℕ} {j : Bool} {a b : List ℕ} → Ready s ws n type at → Jagged s type j → 520 ≡ length a → 520 ≡ length b → Asks s ws n type j a b
-asks r h e f = record { room = record { standing = r .standing; first = rw (← e) (omega arith); second = rw (← f) (omega arith) }; type-at = r .type-at; jagged-is = h }
+-- what the loop asks of an entry
+pub asks : {s ws : List ℕ} {n type at : ℕ} {j : Bool} {a b : List ℕ} → Ready s ws n type at → Jagged s type j → 520 ≡ length a →
+    520 ≡ length b → Asks s ws n type j a b
+asks r h e f = record {
+  room = record { standing = r .standing; first = rw (← e) (omega arith); second = rw (← f) (omega arith) };
+  type-at = r .type-at;
+  jagged-is = h;
+}
 
 -- the entries have their places in the words
 pub all-placed : {s ws : List ℕ} {n : ℕ} → Standing s ws n → n ≤ length ws

@@ -33,7 +33,9 @@ pub record Going (s ws : List ℕ) (n type at : ℕ) (before table links a b out
   pub counts : (x : Accepted s 1 7 type) → Counts (typeOf (tree x)) s ws n i count
   pub writes : (x : Accepted s 1 7 type) (zs : List ℕ) (r : ℕ) → Wrote out p (left (typeOf (tree x)) s ws i n) zs r → Wrote before (at + 2) (left (typeOf (tree x)) s ws 0 n) zs r
 
-pub going-first : (s ws : List ℕ) (n type at : ℕ) (out : List ℕ) {a b : List ℕ} → 520 ≡ length a → 520 ≡ length b → Going s ws n type at out (replicate 2039 0) (replicate 512 0) a b out (at + 2) 0 0
+-- before the first entry
+pub going-first : (s ws : List ℕ) (n type at : ℕ) (out : List ℕ) {a b : List ℕ} → 520 ≡ length a → 520 ≡ length b →
+    Going s ws n type at out (replicate 2039 0) (replicate 512 0) a b out (at + 2) 0 0
 going-first s ws n type at out e f = record {
   within = omega arith;
   counted = omega arith;
@@ -47,11 +49,14 @@ going-first s ws n type at out e f = record {
   writes = λ x zs r w. w;
 }
 
-module _ {s ws : List ℕ} {n type at : ℕ} {before table links a b out : List ℕ} {p count i : ℕ} (g : Going s ws n type at before table links a b out p count i) where
+module _ {s ws : List ℕ} {n type at : ℕ} {before table links a b out : List ℕ} {p count i : ℕ}
+    (g : Going s ws n type at before table links a b out p count i) where
+  -- what is asked of an entry on the way
   pub going-asks : {j : Bool} → Ready s ws n type at → Jagged s type j → Asks s ws n type j a b
   going-asks r h = asks r h (g .first) (g .second)
 
-  module _ {r : Bool} {table′ links′ a′ b′ : List ℕ} (h : i < n) (e : (x : Accepted s 1 7 type) → r ≡ lists (typeOf (tree x)) s ws i) (k : Linked table′ links′ s ws (i + 1)) (ea : length a′ ≡ length a) (eb : length b′ ≡ length b) where
+  module _ {r : Bool} {table′ links′ a′ b′ : List ℕ} (h : i < n) (e : (x : Accepted s 1 7 type) → r ≡ lists (typeOf (tree x)) s ws i)
+      (k : Linked table′ links′ s ws (i + 1)) (ea : length a′ ≡ length a) (eb : length b′ ≡ length b) where
     -- an entry that is not listed
     pub going-pass : not r ≡ true → Going s ws n type at before table′ links′ a′ b′ out p count (i + 1)
     going-pass f = record {
@@ -67,9 +72,10 @@ module _ {s ws : List ℕ} {n type at : ℕ} {before table links a b out : List 
       writes = λ x zs u w. g .writes x zs u (pass (typeOf (tree x)) s ws h (e x) f w);
     }
 
-    -- one that is
-    pub going-put : {out′ : List ℕ} {q : ℕ} → not r ≡ false → Wrote out p (write (parameterTree (entryOf s (getD ws i 0) .parameter))) out′ q → (p ≤ q) × (q ≤ p + 700) → length out′ ≡ length out →
-        Going s ws n type at before table′ links′ a′ b′ out′ q (count + 1) (i + 1)
+    -- one that is listed
+    pub going-put : {out′ : List ℕ} {q : ℕ} → not r ≡ false →
+        Wrote out p (write (parameterTree (entryOf s (getD ws i 0) .parameter))) out′ q → (p ≤ q) × (q ≤ p + 700) →
+        length out′ ≡ length out → Going s ws n type at before table′ links′ a′ b′ out′ q (count + 1) (i + 1)
     going-put f v l eo = record {
       within = omega arith;
       counted = omega (arith, g .counted);
@@ -83,12 +89,16 @@ module _ {s ws : List ℕ} {n type at : ℕ} {before table links a b out : List 
       writes = λ x zs u w. g .writes x zs u (put (typeOf (tree x)) s ws h (e x) f v w);
     }
 
-  -- the count is written
-  pub going-end : {zs : List ℕ} {q : ℕ} → Ready s ws n type at → n ≤ i → Wrote out at (bytes 2 count) zs q →
-      (x : Accepted s 1 7 type) → Wrote before at (write (listTree parameterTree (filter-jagged-element-parameters (typeOf (tree x)) (into-parameters (entriesOf s ws n))))) zs p
+  -- the count is written behind the last entry
+  pub going-end : {zs : List ℕ} {q : ℕ} → Ready s ws n type at → n ≤ i → Wrote out at (bytes 2 count) zs q → (x : Accepted s 1 7 type) →
+      Wrote before at (write (listTree parameterTree (filter-jagged-element-parameters (typeOf (tree x)) (into-parameters (entriesOf s ws n))))) zs p
   going-end c h v x =
       let t = typeOf (tree x) in
-      counted-last t s ws n (all-placed (c .standing)) (count-end t s ws count (g .counts x) h) (from-first t s ws n (g .writes x out p (all-put out p t s ws h))) v
+      counted-last t s ws n
+      (all-placed (c .standing))
+      (count-end t s ws count (g .counts x) h)
+      (from-first t s ws n (g .writes x out p (all-put out p t s ws h))) v
 
+  -- where the list ends
   pub going-high : Ready s ws n type at → (at ≤ p) × (p ≤ at + 400000)
   going-high c = (omega (arith, g .low), omega (arith, g .high, g .within, c .standing .count))

@@ -48,8 +48,12 @@ pub record BehindLength (n : Name) (ys : List ℕ) (r : ℕ) : Type 0 where
   pub short : length n ≤ 511
   pub inside : r ≤ length ys
 
-pub behind-length : {xs ys : List ℕ} {r : ℕ} (n : Name) → Wrote xs 0 (write (name n)) ys r → r ≤ 0 + 513 → 520 ≤ length xs → length ys ≡ length xs → BehindLength n ys r
-behind-length n w h l e = let z = name-stands n w (omega arith) in record { is = z .0; low = omega (arith, z .1); short = omega (arith, z .1); inside = omega arith }
+-- a name of at most 511 bytes, behind its length in a buffer of 520
+pub behind-length : {xs ys : List ℕ} {r : ℕ} (n : Name) → Wrote xs 0 (write (name n)) ys r → r ≤ 0 + 513 → 520 ≤ length xs →
+    length ys ≡ length xs → BehindLength n ys r
+behind-length n w h l e =
+    let z = name-stands n w (omega arith) in
+    record { is = z .0; low = omega (arith, z .1); short = omega (arith, z .1); inside = omega arith }
 
 -- a name that was replaced, at a buffer's start
 pub record Replaced (n : Name) (ys : List ℕ) (r : ℕ) : Type 0 where
@@ -57,72 +61,92 @@ pub record Replaced (n : Name) (ys : List ℕ) (r : ℕ) : Type 0 where
   pub inside : r ≤ length ys
   pub short : r ≤ 511
 
-pub replaced : {xs ys : List ℕ} {r : ℕ} (n m : Name) → Wrote xs 0 (replace-colons m) ys r → r ≤ length m → m ≡ n → length n ≤ 511 → 520 ≤ length xs → length ys ≡ length xs → Replaced n ys r
+-- the name with `.` for `::`, in a buffer of 520
+pub replaced : {xs ys : List ℕ} {r : ℕ} (n m : Name) → Wrote xs 0 (replace-colons m) ys r → r ≤ length m → m ≡ n → length n ≤ 511 →
+    520 ≤ length xs → length ys ≡ length xs → Replaced n ys r
 replaced {xs} {ys} {r} n m w h e k l z =
     let v : length m ≡ length n = ap (λ (x : Name). length x) e in
     record { is = stands w (omega (arith, w .end)) ∙ ap replace-colons e; inside = omega arith; short = omega arith }
 
 -- ---- `::`
 
+-- the bytes at i and behind it
 two : (n : Name) (i : ℕ) → i + 2 ≤ length n → drop i n ≡ getD n i 0 ∷ (getD n (i + 1) 0 ∷ drop (i + 2) n)
 two n i h =
     let e : suc (suc i) ≡ i + 2 = omega arith in
     drop-cons n i 0 (omega arith) ∙ ap (λ (m : Name). getD n i 0 ∷ m) (drop-cons n (suc i) 0 (omega arith) ∙ rw (add-one, e) refl)
 
 module _ (n : Name) (i : ℕ) where
+  -- the last byte is no `::`
   pub no-room : i < length n → length n ≤ i + 1 → false ≡ pair (drop i n)
   no-room h l = rw (drop-cons n i 0 h, drop-of-length-le n {i = suc i} (omega arith)) refl
 
+  -- another byte than `:` begins none
   pub no-colon : i + 1 < length n → (getD n i 0 ≡ 0x3A → ⊥) → false ≡ pair (drop i n)
   no-colon h f = rw (two n i (omega arith), ne-eqb (getD n i 0) 0x3A f) refl
 
+  -- behind a `:` the next byte decides
   pub colon : i + 1 < length n → getD n i 0 ≡ 0x3A → eqb (getD n (i + 1) 0) 0x3A ≡ pair (drop i n)
   colon h f = rw (two n i (omega arith), eq-eqb (getD n i 0) 0x3A f) refl
 
+-- `::` is replaced
 replace-pair : (x y : ℕ) (n : Name) → pair (x ∷ (y ∷ n)) ≡ true → replace-colons (x ∷ (y ∷ n)) ≡ 0x2E ∷ replace-colons n
 unfolding replace-colons
 replace-pair x y n e = rw e
 
+-- any other byte stays
 replace-one : (x : ℕ) (n : Name) → pair (x ∷ n) ≡ false → replace-colons (x ∷ n) ≡ x ∷ replace-colons n
 unfolding replace-colons
 replace-one x [] e = refl
 replace-one x (y ∷ n) e = rw e
 
 module _ {xs ys zs : List ℕ} {p q r : ℕ} (n : Name) (i : ℕ) {b : Bool} (e : b ≡ pair (drop i n)) where
-  pub pair-more : b ≡ true → i + 2 ≤ length n → Wrote xs p (0x2E ∷ []) ys q → Wrote ys q (replace-colons (drop (i + 2) n)) zs r → Wrote xs p (replace-colons (drop i n)) zs r
+  -- a dot is written, and the rest behind the `::`
+  pub pair-more : b ≡ true → i + 2 ≤ length n → Wrote xs p (0x2E ∷ []) ys q → Wrote ys q (replace-colons (drop (i + 2) n)) zs r →
+      Wrote xs p (replace-colons (drop i n)) zs r
   pair-more t h f g =
       let d = two n i h in
-      let w : replace-colons (drop i n) ≡ 0x2E ∷ replace-colons (drop (i + 2) n) = ap replace-colons d ∙ replace-pair (getD n i 0) (getD n (i + 1) 0) (drop (i + 2) n) (ap pair (sym d) ∙ sym e ∙ t) in
+      let w : replace-colons (drop i n) ≡ 0x2E ∷ replace-colons (drop (i + 2) n) = ap replace-colons d
+      ∙ replace-pair (getD n i 0) (getD n (i + 1) 0) (drop (i + 2) n) (ap pair (sym d) ∙ sym e ∙ t) in
       rw w (both f g)
 
-  pub one-more : b ≡ false → i < length n → Wrote xs p (getD n i 0 ∷ []) ys q → Wrote ys q (replace-colons (drop (i + 1) n)) zs r → Wrote xs p (replace-colons (drop i n)) zs r
+  -- the byte is written, and the rest behind it
+  pub one-more : b ≡ false → i < length n → Wrote xs p (getD n i 0 ∷ []) ys q → Wrote ys q (replace-colons (drop (i + 1) n)) zs r →
+      Wrote xs p (replace-colons (drop i n)) zs r
   one-more t h f g =
       let d : drop i n ≡ getD n i 0 ∷ drop (i + 1) n = drop-cons n i 0 h ∙ rw add-one refl in
-      let w : replace-colons (drop i n) ≡ getD n i 0 ∷ replace-colons (drop (i + 1) n) = ap replace-colons d ∙ replace-one (getD n i 0) (drop (i + 1) n) (ap pair (sym d) ∙ sym e ∙ t) in
+      let w : replace-colons (drop i n) ≡ getD n i 0 ∷ replace-colons (drop (i + 1) n) = ap replace-colons d
+      ∙ replace-one (getD n i 0) (drop (i + 1) n) (ap pair (sym d) ∙ sym e ∙ t) in
       rw w (both f g)
 
+-- nothing is left to write
 pub no-more-bytes : (xs : List ℕ) (p : ℕ) (n : Name) (i : ℕ) → length n ≤ i → Wrote xs p (replace-colons (drop i n)) xs p
 unfolding replace-colons poke
 no-more-bytes xs p n i h = rw (drop-of-length-le n {i = i} h) (record { end = omega arith; left = refl })
 
 -- ---- segments
 
+-- a name without a dot is one segment
 first-end : (n : Name) → length n ≤ first-length n → split n ≡ n ∷ []
 unfolding split first-length
 first-end [] h = refl
 first-end (x ∷ n) h = go (eqb x 0x2E) refl h (first-end n)
   where
-    go : (b : Bool) → eqb x 0x2E ≡ b → suc (length n) ≤ cond b 0 (suc (first-length n)) → (length n ≤ first-length n → split n ≡ n ∷ []) → cond b ([] ∷ split n) (onto x (split n)) ≡ (x ∷ n) ∷ []
+    go : (b : Bool) → eqb x 0x2E ≡ b → suc (length n) ≤ cond b 0 (suc (first-length n)) → (length n ≤ first-length n → split n ≡ n ∷ []) →
+        cond b ([] ∷ split n) (onto x (split n)) ≡ (x ∷ n) ∷ []
     go true e h ih = absurd (omega arith)
     go false e h ih = rw (ih (omega arith)) refl
 
+-- the first segment, and those behind its dot
 first-more : (n : Name) → first-length n < length n → split n ≡ take (first-length n) n ∷ split (drop (suc (first-length n)) n)
 unfolding split first-length
 first-more [] h = absurd (omega arith)
 first-more (x ∷ n) h = go (eqb x 0x2E) refl h (first-more n)
   where
-    go : (b : Bool) → eqb x 0x2E ≡ b → cond b 0 (suc (first-length n)) < suc (length n) → (first-length n < length n → split n ≡ take (first-length n) n ∷ split (drop (suc (first-length n)) n)) →
-        cond b ([] ∷ split n) (onto x (split n)) ≡ take (cond b 0 (suc (first-length n))) (x ∷ n) ∷ split (drop (suc (cond b 0 (suc (first-length n)))) (x ∷ n))
+    go : (b : Bool) → eqb x 0x2E ≡ b → cond b 0 (suc (first-length n)) < suc (length n) →
+        (first-length n < length n → split n ≡ take (first-length n) n ∷ split (drop (suc (first-length n)) n)) →
+        cond b ([] ∷ split n) (onto x (split n)) ≡
+        take (cond b 0 (suc (first-length n))) (x ∷ n) ∷ split (drop (suc (cond b 0 (suc (first-length n)))) (x ∷ n))
     go true e h ih = refl
     go false e h ih = rw (ih (omega arith)) refl
 
@@ -130,7 +154,9 @@ first-more (x ∷ n) h = go (eqb x 0x2E) refl h (first-more n)
 abbrev pub behind : Name → ℕ → List Name
 behind n to = elim (ltb to (length n)) [ true ↦ split (drop (to + 1) n) | false ↦ [] ]
 
-pub segments : (n : Name) (from to : ℕ) → from ≤ length n → to ≡ from + first-length (drop from n) → split (drop from n) ≡ take (to - from) (drop from n) ∷ behind n to
+-- the segment from `from` to `to`, and those behind it
+pub segments : (n : Name) (from to : ℕ) → from ≤ length n → to ≡ from + first-length (drop from n) →
+    split (drop from n) ≡ take (to - from) (drop from n) ∷ behind n to
 segments n from to h e = go (ltb to (length n)) refl (length-drop from n) (omega arith)
   where
     go : (b : Bool) → ltb to (length n) ≡ b → length (drop from n) ≡ length n - from → to - from ≡ first-length (drop from n) →
@@ -143,15 +169,17 @@ segments n from to h e = go (ltb to (length n)) refl (length-drop from n) (omega
         let le = ltb-false to (length n) t in
         first-end (drop from n) (omega arith) ∙ rw (take-all (to - from) (drop from n) (omega arith)) refl
 
--- where no dot stands before
+-- where no dot stands the segment ends where it does from the next byte on
 pub same-end : (n : Name) (to : ℕ) → to < length n → (getD n to 0 ≡ 0x2E → ⊥) → to + first-length (drop to n) ≡ to + 1 + first-length (drop (to + 1) n)
 unfolding first-length
 same-end n to h f = rw (drop-cons n to 0 h, ne-eqb (getD n to 0) 0x2E f, add-one) (omega arith)
 
+-- at a dot it ends
 pub dot-end : (n : Name) (to : ℕ) → to < length n → getD n to 0 ≡ 0x2E → to ≡ to + first-length (drop to n)
 unfolding first-length
 dot-end n to h f = rw (drop-cons n to 0 h, eq-eqb (getD n to 0) 0x2E f) (omega arith)
 
+-- at the end of the name it ends
 pub last-end : (n : Name) (to : ℕ) → length n ≤ to → to ≡ to + first-length (drop to n)
 unfolding first-length
 last-end n to h = rw (drop-of-length-le n {i = to} h) (omega arith)
@@ -163,32 +191,49 @@ tested : (p m : Name) (ms : List Name) {b : Bool} → same m (ascii "element") �
 unfolding before
 tested p m ms f = ap (λ (b : Bool). elim b [ true ↦ some p | false ↦ before m ms ]) f
 
+-- what is tested of the first
 tested-first : (m : Name) (ms : List Name) {b : Bool} → same m (ascii "element") ≡ b → before-element (m ∷ ms) ≡ elim b [ true ↦ none | false ↦ before m ms ]
 unfolding before-element
 tested-first m ms f = ap (λ (b : Bool). elim b [ true ↦ none | false ↦ before m ms ]) f
 
 -- the segments behind a place, by the next
-next-behind : (n : Name) (to end : ℕ) → to < length n → end ≡ to + 1 + first-length (drop (to + 1) n) → behind n to ≡ take (end - (to + 1)) (drop (to + 1) n) ∷ behind n end
+next-behind : (n : Name) (to end : ℕ) → to < length n → end ≡ to + 1 + first-length (drop (to + 1) n) →
+    behind n to ≡ take (end - (to + 1)) (drop (to + 1) n) ∷ behind n end
 next-behind n to end h e = ap (λ (b : Bool). elim b [ true ↦ split (drop (to + 1) n) | false ↦ [] ]) (lt-ltb to (length n) h) ∙ segments n (to + 1) end (omega arith) e
 
 module _ (n : Name) {to : ℕ} {b : Bool} (e : to ≡ 0 + first-length (drop 0 n)) (f : b ≡ same (take (to - 0) (drop 0 n)) (ascii "element")) where
+  -- the first segment is `element`: no segment stands before it
   pub element-first : b ≡ true → Found n Missing (before-element (split n))
-  element-first t = subst (Found n Missing) (sym (ap before-element (segments n 0 to (omega arith) e) ∙ tested-first (take (to - 0) (drop 0 n)) (behind n to) (sym f ∙ t))) Found.missing
+  element-first t =
+      subst
+      (Found n Missing)
+      (sym (ap before-element (segments n 0 to (omega arith) e) ∙ tested-first (take (to - 0) (drop 0 n)) (behind n to) (sym f ∙ t)))
+      Found.missing
 
+  -- it is not: the search goes on behind it
   pub begins : b ≡ false → before-element (split n) ≡ before (take (to - 0) (drop 0 n)) (behind n to)
   begins t = ap before-element (segments n 0 to (omega arith) e) ∙ tested-first (take (to - 0) (drop 0 n)) (behind n to) (sym f ∙ t)
 
 module _ (n : Name) (from to : ℕ) (g : before-element (split n) ≡ before (take (to - from) (drop from n)) (behind n to)) where
-  module _ {end : ℕ} {b : Bool} (h : to < length n) (e : end ≡ to + 1 + first-length (drop (to + 1) n)) (f : b ≡ same (take (end - (to + 1)) (drop (to + 1) n)) (ascii "element")) where
-    next : {c : Bool} → b ≡ c → before-element (split n) ≡ elim c [ true ↦ some (take (to - from) (drop from n)) | false ↦ before (take (end - (to + 1)) (drop (to + 1) n)) (behind n end) ]
-    next t = g ∙ ap (before (take (to - from) (drop from n))) (next-behind n to end h e) ∙ tested (take (to - from) (drop from n)) (take (end - (to + 1)) (drop (to + 1) n)) (behind n end) (sym f ∙ t)
+  module _ {end : ℕ} {b : Bool} (h : to < length n) (e : end ≡ to + 1 + first-length (drop (to + 1) n))
+      (f : b ≡ same (take (end - (to + 1)) (drop (to + 1) n)) (ascii "element")) where
+    -- the next segment decides
+    next : {c : Bool} → b ≡ c →
+        before-element (split n) ≡ elim c [ true ↦ some (take (to - from) (drop from n)) | false ↦ before (take (end - (to + 1)) (drop (to + 1) n)) (behind n end) ]
+    next t =
+        g
+        ∙ ap (before (take (to - from) (drop from n))) (next-behind n to end h e)
+        ∙ tested (take (to - from) (drop from n)) (take (end - (to + 1)) (drop (to + 1) n)) (behind n end) (sym f ∙ t)
 
+    -- it is `element`: the segment at hand stands before it
     pub element-next : from ≤ to → b ≡ true → Found n (Part from to) (before-element (split n))
     element-next l t = subst (Found n (Part from to)) (sym (next t)) (Found.part l (omega arith))
 
+    -- it is not: it is the segment at hand from now on
     pub goes-on : b ≡ false → before-element (split n) ≡ before (take (end - (to + 1)) (drop (to + 1) n)) (behind n end)
     goes-on t = next t
 
+  -- no segment is left
   pub no-element : length n ≤ to → Found n Missing (before-element (split n))
   unfolding before
   no-element h =

@@ -12,6 +12,7 @@ use Rattle.resolved.specs.Set.{typeOf}
 use Rattle.builder.specs.BuildType.{is-jagged-element-parameter}
 use Rattle.builder_registry.specs.Words.{Standing, entryName}
 
+-- the name of the entry at i
 abbrev pub nameIn : List ℕ → List ℕ → ℕ → Name
 nameIn s ws i = entryName s (getD ws i 0)
 

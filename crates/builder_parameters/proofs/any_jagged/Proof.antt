@@ -1,4 +1,5 @@
--- `builder_parameters::any_jagged` meets its contract. The invariant: no field that was passed is a jagged array. The measure is the fields that are left.
+-- `any_jagged`: one pass over the fields of a struct. In the loop no field that was passed is a jagged array, of any name (`Search`); the count of the
+-- fields that are left is the measure. Where none is found, no name is an element of one.
 use mathlib.Core.Path.{sym, _∙_}
 use Rattle.resolved_parts.proofs.Laws.{inside, long}
 use Rattle.builder_parameters.proofs.Fields.{Search, begin, not-found, next-field, go-on, plain-field, no-struct, no-jagged, one-jagged}

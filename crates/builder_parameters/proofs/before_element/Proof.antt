@@ -1,4 +1,5 @@
--- `builder_parameters::before_element` meets its contract. The loop's invariant: no segment up to the one at hand is `element`.
+-- `before_element`: the segments one by one, each with the next. In the loop no segment up to the one at hand is `element`, so the definition's
+-- answer is the one that it gives from here (`before`).
 use mathlib.Core.Path.{_≡_}
 use Prim.Native.Nat.{_-_, _≤_}
 use lib.ListN.{length, take, drop}

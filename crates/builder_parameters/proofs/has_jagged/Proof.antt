@@ -1,4 +1,5 @@
--- `builder_parameters::has_jagged` meets its contract. The invariant: no field that was passed is a jagged array of this name. The measure is the fields that are left.
+-- `has_jagged`: one pass over the fields. In the loop no field that was passed is a jagged array of this name (`Search`), so the fields that are left
+-- decide; their count is the measure.
 use mathlib.Core.Path.{_≡_, refl}
 use Rattle.resolved_parts.proofs.Laws.{inside}
 use Rattle.builder_parameters.proofs.Fields.{Search, begin, found, not-found, next-field, go-on, hits, misses}

@@ -1,4 +1,4 @@
--- `builder_parameters::is_jagged` meets its contract. Assumes nothing.
+-- `is_jagged`: only kind 5 is an array (`no-array`), and that says whether it is jagged.
 use mathlib.Core.Path.{sym, _∙_}
 use Rattle.resolved_parts.proofs.Laws.{inside, long}
 use Rattle.builder_parameters.proofs.Fields.{no-array, an-array}

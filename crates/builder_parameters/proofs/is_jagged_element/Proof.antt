@@ -98,10 +98,10 @@ part-has-jagged-start : tie.Need-part-has-jagged-start
 part-has-jagged-start c =
     let at-before-element = c .before .before .before in
     let part = found-part
-        (c .before .from .given .0 .0)
-        (c .before .from .given .0 .1 .0)
-        (at-before-element .before-element .ensures)
-        (c .before .from .given .1) in
+    (c .before .from .given .0 .0)
+    (c .before .from .given .0 .1 .0)
+    (at-before-element .before-element .ensures)
+    (c .before .from .given .1) in
     omega (arith, part .0, part .1)
 
 part-has-jagged-end : tie.Need-part-has-jagged-end

@@ -1,4 +1,5 @@
--- `builder_parameters::is_jagged_field` meets its contract. Assumes nothing.
+-- `is_jagged_field`: a field of another name, or of this name and no jagged array, leaves the answer to the fields behind it; the contract says it as
+-- an `or` with their answer.
 use Rattle.resolved_parts.proofs.Laws.{inside, long}
 use Rattle.builder_parameters.proofs.Fields.{other-field, that-field}
 use native.Mathlib.Omega.{arith}

@@ -1,4 +1,5 @@
--- `builder_parameters::is_listed` meets its contract. Assumes nothing.
+-- `is_listed`: an entry whose name an earlier one has is not listed; of the others those are not that are elements of a jagged array, which is asked only
+-- where the type has such an array (`Jagged`).
 use mathlib.Core.Path.{sym, _∙_}
 use Rattle.resolved.specs.Set.{typeOf}
 use Rattle.accepted.specs.Accepted.{tree}

@@ -1,4 +1,5 @@
--- `builder_parameters::is_new` meets its contract. The loop's invariant: the name is among the first i if it is among the first j, and the last of these has its place. Assumes nothing.
+-- `is_new`: the entries of the name's place, from the last one back by their links. In the loop the name is among the first i if it is among the first j,
+-- and the last of these has the place (`Left`); a link leads to an earlier entry, so j is the measure.
 use mathlib.Core.Path.{_≡_, refl, _∙_}
 use lib.ListN.{length}
 use Rattle.builder_parameters.proofs.Listed.{met, none-met}

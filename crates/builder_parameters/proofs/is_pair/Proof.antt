@@ -1,4 +1,4 @@
--- `builder_parameters::is_pair` meets its contract. Assumes nothing.
+-- `is_pair`: the definition looks at the first two bytes from i on, the code at one after the other, and first whether there are two.
 use Rattle.blocks.proofs.Name.{false-true}
 use Rattle.builder_parameters.proofs.Segments.{no-room, no-colon, colon}
 use native.Mathlib.Omega.{arith}

@@ -1,4 +1,5 @@
--- `builder_parameters::place` meets its contract. The loop's invariant: h is the number of the bytes from i on. Assumes nothing.
+-- `place`: the name is folded from its last byte to its first. In the loop h is the fold of the bytes from i on; it stays below 31 times 2 ^ 32 and
+-- a byte, so that no product overflows.
 use mathlib.Core.Path.{_≡_}
 use Prim.Native.Nat.{_<_, _≤_}
 use native.Mathlib.Omega.{arith}

@@ -1,4 +1,5 @@
--- `builder_parameters::put_parameters` meets its contract. The loop's invariant: whatever writes what is listed of the entries that are left makes the whole write. Assumes nothing.
+-- `put_parameters`: one pass over the entries, with the tables and buffers made here. The loop's invariant (`Going`): whatever writes what is listed of the
+-- entries that are left makes the whole write, and what was counted and what is left is the whole count, which is written last.
 use mathlib.Core.Path.{refl, _∙_}
 use Prim.Native.Nat.{_-_}
 use Rattle.builder_parameters.proofs.Listed.{placed}

@@ -1,4 +1,4 @@
--- `builder_parameters::replace_colons` meets its contract. The loop's invariant: whatever writes what is left, with `::` read as `.`, makes the whole write.
+-- `replace_colons`: one pass over the bytes. The loop's invariant: whatever writes what is left, with `::` read as `.`, makes the whole write.
 use mathlib.Core.Path.{_≡_}
 use mathlib.Core.List.{List}
 use Prim.Native.Nat.{ℕ, _-_, _≤_}

@@ -1,4 +1,4 @@
--- `builder_parameters::segment_end` meets its contract. The loop's invariant: no dot was passed, so the segment ends where it does from here.
+-- `segment_end`: the loop passes bytes up to a dot or the end. No dot was passed, so the segment ends where it does from here.
 use mathlib.Core.Path.{_≡_, refl, _∙_, sym}
 use Prim.Native.Nat.{_+_, _-_, _≤_}
 use lib.ListN.{length, drop}
