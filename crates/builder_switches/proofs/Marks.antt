@@ -154,7 +154,3 @@ pub right-in : {s : List ℕ} {e : ℕ} (u v : ℕ) → u ≡ le2 s (e + 4) → 
 right-in {s} {e} u v d l m w a =
     let b = binary-at a (omega arith) (omega arith) in
     subst (λ (v : ℕ). Accepted s 64 91 (e + 10 + v) × (10 + le4 s (e + 10 + v) ≤ le4 s e)) (sym w) (b .right, omega (arith, b .room))
-
--- where the second operand begins
-pub right-low : {s : List ℕ} {e : ℕ} (u v : ℕ) → u ≡ le2 s (e + 4) → 68 ≤ u → u ≤ 78 → v ≡ le4 s (e + 6) → Accepted s 64 91 e → e + 10 + v + 6 ≤ length s
-right-low u v d l m w a = block-in (right-in u v d l m w a .0)

@@ -4,7 +4,7 @@ use mathlib.Core.Bool.{true, false, cond}
 use mathlib.Core.List.{List}
 use Prim.Native.Nat.{ℕ, _+_, _-_, _≤_, _<_}
 use native.Mathlib.Omega.{arith}
-use lib.ListN.{getD}
+use lib.ListN.{length, getD}
 use Rattle.errors.specs.Refusal.{Outcome, done, refused, plain, UnsupportedSize}
 use Rattle.errors.specs.Refusal.{_>>=_ as _andThen_}
 use Rattle.blocks.specs.Bytes.{bytes, le2, nameAt}
@@ -30,11 +30,12 @@ use Rattle.resolved_parts.specs.Types.{HeadAt, EnumAt, FieldsAt, SizedAt, owner
 use Rattle.builder_registry.specs.declared.Held.{Held}
 use Rattle.builder_registry.specs.declared.Tagged.{Tagged}
 use Rattle.builder_registry.specs.Words.{Kept, Tags, held, madePath, madeParameter, entriesOf, entryName}
-use Rattle.builder_registry.proofs.Laws.{held-name}
+use Rattle.builder_registry.proofs.Laws.{held-name, standing}
 use Rattle.builder_nodes.specs.declared.Built.{Built}
 use Rattle.builder_nodes.specs.Built.{Builds, nodeStart}
 use Rattle.builder_nodes.proofs.Laws.{node-closed}
-use Rattle.builder_switches.specs.Cases.{alternatives, Cases}
+use Rattle.builder_switches.specs.Cases.{alternatives, Cases, Switching}
+use Rattle.builder_switches.specs.Ready.{Ready}
 use Rattle.builder_switches.proofs.Cases.{union-are, enum-are, sized-are}
 
 -- ---- the switch
@@ -86,134 +87,108 @@ module _ {s xs ws x₁ x₂ x₃ x₄ : List ℕ} {at b c d kind first k count :
 
 -- ---- references, then a tag, then the switch
 
--- the references were refused, or they were entered
-kept-refused : {s us : List ℕ} {x : Held} {o : Outcome (Unit × Registry)} → (x .number ≡ 0 → ⊥) → Kept s us x o → (0 < x .number) × (o ≡ refused (plain (x .number)))
+-- the references of a type were refused
+pub kept-refused : {s us : List ℕ} {x : Held} {o : Outcome (Unit × Registry)} → (x .number ≡ 0 → ⊥) → Kept s us x o →
+    (0 < x .number) × (o ≡ refused (plain (x .number)))
 kept-refused z (Kept.kept h e f) = absurd (z e)
 kept-refused z (Kept.not q e l) = rw e (l, refl)
 
-kept-done : {s us : List ℕ} {x : Held} {o : Outcome (Unit × Registry)} → x .number ≡ 0 → Kept s us x o → o ≡ done (tt, entriesOf s us (x .count))
+-- or they were entered
+pub kept-done : {s us : List ℕ} {x : Held} {o : Outcome (Unit × Registry)} → x .number ≡ 0 → Kept s us x o → o ≡ done (tt, entriesOf s us (x .count))
 kept-done z (Kept.kept h e f) = rw f refl
 kept-done z (Kept.not q e l) = absurd (omega arith)
 
-module _ {s xs us vs ys : List ℕ} {at : ℕ} {x : Held} (os : List Owner) (k : Unit → Build IrNode) (g : Registry) (kp : Kept s us x (extend-with os g)) where
-  extend-stops : {j : ℕ} → (x .number ≡ 0 → ⊥) → Builds s xs at vs ys (record { at = at; count = j; number = x .number }) ((extend-with os >>= k) g)
-  extend-stops z = let d = kept-refused z kp in
-      rw (step-refused (extend-with os) k g (d .1)) (Builds.not (x .number) refl (d .0))
-
-  extend-goes : {r : Built} → x .number ≡ 0 → Builds s xs at vs ys r (k tt (entriesOf s us (x .count))) → Builds s xs at vs ys r ((extend-with os >>= k) g)
-  extend-goes z b = rw (step-done (extend-with os) k g (kept-done z kp)) b
-
--- the same of the tag
-tags-refused : {s us : List ℕ} {t : Tagged} {o : Outcome (Name × Registry)} → (t .number ≡ 0 → ⊥) → Tags s us t o → (0 < t .number) × (o ≡ refused (plain (t .number)))
+-- the tag was refused
+tags-refused : {s us : List ℕ} {t : Tagged} {o : Outcome (Name × Registry)} → (t .number ≡ 0 → ⊥) → Tags s us t o →
+    (0 < t .number) × (o ≡ refused (plain (t .number)))
 tags-refused z (Tags.tags h e f l) = absurd (z e)
 tags-refused z (Tags.not q e l) = rw e (l, refl)
 
-tags-done : {s us : List ℕ} {t : Tagged} {o : Outcome (Name × Registry)} → t .number ≡ 0 → Tags s us t o → (t .at < t .count) × (o ≡ done (entryName s (getD us (t .at) 0), entriesOf s us (t .count)))
+-- or it is the name of an entry
+tags-done : {s us : List ℕ} {t : Tagged} {o : Outcome (Name × Registry)} → t .number ≡ 0 → Tags s us t o →
+    (t .at < t .count) × (o ≡ done (entryName s (getD us (t .at) 0), entriesOf s us (t .count)))
 tags-done z (Tags.tags h e f l) = rw f (l, refl)
 tags-done z (Tags.not q e l) = absurd (omega arith)
 
+-- the entry of the tag is one of those that are there
 pub tag-in : {s us : List ℕ} {t : Tagged} {o : Outcome (Name × Registry)} → t .number ≡ 0 → Tags s us t o → t .at < t .count
 tag-in z b = tags-done z b .0
 
+-- what `put_switch` stands on, once the tag is there
+pub switching : {s ws us : List ℕ} {n m kind type at entry k count first : ℕ} → Ready s ws n kind type at → length us ≡ length ws → m ≤ 512 →
+    entry < m → 33 ≤ k → k ≤ 35 → Listed s k k count first → count ≤ 64 → Switching s us m type entry k count first at
+switching p e c i low high l h = record {
+  standing = standing (p .standing) e c;
+  type-at = p .type-at;
+  within = i;
+  kind = record { low = low; high = high };
+  list = l;
+  most = h;
+  cursor = p .cursor;
+}
+
+-- the references that were entered are those of the type itself
+owners-kept : {s us : List ℕ} {kind : ℕ} {h : TypeHead} {x : Held} (g : Registry) → ((a : Accepted s 1 7 kind) → HeadAt a h) →
+    ((a : Accepted s 32 32 (h .references)) → Kept s us x (extend-with (ownersOf (tree a)) g)) →
+    (a : Accepted s 1 7 kind) → Kept s us x (extend-with (head (typeOf (tree a)) .dynamic-params) g)
+owners-kept g hd kp a = rw (hd a .owners) (kp (hd a .references))
+
 module _ {s xs us ys : List ℕ} {at : ℕ} {t : Tagged} (m : Build Name) (k : Name → Build IrNode) (g : Registry) (tg : Tags s us t (m g)) where
+  -- a refused tag ends the building
   tag-stops : {j : ℕ} → (t .number ≡ 0 → ⊥) → Builds s xs at us ys (record { at = at; count = j; number = t .number }) ((m >>= k) g)
   tag-stops z = let d = tags-refused z tg in
       rw (step-refused m k g (d .1)) (Builds.not (t .number) refl (d .0))
 
-  tag-goes : {r : Built} → t .number ≡ 0 → Builds s xs at us ys r (k (entryName s (getD us (t .at) 0)) (entriesOf s us (t .count))) → Builds s xs at us ys r ((m >>= k) g)
+  -- with a tag the building goes on
+  tag-goes : {r : Built} → t .number ≡ 0 →
+      Builds s xs at us ys r (k (entryName s (getD us (t .at) 0)) (entriesOf s us (t .count))) → Builds s xs at us ys r ((m >>= k) g)
   tag-goes z b = rw (step-done m k g (tags-done z tg .1)) b
-
--- the references of the type itself
-owners-kept : {s us : List ℕ} {kind : ℕ} {h : TypeHead} {x : Held} (g : Registry) → ((a : Accepted s 1 7 kind) → HeadAt a h) → ((a : Accepted s 32 32 (h .references)) → Kept s us x (extend-with (ownersOf (tree a)) g)) →
-    (a : Accepted s 1 7 kind) → Kept s us x (extend-with (head (typeOf (tree a)) .dynamic-params) g)
-owners-kept g hd kp a = rw (hd a .owners) (kp (hd a .references))
 
 -- a made tag, under the type's own name
 synthetic-tag : {s us : List ℕ} {kind : ℕ} {h : TypeHead} {t : Tagged} (made : ℕ) (g : Registry) → ((a : Accepted s 1 7 kind) → HeadAt a h) →
     Tags s us t (add-synthetic (held s (kind + 6)) (madePath made) (madeParameter made (held s (kind + 6))) g) →
-    (a : Accepted s 1 7 kind) → Tags s us t (add-synthetic (head (typeOf (tree a)) .name) (madePath made) (madeParameter made (head (typeOf (tree a)) .name)) g)
+    (a : Accepted s 1 7 kind) →
+    Tags s us t (add-synthetic (head (typeOf (tree a)) .name) (madePath made) (madeParameter made (head (typeOf (tree a)) .name)) g)
 synthetic-tag {s} {us} {kind} {t} made g hd tg a =
     subst (λ (n : Name). Tags s us t (add-synthetic n (madePath made) (madeParameter made n) g)) (held-name (hd a .named) ∙ sym (hd a .name)) tg
 
--- ---- enums
+-- ---- the three types
 
+-- two enums that are the same type have the same parts
 same-enum : {k : ResolvedTypeKind} {e d : ExprKind} {vs us : Variants} → k ≡ ResolvedTypeKind.Enum e vs → k ≡ ResolvedTypeKind.Enum d us → (e ≡ d) × (vs ≡ us)
 same-enum p q = (cc, cc)
 
-enum-tag : {s vs : List ℕ} {kind : ℕ} {h : TypeHead} {p : EnumParts} {t : Tagged} (g : Registry) → ((a : Accepted s 1 7 kind) → HeadAt a h) → ((a : Accepted s 1 7 kind) → EnumAt a p) →
-    ((a : Accepted s 64 91 (p .tag)) → Tags s vs t (enum-tag-parameter (nameAt s (kind + 6)) (exprOf (tree a)) g)) →
-    (a : Accepted s 1 7 kind) (e : ExprKind) (vs′ : Variants) → kindOf (typeOf (tree a)) ≡ ResolvedTypeKind.Enum e vs′ → Tags s vs t (enum-tag-parameter (head (typeOf (tree a)) .name) e g)
-enum-tag {s} {vs} {kind} {t} g hd ep tg a e vs′ q =
-    subst (λ (n : Name). Tags s vs t (enum-tag-parameter n e g)) (sym (hd a .name)) (subst (λ (d : ExprKind). Tags s vs t (enum-tag-parameter (nameAt s (kind + 6)) d g)) (sym (same-enum q (ep a .is) .0)) (tg (ep a .tag)))
-
-module _ {s xs us : List ℕ} {at kind : ℕ} {h : TypeHead} {x : Held} (g : Registry) (hd : (a : Accepted s 1 7 kind) → HeadAt a h) (kp : (a : Accepted s 32 32 (h .references)) → Kept s us x (extend-with (ownersOf (tree a)) g)) where
-  pub enum-refs-stop : {vs ys : List ℕ} {j : ℕ} → (x .number ≡ 0 → ⊥) → (a : Accepted s 1 7 kind) (e : ExprKind) (vs′ : Variants) → kindOf (typeOf (tree a)) ≡ ResolvedTypeKind.Enum e vs′ →
-      Builds s xs at vs ys (record { at = at; count = j; number = x .number }) (build-enum-node (head (typeOf (tree a))) e vs′ g)
-  unfolding build-enum-node
-  enum-refs-stop z a e vs′ q = extend-stops (head (typeOf (tree a)) .dynamic-params) _ g (owners-kept g hd kp a) z
-
-  module _ {vs : List ℕ} {p : EnumParts} {t : Tagged} (z : x .number ≡ 0) (ep : (a : Accepted s 1 7 kind) → EnumAt a p)
-      (tg : (a : Accepted s 64 91 (p .tag)) → Tags s vs t (enum-tag-parameter (nameAt s (kind + 6)) (exprOf (tree a)) (entriesOf s us (x .count)))) where
-    pub enum-tag-stops : {ys : List ℕ} {j : ℕ} → (t .number ≡ 0 → ⊥) → (a : Accepted s 1 7 kind) (e : ExprKind) (vs′ : Variants) → kindOf (typeOf (tree a)) ≡ ResolvedTypeKind.Enum e vs′ →
-        Builds s xs at vs ys (record { at = at; count = j; number = t .number }) (build-enum-node (head (typeOf (tree a))) e vs′ g)
-    unfolding build-enum-node
-    enum-tag-stops y a e vs′ q =
-        extend-goes (head (typeOf (tree a)) .dynamic-params) _ g (owners-kept g hd kp a) z (tag-stops (enum-tag-parameter (head (typeOf (tree a)) .name) e) _ (entriesOf s us (x .count)) (enum-tag (entriesOf s us (x .count)) hd ep tg a e vs′ q) y)
-
-    pub enum-done : {ys : List ℕ} {r : Built} → t .number ≡ 0 →
-        ((a : Accepted s 1 7 kind) (l : Listed s 34 34 (p .count) (p .first)) → Builds s xs at vs ys r (build-switch (head (typeOf (tree a))) (entryName s (getD vs (t .at) 0)) (alternatives 34 0 (l .got .0)) (entriesOf s vs (t .count)))) →
-        (a : Accepted s 1 7 kind) (e : ExprKind) (vs′ : Variants) → kindOf (typeOf (tree a)) ≡ ResolvedTypeKind.Enum e vs′ → Builds s xs at vs ys r (build-enum-node (head (typeOf (tree a))) e vs′ g)
-    unfolding build-enum-node
-    enum-done {ys} {r} y sw a e vs′ q =
-        extend-goes (head (typeOf (tree a)) .dynamic-params) _ g (owners-kept g hd kp a) z
-        (tag-goes (enum-tag-parameter (head (typeOf (tree a)) .name) e) _ (entriesOf s us (x .count)) (enum-tag (entriesOf s us (x .count)) hd ep tg a e vs′ q) y
-        (subst (λ (l : List Alternative). Builds s xs at vs ys r (build-switch (head (typeOf (tree a))) (entryName s (getD vs (t .at) 0)) l (entriesOf s vs (t .count))))
-        (enum-are 0 (ep a .list .got .0) ∙ ap (λ (w : Variants). enum-alternatives (variants w)) (sym (same-enum q (ep a .is) .1))) (sw a (ep a .list))))
-
--- ---- unions
-
-pub union-kind : {v : ℕ} → v ≡ 3 → (2 ≤ v) × (v ≤ 3)
-union-kind e = (omega arith, omega arith)
-
+-- so have two unions
 same-union : {k : ResolvedTypeKind} {fs gs : Fields} → k ≡ ResolvedTypeKind.Union fs → k ≡ ResolvedTypeKind.Union gs → fs ≡ gs
 same-union p q = cc
 
-module _ {s xs us : List ℕ} {at kind : ℕ} {h : TypeHead} {x : Held} (g : Registry) (hd : (a : Accepted s 1 7 kind) → HeadAt a h) (kp : (a : Accepted s 32 32 (h .references)) → Kept s us x (extend-with (ownersOf (tree a)) g)) where
-  pub union-refs-stop : {vs ys : List ℕ} {j : ℕ} → (x .number ≡ 0 → ⊥) → (a : Accepted s 1 7 kind) (fs : Fields) → kindOf (typeOf (tree a)) ≡ ResolvedTypeKind.Union fs →
-      Builds s xs at vs ys (record { at = at; count = j; number = x .number }) (build-union-node (head (typeOf (tree a))) fs g)
-  unfolding build-union-node
-  union-refs-stop z a fs q = extend-stops (head (typeOf (tree a)) .dynamic-params) _ g (owners-kept g hd kp a) z
-
-  module _ {vs : List ℕ} {t : Tagged} (z : x .number ≡ 0) (tg : Tags s vs t (add-synthetic (held s (kind + 6)) (madePath 2) (madeParameter 2 (held s (kind + 6))) (entriesOf s us (x .count)))) where
-    pub union-tag-stops : {ys : List ℕ} {j : ℕ} → (t .number ≡ 0 → ⊥) → (a : Accepted s 1 7 kind) (fs : Fields) → kindOf (typeOf (tree a)) ≡ ResolvedTypeKind.Union fs →
-        Builds s xs at vs ys (record { at = at; count = j; number = t .number }) (build-union-node (head (typeOf (tree a))) fs g)
-    unfolding build-union-node madePath madeParameter
-    union-tag-stops y a fs q =
-        extend-goes (head (typeOf (tree a)) .dynamic-params) _ g (owners-kept g hd kp a) z (tag-stops _ _ (entriesOf s us (x .count)) (synthetic-tag 2 (entriesOf s us (x .count)) hd tg a) y)
-
-    pub union-done : {ys : List ℕ} {r : Built} {p : ListParts} → t .number ≡ 0 → le2 s (kind + 4) ≡ 3 → ((a : Accepted s 1 7 kind) → FieldsAt a p) →
-        ((a : Accepted s 1 7 kind) (l : Listed s 33 33 (p .count) (p .first)) → Builds s xs at vs ys r (build-switch (head (typeOf (tree a))) (entryName s (getD vs (t .at) 0)) (alternatives 33 0 (l .got .0)) (entriesOf s vs (t .count)))) →
-        (a : Accepted s 1 7 kind) (fs : Fields) → kindOf (typeOf (tree a)) ≡ ResolvedTypeKind.Union fs → Builds s xs at vs ys r (build-union-node (head (typeOf (tree a))) fs g)
-    unfolding build-union-node madePath madeParameter
-    union-done {ys} {r} y k lp sw a fs q =
-        extend-goes (head (typeOf (tree a)) .dynamic-params) _ g (owners-kept g hd kp a) z
-        (tag-goes _ _ (entriesOf s us (x .count)) (synthetic-tag 2 (entriesOf s us (x .count)) hd tg a) y
-        (subst (λ (l : List Alternative). Builds s xs at vs ys r (build-switch (head (typeOf (tree a))) (entryName s (getD vs (t .at) 0)) l (entriesOf s vs (t .count))))
-        (union-are 0 (lp a .list .got .0) ∙ ap (λ (w : Fields). union-alternatives 0 (fields w)) (sym (same-union q (lp a .union k)))) (sw a (lp a .list))))
-
--- ---- size-discriminated unions
-
+-- and two size-discriminated unions
 same-sized : {k : ResolvedTypeKind} {vs us : Variants} → k ≡ ResolvedTypeKind.SizeDiscriminatedUnion vs → k ≡ ResolvedTypeKind.SizeDiscriminatedUnion us → vs ≡ us
 same-sized p q = cc
 
+-- the tag of an enum, under the type's own name and by its own expression
+enum-tag : {s vs : List ℕ} {kind : ℕ} {h : TypeHead} {p : EnumParts} {t : Tagged} (g : Registry) → ((a : Accepted s 1 7 kind) → HeadAt a h) →
+    ((a : Accepted s 1 7 kind) → EnumAt a p) →
+    ((a : Accepted s 64 91 (p .tag)) → Tags s vs t (enum-tag-parameter (nameAt s (kind + 6)) (exprOf (tree a)) g)) →
+    (a : Accepted s 1 7 kind) (e : ExprKind) (vs′ : Variants) → kindOf (typeOf (tree a)) ≡ ResolvedTypeKind.Enum e vs′ →
+    Tags s vs t (enum-tag-parameter (head (typeOf (tree a)) .name) e g)
+enum-tag g hd ep tg a e vs′ q = rw (hd a .name, same-enum q (ep a .is) .0) (tg (ep a .tag))
+
+-- kind 3 is one of those that have a list of fields
+pub union-kind : {v : ℕ} → v ≡ 3 → (2 ≤ v) × (v ≤ 3)
+union-kind e = (omega arith, omega arith)
+
+-- a list of no variants is empty
 none-sized : {s : List ℕ} {count first : ℕ} (l : Listed s 35 35 count first) → count ≡ 0 → notEmpty (variantsIn (view thingOf (l .got .0))) ≡ false
 unfolding variantsIn view
 none-sized l e = rw (none-left l (omega arith)) refl
 
+-- one with a variant in front is not
 first-sized : (at : ℕ) (t u : Tree) → notEmpty (variantsIn (view thingOf (cons (block at 35 t) u))) ≡ true
 unfolding variantsIn view thingOf makeThing formOf
 first-sized at t u = refl
 
+-- so a list of some variants is not
 some-sized : {s : List ℕ} {count first : ℕ} (l : Listed s 35 35 count first) → (count ≡ 0 → ⊥) → notEmpty (variantsIn (view thingOf (l .got .0))) ≡ true
 some-sized {s} {first} l n =
     let b = block-entry l (omega arith) in
@@ -221,36 +196,116 @@ some-sized {s} {first} l n =
     let o = opened (b .child) (let k : le2 s (first + 4) ≡ 35 = omega (arith, w .least, w .most) in k) refl in
     rw (b .after .tree, o .tree) (first-sized first (o .parts .got .0) (b .after .rest .got .0))
 
-module _ {s xs us : List ℕ} {at kind : ℕ} {h : TypeHead} {x : Held} (g : Registry) (hd : (a : Accepted s 1 7 kind) → HeadAt a h) (kp : (a : Accepted s 32 32 (h .references)) → Kept s us x (extend-with (ownersOf (tree a)) g)) where
-  pub sized-refs-stop : {vs ys : List ℕ} {j : ℕ} → (x .number ≡ 0 → ⊥) → (a : Accepted s 1 7 kind) (vs′ : Variants) → kindOf (typeOf (tree a)) ≡ ResolvedTypeKind.SizeDiscriminatedUnion vs′ →
-      Builds s xs at vs ys (record { at = at; count = j; number = x .number }) (build-size-discriminated-union-node (head (typeOf (tree a))) vs′ g)
+-- a size-discriminated union with a count over 0 has variants
+not-empty : {s : List ℕ} {kind : ℕ} {p : ListParts} → ((a : Accepted s 1 7 kind) → SizedAt a p) → (p .count ≡ 0 → ⊥) → (a : Accepted s 1 7 kind)
+    {vs : Variants} → kindOf (typeOf (tree a)) ≡ ResolvedTypeKind.SizeDiscriminatedUnion vs → notEmpty vs ≡ true
+not-empty lp e a q = ap notEmpty (same-sized q (lp a .is)) ∙ some-sized (lp a .list) e
+
+-- the switch of the type at `kind`, over the list of its alternatives, by the tag t
+abbrev Switched : List ℕ → List ℕ → ℕ → ℕ → ℕ → ℕ → ℕ → Tagged → List ℕ → List ℕ → Built → Type 0
+Switched s xs at kind k count first t vs ys r = (a : Accepted s 1 7 kind) (l : Listed s k k count first) →
+    Builds s xs at vs ys r (build-switch (head (typeOf (tree a))) (entryName s (getD vs (t .at) 0)) (alternatives k 0 (l .got .0)) (entriesOf s vs (t .count)))
+
+-- what `build_enum_node`, `build_union_node` and `build_size_discriminated_union_node` leave, from the registry g on
+abbrev Enums : List ℕ → List ℕ → ℕ → ℕ → Registry → List ℕ → List ℕ → Built → Type 0
+Enums s xs at kind g vs ys r = (a : Accepted s 1 7 kind) (e : ExprKind) (vs′ : Variants) → kindOf (typeOf (tree a)) ≡ ResolvedTypeKind.Enum e vs′ →
+    Builds s xs at vs ys r (build-enum-node (head (typeOf (tree a))) e vs′ g)
+
+-- the second of them
+abbrev Unions : List ℕ → List ℕ → ℕ → ℕ → Registry → List ℕ → List ℕ → Built → Type 0
+Unions s xs at kind g vs ys r = (a : Accepted s 1 7 kind) (fs : Fields) → kindOf (typeOf (tree a)) ≡ ResolvedTypeKind.Union fs →
+    Builds s xs at vs ys r (build-union-node (head (typeOf (tree a))) fs g)
+
+-- the third
+abbrev SizedUnions : List ℕ → List ℕ → ℕ → ℕ → Registry → List ℕ → List ℕ → Built → Type 0
+SizedUnions s xs at kind g vs ys r = (a : Accepted s 1 7 kind) (vs′ : Variants) → kindOf (typeOf (tree a)) ≡ ResolvedTypeKind.SizeDiscriminatedUnion vs′ →
+    Builds s xs at vs ys r (build-size-discriminated-union-node (head (typeOf (tree a))) vs′ g)
+
+module _ {s xs us : List ℕ} {at kind : ℕ} {h : TypeHead} {x : Held} (g : Registry) (hd : (a : Accepted s 1 7 kind) → HeadAt a h)
+    (kp : (a : Accepted s 32 32 (h .references)) → Kept s us x (extend-with (ownersOf (tree a)) g)) where
+  -- refused references end the building of each of the three
+  refs-stop : {vs ys : List ℕ} {j : ℕ} (k : Unit → Build IrNode) → (x .number ≡ 0 → ⊥) → (a : Accepted s 1 7 kind) →
+      Builds s xs at vs ys (record { at = at; count = j; number = x .number }) ((extend-with (head (typeOf (tree a)) .dynamic-params) >>= k) g)
+  refs-stop k z a =
+      let d = kept-refused z (owners-kept g hd kp a) in
+      rw (step-refused (extend-with (head (typeOf (tree a)) .dynamic-params)) k g (d .1)) (Builds.not (x .number) refl (d .0))
+
+  -- of an enum
+  pub enum-refs-stop : {vs ys : List ℕ} {j : ℕ} → (x .number ≡ 0 → ⊥) → Enums s xs at kind g vs ys (record { at = at; count = j; number = x .number })
+  unfolding build-enum-node
+  enum-refs-stop z a e vs′ q = refs-stop _ z a
+
+  -- of a union
+  pub union-refs-stop : {vs ys : List ℕ} {j : ℕ} → (x .number ≡ 0 → ⊥) → Unions s xs at kind g vs ys (record { at = at; count = j; number = x .number })
+  unfolding build-union-node
+  union-refs-stop z a fs q = refs-stop _ z a
+
+  -- of a size-discriminated union
+  pub sized-refs-stop : {vs ys : List ℕ} {j : ℕ} → (x .number ≡ 0 → ⊥) → SizedUnions s xs at kind g vs ys (record { at = at; count = j; number = x .number })
   unfolding build-size-discriminated-union-node
-  sized-refs-stop z a vs′ q = extend-stops (head (typeOf (tree a)) .dynamic-params) _ g (owners-kept g hd kp a) z
+  sized-refs-stop z a vs′ q = refs-stop _ z a
 
-  module _ {p : ListParts} (z : x .number ≡ 0) (lp : (a : Accepted s 1 7 kind) → SizedAt a p) where
-    pub sized-none : {vs ys : List ℕ} {j : ℕ} → p .count ≡ 0 → (a : Accepted s 1 7 kind) (vs′ : Variants) → kindOf (typeOf (tree a)) ≡ ResolvedTypeKind.SizeDiscriminatedUnion vs′ →
-        Builds s xs at vs ys (record { at = at; count = j; number = 10 }) (build-size-discriminated-union-node (head (typeOf (tree a))) vs′ g)
-    unfolding build-size-discriminated-union-node
-    sized-none e a vs′ q =
-        extend-goes (head (typeOf (tree a)) .dynamic-params) _ g (owners-kept g hd kp a) z
-        (rw (require-no {b = notEmpty vs′} UnsupportedSize _ (entriesOf s us (x .count)) (ap notEmpty (same-sized q (lp a .is)) ∙ none-sized (lp a .list) e)) (Builds.not 10 refl (omega arith)))
+  module _ (z : x .number ≡ 0) where
+    -- with the references entered the building goes on
+    refs-go : {vs ys : List ℕ} {r : Built} (k : Unit → Build IrNode) (a : Accepted s 1 7 kind) → Builds s xs at vs ys r (k tt (entriesOf s us (x .count))) →
+        Builds s xs at vs ys r ((extend-with (head (typeOf (tree a)) .dynamic-params) >>= k) g)
+    refs-go k a b = rw (step-done (extend-with (head (typeOf (tree a)) .dynamic-params)) k g (kept-done z (owners-kept g hd kp a))) b
 
-    module _ {vs : List ℕ} {t : Tagged} (e : p .count ≡ 0 → ⊥) (tg : Tags s vs t (add-synthetic (held s (kind + 6)) (madePath 3) (madeParameter 3 (held s (kind + 6))) (entriesOf s us (x .count)))) where
-      pub sized-tag-stops : {ys : List ℕ} {j : ℕ} → (t .number ≡ 0 → ⊥) → (a : Accepted s 1 7 kind) (vs′ : Variants) → kindOf (typeOf (tree a)) ≡ ResolvedTypeKind.SizeDiscriminatedUnion vs′ →
-          Builds s xs at vs ys (record { at = at; count = j; number = t .number }) (build-size-discriminated-union-node (head (typeOf (tree a))) vs′ g)
-      unfolding build-size-discriminated-union-node madePath madeParameter
-      sized-tag-stops y a vs′ q =
-          extend-goes (head (typeOf (tree a)) .dynamic-params) _ g (owners-kept g hd kp a) z
-          (rw (require-yes {b = notEmpty vs′} UnsupportedSize _ (entriesOf s us (x .count)) (ap notEmpty (same-sized q (lp a .is)) ∙ some-sized (lp a .list) e))
-          (tag-stops _ _ (entriesOf s us (x .count)) (synthetic-tag 3 (entriesOf s us (x .count)) hd tg a) y))
+    module _ {vs : List ℕ} {p : EnumParts} {t : Tagged} (ep : (a : Accepted s 1 7 kind) → EnumAt a p)
+        (tg : (a : Accepted s 64 91 (p .tag)) → Tags s vs t (enum-tag-parameter (nameAt s (kind + 6)) (exprOf (tree a)) (entriesOf s us (x .count)))) where
+      -- the tag of an enum was refused
+      pub enum-tag-stops : {ys : List ℕ} {j : ℕ} → (t .number ≡ 0 → ⊥) → Enums s xs at kind g vs ys (record { at = at; count = j; number = t .number })
+      unfolding build-enum-node
+      enum-tag-stops y a e vs′ q = refs-go _ a (tag-stops (enum-tag-parameter (head (typeOf (tree a)) .name) e) _ _ (enum-tag _ hd ep tg a e vs′ q) y)
 
-      pub sized-done : {ys : List ℕ} {r : Built} → t .number ≡ 0 →
-          ((a : Accepted s 1 7 kind) (l : Listed s 35 35 (p .count) (p .first)) → Builds s xs at vs ys r (build-switch (head (typeOf (tree a))) (entryName s (getD vs (t .at) 0)) (alternatives 35 0 (l .got .0)) (entriesOf s vs (t .count)))) →
-          (a : Accepted s 1 7 kind) (vs′ : Variants) → kindOf (typeOf (tree a)) ≡ ResolvedTypeKind.SizeDiscriminatedUnion vs′ → Builds s xs at vs ys r (build-size-discriminated-union-node (head (typeOf (tree a))) vs′ g)
-      unfolding build-size-discriminated-union-node madePath madeParameter
-      sized-done {ys} {r} y sw a vs′ q =
-          extend-goes (head (typeOf (tree a)) .dynamic-params) _ g (owners-kept g hd kp a) z
-          (rw (require-yes {b = notEmpty vs′} UnsupportedSize _ (entriesOf s us (x .count)) (ap notEmpty (same-sized q (lp a .is)) ∙ some-sized (lp a .list) e))
-          (tag-goes _ _ (entriesOf s us (x .count)) (synthetic-tag 3 (entriesOf s us (x .count)) hd tg a) y
-          (subst (λ (l : List Alternative). Builds s xs at vs ys r (build-switch (head (typeOf (tree a))) (entryName s (getD vs (t .at) 0)) l (entriesOf s vs (t .count))))
-          (sized-are 0 (lp a .list .got .0) ∙ ap (λ (w : Variants). sized-alternatives (variants w)) (sym (same-sized q (lp a .is)))) (sw a (lp a .list)))))
+      -- the enum is the switch over its variants
+      pub enum-done : {ys : List ℕ} {r : Built} → t .number ≡ 0 → Switched s xs at kind 34 (p .count) (p .first) t vs ys r → Enums s xs at kind g vs ys r
+      unfolding build-enum-node
+      enum-done y sw a e vs′ q =
+          refs-go _ a
+          (tag-goes (enum-tag-parameter (head (typeOf (tree a)) .name) e) _ _ (enum-tag _ hd ep tg a e vs′ q) y
+          (rw (same-enum q (ep a .is) .1, ← enum-are 0 (ep a .list .got .0)) (sw a (ep a .list))))
+
+    module _ {vs : List ℕ} {t : Tagged}
+        (tg : Tags s vs t (add-synthetic (held s (kind + 6)) (madePath 2) (madeParameter 2 (held s (kind + 6))) (entriesOf s us (x .count)))) where
+      -- the tag of a union was refused
+      pub union-tag-stops : {ys : List ℕ} {j : ℕ} → (t .number ≡ 0 → ⊥) → Unions s xs at kind g vs ys (record { at = at; count = j; number = t .number })
+      unfolding build-union-node madePath madeParameter
+      union-tag-stops y a fs q = refs-go _ a (tag-stops _ _ _ (synthetic-tag 2 _ hd tg a) y)
+
+      -- the union is the switch over its fields
+      pub union-done : {ys : List ℕ} {r : Built} {p : ListParts} → t .number ≡ 0 → le2 s (kind + 4) ≡ 3 → ((a : Accepted s 1 7 kind) → FieldsAt a p) →
+          Switched s xs at kind 33 (p .count) (p .first) t vs ys r → Unions s xs at kind g vs ys r
+      unfolding build-union-node madePath madeParameter
+      union-done y k lp sw a fs q =
+          refs-go _ a
+          (tag-goes _ _ _ (synthetic-tag 2 _ hd tg a) y
+          (rw (same-union q (lp a .union k), ← union-are 0 (lp a .list .got .0)) (sw a (lp a .list))))
+
+    module _ {p : ListParts} (lp : (a : Accepted s 1 7 kind) → SizedAt a p) where
+      -- a size-discriminated union of no variants is refused
+      pub sized-none : {vs ys : List ℕ} {j : ℕ} → p .count ≡ 0 → SizedUnions s xs at kind g vs ys (record { at = at; count = j; number = 10 })
+      unfolding build-size-discriminated-union-node
+      sized-none e a vs′ q =
+          refs-go _ a
+          (rw (require-no {b = notEmpty vs′} UnsupportedSize _ (entriesOf s us (x .count)) (ap notEmpty (same-sized q (lp a .is)) ∙ none-sized (lp a .list) e))
+          (Builds.not 10 refl (omega arith)))
+
+      module _ {vs : List ℕ} {t : Tagged} (e : p .count ≡ 0 → ⊥)
+          (tg : Tags s vs t (add-synthetic (held s (kind + 6)) (madePath 3) (madeParameter 3 (held s (kind + 6))) (entriesOf s us (x .count)))) where
+        -- its tag was refused
+        pub sized-tag-stops : {ys : List ℕ} {j : ℕ} → (t .number ≡ 0 → ⊥) → SizedUnions s xs at kind g vs ys (record { at = at; count = j; number = t .number })
+        unfolding build-size-discriminated-union-node madePath madeParameter
+        sized-tag-stops y a vs′ q =
+            refs-go _ a
+            (rw (require-yes {b = notEmpty vs′} UnsupportedSize _ (entriesOf s us (x .count)) (not-empty lp e a q))
+            (tag-stops _ _ _ (synthetic-tag 3 _ hd tg a) y))
+
+        -- it is the switch over its variants
+        pub sized-done : {ys : List ℕ} {r : Built} → t .number ≡ 0 → Switched s xs at kind 35 (p .count) (p .first) t vs ys r → SizedUnions s xs at kind g vs ys r
+        unfolding build-size-discriminated-union-node madePath madeParameter
+        sized-done y sw a vs′ q =
+            refs-go _ a
+            (rw (require-yes {b = notEmpty vs′} UnsupportedSize _ (entriesOf s us (x .count)) (not-empty lp e a q))
+            (tag-goes _ _ _ (synthetic-tag 3 _ hd tg a) y
+            (rw (same-sized q (lp a .is), ← sized-are 0 (lp a .list .got .0)) (sw a (lp a .list)))))

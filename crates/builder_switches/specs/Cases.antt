@@ -89,7 +89,7 @@ pub record Listed-cases (s ws : List ℕ) (n references k count first at : ℕ) 
   pub references-at : Accepted s 32 32 references
   pub kind : Kind k
   pub list : Listed s k k count first
-  pub few : count ≤ 64
+  pub most : count ≤ 64
   pub cursor : at < 2 ^ 56 + 1000
 
 -- a type with such a list, and the entry that names its tag
@@ -99,5 +99,5 @@ pub record Switching (s ws : List ℕ) (n type entry k count first at : ℕ) : T
   pub within : entry < n
   pub kind : Kind k
   pub list : Listed s k k count first
-  pub few : count ≤ 64
+  pub most : count ≤ 64
   pub cursor : at < 2 ^ 56

@@ -87,7 +87,7 @@ put-switch-requires c κs =
           (at-enum-parts .enum-parts .ensures (at-start .pre .type-at) .tag));
       kind = record { low = omega arith; high = omega arith };
       list = at-enum-parts .enum-parts .ensures (at-start .pre .type-at) .list;
-      few = at-enum-parts .enum-parts .ensures (at-start .pre .type-at) .few;
+      most = at-enum-parts .enum-parts .ensures (at-start .pre .type-at) .few;
       cursor = at-start .pre .cursor;
     }
 

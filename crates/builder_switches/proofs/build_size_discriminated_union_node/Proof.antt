@@ -116,7 +116,7 @@ put-switch-requires c κs =
       within = tag-in (at-else3 .if3 .left) (at-add-synthetic .add-synthetic .ensures .1);
       kind = record { low = omega arith; high = omega arith };
       list = at-sized-list .sized-list .ensures (at-start .pre .type-at) .list;
-      few = at-sized-list .sized-list .ensures (at-start .pre .type-at) .few;
+      most = at-sized-list .sized-list .ensures (at-start .pre .type-at) .few;
       cursor = at-start .pre .cursor;
     }
 

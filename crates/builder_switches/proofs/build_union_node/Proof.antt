@@ -103,7 +103,7 @@ put-switch-requires c κs = record {
   list = c .before .before .field-list .ensures
       (c .before .before .before .before .before .before .before .before .before .before .before
       .before .before .before .before .before .before .before .before .pre .type-at) .list;
-  few = c .before .before .field-list .ensures
+  most = c .before .before .field-list .ensures
       (c .before .before .before .before .before .before .before .before .before .before .before
       .before .before .before .before .before .before .before .before .pre .type-at) .few;
   cursor = c .before .before .before .before .before .before .before .before .before .before .before

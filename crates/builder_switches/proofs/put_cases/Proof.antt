@@ -39,7 +39,7 @@ put-case-requires c κs =
       cursor = omega (
         arith,
         at-start .pre .cursor,
-        at-start .pre .few,
+        at-start .pre .most,
         at-loop .loop .inv .high,
         c .before .loop-test .taken,
       );

@@ -73,7 +73,7 @@ put-cases-requires c κs =
           (at-start at-put-le .pre .type-at) .references;
       kind = at-start at-put-le .pre .kind;
       list = at-start at-put-le .pre .list;
-      few = at-start at-put-le .pre .few;
+      most = at-start at-put-le .pre .most;
       cursor = omega (
         arith,
         at-start at-put-le .pre .cursor,
@@ -107,7 +107,7 @@ put-flag-requires c κs =
     omega (
       arith,
       at-start at-put-le .pre .cursor,
-      at-start at-put-le .pre .few,
+      at-start at-put-le .pre .most,
       at-open-node at-put-le .open-node .ensures .1,
       at-put-entry-name at-put-le .put-entry-name .ensures .1 .1,
       at-put-le .put-le .ensures .1,
@@ -130,7 +130,7 @@ close-block-requires c κs =
       omega (
         arith,
         at-start at-put-le .pre .cursor,
-        at-start at-put-le .pre .few,
+        at-start at-put-le .pre .most,
         at-open-node at-put-le .open-node .ensures .1,
         at-put-entry-name at-put-le .put-entry-name .ensures .1 .1,
         at-put-le .put-le .ensures .1,
@@ -177,7 +177,7 @@ returns-2 c =
           ))
           (omega (
             arith,
-            at-start .pre .few,
+            at-start .pre .most,
             at-open-node .open-node .ensures .1,
             at-put-entry-name .put-entry-name .ensures .1 .1,
             at-put-le .put-le .ensures .1,
