@@ -329,8 +329,27 @@ below-60 at h = omega arith
 pub behind : {at p room more : ℕ} {r : Built} (d : ℕ) → p ≡ at + d → d + room ≤ more → Within p room r → Within at more r
 behind d e h w = record { low = omega (arith, w .low); high = omega (arith, w .high); count = w .count }
 
+-- a cursor behind what was built
 pub ends-at : {at r more n no : ℕ} → at ≤ r → r ≤ at + more → n ≤ 512 → Within at more (record { at = r; count = n; number = no })
 ends-at l h c = record { low = l; high = h; count = c }
+
+-- where a block ends that begins at `at`: behind its length, and within some room
+pub record Ends (at room u : ℕ) : Type 0 where
+  pub low : at + 4 ≤ u
+  pub high : u ≤ at + room
+
+-- a block that ends so was built within that room
+pub ended-at : {at room u n no : ℕ} → Ends at room u → n ≤ 512 → Within at room (record { at = u; count = n; number = no })
+ended-at e h = ends-at (omega arith) (omega arith) h
+
+-- a case: the head of its block, its tag, its node and its parameters
+pub case-ends : {at b p u : ℕ} {r : Built} → b ≡ at + 6 → p ≡ b + 8 → Within p 131095 r → (r .at ≤ u) × (u ≤ r .at + 400000) → Ends at 540000 u
+case-ends eb ep w h = record { low = omega (arith, w .low, h .0); high = omega (arith, w .high, h .1) }
+
+-- a switch: the head of its node, the name of its tag, the count of its cases, the cases, and the flag that there is no default
+pub switch-ends : {at b c d u count : ℕ} {r : Built} → b ≡ at + 15 → (b ≤ c) × (c ≤ b + 513) → d ≡ c + 2 → count ≤ 64 → Within d (540000 * count) r →
+    u ≡ r .at + 1 → Ends at (2 ^ 27) u
+switch-ends eb h ed l w eu = record { low = omega (arith, h .0, w .low); high = omega (arith, h .1, w .high) }
 
 -- ---- all the cases
 

@@ -1,4 +1,4 @@
--- `builder_switches::alternative` meets its contract. Assumes nothing.
+-- `alternative`: by the kind of the list, 33, 34 or 35, the laws `alt-..` say which tag, size and alignment the definition reads from the block.
 use borrow.Author.Needs.{needs}
 use native.Mathlib.Omega.{arith}
 use Rattle.builder_switches.proofs.Cases.{at-kind, not-union, alt-union, alt-enum, alt-sized}

@@ -1,9 +1,11 @@
--- `builder_switches::build_enum_node` meets its contract. Assumes nothing.
+-- `build_enum_node`: the references of the type are entered, its tag is found or made, and the switch over its variants is written. Each return has its
+-- law: the references were refused, the tag was, or the switch decides.
 use borrow.Author.Needs.{needs}
 use native.Mathlib.Omega.{arith}
+use mathlib.Core.Path.{_∙_}
 use Rattle.builder_registry.proofs.Laws.{standing}
 use Rattle.builder_sums.proofs.Sums.{stopped}
-use Rattle.builder_switches.proofs.Switch.{tag-in, enum-refs-stop, enum-tag-stops, enum-done}
+use Rattle.builder_switches.proofs.Switch.{switching, tag-in, enum-refs-stop, enum-tag-stops, enum-done}
 use Rattle.builder_switches.proofs.build_enum_node.Statement.{statement}
 use Rattle.builder_switches.proofs.build_enum_node.Tie as tie
 
@@ -75,21 +77,17 @@ put-switch-requires c κs =
     let at-else2 = c .before .before in
     let at-enum-tag-parameter = at-else2 .before .before .before .before in
     let at-enum-parts = at-enum-tag-parameter .before .before in
-    let at-start = at-enum-parts .before .before .before .before .before .before .before .before .before .before .before in record {
-      standing = standing
-          (at-start .pre .standing)
-          (omega arith)
-          (at-enum-tag-parameter .enum-tag-parameter .ensures .0);
-      type-at = at-start .pre .type-at;
-      within = tag-in
-          (at-else2 .if2 .left)
-          (at-enum-tag-parameter .enum-tag-parameter .ensures .1
-          (at-enum-parts .enum-parts .ensures (at-start .pre .type-at) .tag));
-      kind = record { low = omega arith; high = omega arith };
-      list = at-enum-parts .enum-parts .ensures (at-start .pre .type-at) .list;
-      most = at-enum-parts .enum-parts .ensures (at-start .pre .type-at) .few;
-      cursor = at-start .pre .cursor;
-    }
+    let at-extend-with = at-enum-parts .before .before .before .before .before in
+    let parts = at-enum-parts .enum-parts .ensures (at-start at-extend-with .pre .type-at) in
+    switching
+    (at-start at-extend-with .pre)
+    (at-enum-tag-parameter .enum-tag-parameter .kept .1 .0 ∙ at-extend-with .extend-with .kept .1 .0)
+    (at-enum-tag-parameter .enum-tag-parameter .ensures .0)
+    (tag-in (at-else2 .if2 .left) (at-enum-tag-parameter .enum-tag-parameter .ensures .1 (parts .tag)))
+    (omega arith)
+    (omega arith)
+    (parts .list)
+    (parts .few)
 
 same-length-3 : tie.Need-same-length-3
 same-length-3 c = search needs

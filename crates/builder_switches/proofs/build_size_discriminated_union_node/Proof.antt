@@ -1,9 +1,11 @@
--- `builder_switches::build_size_discriminated_union_node` meets its contract. Assumes nothing.
+-- `build_size_discriminated_union_node`: the references of the type are entered, no variant is refused (10), a tag is made under its name, and the switch
+-- over its variants is written. Each return has its law: the references were refused, there is no variant, the tag was refused, or the switch decides.
 use borrow.Author.Needs.{needs}
 use native.Mathlib.Omega.{arith}
+use mathlib.Core.Path.{_∙_}
 use Rattle.builder_registry.proofs.Laws.{standing}
 use Rattle.builder_sums.proofs.Sums.{stopped}
-use Rattle.builder_switches.proofs.Switch.{tag-in, sized-refs-stop, sized-none, sized-tag-stops, sized-done}
+use Rattle.builder_switches.proofs.Switch.{switching, tag-in, sized-refs-stop, sized-none, sized-tag-stops, sized-done}
 use Rattle.builder_switches.proofs.build_size_discriminated_union_node.Statement.{statement}
 use Rattle.builder_switches.proofs.build_size_discriminated_union_node.Tie as tie
 
@@ -107,18 +109,17 @@ put-switch-requires c κs =
     let at-else3 = c .before .before in
     let at-add-synthetic = at-else3 .before .before .before .before in
     let at-sized-list = at-add-synthetic .before .before .before .before in
-    let at-start = at-sized-list .before .before .before .before .before .before .before .before .before .before .before in record {
-      standing = standing
-          (at-start .pre .standing)
-          (omega arith)
-          (at-add-synthetic .add-synthetic .ensures .0);
-      type-at = at-start .pre .type-at;
-      within = tag-in (at-else3 .if3 .left) (at-add-synthetic .add-synthetic .ensures .1);
-      kind = record { low = omega arith; high = omega arith };
-      list = at-sized-list .sized-list .ensures (at-start .pre .type-at) .list;
-      most = at-sized-list .sized-list .ensures (at-start .pre .type-at) .few;
-      cursor = at-start .pre .cursor;
-    }
+    let at-else1 = at-sized-list .before in
+    let variants = at-sized-list .sized-list .ensures (at-start at-else1 .pre .type-at) in
+    switching
+    (at-start at-else1 .pre)
+    (at-add-synthetic .add-synthetic .kept .1 .0 ∙ at-extend-with at-else1 .extend-with .kept .1 .0)
+    (at-add-synthetic .add-synthetic .ensures .0)
+    (tag-in (at-else3 .if3 .left) (at-add-synthetic .add-synthetic .ensures .1))
+    (omega arith)
+    (omega arith)
+    (variants .list)
+    (variants .few)
 
 same-length-4 : tie.Need-same-length-4
 same-length-4 c = search needs

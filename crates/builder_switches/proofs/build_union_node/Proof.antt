@@ -1,9 +1,11 @@
--- `builder_switches::build_union_node` meets its contract. Assumes nothing.
+-- `build_union_node`: the references of the type are entered, a tag is made under its name, and the switch over its fields is written. Each return has its
+-- law: the references were refused, the tag was, or the switch decides.
 use borrow.Author.Needs.{needs}
 use native.Mathlib.Omega.{arith}
+use mathlib.Core.Path.{_∙_}
 use Rattle.builder_registry.proofs.Laws.{standing}
 use Rattle.builder_sums.proofs.Sums.{stopped}
-use Rattle.builder_switches.proofs.Switch.{tag-in, union-kind, union-refs-stop, union-tag-stops, union-done}
+use Rattle.builder_switches.proofs.Switch.{switching, tag-in, union-kind, union-refs-stop, union-tag-stops, union-done}
 use Rattle.builder_switches.proofs.build_union_node.Statement.{statement}
 use Rattle.builder_switches.proofs.build_union_node.Tie as tie
 
@@ -86,29 +88,22 @@ field-list-requires c κs =
       at-start at-extend-with .pre .standing,
     )
 
--- Its paths stay: with names in their place the check refuses it.
 put-switch-requires : tie.Need-put-switch-requires
-put-switch-requires c κs = record {
-  standing = standing
-      (c .before .before .before .before .before .before .before .before .before .before .before
-      .before .before .before .before .before .before .before .before .pre .standing)
-      (omega arith)
-      (c .before .before .before .before .before .before .before .add-synthetic .ensures .0);
-  type-at = c .before .before .before .before .before .before .before .before .before .before
-      .before .before .before .before .before .before .before .before .before .pre .type-at;
-  within = tag-in
-      (c .before .before .before .if2 .left)
-      (c .before .before .before .before .before .before .before .add-synthetic .ensures .1);
-  kind = record { low = omega arith; high = omega arith };
-  list = c .before .before .field-list .ensures
-      (c .before .before .before .before .before .before .before .before .before .before .before
-      .before .before .before .before .before .before .before .before .pre .type-at) .list;
-  most = c .before .before .field-list .ensures
-      (c .before .before .before .before .before .before .before .before .before .before .before
-      .before .before .before .before .before .before .before .before .pre .type-at) .few;
-  cursor = c .before .before .before .before .before .before .before .before .before .before .before
-      .before .before .before .before .before .before .before .before .pre .cursor;
-}
+put-switch-requires c κs =
+    let at-field-list = c .before .before in
+    let at-else2 = at-field-list .before in
+    let at-add-synthetic = at-else2 .before .before .before .before in
+    let at-extend-with = at-add-synthetic .before .before .before .before .before .before in
+    let fields = at-field-list .field-list .ensures (at-start at-extend-with .pre .type-at) in
+    switching
+    (at-start at-extend-with .pre)
+    (at-add-synthetic .add-synthetic .kept .1 .0 ∙ at-extend-with .extend-with .kept .1 .0)
+    (at-add-synthetic .add-synthetic .ensures .0)
+    (tag-in (at-else2 .if2 .left) (at-add-synthetic .add-synthetic .ensures .1))
+    (omega arith)
+    (omega arith)
+    (fields .list)
+    (fields .few)
 
 same-length-3 : tie.Need-same-length-3
 same-length-3 c = search needs

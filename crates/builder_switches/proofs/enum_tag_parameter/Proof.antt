@@ -1,4 +1,5 @@
--- `builder_switches::enum_tag_parameter` meets its contract. Assumes nothing.
+-- `enum_tag_parameter`: the tag of a field reference is its entry, or the refusal is 12; of any other expression the references are marked and a tag is
+-- made. `tag-known`, `tag-unknown` and `tag-made` are the three returns.
 use borrow.Author.Needs.{needs}
 use native.Mathlib.Omega.{arith}
 use mathlib.Core.Path.{sym, _∙_}

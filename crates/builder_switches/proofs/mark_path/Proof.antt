@@ -1,4 +1,5 @@
--- `builder_switches::mark_path` meets its contract. Assumes nothing.
+-- `mark_path`: a path without a segment marks nothing; one of over 511 bytes is no entry's, so the definition marks nothing either (`mark-long`); any other is
+-- joined in a buffer and marked.
 use borrow.Author.Needs.{needs}
 use native.Mathlib.Omega.{arith}
 use mathlib.Core.Path.{refl}

@@ -1,11 +1,12 @@
--- `builder_switches::put_case` meets its contract. Assumes nothing.
+-- `put_case`: a block 163 with the tag of the alternative, its node and the parameters of its name, and the length patched in. The laws `case-stops` and
+-- `case-done` say that this is the definition's case; `ends` bounds the cursor.
 use borrow.Author.Needs.{needs}
 use native.Mathlib.Omega.{arith}
 use mathlib.Core.Path.{refl}
 use Rattle.builder_registry.proofs.Laws.{standing}
 use Rattle.builder_sums.proofs.Sums.{stopped}
 use Rattle.builder_switches.proofs.Marks.{block-in}
-use Rattle.builder_switches.proofs.Cases.{ends-at, case-stops, case-done}
+use Rattle.builder_switches.proofs.Cases.{Ends, ended-at, case-ends, case-stops, case-done}
 use Rattle.builder_switches.proofs.put_case.Statement.{statement}
 use Rattle.builder_switches.proofs.put_case.Tie as tie
 
@@ -21,6 +22,21 @@ at-alternative r = at-open-block r .before .before
 
 abbrev at-start : tie.After-put-le → tie.Start
 at-start r = at-alternative r .before .before .before .before
+
+abbrev at-put-node : tie.After-put-owner-parameters → tie.After-put-node
+at-put-node r = r .before .before .before .before .before .before .before
+
+abbrev at-put-le : tie.After-put-owner-parameters → tie.After-put-le
+at-put-le r = at-put-node r .before .before .before .before
+
+-- where the case ends
+ends : (r : tie.After-put-owner-parameters) → Ends (at-start (at-put-le r) .args .at) 540000 (r .put-owner-parameters .result)
+ends r =
+    case-ends
+    (at-open-block (at-put-le r) .open-block .ensures .1)
+    (at-put-le r .put-le .ensures .1)
+    (at-put-node r .put-node .ensures .0)
+    (r .put-owner-parameters .ensures .1)
 
 open-block-requires : tie.Need-open-block-requires
 open-block-requires c κs =
@@ -69,8 +85,7 @@ returns c =
 
 add-name-at : tie.Need-add-name-at
 add-name-at c =
-    let at-start = c .before .before .before .before .before .before .before .before .before .before
-    .before .before .before .before .before .before .before .before in
+    let at-start = c .before .before .before .before .before .before .before .before .before .before .before .before .before .before .before .before .before .before in
     omega (arith, block-in (at-start .pre .block))
 
 name-at-requires : tie.Need-name-at-requires
@@ -98,24 +113,9 @@ put-owner-parameters-requires c κs =
 
 close-block-requires : tie.Need-close-block-requires
 close-block-requires c κs =
-    let at-put-owner-parameters = c .before .before .before in
-    let at-put-node = at-put-owner-parameters .before .before .before .before .before .before .before in
-    let at-put-le = at-put-node .before .before .before .before in (
-      omega (
-        arith,
-        at-open-block at-put-le .open-block .ensures .1,
-        at-put-le .put-le .ensures .1,
-        at-put-node .put-node .ensures .0 .low,
-        at-put-owner-parameters .put-owner-parameters .ensures .1 .0,
-      ),
-      omega (
-        arith,
-        at-start at-put-le .pre .cursor,
-        at-open-block at-put-le .open-block .ensures .1,
-        at-put-le .put-le .ensures .1,
-        at-put-node .put-node .ensures .0 .high,
-        at-put-owner-parameters .put-owner-parameters .ensures .1 .1,
-      ),
+    let at-put-owner-parameters = c .before .before .before in (
+      ends at-put-owner-parameters .low,
+      omega (arith, ends at-put-owner-parameters .high, at-start (at-put-le at-put-owner-parameters) .pre .cursor),
     )
 
 same-length-2 : tie.Need-same-length-2
@@ -126,33 +126,14 @@ returns-2 c =
     let at-close-block = c .before .before in
     let at-put-owner-parameters = at-close-block .before .before .before .before in
     let at-name-at = at-put-owner-parameters .before .before in
-    let at-else1 = at-name-at .before in
-    let at-put-node = at-else1 .before .before .before .before in
-    let at-put-le = at-put-node .before .before .before .before in
-    let at-open-block = at-put-le .before .before .before .before in
-    let at-alternative = at-open-block .before .before in (
-      ends-at
-          (omega (
-            arith,
-            at-open-block .open-block .ensures .1,
-            at-put-le .put-le .ensures .1,
-            at-put-node .put-node .ensures .0 .low,
-            at-put-owner-parameters .put-owner-parameters .ensures .1 .0,
-          ))
-          (omega (
-            arith,
-            at-open-block .open-block .ensures .1,
-            at-put-le .put-le .ensures .1,
-            at-put-node .put-node .ensures .0 .high,
-            at-put-owner-parameters .put-owner-parameters .ensures .1 .1,
-          ))
-          (at-put-node .put-node .ensures .0 .count),
+    let put-le = at-put-le at-put-owner-parameters in (
+      ended-at (ends at-put-owner-parameters) (at-put-node at-put-owner-parameters .put-node .ensures .0 .count),
       λ d a. case-done _
-          (at-alternative .alternative .ensures)
-          (at-open-block .open-block .ensures .0)
-          (at-put-le .put-le .ensures .0)
-          (at-put-node .put-node .ensures .1)
-          (at-else1 .if1 .left)
+          (at-alternative put-le .alternative .ensures)
+          (at-open-block put-le .open-block .ensures .0)
+          (put-le .put-le .ensures .0)
+          (at-put-node at-put-owner-parameters .put-node .ensures .1)
+          (at-name-at .before .if1 .left)
           (at-name-at .name-at .ensures)
           (at-put-owner-parameters .put-owner-parameters .ensures .0)
           (at-close-block .close-block .ensures .0) d a,

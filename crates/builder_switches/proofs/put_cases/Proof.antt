@@ -1,4 +1,5 @@
--- `builder_switches::put_cases` meets its contract. The loop's invariant: whatever writes the cases that are left makes the whole. Assumes nothing.
+-- `put_cases`: one pass over the alternatives. The loop's invariant (`Written`): whatever writes the cases that are left makes the whole; the cursor moved by
+-- at most 540000 a case.
 use borrow.Author.Needs.{needs}
 use native.Mathlib.Omega.{arith}
 use mathlib.Core.Path.{refl}

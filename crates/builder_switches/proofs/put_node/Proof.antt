@@ -1,4 +1,5 @@
--- `builder_switches::put_node` meets its contract. Assumes nothing.
+-- `put_node`: an alternative of constant size is a constant; one of variable size is the sum of the references of its name, aligned. Where the name has no
+-- references the refusal is 11; a refusal of the sum is the node's.
 use borrow.Author.Needs.{needs}
 use native.Mathlib.Omega.{arith}
 use Rattle.builder_sums.proofs.Sums.{stopped}

@@ -1,8 +1,10 @@
--- `builder_switches::put_switch` meets its contract. Assumes nothing.
+-- `put_switch`: the head of a node 132, the name of the entry that holds the tag, the count of the cases, the cases, the flag that there is no default, and
+-- the length patched in. The laws `switch-stops` and `switch-done` say that this is the switch of the definition; `ends` bounds the cursor.
 use borrow.Author.Needs.{needs}
 use native.Mathlib.Omega.{arith}
+use Prim.Native.Nat.{_^_}
 use Rattle.builder_sums.proofs.Sums.{stopped}
-use Rattle.builder_switches.proofs.Cases.{ends-at, start-60, tag-59}
+use Rattle.builder_switches.proofs.Cases.{Ends, ended-at, switch-ends, start-60, tag-59}
 use Rattle.builder_switches.proofs.Switch.{switch-stops, switch-done}
 use Rattle.builder_switches.proofs.put_switch.Statement.{statement}
 use Rattle.builder_switches.proofs.put_switch.Tie as tie
@@ -22,6 +24,12 @@ at-type-head r = at-open-node r .before .before
 
 abbrev at-start : tie.After-put-le → tie.Start
 at-start r = at-type-head r .before .before .before .before
+
+abbrev at-put-cases : tie.After-put-flag → tie.After-put-cases
+at-put-cases r = r .before .before .before .before .before .before
+
+abbrev at-put-le : tie.After-put-flag → tie.After-put-le
+at-put-le r = at-put-cases r .before .before .before .before
 
 open-node-requires : tie.Need-open-node-requires
 open-node-requires c κs =
@@ -104,53 +112,43 @@ put-flag-requires : tie.Need-put-flag-requires
 put-flag-requires c κs =
     let at-put-cases = c .before .before .before .before .before in
     let at-put-le = at-put-cases .before .before .before .before in
+    let known = at-start at-put-le .pre in
     omega (
       arith,
-      at-start at-put-le .pre .cursor,
-      at-start at-put-le .pre .most,
+      known .cursor,
+      known .most,
       at-open-node at-put-le .open-node .ensures .1,
       at-put-entry-name at-put-le .put-entry-name .ensures .1 .1,
       at-put-le .put-le .ensures .1,
       at-put-cases .put-cases .ensures .0 .high,
     )
 
+-- where the switch ends
+ends : (r : tie.After-put-flag) → Ends (at-start (at-put-le r) .args .at) (2 ^ 27) (r .put-flag .result)
+ends r =
+    switch-ends
+    (at-open-node (at-put-le r) .open-node .ensures .1)
+    (at-put-entry-name (at-put-le r) .put-entry-name .ensures .1)
+    (at-put-le r .put-le .ensures .1)
+    (at-start (at-put-le r) .pre .most)
+    (at-put-cases r .put-cases .ensures .0)
+    (r .put-flag .ensures .1)
+
 close-block-requires : tie.Need-close-block-requires
 close-block-requires c κs =
     let at-put-flag = c .before .before .before in
-    let at-put-cases = at-put-flag .before .before .before .before .before .before in
-    let at-put-le = at-put-cases .before .before .before .before in (
-      omega (
-        arith,
-        at-open-node at-put-le .open-node .ensures .1,
-        at-put-entry-name at-put-le .put-entry-name .ensures .1 .0,
-        at-put-le .put-le .ensures .1,
-        at-put-cases .put-cases .ensures .0 .low,
-        at-put-flag .put-flag .ensures .1,
-      ),
-      omega (
-        arith,
-        at-start at-put-le .pre .cursor,
-        at-start at-put-le .pre .most,
-        at-open-node at-put-le .open-node .ensures .1,
-        at-put-entry-name at-put-le .put-entry-name .ensures .1 .1,
-        at-put-le .put-le .ensures .1,
-        at-put-cases .put-cases .ensures .0 .high,
-        at-put-flag .put-flag .ensures .1,
-      ),
-    )
+    (ends at-put-flag .low, omega (arith, ends at-put-flag .high, at-start (at-put-le at-put-flag) .pre .cursor))
 
 same-length-2 : tie.Need-same-length-2
 same-length-2 c =
     let at-close-block = c .before .before in
     let at-put-flag = at-close-block .before .before .before .before in
-    let at-put-cases = at-put-flag .before .before .before .before .before .before in
-    let at-put-le = at-put-cases .before .before .before .before in
     omega (
       arith,
-      at-open-node at-put-le .open-node .kept .0,
-      at-put-entry-name at-put-le .put-entry-name .kept .1 .1 .0,
-      at-put-le .put-le .kept .0,
-      at-put-cases .put-cases .kept .1 .1 .1 .1 .1 .1 .1 .0,
+      at-open-node (at-put-le at-put-flag) .open-node .kept .0,
+      at-put-entry-name (at-put-le at-put-flag) .put-entry-name .kept .1 .1 .0,
+      at-put-le at-put-flag .put-le .kept .0,
+      at-put-cases at-put-flag .put-cases .kept .1 .1 .1 .1 .1 .1 .1 .0,
       at-put-flag .put-flag .kept .0,
       at-close-block .close-block .kept .0,
     )
@@ -160,37 +158,14 @@ returns-2 c =
     let at-close-block = c .before .before in
     let at-put-flag = at-close-block .before .before .before .before in
     let at-else1 = at-put-flag .before .before in
-    let at-put-cases = at-else1 .before .before .before .before in
-    let at-put-le = at-put-cases .before .before .before .before in
-    let at-put-entry-name = at-put-le .before .before .before .before in
-    let at-open-node = at-put-entry-name .before .before .before .before .before in
-    let at-type-head = at-open-node .before .before in
-    let at-start = at-type-head .before .before .before .before in (
-      ends-at
-          (omega (
-            arith,
-            at-open-node .open-node .ensures .1,
-            at-put-entry-name .put-entry-name .ensures .1 .0,
-            at-put-le .put-le .ensures .1,
-            at-put-cases .put-cases .ensures .0 .low,
-            at-put-flag .put-flag .ensures .1,
-          ))
-          (omega (
-            arith,
-            at-start .pre .most,
-            at-open-node .open-node .ensures .1,
-            at-put-entry-name .put-entry-name .ensures .1 .1,
-            at-put-le .put-le .ensures .1,
-            at-put-cases .put-cases .ensures .0 .high,
-            at-put-flag .put-flag .ensures .1,
-          ))
-          (at-put-cases .put-cases .ensures .0 .count),
+    let put-le = at-put-le at-put-flag in (
+      ended-at (ends at-put-flag) (at-put-cases at-put-flag .put-cases .ensures .0 .count),
       λ a l. switch-done _ _
-          (at-type-head .type-head .ensures)
-          (at-open-node .open-node .ensures .0)
-          (at-put-entry-name .put-entry-name .ensures .0)
-          (at-put-le .put-le .ensures .0)
-          (at-put-cases .put-cases .ensures .1)
+          (at-type-head put-le .type-head .ensures)
+          (at-open-node put-le .open-node .ensures .0)
+          (at-put-entry-name put-le .put-entry-name .ensures .0)
+          (put-le .put-le .ensures .0)
+          (at-put-cases at-put-flag .put-cases .ensures .1)
           (at-else1 .if1 .left)
           (at-put-flag .put-flag .ensures .0)
           (at-close-block .close-block .ensures .0) a l,

@@ -1,4 +1,4 @@
--- `builder_switches::tag_lookup` meets its contract. Assumes nothing.
+-- `tag_lookup`: a path of over 511 bytes is no entry's (`tag-long`); any other is joined in a buffer and looked up under the owner, then under its parent.
 use borrow.Author.Needs.{needs}
 use native.Mathlib.Omega.{arith}
 use mathlib.Core.Path.{refl}
