@@ -7,48 +7,46 @@ use Rattle.builder_calls.proofs.Laws.{path-named, path-rest, paths-none
 use Prim.Native.Nat.{ℕ, _<_, _+_, _-_}
 use borrow.Fn.Kinds.{In}
 use borrow.Fn.PlainCycle.{Measures, is, falls, and}
-use Rattle.builder_calls.proofs.put_arguments.Reads as put-arguments
-use Rattle.builder_calls.proofs.put_arguments.Kinds as put-arguments-kinds
-use Rattle.builder_calls.proofs.+put_arguments.Lts-put_arguments as put-arguments-lts
+use Rattle.builder_calls.proofs.put_arguments.Reads as self
+use Rattle.builder_calls.proofs.put_arguments.Kinds as kinds
+use Rattle.builder_calls.proofs.+put_arguments.Lts-put_arguments as walk
 use Rattle.builder_calls.proofs.put_argument.Reads as put-argument-reads
 use Rattle.wire.proofs.read2.Reads as read2-reads
 use Rattle.builder_calls.proofs.+put_arguments.{statement}
 use Rattle.builder_calls.proofs.+put_arguments.Tie.{close}
 
-abbrev μ-put-arguments : Measures 3 put-arguments-kinds.ps ℕ
-μ-put-arguments κs a = a .1 .1 .1 .1 .0
+-- the measure
+abbrev μ : Measures 3 kinds.ps ℕ
+μ κs a = a .1 .1 .1 .1 .0
 
-abbrev put-arguments-at : ℕ → In 3 put-arguments-kinds.ps
-put-arguments-at t =
-    and 3 put-arguments-kinds.ps (is 3 put-arguments-kinds.ps μ-put-arguments t) put-arguments.Pre
+-- what is known where the measure is t
+abbrev entered : ℕ → In 3 kinds.ps
+entered t = and 3 kinds.ps (is 3 kinds.ps μ t) self.Pre
 
-abbrev put-arguments-below : ℕ → In 3 put-arguments-kinds.ps
-put-arguments-below t =
-    and
-    3
-    put-arguments-kinds.ps
-    (falls 3 put-arguments-kinds.ps _<_ μ-put-arguments t)
-    put-arguments.Pre
+-- what a call of itself asks: a smaller measure too
+abbrev deeper : ℕ → In 3 kinds.ps
+deeper t = and 3 kinds.ps (falls 3 kinds.ps _<_ μ t) self.Pre
 
-abbrev put-arguments-with : ℕ → put-arguments-lts.Claims
-put-arguments-with t = (
+-- what each call asks and gives
+abbrev callees : ℕ → walk.Claims
+callees t = (
   put-argument-reads.Asked,
   put-argument-reads.Learnt,
   read2-reads.Asked,
   read2-reads.Learnt,
-  put-arguments-below t,
-  put-arguments.Post,
+  deeper t,
+  self.Post,
 )
 
-put-arguments-returns : (t : ℕ) → put-arguments-lts.Need-returns (put-arguments-with t) (put-arguments-at t) put-arguments.Post
-put-arguments-returns t c =
+returns : (t : ℕ) → walk.Need-returns (callees t) (entered t) self.Post
+returns t c =
     let at-start = c .before .before .before .before in (
       fills-none (at-start .pre .1 .room),
       paths-none _ (c .if1 .taken),
     )
 
-put-arguments-put-argument-requires : (t : ℕ) → put-arguments-lts.Need-put-argument-requires (put-arguments-with t) (put-arguments-at t) put-arguments.Post
-put-arguments-put-argument-requires t c κs =
+put-argument-requires : (t : ℕ) → walk.Need-put-argument-requires (callees t) (entered t) self.Post
+put-argument-requires t c κs =
     let at-else1 = c .before .before in
     let at-start = at-else1 .before .before .before .before in record {
       room = at-start .pre .1 .room;
@@ -56,14 +54,14 @@ put-arguments-put-argument-requires t c κs =
       named = path-named (at-else1 .if1 .left) (at-start .pre .1 .list);
     }
 
-put-arguments-same-length : (t : ℕ) → put-arguments-lts.Need-same-length (put-arguments-with t) (put-arguments-at t) put-arguments.Post
-put-arguments-same-length t c = search needs
+same-length : (t : ℕ) → walk.Need-same-length (callees t) (entered t) self.Post
+same-length t c = search needs
 
-put-arguments-same-length-2 : (t : ℕ) → put-arguments-lts.Need-same-length-2 (put-arguments-with t) (put-arguments-at t) put-arguments.Post
-put-arguments-same-length-2 t c = search needs
+same-length-2 : (t : ℕ) → walk.Need-same-length-2 (callees t) (entered t) self.Post
+same-length-2 t c = search needs
 
-put-arguments-returns-2 : (t : ℕ) → put-arguments-lts.Need-returns-2 (put-arguments-with t) (put-arguments-at t) put-arguments.Post
-put-arguments-returns-2 t c =
+returns-2 : (t : ℕ) → walk.Need-returns-2 (callees t) (entered t) self.Post
+returns-2 t c =
     let at-put-argument = c .before .before .before .before .before .before in
     let at-else1 = at-put-argument .before .before .before in (
       at-put-argument .put-argument .ensures .0,
@@ -73,8 +71,8 @@ put-arguments-returns-2 t c =
           (c .if2 .taken),
     )
 
-put-arguments-add-next : (t : ℕ) → put-arguments-lts.Need-add-next (put-arguments-with t) (put-arguments-at t) put-arguments.Post
-put-arguments-add-next t c =
+add-next : (t : ℕ) → walk.Need-add-next (callees t) (entered t) self.Post
+add-next t c =
     let at-else1 = c .before .before .before .before .before .before .before .before .before in
     let at-start = at-else1 .before .before .before .before in
     omega (
@@ -83,14 +81,14 @@ put-arguments-add-next t c =
       at-start .pre .1 .room .standing .size,
     )
 
-put-arguments-read2-requires : (t : ℕ) → put-arguments-lts.Need-read2-requires (put-arguments-with t) (put-arguments-at t) put-arguments.Post
-put-arguments-read2-requires t c κs =
+read2-requires : (t : ℕ) → walk.Need-read2-requires (callees t) (entered t) self.Post
+read2-requires t c κs =
     let at-else1 = c .before .before .before .before .before .before .before .before .before in
     let at-start = at-else1 .before .before .before .before in
     omega (arith, path-named (at-else1 .if1 .left) (at-start .pre .1 .list) .inside)
 
-put-arguments-add-next-2 : (t : ℕ) → put-arguments-lts.Need-add-next-2 (put-arguments-with t) (put-arguments-at t) put-arguments.Post
-put-arguments-add-next-2 t c =
+add-next-2 : (t : ℕ) → walk.Need-add-next-2 (callees t) (entered t) self.Post
+add-next-2 t c =
     let at-else1 = c .before .before .before .before .before .before .before .before .before .before in
     let at-start = at-else1 .before .before .before .before in
     omega (
@@ -100,13 +98,13 @@ put-arguments-add-next-2 t c =
       at-start .pre .1 .room .standing .size,
     )
 
-put-arguments-sub-put-arguments : (t : ℕ) → put-arguments-lts.Need-sub-put-arguments (put-arguments-with t) (put-arguments-at t) put-arguments.Post
-put-arguments-sub-put-arguments t c =
+sub-put-arguments : (t : ℕ) → walk.Need-sub-put-arguments (callees t) (entered t) self.Post
+sub-put-arguments t c =
     let at-else1 = c .before .before .before .before .before .before .before .before .before .before .before in
     omega (arith, at-else1 .if1 .left)
 
-put-arguments-put-arguments-requires : (t : ℕ) → put-arguments-lts.Need-put-arguments-requires (put-arguments-with t) (put-arguments-at t) put-arguments.Post
-put-arguments-put-arguments-requires t c κs =
+put-arguments-requires : (t : ℕ) → walk.Need-put-arguments-requires (callees t) (entered t) self.Post
+put-arguments-requires t c κs =
     let at-read2 = c .before .before in
     let at-put-argument = at-read2 .before .before .before .before .before .before .before in
     let at-else1 = at-put-argument .before .before .before in
@@ -122,14 +120,14 @@ put-arguments-put-arguments-requires t c κs =
       },
     )
 
-put-arguments-same-length-3 : (t : ℕ) → put-arguments-lts.Need-same-length-3 (put-arguments-with t) (put-arguments-at t) put-arguments.Post
-put-arguments-same-length-3 t c = search needs
+same-length-3 : (t : ℕ) → walk.Need-same-length-3 (callees t) (entered t) self.Post
+same-length-3 t c = search needs
 
-put-arguments-same-length-4 : (t : ℕ) → put-arguments-lts.Need-same-length-4 (put-arguments-with t) (put-arguments-at t) put-arguments.Post
-put-arguments-same-length-4 t c = search needs
+same-length-4 : (t : ℕ) → walk.Need-same-length-4 (callees t) (entered t) self.Post
+same-length-4 t c = search needs
 
-put-arguments-returns-3 : (t : ℕ) → put-arguments-lts.Need-returns-3 (put-arguments-with t) (put-arguments-at t) put-arguments.Post
-put-arguments-returns-3 t c =
+returns-3 : (t : ℕ) → walk.Need-returns-3 (callees t) (entered t) self.Post
+returns-3 t c =
     let at-put-arguments = c .before .before .before .before in
     let at-read2 = at-put-arguments .before .before .before in
     let at-else2 = at-read2 .before in
@@ -146,10 +144,7 @@ put-arguments-returns-3 t c =
 
 pub +put-arguments-spec : {M : Type 1} → statement M
 +put-arguments-spec =
-    close μ-put-arguments
-    (λ t. put-arguments-lts.spec (put-arguments-with t) (put-arguments-at t) put-arguments.Post
-    (put-arguments-returns t) (put-arguments-put-argument-requires t) (put-arguments-same-length t)
-    (put-arguments-same-length-2 t) (put-arguments-returns-2 t) (put-arguments-add-next t)
-    (put-arguments-read2-requires t) (put-arguments-add-next-2 t)
-    (put-arguments-sub-put-arguments t) (put-arguments-put-arguments-requires t)
-    (put-arguments-same-length-3 t) (put-arguments-same-length-4 t) (put-arguments-returns-3 t))
+    close μ
+    (λ t. walk.spec (callees t) (entered t) self.Post (returns t) (put-argument-requires t) (same-length t)
+    (same-length-2 t) (returns-2 t) (add-next t) (read2-requires t) (add-next-2 t) (sub-put-arguments t)
+    (put-arguments-requires t) (same-length-3 t) (same-length-4 t) (returns-3 t))

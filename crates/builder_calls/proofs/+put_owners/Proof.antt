@@ -7,9 +7,9 @@ use Rattle.builder_calls.proofs.Laws.{owner-here, owner-inside, owner-r
 use Prim.Native.Nat.{ℕ, _<_, _+_, _-_}
 use borrow.Fn.Kinds.{In}
 use borrow.Fn.PlainCycle.{Measures, is, falls, and}
-use Rattle.builder_calls.proofs.put_owners.Reads as put-owners
-use Rattle.builder_calls.proofs.put_owners.Kinds as put-owners-kinds
-use Rattle.builder_calls.proofs.+put_owners.Lts-put_owners as put-owners-lts
+use Rattle.builder_calls.proofs.put_owners.Reads as self
+use Rattle.builder_calls.proofs.put_owners.Kinds as kinds
+use Rattle.builder_calls.proofs.+put_owners.Lts-put_owners as walk
 use Rattle.builder_calls.proofs.put_arguments.Reads as put-arguments-reads
 use Rattle.wire.proofs.read2.Reads as read2-reads
 use Rattle.wire.proofs.read4.Reads as read4-reads
@@ -17,19 +17,21 @@ use Rattle.resolved_parts.proofs.owner_paths.Reads as owner-paths-reads
 use Rattle.builder_calls.proofs.+put_owners.{statement}
 use Rattle.builder_calls.proofs.+put_owners.Tie.{close}
 
-abbrev μ-put-owners : Measures 3 put-owners-kinds.ps ℕ
-μ-put-owners κs a = a .1 .1 .1 .0
+-- the measure
+abbrev μ : Measures 3 kinds.ps ℕ
+μ κs a = a .1 .1 .1 .0
 
-abbrev put-owners-at : ℕ → In 3 put-owners-kinds.ps
-put-owners-at t =
-    and 3 put-owners-kinds.ps (is 3 put-owners-kinds.ps μ-put-owners t) put-owners.Pre
+-- what is known where the measure is t
+abbrev entered : ℕ → In 3 kinds.ps
+entered t = and 3 kinds.ps (is 3 kinds.ps μ t) self.Pre
 
-abbrev put-owners-below : ℕ → In 3 put-owners-kinds.ps
-put-owners-below t =
-    and 3 put-owners-kinds.ps (falls 3 put-owners-kinds.ps _<_ μ-put-owners t) put-owners.Pre
+-- what a call of itself asks: a smaller measure too
+abbrev deeper : ℕ → In 3 kinds.ps
+deeper t = and 3 kinds.ps (falls 3 kinds.ps _<_ μ t) self.Pre
 
-abbrev put-owners-with : ℕ → put-owners-lts.Claims
-put-owners-with t = (
+-- what each call asks and gives
+abbrev callees : ℕ → walk.Claims
+callees t = (
   owner-paths-reads.Asked,
   owner-paths-reads.Learnt,
   read2-reads.Asked,
@@ -38,35 +40,35 @@ put-owners-with t = (
   put-arguments-reads.Learnt,
   read4-reads.Asked,
   read4-reads.Learnt,
-  put-owners-below t,
-  put-owners.Post,
+  deeper t,
+  self.Post,
 )
 
 -- The places, each seen from a later one: what was known there.
 abbrev at-start :
     {t : ℕ} →
-    put-owners-lts.Else1 (put-owners-with t) (put-owners-at t) put-owners.Post →
-    put-owners-lts.Start (put-owners-with t) (put-owners-at t) put-owners.Post
+    walk.Else1 (callees t) (entered t) self.Post →
+    walk.Start (callees t) (entered t) self.Post
 at-start r = r .before .before .before .before
 
-put-owners-returns : (t : ℕ) → put-owners-lts.Need-returns (put-owners-with t) (put-owners-at t) put-owners.Post
-put-owners-returns t c =
+returns : (t : ℕ) → walk.Need-returns (callees t) (entered t) self.Post
+returns t c =
     let at-start = c .before .before .before .before in (
       fills-none (at-start .pre .1 .room),
       owners-none (c .if1 .taken),
     )
 
-put-owners-owner-paths-requires : (t : ℕ) → put-owners-lts.Need-owner-paths-requires (put-owners-with t) (put-owners-at t) put-owners.Post
-put-owners-owner-paths-requires t c κs = owner-here (c .if1 .left) (at-start c .pre .1 .list)
+owner-paths-requires : (t : ℕ) → walk.Need-owner-paths-requires (callees t) (entered t) self.Post
+owner-paths-requires t c κs = owner-here (c .if1 .left) (at-start c .pre .1 .list)
 
-put-owners-read2-requires : (t : ℕ) → put-owners-lts.Need-read2-requires (put-owners-with t) (put-owners-at t) put-owners.Post
-put-owners-read2-requires t c κs =
+read2-requires : (t : ℕ) → walk.Need-read2-requires (callees t) (entered t) self.Post
+read2-requires t c κs =
     let at-else1 = c .before in
     c .owner-paths .ensures
     (owner-here (at-else1 .if1 .left) (at-start at-else1 .pre .1 .list)) .paths .inside
 
-put-owners-add-put-arguments : (t : ℕ) → put-owners-lts.Need-add-put-arguments (put-owners-with t) (put-owners-at t) put-owners.Post
-put-owners-add-put-arguments t c =
+add-put-arguments : (t : ℕ) → walk.Need-add-put-arguments (callees t) (entered t) self.Post
+add-put-arguments t c =
     let at-else1 = c .before .before .before in
     omega (
       arith,
@@ -74,8 +76,8 @@ put-owners-add-put-arguments t c =
       at-start at-else1 .pre .1 .room .standing .size,
     )
 
-put-owners-add-put-arguments-2 : (t : ℕ) → put-owners-lts.Need-add-put-arguments-2 (put-owners-with t) (put-owners-at t) put-owners.Post
-put-owners-add-put-arguments-2 t c =
+add-put-arguments-2 : (t : ℕ) → walk.Need-add-put-arguments-2 (callees t) (entered t) self.Post
+add-put-arguments-2 t c =
     let at-owner-paths = c .before .before in
     let at-else1 = at-owner-paths .before in
     omega (
@@ -84,8 +86,8 @@ put-owners-add-put-arguments-2 t c =
           (owner-here (at-else1 .if1 .left) (at-start at-else1 .pre .1 .list)) .paths .inside,
     )
 
-put-owners-put-arguments-requires : (t : ℕ) → put-owners-lts.Need-put-arguments-requires (put-owners-with t) (put-owners-at t) put-owners.Post
-put-owners-put-arguments-requires t c κs =
+put-arguments-requires : (t : ℕ) → walk.Need-put-arguments-requires (callees t) (entered t) self.Post
+put-arguments-requires t c κs =
     let at-read2 = c .before .before in
     let at-owner-paths = at-read2 .before in
     let at-else1 = at-owner-paths .before in record {
@@ -98,14 +100,14 @@ put-owners-put-arguments-requires t c κs =
           (owner-here (at-else1 .if1 .left) (at-start at-else1 .pre .1 .list)) .paths);
     }
 
-put-owners-same-length : (t : ℕ) → put-owners-lts.Need-same-length (put-owners-with t) (put-owners-at t) put-owners.Post
-put-owners-same-length t c = search needs
+same-length : (t : ℕ) → walk.Need-same-length (callees t) (entered t) self.Post
+same-length t c = search needs
 
-put-owners-same-length-2 : (t : ℕ) → put-owners-lts.Need-same-length-2 (put-owners-with t) (put-owners-at t) put-owners.Post
-put-owners-same-length-2 t c = search needs
+same-length-2 : (t : ℕ) → walk.Need-same-length-2 (callees t) (entered t) self.Post
+same-length-2 t c = search needs
 
-put-owners-returns-2 : (t : ℕ) → put-owners-lts.Need-returns-2 (put-owners-with t) (put-owners-at t) put-owners.Post
-put-owners-returns-2 t c =
+returns-2 : (t : ℕ) → walk.Need-returns-2 (callees t) (entered t) self.Post
+returns-2 t c =
     let at-put-arguments = c .before .before .before .before .before .before in
     let at-read2 = at-put-arguments .before .before .before in
     let at-owner-paths = at-read2 .before in
@@ -119,8 +121,8 @@ put-owners-returns-2 t c =
           (c .if2 .taken),
     )
 
-put-owners-add-next : (t : ℕ) → put-owners-lts.Need-add-next (put-owners-with t) (put-owners-at t) put-owners.Post
-put-owners-add-next t c =
+add-next : (t : ℕ) → walk.Need-add-next (callees t) (entered t) self.Post
+add-next t c =
     let at-else1 = c .before .before .before .before .before .before .before .before .before .before .before in
     omega (
       arith,
@@ -128,13 +130,13 @@ put-owners-add-next t c =
       at-start at-else1 .pre .1 .room .standing .size,
     )
 
-put-owners-read4-requires : (t : ℕ) → put-owners-lts.Need-read4-requires (put-owners-with t) (put-owners-at t) put-owners.Post
-put-owners-read4-requires t c κs =
+read4-requires : (t : ℕ) → walk.Need-read4-requires (callees t) (entered t) self.Post
+read4-requires t c κs =
     let at-else1 = c .before .before .before .before .before .before .before .before .before .before .before in
     omega (arith, owner-inside (at-else1 .if1 .left) (at-start at-else1 .pre .1 .list))
 
-put-owners-add-next-2 : (t : ℕ) → put-owners-lts.Need-add-next-2 (put-owners-with t) (put-owners-at t) put-owners.Post
-put-owners-add-next-2 t c =
+add-next-2 : (t : ℕ) → walk.Need-add-next-2 (callees t) (entered t) self.Post
+add-next-2 t c =
     let at-else1 = c .before .before .before .before .before .before .before .before .before .before .before .before in
     omega (
       arith,
@@ -143,13 +145,13 @@ put-owners-add-next-2 t c =
       at-start at-else1 .pre .1 .room .standing .size,
     )
 
-put-owners-sub-put-owners : (t : ℕ) → put-owners-lts.Need-sub-put-owners (put-owners-with t) (put-owners-at t) put-owners.Post
-put-owners-sub-put-owners t c =
+sub-put-owners : (t : ℕ) → walk.Need-sub-put-owners (callees t) (entered t) self.Post
+sub-put-owners t c =
     let at-else1 = c .before .before .before .before .before .before .before .before .before .before .before .before .before in
     omega (arith, at-else1 .if1 .left)
 
-put-owners-put-owners-requires : (t : ℕ) → put-owners-lts.Need-put-owners-requires (put-owners-with t) (put-owners-at t) put-owners.Post
-put-owners-put-owners-requires t c κs =
+put-owners-requires : (t : ℕ) → walk.Need-put-owners-requires (callees t) (entered t) self.Post
+put-owners-requires t c κs =
     let at-read4 = c .before .before in
     let at-put-arguments = at-read4 .before .before .before .before .before .before .before in
     let at-else1 = at-put-arguments .before .before .before .before .before in
@@ -164,14 +166,14 @@ put-owners-put-owners-requires t c κs =
       },
     )
 
-put-owners-same-length-3 : (t : ℕ) → put-owners-lts.Need-same-length-3 (put-owners-with t) (put-owners-at t) put-owners.Post
-put-owners-same-length-3 t c = search needs
+same-length-3 : (t : ℕ) → walk.Need-same-length-3 (callees t) (entered t) self.Post
+same-length-3 t c = search needs
 
-put-owners-same-length-4 : (t : ℕ) → put-owners-lts.Need-same-length-4 (put-owners-with t) (put-owners-at t) put-owners.Post
-put-owners-same-length-4 t c = search needs
+same-length-4 : (t : ℕ) → walk.Need-same-length-4 (callees t) (entered t) self.Post
+same-length-4 t c = search needs
 
-put-owners-returns-3 : (t : ℕ) → put-owners-lts.Need-returns-3 (put-owners-with t) (put-owners-at t) put-owners.Post
-put-owners-returns-3 t c =
+returns-3 : (t : ℕ) → walk.Need-returns-3 (callees t) (entered t) self.Post
+returns-3 t c =
     let at-put-owners = c .before .before .before .before in
     let at-read4 = at-put-owners .before .before .before in
     let at-else2 = at-read4 .before in
@@ -192,11 +194,8 @@ put-owners-returns-3 t c =
 
 pub +put-owners-spec : {M : Type 1} → statement M
 +put-owners-spec =
-    close μ-put-owners
-    (λ t. put-owners-lts.spec (put-owners-with t) (put-owners-at t) put-owners.Post
-    (put-owners-returns t) (put-owners-owner-paths-requires t) (put-owners-read2-requires t)
-    (put-owners-add-put-arguments t) (put-owners-add-put-arguments-2 t)
-    (put-owners-put-arguments-requires t) (put-owners-same-length t) (put-owners-same-length-2 t)
-    (put-owners-returns-2 t) (put-owners-add-next t) (put-owners-read4-requires t)
-    (put-owners-add-next-2 t) (put-owners-sub-put-owners t) (put-owners-put-owners-requires t)
-    (put-owners-same-length-3 t) (put-owners-same-length-4 t) (put-owners-returns-3 t))
+    close μ
+    (λ t. walk.spec (callees t) (entered t) self.Post (returns t) (owner-paths-requires t) (read2-requires t)
+    (add-put-arguments t) (add-put-arguments-2 t) (put-arguments-requires t) (same-length t) (same-length-2 t)
+    (returns-2 t) (add-next t) (read4-requires t) (add-next-2 t) (sub-put-owners t) (put-owners-requires t)
+    (same-length-3 t) (same-length-4 t) (returns-3 t))

@@ -6,32 +6,36 @@ use native.Mathlib.Omega.{arith}
 use Prim.Native.Nat.{ℕ, _<_, _+_, _-_}
 use borrow.Fn.Kinds.{In}
 use borrow.Fn.PlainCycle.{Measures, is, falls, and}
-use Rattle.builder_sums.proofs.put_sum.Reads as put-sum
-use Rattle.builder_sums.proofs.put_sum.Kinds as put-sum-kinds
-use Rattle.builder_sums.proofs.+put_sum.Lts-put_sum as put-sum-lts
+use Rattle.builder_sums.proofs.put_sum.Reads as self
+use Rattle.builder_sums.proofs.put_sum.Kinds as kinds
+use Rattle.builder_sums.proofs.+put_sum.Lts-put_sum as walk
 use Rattle.wire.proofs.close_block.Reads as close-block-reads
 use Rattle.builder_nodes.proofs.open_add.Reads as open-add-reads
 use Rattle.builder_sums.proofs.put_ref.Reads as put-ref-reads
 use Rattle.builder_sums.proofs.+put_sum.{statement}
 use Rattle.builder_sums.proofs.+put_sum.Tie.{close}
 
-abbrev μ-put-sum : Measures 4 put-sum-kinds.ps ℕ
-μ-put-sum κs a = a .1 .1 .1 .1 .1 .1 .0
+-- the measure
+abbrev μ : Measures 4 kinds.ps ℕ
+μ κs a = a .1 .1 .1 .1 .1 .1 .0
 
-abbrev put-sum-at : ℕ → In 4 put-sum-kinds.ps
-put-sum-at t = and 4 put-sum-kinds.ps (is 4 put-sum-kinds.ps μ-put-sum t) put-sum.Pre
+-- what is known where the measure is t
+abbrev entered : ℕ → In 4 kinds.ps
+entered t = and 4 kinds.ps (is 4 kinds.ps μ t) self.Pre
 
-abbrev put-sum-below : ℕ → In 4 put-sum-kinds.ps
-put-sum-below t = and 4 put-sum-kinds.ps (falls 4 put-sum-kinds.ps _<_ μ-put-sum t) put-sum.Pre
+-- what a call of itself asks: a smaller measure too
+abbrev deeper : ℕ → In 4 kinds.ps
+deeper t = and 4 kinds.ps (falls 4 kinds.ps _<_ μ t) self.Pre
 
-abbrev put-sum-with : ℕ → put-sum-lts.Claims
-put-sum-with t = (
+-- what each call asks and gives
+abbrev callees : ℕ → walk.Claims
+callees t = (
   put-ref-reads.Asked,
   put-ref-reads.Learnt,
   open-add-reads.Asked,
   open-add-reads.Learnt,
-  put-sum-below t,
-  put-sum.Post,
+  deeper t,
+  self.Post,
   close-block-reads.Asked,
   close-block-reads.Learnt,
 )
@@ -39,29 +43,29 @@ put-sum-with t = (
 -- The places, each seen from a later one: what was known there.
 abbrev at-else1 :
     {t : ℕ} →
-    put-sum-lts.After-open-add (put-sum-with t) (put-sum-at t) put-sum.Post →
-    put-sum-lts.Else1 (put-sum-with t) (put-sum-at t) put-sum.Post
+    walk.After-open-add (callees t) (entered t) self.Post →
+    walk.Else1 (callees t) (entered t) self.Post
 at-else1 r = r .before .before
 
 abbrev at-start :
     {t : ℕ} →
-    put-sum-lts.After-open-add (put-sum-with t) (put-sum-at t) put-sum.Post →
-    put-sum-lts.Start (put-sum-with t) (put-sum-at t) put-sum.Post
+    walk.After-open-add (callees t) (entered t) self.Post →
+    walk.Start (callees t) (entered t) self.Post
 at-start r = at-else1 r .before .before .before .before .before
 
-put-sum-put-ref-requires : (t : ℕ) → put-sum-lts.Need-put-ref-requires (put-sum-with t) (put-sum-at t) put-sum.Post
-put-sum-put-ref-requires t c κs =
+put-ref-requires : (t : ℕ) → walk.Need-put-ref-requires (callees t) (entered t) self.Post
+put-ref-requires t c κs =
     let at-start = c .before .before .before .before .before .before in (
       at-start .pre .1 .0,
       omega (arith, at-start .pre .1 .1, at-start .pre .1 .2),
       omega (arith, at-start .pre .1 .3),
     )
 
-put-sum-same-length : (t : ℕ) → put-sum-lts.Need-same-length (put-sum-with t) (put-sum-at t) put-sum.Post
-put-sum-same-length t c = search needs
+same-length : (t : ℕ) → walk.Need-same-length (callees t) (entered t) self.Post
+same-length t c = search needs
 
-put-sum-returns : (t : ℕ) → put-sum-lts.Need-returns (put-sum-with t) (put-sum-at t) put-sum.Post
-put-sum-returns t c =
+returns : (t : ℕ) → walk.Need-returns (callees t) (entered t) self.Post
+returns t c =
     let at-put-ref = c .before .before in
     let at-then1 = at-put-ref .before .before in
     let at-start = at-then1 .before .before .before .before .before in (
@@ -72,14 +76,14 @@ put-sum-returns t c =
           (at-put-ref .put-ref .ensures .1),
     )
 
-put-sum-open-add-requires : (t : ℕ) → put-sum-lts.Need-open-add-requires (put-sum-with t) (put-sum-at t) put-sum.Post
-put-sum-open-add-requires t c κs = search needs
+open-add-requires : (t : ℕ) → walk.Need-open-add-requires (callees t) (entered t) self.Post
+open-add-requires t c κs = search needs
 
-put-sum-sub-put-sum : (t : ℕ) → put-sum-lts.Need-sub-put-sum (put-sum-with t) (put-sum-at t) put-sum.Post
-put-sum-sub-put-sum t c = omega (arith, at-start (c .before .before) .pre .1 .2)
+sub-put-sum : (t : ℕ) → walk.Need-sub-put-sum (callees t) (entered t) self.Post
+sub-put-sum t c = omega (arith, at-start (c .before .before) .pre .1 .2)
 
-put-sum-put-sum-requires : (t : ℕ) → put-sum-lts.Need-put-sum-requires (put-sum-with t) (put-sum-at t) put-sum.Post
-put-sum-put-sum-requires t c κs =
+put-sum-requires : (t : ℕ) → walk.Need-put-sum-requires (callees t) (entered t) self.Post
+put-sum-requires t c κs =
     let at-open-add = c .before .before .before in (
       omega (arith, at-start at-open-add .pre .0, at-start at-open-add .pre .1 .2),
       (
@@ -95,11 +99,11 @@ put-sum-put-sum-requires t c κs =
       ),
     )
 
-put-sum-same-length-2 : (t : ℕ) → put-sum-lts.Need-same-length-2 (put-sum-with t) (put-sum-at t) put-sum.Post
-put-sum-same-length-2 t c = search needs
+same-length-2 : (t : ℕ) → walk.Need-same-length-2 (callees t) (entered t) self.Post
+same-length-2 t c = search needs
 
-put-sum-returns-2 : (t : ℕ) → put-sum-lts.Need-returns-2 (put-sum-with t) (put-sum-at t) put-sum.Post
-put-sum-returns-2 t c =
+returns-2 : (t : ℕ) → walk.Need-returns-2 (callees t) (entered t) self.Post
+returns-2 t c =
     let at-put-sum = c .before .before .before .before in
     let at-open-add = at-put-sum .before .before .before .before in (
       stopped (at-start at-open-add .pre .1 .0 .standing .count),
@@ -112,13 +116,13 @@ put-sum-returns-2 t c =
           (c .if2 .taken),
     )
 
-put-sum-sub-put-ref : (t : ℕ) → put-sum-lts.Need-sub-put-ref (put-sum-with t) (put-sum-at t) put-sum.Post
-put-sum-sub-put-ref t c =
+sub-put-ref : (t : ℕ) → walk.Need-sub-put-ref (callees t) (entered t) self.Post
+sub-put-ref t c =
     let at-open-add = c .before .before .before .before .before .before .before .before in
     omega (arith, at-start at-open-add .pre .1 .2)
 
-put-sum-put-ref-requires-2 : (t : ℕ) → put-sum-lts.Need-put-ref-requires-2 (put-sum-with t) (put-sum-at t) put-sum.Post
-put-sum-put-ref-requires-2 t c κs =
+put-ref-requires-2 : (t : ℕ) → walk.Need-put-ref-requires-2 (callees t) (entered t) self.Post
+put-ref-requires-2 t c κs =
     let at-put-sum = c .before .before .before .before .before in
     let at-open-add = at-put-sum .before .before .before .before in (
       at-start at-open-add .pre .1 .0,
@@ -132,11 +136,11 @@ put-sum-put-ref-requires-2 t c κs =
       ),
     )
 
-put-sum-same-length-3 : (t : ℕ) → put-sum-lts.Need-same-length-3 (put-sum-with t) (put-sum-at t) put-sum.Post
-put-sum-same-length-3 t c = search needs
+same-length-3 : (t : ℕ) → walk.Need-same-length-3 (callees t) (entered t) self.Post
+same-length-3 t c = search needs
 
-put-sum-returns-3 : (t : ℕ) → put-sum-lts.Need-returns-3 (put-sum-with t) (put-sum-at t) put-sum.Post
-put-sum-returns-3 t c =
+returns-3 : (t : ℕ) → walk.Need-returns-3 (callees t) (entered t) self.Post
+returns-3 t c =
     let at-put-ref2 = c .before .before .before .before in
     let at-else2 = at-put-ref2 .before .before in
     let at-put-sum = at-else2 .before .before .before .before in
@@ -153,8 +157,8 @@ put-sum-returns-3 t c =
           (c .if3 .taken),
     )
 
-put-sum-close-block-requires : (t : ℕ) → put-sum-lts.Need-close-block-requires (put-sum-with t) (put-sum-at t) put-sum.Post
-put-sum-close-block-requires t c κs =
+close-block-requires : (t : ℕ) → walk.Need-close-block-requires (callees t) (entered t) self.Post
+close-block-requires t c κs =
     let at-put-ref2 = c .before .before .before .before .before in
     let at-put-sum = at-put-ref2 .before .before .before .before .before .before in
     let at-open-add = at-put-sum .before .before .before .before in (
@@ -174,11 +178,11 @@ put-sum-close-block-requires t c κs =
       ),
     )
 
-put-sum-same-length-4 : (t : ℕ) → put-sum-lts.Need-same-length-4 (put-sum-with t) (put-sum-at t) put-sum.Post
-put-sum-same-length-4 t c = search needs
+same-length-4 : (t : ℕ) → walk.Need-same-length-4 (callees t) (entered t) self.Post
+same-length-4 t c = search needs
 
-put-sum-returns-4 : (t : ℕ) → put-sum-lts.Need-returns-4 (put-sum-with t) (put-sum-at t) put-sum.Post
-put-sum-returns-4 t c =
+returns-4 : (t : ℕ) → walk.Need-returns-4 (callees t) (entered t) self.Post
+returns-4 t c =
     let at-close-block = c .before .before in
     let at-else3 = at-close-block .before .before in
     let at-put-ref2 = at-else3 .before .before .before .before in
@@ -205,10 +209,7 @@ put-sum-returns-4 t c =
 
 pub +put-sum-spec : {M : Type 1} → statement M
 +put-sum-spec =
-    close μ-put-sum
-    (λ t. put-sum-lts.spec (put-sum-with t) (put-sum-at t) put-sum.Post (put-sum-put-ref-requires t)
-    (put-sum-same-length t) (put-sum-returns t) (put-sum-open-add-requires t)
-    (put-sum-sub-put-sum t) (put-sum-put-sum-requires t) (put-sum-same-length-2 t)
-    (put-sum-returns-2 t) (put-sum-sub-put-ref t) (put-sum-put-ref-requires-2 t)
-    (put-sum-same-length-3 t) (put-sum-returns-3 t) (put-sum-close-block-requires t)
-    (put-sum-same-length-4 t) (put-sum-returns-4 t))
+    close μ
+    (λ t. walk.spec (callees t) (entered t) self.Post (put-ref-requires t) (same-length t) (returns t)
+    (open-add-requires t) (sub-put-sum t) (put-sum-requires t) (same-length-2 t) (returns-2 t) (sub-put-ref t)
+    (put-ref-requires-2 t) (same-length-3 t) (returns-3 t) (close-block-requires t) (same-length-4 t) (returns-4 t))

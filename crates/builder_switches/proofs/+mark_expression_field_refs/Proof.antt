@@ -1,234 +1,199 @@
--- `builder_switches::mark_expression_field_refs` meets its contract. The measure is the length of the block. Assumes nothing.
+-- `mark_expression_field_refs`: a walk over an expression that marks the references it meets, the left operand before the right one. An operand is a shorter
+-- block than the expression (`left-in`, `right-in`), so the length of the block is the measure. The laws `..-marks` go by the kind, as the code does.
 use borrow.Author.Needs.{needs}
 use native.Mathlib.Omega.{arith}
 use mathlib.Core.Path.{sym, _∙_}
 use Rattle.blocks.specs.Bytes.{le4}
+use Rattle.accepted.specs.Accepted.{Accepted}
 use Rattle.builder_registry.proofs.Laws.{standing}
 use Rattle.builder_switches.proofs.Marks.{block-in, low-marks, high-marks, unary-marks, binary-marks, left-in, right-in}
 use Rattle.wire.proofs.read2.Reads as read2-reads
 use Rattle.wire.proofs.read4.Reads as read4-reads
 use Rattle.builder_switches.proofs.mark_path.Reads as mark-path-reads
-use Prim.Native.Nat.{ℕ, _<_}
+use mathlib.Core.List.{List}
+use Prim.Native.Nat.{ℕ, _+_, _≤_, _<_}
 use borrow.Fn.Kinds.{In}
 use borrow.Fn.PlainCycle.{Measures, is, falls, and}
-use Rattle.builder_switches.proofs.mark_expression_field_refs.Reads as mark-expression-field-refs
-use Rattle.builder_switches.proofs.mark_expression_field_refs.Kinds as mark-expression-field-refs-kinds
-use Rattle.builder_switches.proofs.+mark_expression_field_refs.Lts-mark_expression_field_refs as mark-expression-field-refs-lts
+use Rattle.builder_switches.proofs.mark_expression_field_refs.Reads as self
+use Rattle.builder_switches.proofs.mark_expression_field_refs.Kinds as kinds
+use Rattle.builder_switches.proofs.+mark_expression_field_refs.Lts-mark_expression_field_refs as walk
 use Rattle.builder_switches.proofs.+mark_expression_field_refs.{statement}
 use Rattle.builder_switches.proofs.+mark_expression_field_refs.Tie.{close}
 
-abbrev μ-mark-expression-field-refs : Measures 3 mark-expression-field-refs-kinds.ps ℕ
-μ-mark-expression-field-refs κs a = le4 (a .0 .now) (a .1 .1 .1 .1 .0)
+-- the measure
+abbrev μ : Measures 3 kinds.ps ℕ
+μ κs a = le4 (a .0 .now) (a .1 .1 .1 .1 .0)
 
-abbrev mark-expression-field-refs-at : ℕ → In 3 mark-expression-field-refs-kinds.ps
-mark-expression-field-refs-at t =
-    and 3 mark-expression-field-refs-kinds.ps
-    (is 3 mark-expression-field-refs-kinds.ps μ-mark-expression-field-refs t)
-    mark-expression-field-refs.Pre
+-- what is known where the measure is t
+abbrev entered : ℕ → In 3 kinds.ps
+entered t = and 3 kinds.ps (is 3 kinds.ps μ t) self.Pre
 
-abbrev mark-expression-field-refs-below : ℕ → In 3 mark-expression-field-refs-kinds.ps
-mark-expression-field-refs-below t =
-    and 3 mark-expression-field-refs-kinds.ps
-    (falls 3 mark-expression-field-refs-kinds.ps _<_ μ-mark-expression-field-refs t)
-    mark-expression-field-refs.Pre
+-- what a call of itself asks: a smaller measure too
+abbrev deeper : ℕ → In 3 kinds.ps
+deeper t = and 3 kinds.ps (falls 3 kinds.ps _<_ μ t) self.Pre
 
-abbrev mark-expression-field-refs-with : ℕ → mark-expression-field-refs-lts.Claims
-mark-expression-field-refs-with t = (
+-- what each call asks and gives
+abbrev callees : ℕ → walk.Claims
+callees t = (
   read2-reads.Asked,
   read2-reads.Learnt,
   mark-path-reads.Asked,
   mark-path-reads.Learnt,
-  mark-expression-field-refs-below t,
-  mark-expression-field-refs.Post,
+  deeper t,
+  self.Post,
   read4-reads.Asked,
   read4-reads.Learnt,
 )
 
-mark-expression-field-refs-add-read2 : (t : ℕ) → mark-expression-field-refs-lts.Need-add-read2 (mark-expression-field-refs-with t) (mark-expression-field-refs-at t) mark-expression-field-refs.Post
-mark-expression-field-refs-add-read2 t c =
+-- The places, each seen from a later one: what was known there.
+abbrev at-read2 : {t : ℕ} → walk.Else3 (callees t) (entered t) self.Post → walk.After-read2 (callees t) (entered t) self.Post
+at-read2 r = r .before .before .before
+
+abbrev at-start : {t : ℕ} → walk.Else3 (callees t) (entered t) self.Post → walk.Start (callees t) (entered t) self.Post
+at-start r = at-read2 r .before .before .before .before
+
+abbrev at-else3 : {t : ℕ} → walk.After-read4 (callees t) (entered t) self.Post → walk.Else3 (callees t) (entered t) self.Post
+at-else3 r = r .before .before .before .before .before .before
+
+-- the set, and where the expression stands in it
+abbrev set : {t : ℕ} → walk.Else3 (callees t) (entered t) self.Post → List ℕ
+set r = at-start r .args .s .now
+
+abbrev expr : {t : ℕ} → walk.Else3 (callees t) (entered t) self.Post → ℕ
+expr r = at-start r .args .e
+
+-- the operand, or the left one of two
+left-operand : {t : ℕ} (r : walk.Else3 (callees t) (entered t) self.Post) →
+    Accepted (set r) 64 91 (expr r + 6) × (6 + le4 (set r) (expr r + 6) ≤ le4 (set r) (expr r))
+left-operand r =
+    left-in _
+    (at-read2 r .read2 .ensures .0)
+    (r .before .if2 .left)
+    (r .if3 .left)
+    (at-start r .pre .1 .expr)
+
+-- the right operand
+right-operand : {t : ℕ} (r : walk.After-read4 (callees t) (entered t) self.Post) →
+    Accepted (set (at-else3 r)) 64 91 (expr (at-else3 r) + 10 + r .read4 .result)
+    × (10 + le4 (set (at-else3 r)) (expr (at-else3 r) + 10 + r .read4 .result) ≤ le4 (set (at-else3 r)) (expr (at-else3 r)))
+right-operand r =
+    right-in _ _
+    (at-read2 (at-else3 r) .read2 .ensures .0)
+    (at-else3 r .before .if2 .left)
+    (r .before .if4 .left)
+    (r .read4 .ensures .0)
+    (at-start (at-else3 r) .pre .1 .expr)
+
+add-read2 : (t : ℕ) → walk.Need-add-read2 (callees t) (entered t) self.Post
+add-read2 t c =
     let at-start = c .before .before .before in
     omega (arith, block-in (at-start .pre .1 .expr))
 
-mark-expression-field-refs-read2-requires : (t : ℕ) → mark-expression-field-refs-lts.Need-read2-requires (mark-expression-field-refs-with t) (mark-expression-field-refs-at t) mark-expression-field-refs.Post
-mark-expression-field-refs-read2-requires t c κs =
+read2-requires : (t : ℕ) → walk.Need-read2-requires (callees t) (entered t) self.Post
+read2-requires t c κs =
     let at-start = c .before .before .before in
     omega (arith, block-in (at-start .pre .1 .expr))
 
-mark-expression-field-refs-mark-path-requires : (t : ℕ) → mark-expression-field-refs-lts.Need-mark-path-requires (mark-expression-field-refs-with t) (mark-expression-field-refs-at t) mark-expression-field-refs.Post
-mark-expression-field-refs-mark-path-requires t c κs =
+mark-path-requires : (t : ℕ) → walk.Need-mark-path-requires (callees t) (entered t) self.Post
+mark-path-requires t c κs =
     let at-read2 = c .before .before in
     let at-start = at-read2 .before .before .before .before in
     (at-start .pre .1, sym (at-read2 .read2 .ensures .0) ∙ c .before .if1 .taken)
 
-mark-expression-field-refs-same-length : (t : ℕ) → mark-expression-field-refs-lts.Need-same-length (mark-expression-field-refs-with t) (mark-expression-field-refs-at t) mark-expression-field-refs.Post
-mark-expression-field-refs-same-length t c = search needs
+same-length : (t : ℕ) → walk.Need-same-length (callees t) (entered t) self.Post
+same-length t c = search needs
 
-mark-expression-field-refs-returns : (t : ℕ) → mark-expression-field-refs-lts.Need-returns (mark-expression-field-refs-with t) (mark-expression-field-refs-at t) mark-expression-field-refs.Post
-mark-expression-field-refs-returns t c = c .before .before .mark-path .ensures
+returns : (t : ℕ) → walk.Need-returns (callees t) (entered t) self.Post
+returns t c = c .before .before .mark-path .ensures
 
-mark-expression-field-refs-returns-2 : (t : ℕ) → mark-expression-field-refs-lts.Need-returns-2 (mark-expression-field-refs-with t) (mark-expression-field-refs-at t) mark-expression-field-refs.Post
-mark-expression-field-refs-returns-2 t c =
+returns-2 : (t : ℕ) → walk.Need-returns-2 (callees t) (entered t) self.Post
+returns-2 t c =
     λ a. low-marks _ _ _
     (c .before .before .read2 .ensures .0)
     (c .before .if1 .left)
     (c .if2 .taken) a
 
-mark-expression-field-refs-returns-3 : (t : ℕ) → mark-expression-field-refs-lts.Need-returns-3 (mark-expression-field-refs-with t) (mark-expression-field-refs-at t) mark-expression-field-refs.Post
-mark-expression-field-refs-returns-3 t c =
+returns-3 : (t : ℕ) → walk.Need-returns-3 (callees t) (entered t) self.Post
+returns-3 t c =
     let at-read2 = c .before .before .before in
     λ a. high-marks _ _ _ (at-read2 .read2 .ensures .0) (omega (arith, c .if3 .taken)) a
 
-mark-expression-field-refs-add-mark-expression-field-refs : (t : ℕ) → mark-expression-field-refs-lts.Need-add-mark-expression-field-refs (mark-expression-field-refs-with t) (mark-expression-field-refs-at t) mark-expression-field-refs.Post
-mark-expression-field-refs-add-mark-expression-field-refs t c =
+add-mark-expression-field-refs : (t : ℕ) → walk.Need-add-mark-expression-field-refs (callees t) (entered t) self.Post
+add-mark-expression-field-refs t c =
     let at-start = c .before .before .before .before .before .before .before .before in
     omega (arith, block-in (at-start .pre .1 .expr))
 
-mark-expression-field-refs-mark-expression-field-refs-requires : (t : ℕ) → mark-expression-field-refs-lts.Need-mark-expression-field-refs-requires (mark-expression-field-refs-with t) (mark-expression-field-refs-at t) mark-expression-field-refs.Post
-mark-expression-field-refs-mark-expression-field-refs-requires t c κs =
-    let at-else2 = c .before .before in
-    let at-read2 = at-else2 .before .before in
-    let at-start = at-read2 .before .before .before .before in (
-      omega (
-        arith,
-        at-start .pre .0,
-        left-in _
-            (at-read2 .read2 .ensures .0)
-            (at-else2 .if2 .left)
-            (c .before .if3 .left)
-            (at-start .pre .1 .expr) .1,
-      ),
-      record {
-        standing = at-start .pre .1 .standing;
-        owned = at-start .pre .1 .owned;
-        expr = left-in _
-            (at-read2 .read2 .ensures .0)
-            (at-else2 .if2 .left)
-            (c .before .if3 .left)
-            (at-start .pre .1 .expr) .0;
-      },
+mark-expression-field-refs-requires : (t : ℕ) → walk.Need-mark-expression-field-refs-requires (callees t) (entered t) self.Post
+mark-expression-field-refs-requires t c κs =
+    let at-else3 = c .before in
+    let known = at-start at-else3 .pre in (
+      omega (arith, known .0, left-operand at-else3 .1),
+      record { standing = known .1 .standing; owned = known .1 .owned; expr = left-operand at-else3 .0 },
     )
 
-mark-expression-field-refs-same-length-2 : (t : ℕ) → mark-expression-field-refs-lts.Need-same-length-2 (mark-expression-field-refs-with t) (mark-expression-field-refs-at t) mark-expression-field-refs.Post
-mark-expression-field-refs-same-length-2 t c = search needs
+same-length-2 : (t : ℕ) → walk.Need-same-length-2 (callees t) (entered t) self.Post
+same-length-2 t c = search needs
 
-mark-expression-field-refs-returns-4 : (t : ℕ) → mark-expression-field-refs-lts.Need-returns-4 (mark-expression-field-refs-with t) (mark-expression-field-refs-at t) mark-expression-field-refs.Post
-mark-expression-field-refs-returns-4 t c =
-    let at-mark-expression-field-refs = c .before .before .before in
-    let at-else3 = at-mark-expression-field-refs .before .before in
-    let at-read2 = at-else3 .before .before .before in
+returns-4 : (t : ℕ) → walk.Need-returns-4 (callees t) (entered t) self.Post
+returns-4 t c =
+    let at-left = c .before .before .before in
+    let at-else3 = at-left .before .before in
     λ a. unary-marks _ _ _
-    (at-read2 .read2 .ensures .0)
+    (at-read2 at-else3 .read2 .ensures .0)
     (c .if4 .taken)
     (at-else3 .if3 .left)
-    (at-mark-expression-field-refs .mark-expression-field-refs .ensures) a
+    (at-left .mark-expression-field-refs .ensures) a
 
-mark-expression-field-refs-add-read4 : (t : ℕ) → mark-expression-field-refs-lts.Need-add-read4 (mark-expression-field-refs-with t) (mark-expression-field-refs-at t) mark-expression-field-refs.Post
-mark-expression-field-refs-add-read4 t c =
+add-read4 : (t : ℕ) → walk.Need-add-read4 (callees t) (entered t) self.Post
+add-read4 t c =
     let at-start = c .before .before .before .before .before .before .before .before .before .before .before .before in
     omega (arith, block-in (at-start .pre .1 .expr))
 
-mark-expression-field-refs-read4-requires : (t : ℕ) → mark-expression-field-refs-lts.Need-read4-requires (mark-expression-field-refs-with t) (mark-expression-field-refs-at t) mark-expression-field-refs.Post
-mark-expression-field-refs-read4-requires t c κs =
-    let at-else3 = c .before .before .before .before .before in
-    let at-else2 = at-else3 .before in
-    let at-read2 = at-else2 .before .before in
-    let at-start = at-read2 .before .before .before .before in
-    omega (
-      arith,
-      block-in
-          (left-in _
-          (at-read2 .read2 .ensures .0)
-          (at-else2 .if2 .left)
-          (at-else3 .if3 .left)
-          (at-start .pre .1 .expr) .0),
-    )
+read4-requires : (t : ℕ) → walk.Need-read4-requires (callees t) (entered t) self.Post
+read4-requires t c κs = omega (arith, block-in (left-operand (c .before .before .before .before .before) .0))
 
-mark-expression-field-refs-add-mark-expression-field-refs-2 : (t : ℕ) → mark-expression-field-refs-lts.Need-add-mark-expression-field-refs-2 (mark-expression-field-refs-with t) (mark-expression-field-refs-at t) mark-expression-field-refs.Post
-mark-expression-field-refs-add-mark-expression-field-refs-2 t c =
+add-mark-expression-field-refs-2 : (t : ℕ) → walk.Need-add-mark-expression-field-refs-2 (callees t) (entered t) self.Post
+add-mark-expression-field-refs-2 t c =
     let at-start = c .before .before .before .before .before .before .before .before .before .before .before .before .before .before in
     omega (arith, block-in (at-start .pre .1 .expr))
 
-mark-expression-field-refs-add-mark-expression-field-refs-3 : (t : ℕ) → mark-expression-field-refs-lts.Need-add-mark-expression-field-refs-3 (mark-expression-field-refs-with t) (mark-expression-field-refs-at t) mark-expression-field-refs.Post
-mark-expression-field-refs-add-mark-expression-field-refs-3 t c =
-    let at-else4 = c .before .before in
-    let at-else2 = at-else4 .before .before .before .before .before .before in
-    let at-read2 = at-else2 .before .before in
-    let at-start = at-read2 .before .before .before .before in
-    omega (
-      arith,
-      block-in
-          (right-in _ _
-          (at-read2 .read2 .ensures .0)
-          (at-else2 .if2 .left)
-          (at-else4 .if4 .left)
-          (c .before .read4 .ensures .0)
-          (at-start .pre .1 .expr) .0),
-    )
+add-mark-expression-field-refs-3 : (t : ℕ) → walk.Need-add-mark-expression-field-refs-3 (callees t) (entered t) self.Post
+add-mark-expression-field-refs-3 t c = omega (arith, block-in (right-operand (c .before) .0))
 
-mark-expression-field-refs-mark-expression-field-refs-requires-2 : (t : ℕ) → mark-expression-field-refs-lts.Need-mark-expression-field-refs-requires-2 (mark-expression-field-refs-with t) (mark-expression-field-refs-at t) mark-expression-field-refs.Post
-mark-expression-field-refs-mark-expression-field-refs-requires-2 t c κs =
-    let at-else4 = c .before .before in
-    let at-else2 = at-else4 .before .before .before .before .before .before in
-    let at-read2 = at-else2 .before .before in
-    let at-start = at-read2 .before .before .before .before in (
-      omega (
-        arith,
-        at-start .pre .0,
-        right-in _ _
-            (at-read2 .read2 .ensures .0)
-            (at-else2 .if2 .left)
-            (at-else4 .if4 .left)
-            (c .before .read4 .ensures .0)
-            (at-start .pre .1 .expr) .1,
-      ),
+mark-expression-field-refs-requires-2 : (t : ℕ) → walk.Need-mark-expression-field-refs-requires-2 (callees t) (entered t) self.Post
+mark-expression-field-refs-requires-2 t c κs =
+    let at-read4 = c .before in
+    let known = at-start (at-else3 at-read4) .pre in (
+      omega (arith, known .0, right-operand at-read4 .1),
       record {
-        standing = standing
-            (at-start .pre .1 .standing)
-            (omega arith)
-            (at-start .pre .1 .standing .count);
-        owned = at-start .pre .1 .owned;
-        expr = right-in _ _
-            (at-read2 .read2 .ensures .0)
-            (at-else2 .if2 .left)
-            (at-else4 .if4 .left)
-            (c .before .read4 .ensures .0)
-            (at-start .pre .1 .expr) .0;
+        standing = standing (known .1 .standing) (omega arith) (known .1 .standing .count);
+        owned = known .1 .owned;
+        expr = right-operand at-read4 .0;
       },
     )
 
-mark-expression-field-refs-same-length-3 : (t : ℕ) → mark-expression-field-refs-lts.Need-same-length-3 (mark-expression-field-refs-with t) (mark-expression-field-refs-at t) mark-expression-field-refs.Post
-mark-expression-field-refs-same-length-3 t c = search needs
+same-length-3 : (t : ℕ) → walk.Need-same-length-3 (callees t) (entered t) self.Post
+same-length-3 t c = search needs
 
-mark-expression-field-refs-returns-5 : (t : ℕ) → mark-expression-field-refs-lts.Need-returns-5 (mark-expression-field-refs-with t) (mark-expression-field-refs-at t) mark-expression-field-refs.Post
-mark-expression-field-refs-returns-5 t c =
-    let at-mark-expression-field-refs2 = c .before .before in
-    let at-read4 = at-mark-expression-field-refs2 .before .before in
+returns-5 : (t : ℕ) → walk.Need-returns-5 (callees t) (entered t) self.Post
+returns-5 t c =
+    let at-right = c .before .before in
+    let at-read4 = at-right .before .before in
     let at-else4 = at-read4 .before in
-    let at-mark-expression-field-refs = at-else4 .before .before .before in
-    let at-else2 = at-mark-expression-field-refs .before .before .before in
-    let at-read2 = at-else2 .before .before in
+    let at-left = at-else4 .before .before .before in
     λ a. binary-marks _ _ _ _
-    (at-read2 .read2 .ensures .0)
-    (at-else2 .if2 .left)
+    (at-read2 (at-else3 at-read4) .read2 .ensures .0)
+    (at-else3 at-read4 .before .if2 .left)
     (at-else4 .if4 .left)
     (at-read4 .read4 .ensures .0)
-    (at-mark-expression-field-refs .mark-expression-field-refs .ensures)
-    (at-mark-expression-field-refs2 .mark-expression-field-refs2 .ensures) a
+    (at-left .mark-expression-field-refs .ensures)
+    (at-right .mark-expression-field-refs2 .ensures) a
 
 pub +mark-expression-field-refs-spec : {M : Type 1} → statement M
 +mark-expression-field-refs-spec =
-    close μ-mark-expression-field-refs
-    (λ t. mark-expression-field-refs-lts.spec (mark-expression-field-refs-with t)
-    (mark-expression-field-refs-at t) mark-expression-field-refs.Post
-    (mark-expression-field-refs-add-read2 t) (mark-expression-field-refs-read2-requires t)
-    (mark-expression-field-refs-mark-path-requires t) (mark-expression-field-refs-same-length t)
-    (mark-expression-field-refs-returns t) (mark-expression-field-refs-returns-2 t)
-    (mark-expression-field-refs-returns-3 t)
-    (mark-expression-field-refs-add-mark-expression-field-refs t)
-    (mark-expression-field-refs-mark-expression-field-refs-requires t)
-    (mark-expression-field-refs-same-length-2 t) (mark-expression-field-refs-returns-4 t)
-    (mark-expression-field-refs-add-read4 t) (mark-expression-field-refs-read4-requires t)
-    (mark-expression-field-refs-add-mark-expression-field-refs-2 t)
-    (mark-expression-field-refs-add-mark-expression-field-refs-3 t)
-    (mark-expression-field-refs-mark-expression-field-refs-requires-2 t)
-    (mark-expression-field-refs-same-length-3 t) (mark-expression-field-refs-returns-5 t))
+    close μ
+    (λ t. walk.spec (callees t) (entered t) self.Post (add-read2 t) (read2-requires t) (mark-path-requires t)
+    (same-length t) (returns t) (returns-2 t) (returns-3 t) (add-mark-expression-field-refs t)
+    (mark-expression-field-refs-requires t) (same-length-2 t) (returns-4 t) (add-read4 t) (read4-requires t)
+    (add-mark-expression-field-refs-2 t) (add-mark-expression-field-refs-3 t) (mark-expression-field-refs-requires-2 t)
+    (same-length-3 t) (returns-5 t))
