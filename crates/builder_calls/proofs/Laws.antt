@@ -44,7 +44,8 @@ use Rattle.builder_nodes.proofs.Laws.{node-closed}
 use Rattle.builder_calls.specs.declared.Collected.{Collected}
 use Rattle.builder_calls.specs.Collected.{pathsIn, Collects, Fills}
 use Rattle.builder_calls.specs.Call.{callOf}
-use Rattle.builder_calls.proofs.Collecting.{Behind, collectPaths, collectOwners, entered, one-long, one-short, paths-more, owners-count, refusal, collects-done, collects-refused, collects-none, stopped, joined}
+use Rattle.builder_calls.proofs.Collecting.{Behind, collectPaths, collectOwners, entered, one-long, one-short, paths-more}
+use Rattle.builder_calls.proofs.Collecting.{owners-count, refusal, collects-done, collects-refused, collects-none, stopped, joined}
 
 -- ---- an argument
 

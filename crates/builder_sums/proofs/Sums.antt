@@ -209,15 +209,7 @@ module _ {s ws : List ℕ} {n : ℕ} {f : Found} (owner : Name) {path name : Nam
         Builds s xs at ws ys r (leaving (entriesOf s ws n) (refIf owner path o b)) →
         Builds s xs at ws ys r (build-ref owner name (entriesOf s ws n))
     unfolding refOf
-    leads {o} {b} h k c =
-        subst
-        (λ (p : Name). Builds s xs at ws ys r (build-ref owner p (entriesOf s ws n))) e
-        (subst
-        (λ (z : Outcome (IrNode × Registry)). Builds s xs at ws ys r z)
-        (sym
-        (ref-is owner (entriesOf s ws n) path
-        ∙ ap (λ (z : Option Name). leaving (entriesOf s ws n) (refIf owner path z (short (refText owner path)))) h
-        ∙ ap (λ (z : Bool). leaving (entriesOf s ws n) (refIf owner path o z)) k)) c)
+    leads h k c = rw (← e, ref-is owner (entriesOf s ws n) path, h, k) c
 
   module _ {xs ys : List ℕ} {at : ℕ} where
     -- no entry has the path
@@ -233,13 +225,9 @@ module _ {s ws : List ℕ} {n : ℕ} {f : Found} (owner : Name) {path name : Nam
     pub ref-done : {i w r : ℕ} → f ≡ At i → length owner + (1 + length path) ≤ 255 → w ≡ getD ws i 0 →
         Wrote xs at (write (nodeTree (refNode owner path (entryName s w)))) ys r →
         Builds s xs at ws ys (record { at = r; count = n; number = 0 }) (build-ref owner name (entriesOf s ws n))
-    ref-done {i} {w} {r} m h d v =
-        leads
-        (looked-at m l .1)
-        (le-leb (length (refText owner path)) 255 (omega (arith, ref-length owner path)))
-        (Builds.made
-        (refNode owner path (entryName s (getD ws i 0)), entriesOf s ws n) refl refl
-        (subst (λ (z : ℕ). Wrote xs at (write (nodeTree (refNode owner path (entryName s z)))) ys r) d v))
+    ref-done {i} m h d v =
+        leads (looked-at m l .1) (le-leb (length (refText owner path)) 255 (omega (arith, ref-length owner path)))
+        (Builds.made (refNode owner path (entryName s (getD ws i 0)), entriesOf s ws n) refl refl (rw d at v))
 
 -- ---- a sum, in the code's form
 

@@ -31,74 +31,103 @@ block-in a = let o = opened a refl refl in omega (arith, o .long, o .high, a .fi
 
 -- ---- the path of a field reference
 
+-- without a prefix the path is the segments joined
 pub path-is : (path : List Name) → pathOf 0 path ≡ join path
 unfolding prefixOf apply-path-prefix
 path-is path = refl
 
+-- the part of the buffer that holds the path has its length
 pub part-long : (m : ℕ) (ys : List ℕ) → m ≤ 511 → length ys ≡ 512 → m ≡ length (take m ys)
 part-long m ys h l = sym (length-take-le m ys (omega arith))
 
 -- a path that was written whole into the buffer
-pub path-held : {xs ys : List ℕ} {r : ℕ} (m : ℕ) (path : List Name) → length xs ≡ 512 → m ≤ 511 → m ≡ length (pathOf 0 path) → Wrote xs 0 (pathOf 0 path) ys r → take m ys ≡ join path
+pub path-held : {xs ys : List ℕ} {r : ℕ} (m : ℕ) (path : List Name) → length xs ≡ 512 → m ≤ 511 → m ≡ length (pathOf 0 path) →
+    Wrote xs 0 (pathOf 0 path) ys r → take m ys ≡ join path
 path-held {xs} {ys} m path l h e w =
-    ap (take m) (w .left ∙ poke-whole xs (pathOf 0 path) (omega arith)) ∙ subst (λ (k : ℕ). take k (pathOf 0 path ++ drop (length (pathOf 0 path)) xs) ≡ pathOf 0 path) (sym e) (take-append-seam (pathOf 0 path) (drop (length (pathOf 0 path)) xs)) ∙ path-is path
+    ap (take m) (w .left ∙ poke-whole xs (pathOf 0 path) (omega arith))
+    ∙ subst
+    (λ (k : ℕ). take k (pathOf 0 path ++ drop (length (pathOf 0 path)) xs) ≡ pathOf 0 path)
+    (sym e)
+    (take-append-seam (pathOf 0 path) (drop (length (pathOf 0 path)) xs))
+    ∙ path-is path
 
--- the one reference of a path that has a segment
+-- a path that has a segment is one reference
 one-ref : (path : List Name) → noNames path ≡ false → field-refs (ExprKind.FieldRef path) ≡ join path ∷ []
 unfolding field-refs
 one-ref [] h = let z : _≡_ {A = ℕ} 0 1 = cc in absurd (omega arith)
 one-ref (x ∷ xs) h = refl
 
+-- one that has none is none
 no-ref : (path : List Name) → noNames path ≡ true → field-refs (ExprKind.FieldRef path) ≡ []
 unfolding field-refs
 no-ref [] h = refl
 no-ref (x ∷ xs) h = let z : _≡_ {A = ℕ} 0 1 = cc in absurd (omega arith)
 
-module _ {s : List ℕ} {e : ℕ} (owner : Name) (g : Registry) (k : le2 s (e + 4) ≡ 65) {b : Bool} (t : (a : Accepted s 64 91 e) (path : List Name) → exprOf (tree a) ≡ ExprKind.FieldRef path → b ≡ noNames path) where
+module _ {s : List ℕ} {e : ℕ} (owner : Name) (g : Registry) (k : le2 s (e + 4) ≡ 65) {b : Bool}
+    (t : (a : Accepted s 64 91 e) (path : List Name) → exprOf (tree a) ≡ ExprKind.FieldRef path → b ≡ noNames path) where
+  -- without a segment nothing is marked
   pub mark-none : b ≡ true → (a : Accepted s 64 91 e) → g ≡ mark-all owner (field-refs (exprOf (tree a))) g
   unfolding mark-all
-  mark-none h a = let f = field-ref-at a k in
-      let z : field-refs (exprOf (tree a)) ≡ [] = ap field-refs (f .is) ∙ no-ref (textsOf (f .list .got .0)) (sym (t a (textsOf (f .list .got .0)) (f .is)) ∙ h) in
+  mark-none h a =
+      let f = field-ref-at a k in
+      let z : field-refs (exprOf (tree a)) ≡ [] = ap field-refs (f .is)
+      ∙ no-ref (textsOf (f .list .got .0)) (sym (t a (textsOf (f .list .got .0)) (f .is)) ∙ h) in
       rw z refl
 
-  marks-one : {h : Registry} → b ≡ false → (a : Accepted s 64 91 e) → h ≡ mark-derived owner (join (textsOf (field-ref-at a k .list .got .0))) g → h ≡ mark-all owner (field-refs (exprOf (tree a))) g
+  -- with one the joined path is marked
+  marks-one : {h : Registry} → b ≡ false → (a : Accepted s 64 91 e) →
+      h ≡ mark-derived owner (join (textsOf (field-ref-at a k .list .got .0))) g → h ≡ mark-all owner (field-refs (exprOf (tree a))) g
   unfolding mark-all
-  marks-one {h} n a m = let f = field-ref-at a k in
-      let z : field-refs (exprOf (tree a)) ≡ join (textsOf (f .list .got .0)) ∷ [] = ap field-refs (f .is) ∙ one-ref (textsOf (f .list .got .0)) (sym (t a (textsOf (f .list .got .0)) (f .is)) ∙ n) in
+  marks-one {h} n a m =
+      let f = field-ref-at a k in
+      let z : field-refs (exprOf (tree a)) ≡ join (textsOf (f .list .got .0)) ∷ [] = ap field-refs (f .is)
+      ∙ one-ref (textsOf (f .list .got .0)) (sym (t a (textsOf (f .list .got .0)) (f .is)) ∙ n) in
       rw z m
 
   module _ {m : ℕ} (u : (a : Accepted s 64 91 e) (path : List Name) → exprOf (tree a) ≡ ExprKind.FieldRef path → m ≡ length (pathOf 0 path)) where
-    pub mark-long : {ws : List ℕ} {n : ℕ} → b ≡ false → 511 < m → Standing s ws n → length owner ≤ 255 → g ≡ entriesOf s ws n → (a : Accepted s 64 91 e) → g ≡ mark-all owner (field-refs (exprOf (tree a))) g
+    -- a path of over 511 bytes is no entry's: nothing is marked
+    pub mark-long : {ws : List ℕ} {n : ℕ} → b ≡ false → 511 < m → Standing s ws n → length owner ≤ 255 → g ≡ entriesOf s ws n →
+        (a : Accepted s 64 91 e) → g ≡ mark-all owner (field-refs (exprOf (tree a))) g
     mark-long {ws} {n} h l st o d a =
         let f = field-ref-at a k in
         let p : m ≡ length (join (textsOf (f .list .got .0))) = u a (textsOf (f .list .got .0)) (f .is) ∙ ap length (path-is (textsOf (f .list .got .0))) in
         marks-one h a (rw d (sym (long-mark st owner (join (textsOf (f .list .got .0))) o (omega arith))))
 
-    pub mark-path : {xs ys : List ℕ} {r : ℕ} {h : Registry} → b ≡ false → m ≤ 511 → length xs ≡ 512 → ((a : Accepted s 64 91 e) (path : List Name) → exprOf (tree a) ≡ ExprKind.FieldRef path → Wrote xs 0 (pathOf 0 path) ys r) →
+    -- any other is marked as it stands in the buffer
+    pub mark-path : {xs ys : List ℕ} {r : ℕ} {h : Registry} → b ≡ false → m ≤ 511 → length xs ≡ 512 →
+        ((a : Accepted s 64 91 e) (path : List Name) → exprOf (tree a) ≡ ExprKind.FieldRef path → Wrote xs 0 (pathOf 0 path) ys r) →
         h ≡ mark-derived owner (take m ys) g → (a : Accepted s 64 91 e) → h ≡ mark-all owner (field-refs (exprOf (tree a))) g
     mark-path {ys} n l x w d a =
         let f = field-ref-at a k in
-        marks-one n a (d ∙ ap (λ (p : Name). mark-derived owner p g) (path-held m (textsOf (f .list .got .0)) x l (u a (textsOf (f .list .got .0)) (f .is)) (w a (textsOf (f .list .got .0)) (f .is))))
+        marks-one n a
+        (d
+        ∙ ap
+        (λ (p : Name). mark-derived owner p g)
+        (path-held m (textsOf (f .list .got .0)) x l (u a (textsOf (f .list .got .0)) (f .is)) (w a (textsOf (f .list .got .0)) (f .is))))
 
 -- ---- the walk
 
+-- marks of two lists, one after the other
 mark-both : (owner : Name) (xs ys : List Name) (g : Registry) → mark-all owner (xs ++ ys) g ≡ mark-all owner ys (mark-all owner xs g)
 unfolding mark-all
 mark-both owner [] ys g = refl
 mark-both owner (x ∷ xs) ys g = mark-both owner xs ys (mark-derived owner x g)
 
+-- kinds 68 to 78 are walked on both sides
 in-range : (k : ℕ) → 68 ≤ k → k ≤ 78 → within 68 78 k ≡ true
 in-range k h l = rw (le-leb 68 k h, le-leb k 78 l)
 
+-- those above are not
 above : (k : ℕ) → 78 < k → within 68 78 k ≡ false
 above k h = rw (le-leb 68 k (omega arith), lt-leb k 78 h)
 
 module _ {s : List ℕ} {e : ℕ} (owner : Name) (g : Registry) where
+  -- an expression without references marks nothing
   nothing : (a : Accepted s 64 91 e) → field-refs (exprOf (tree a)) ≡ [] → g ≡ mark-all owner (field-refs (exprOf (tree a))) g
   unfolding mark-all
   nothing a z = rw z refl
 
-  -- 64, 66, 67
+  -- 64, 66, 67: a literal, a size and an alignment have no references
   pub low-marks : (u : ℕ) → u ≡ le2 s (e + 4) → (u ≡ 65 → ⊥) → u < 68 → (a : Accepted s 64 91 e) → g ≡ mark-all owner (field-refs (exprOf (tree a))) g
   unfolding field-refs
   low-marks u d n h a =
@@ -115,32 +144,40 @@ module _ {s : List ℕ} {e : ℕ} (owner : Name) (g : Registry) where
           let o = opened a refl refl in
           ap field-refs (alignof-at a (omega (arith, o .least)))
 
-  -- 83 to 91
+  -- 83 to 91: comparisons are not walked
   pub high-marks : (u : ℕ) → u ≡ le2 s (e + 4) → 82 < u → (a : Accepted s 64 91 e) → g ≡ mark-all owner (field-refs (exprOf (tree a))) g
   unfolding field-refs
   high-marks u d h a =
       let b = compare-at a (omega arith) in
       nothing a (ap field-refs (b .is) ∙ rw (above (le2 s (e + 4)) (omega arith)) refl)
 
-  -- 79 to 82
-  pub unary-marks : {h : Registry} (u : ℕ) → u ≡ le2 s (e + 4) → 78 < u → u ≤ 82 → ((x : Accepted s 64 91 (e + 6)) → h ≡ mark-all owner (field-refs (exprOf (tree x))) g) →
-      (a : Accepted s 64 91 e) → h ≡ mark-all owner (field-refs (exprOf (tree a))) g
+  -- 79 to 82: the references of the operand
+  pub unary-marks : {h : Registry} (u : ℕ) → u ≡ le2 s (e + 4) → 78 < u → u ≤ 82 →
+      ((x : Accepted s 64 91 (e + 6)) → h ≡ mark-all owner (field-refs (exprOf (tree x))) g) → (a : Accepted s 64 91 e) →
+      h ≡ mark-all owner (field-refs (exprOf (tree a))) g
   unfolding field-refs
   unary-marks u d l m f a = let x = unary-at a (omega arith) (omega arith) in
       f (x .operand) ∙ ap (λ (z : ExprKind). mark-all owner (field-refs z) g) (sym (x .is))
 
-  -- 68 to 78
-  pub binary-marks : {h i : Registry} (u v : ℕ) → u ≡ le2 s (e + 4) → 68 ≤ u → u ≤ 78 → v ≡ le4 s (e + 6) → ((x : Accepted s 64 91 (e + 6)) → h ≡ mark-all owner (field-refs (exprOf (tree x))) g) →
-      ((x : Accepted s 64 91 (e + 10 + v)) → i ≡ mark-all owner (field-refs (exprOf (tree x))) h) → (a : Accepted s 64 91 e) → i ≡ mark-all owner (field-refs (exprOf (tree a))) g
+  -- 68 to 78: those of the left operand, then those of the right one
+  pub binary-marks : {h i : Registry} (u v : ℕ) → u ≡ le2 s (e + 4) → 68 ≤ u → u ≤ 78 → v ≡ le4 s (e + 6) →
+      ((x : Accepted s 64 91 (e + 6)) → h ≡ mark-all owner (field-refs (exprOf (tree x))) g) →
+      ((x : Accepted s 64 91 (e + 10 + v)) → i ≡ mark-all owner (field-refs (exprOf (tree x))) h) → (a : Accepted s 64 91 e) →
+      i ≡ mark-all owner (field-refs (exprOf (tree a))) g
   unfolding field-refs
   binary-marks {h} {i} u v d l m w f j a =
       let x = binary-at a (omega arith) (omega arith) in
-      let j′ : (x : Accepted s 64 91 (e + 10 + le4 s (e + 6))) → i ≡ mark-all owner (field-refs (exprOf (tree x))) h = subst (λ (v : ℕ). (x : Accepted s 64 91 (e + 10 + v)) → i ≡ mark-all owner (field-refs (exprOf (tree x))) h) w j in
-      let z : field-refs (exprOf (tree a)) ≡ field-refs (exprOf (tree (x .left))) ++ field-refs (exprOf (tree (x .right))) = ap field-refs (x .is) ∙ rw (in-range (le2 s (e + 4)) (omega arith) (omega arith)) refl in
-      j′ (x .right) ∙ ap (λ (y : Registry). mark-all owner (field-refs (exprOf (tree (x .right)))) y) (f (x .left))
-      ∙ sym (mark-both owner (field-refs (exprOf (tree (x .left)))) (field-refs (exprOf (tree (x .right)))) g) ∙ ap (λ (z : List Name). mark-all owner z g) (sym z)
+      let j′ : (x : Accepted s 64 91 (e + 10 + le4 s (e + 6))) → i ≡ mark-all owner (field-refs (exprOf (tree x))) h = subst
+      (λ (v : ℕ). (x : Accepted s 64 91 (e + 10 + v)) → i ≡ mark-all owner (field-refs (exprOf (tree x))) h) w j in
+      let z : field-refs (exprOf (tree a)) ≡ field-refs (exprOf (tree (x .left))) ++ field-refs (exprOf (tree (x .right))) = ap field-refs
+      (x .is)
+      ∙ rw (in-range (le2 s (e + 4)) (omega arith) (omega arith)) refl in
+      j′ (x .right)
+      ∙ ap (λ (y : Registry). mark-all owner (field-refs (exprOf (tree (x .right)))) y) (f (x .left))
+      ∙ sym (mark-both owner (field-refs (exprOf (tree (x .left)))) (field-refs (exprOf (tree (x .right)))) g)
+      ∙ ap (λ (z : List Name). mark-all owner z g) (sym z)
 
--- the operands of 68 to 82
+-- the operand of 68 to 82, or the left one: a block inside the expression
 pub left-in : {s : List ℕ} {e : ℕ} (u : ℕ) → u ≡ le2 s (e + 4) → 68 ≤ u → u ≤ 82 → Accepted s 64 91 e → Accepted s 64 91 (e + 6) × (6 + le4 s (e + 6) ≤ le4 s e)
 left-in {s} {e} u d l m a = go (leb u 78) refl
   where
@@ -150,7 +187,9 @@ left-in {s} {e} u d l m a = go (leb u 78) refl
     go false x = let h = leb-false u 78 x in
         let b = unary-at a (omega arith) (omega arith) in (b .operand, b .room)
 
-pub right-in : {s : List ℕ} {e : ℕ} (u v : ℕ) → u ≡ le2 s (e + 4) → 68 ≤ u → u ≤ 78 → v ≡ le4 s (e + 6) → Accepted s 64 91 e → Accepted s 64 91 (e + 10 + v) × (10 + le4 s (e + 10 + v) ≤ le4 s e)
+-- the right operand of 68 to 78, behind the left one
+pub right-in : {s : List ℕ} {e : ℕ} (u v : ℕ) → u ≡ le2 s (e + 4) → 68 ≤ u → u ≤ 78 → v ≡ le4 s (e + 6) → Accepted s 64 91 e →
+    Accepted s 64 91 (e + 10 + v) × (10 + le4 s (e + 10 + v) ≤ le4 s e)
 right-in {s} {e} u v d l m w a =
     let b = binary-at a (omega arith) (omega arith) in
     subst (λ (v : ℕ). Accepted s 64 91 (e + 10 + v) × (10 + le4 s (e + 10 + v) ≤ le4 s e)) (sym w) (b .right, omega (arith, b .room))

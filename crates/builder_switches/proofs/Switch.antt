@@ -19,7 +19,8 @@ use Rattle.resolved.specs.Set.{formOf, makeThing, thingOf, variantsIn, typeOf}
 use Rattle.ir.specs.Ir.{IrNode, SwitchCases, DefaultNode, aligned, unplaced}
 use Rattle.ir.specs.Layout.{nodeTree, casesTree, caseCount, defaultTree}
 use Rattle.builder.specs.Registry.{Registry, Build, _>>=_, give, extend-with, add-synthetic}
-use Rattle.builder.specs.Nodes.{Alternative, notEmpty, enum-tag-parameter, enum-alternatives, union-alternatives, sized-alternatives, build-cases, build-switch, build-enum-node, build-union-node, build-size-discriminated-union-node}
+use Rattle.builder.specs.Nodes.{Alternative, notEmpty, enum-tag-parameter, enum-alternatives, union-alternatives, sized-alternatives}
+use Rattle.builder.specs.Nodes.{build-cases, build-switch, build-enum-node, build-union-node, build-size-discriminated-union-node}
 use Rattle.builder.proofs.Steps.{step-done, step-refused, require-yes, require-no}
 use Rattle.wire.specs.Poke.{Wrote}
 use Rattle.wire.proofs.Laws.{parts, no-parts}
@@ -40,48 +41,69 @@ use Rattle.builder_switches.proofs.Cases.{union-are, enum-are, sized-ar
 
 -- ---- the switch
 
+-- the switch of cases that were made
 abbrev switchIf : Head → Name → Outcome (SwitchCases × Registry) → Outcome (IrNode × Registry)
 switchIf h tag (done y) = done (IrNode.Switch unplaced (aligned (h .alignment)) tag (y .0) DefaultNode.noDefault, y .1)
 switchIf h tag (refused q) = refused q
 
+-- the definition's switch, by its cases
 switch-is : (h : Head) (tag : Name) (xs : List Alternative) (g : Registry) → build-switch h tag xs g ≡ switchIf h tag (build-cases (h .dynamic-params) xs g)
 unfolding build-switch _>>=_ _andThen_ give
 switch-is h tag xs g = go (build-cases (h .dynamic-params) xs g)
   where
-    go : (o : Outcome (SwitchCases × Registry)) → _andThen_ o (λ y. done (IrNode.Switch unplaced (aligned (h .alignment)) tag (y .0) DefaultNode.noDefault, y .1)) ≡ switchIf h tag o
+    go : (o : Outcome (SwitchCases × Registry)) →
+        _andThen_ o (λ y. done (IrNode.Switch unplaced (aligned (h .alignment)) tag (y .0) DefaultNode.noDefault, y .1)) ≡ switchIf h tag o
     go (done y) = refl
     go (refused q) = refl
 
-switch-write : {xs x₁ x₂ x₃ x₄ x₅ ys : List ℕ} {at b c d r u j : ℕ} (a : ℕ) (tag : Name) (count : ℕ) (cs : SwitchCases) → caseCount cs ≡ count → Wrote xs at (nodeStart 132 a) x₁ b → Wrote x₁ b (write (name tag)) x₂ c →
-    Wrote x₂ c (bytes 2 count) x₃ d → Wrote x₃ d (write (casesTree cs)) x₄ r → Wrote x₄ r (write (num 1 (cond false 1 0))) x₅ u → Wrote x₅ at (bytes 4 (u - at - 4)) ys j →
+-- the bytes of a switch
+switch-write : {xs x₁ x₂ x₃ x₄ x₅ ys : List ℕ} {at b c d r u j : ℕ} (a : ℕ) (tag : Name) (count : ℕ) (cs : SwitchCases) →
+    caseCount cs ≡ count → Wrote xs at (nodeStart 132 a) x₁ b → Wrote x₁ b (write (name tag)) x₂ c → Wrote x₂ c (bytes 2 count) x₃ d →
+    Wrote x₃ d (write (casesTree cs)) x₄ r → Wrote x₄ r (write (num 1 (cond false 1 0))) x₅ u → Wrote x₅ at (bytes 4 (u - at - 4)) ys j →
     Wrote xs at (write (nodeTree (IrNode.Switch unplaced (aligned a) tag cs DefaultNode.noDefault))) ys u
 unfolding nodeTree defaultTree write
 switch-write {x₂} {x₃} {x₅} {c} {d} {u} a tag count cs e w₁ w₂ w₃ w₄ w₅ w₆ =
-    node-closed 132 a (cons (name tag) (cons (cons (num 2 (caseCount cs)) (casesTree cs)) (cons (cons (num 1 0) nil) nil))) w₁
-    (parts (name tag) (cons (cons (num 2 (caseCount cs)) (casesTree cs)) (cons (cons (num 1 0) nil) nil)) w₂
-    (parts (cons (num 2 (caseCount cs)) (casesTree cs)) (cons (cons (num 1 0) nil) nil) (parts (num 2 (caseCount cs)) (casesTree cs) (subst (λ (k : ℕ). Wrote x₂ c (bytes 2 k) x₃ d) (sym e) w₃) w₄)
+    node-closed 132 a
+    (cons (name tag) (cons (cons (num 2 (caseCount cs)) (casesTree cs)) (cons (cons (num 1 0) nil) nil))) w₁
+    (parts
+    (name tag)
+    (cons (cons (num 2 (caseCount cs)) (casesTree cs)) (cons (cons (num 1 0) nil) nil)) w₂
+    (parts
+    (cons (num 2 (caseCount cs)) (casesTree cs))
+    (cons (cons (num 1 0) nil) nil)
+    (parts (num 2 (caseCount cs)) (casesTree cs) (subst (λ (k : ℕ). Wrote x₂ c (bytes 2 k) x₃ d) (sym e) w₃) w₄)
     (parts (cons (num 1 0) nil) nil (parts (num 1 0) nil w₅ (no-parts x₅ u)) (no-parts x₅ u)))) w₆
 
-module _ {s xs ws x₁ x₂ x₃ x₄ : List ℕ} {at b c d kind first k count : ℕ} {h : TypeHead} {r : Built} (n : ℕ) (tag : Name) (hd : (a : Accepted s 1 7 kind) → HeadAt a h) (w₁ : Wrote xs at (nodeStart 132 (h .alignment)) x₁ b)
+module _ {s xs ws x₁ x₂ x₃ x₄ : List ℕ} {at b c d kind first k count : ℕ} {h : TypeHead} {r : Built} (n : ℕ) (tag : Name)
+    (hd : (a : Accepted s 1 7 kind) → HeadAt a h) (w₁ : Wrote xs at (nodeStart 132 (h .alignment)) x₁ b)
     (w₂ : Wrote x₁ b (write (name tag)) x₂ c) (w₃ : Wrote x₂ c (bytes 2 count) x₃ d)
     (cs : (l : Listed s k k count first) (a : Accepted s 32 32 (h .references)) → Cases s x₃ d ws x₄ r count (build-cases (ownersOf (tree a)) (alternatives k 0 (l .got .0)) (entriesOf s ws n))) where
-  cases-of : (a : Accepted s 1 7 kind) (l : Listed s k k count first) → Cases s x₃ d ws x₄ r count (build-cases (head (typeOf (tree a)) .dynamic-params) (alternatives k 0 (l .got .0)) (entriesOf s ws n))
+  -- the cases under the references of the type itself
+  cases-of : (a : Accepted s 1 7 kind) (l : Listed s k k count first) →
+      Cases s x₃ d ws x₄ r count (build-cases (head (typeOf (tree a)) .dynamic-params) (alternatives k 0 (l .got .0)) (entriesOf s ws n))
   cases-of a l = rw (hd a .owners) (cs l (hd a .references))
 
+  -- a case was refused
   pub switch-stops : {ys : List ℕ} {j : ℕ} → (r .number ≡ 0 → ⊥) → (a : Accepted s 1 7 kind) (l : Listed s k k count first) →
       Builds s xs at ws ys (record { at = at; count = j; number = r .number }) (build-switch (head (typeOf (tree a))) tag (alternatives k 0 (l .got .0)) (entriesOf s ws n))
   switch-stops {ys} {j} z a l = rw (switch-is (head (typeOf (tree a))) tag (alternatives k 0 (l .got .0)) (entriesOf s ws n)) (go (cases-of a l))
     where
-      go : {o : Outcome (SwitchCases × Registry)} → Cases s x₃ d ws x₄ r count o → Builds s xs at ws ys (record { at = at; count = j; number = r .number }) (switchIf (head (typeOf (tree a))) tag o)
+      go : {o : Outcome (SwitchCases × Registry)} → Cases s x₃ d ws x₄ r count o →
+          Builds s xs at ws ys (record { at = at; count = j; number = r .number }) (switchIf (head (typeOf (tree a))) tag o)
       go (Cases.made y f g m v) = absurd (z f)
       go (Cases.not q f g) = Builds.not q f g
 
-  pub switch-done : {x₅ ys : List ℕ} {u j : ℕ} → r .number ≡ 0 → Wrote x₄ (r .at) (write (num 1 (cond false 1 0))) x₅ u → Wrote x₅ at (bytes 4 (u - at - 4)) ys j → (a : Accepted s 1 7 kind) (l : Listed s k k count first) →
+  -- the switch was written
+  pub switch-done : {x₅ ys : List ℕ} {u j : ℕ} → r .number ≡ 0 → Wrote x₄ (r .at) (write (num 1 (cond false 1 0))) x₅ u →
+      Wrote x₅ at (bytes 4 (u - at - 4)) ys j → (a : Accepted s 1 7 kind) (l : Listed s k k count first) →
       Builds s xs at ws ys (record { at = u; count = r .count; number = 0 }) (build-switch (head (typeOf (tree a))) tag (alternatives k 0 (l .got .0)) (entriesOf s ws n))
   switch-done {ys} {u} z w₄ w₅ a l = rw (switch-is (head (typeOf (tree a))) tag (alternatives k 0 (l .got .0)) (entriesOf s ws n)) (go (cases-of a l))
     where
-      go : {o : Outcome (SwitchCases × Registry)} → Cases s x₃ d ws x₄ r count o → Builds s xs at ws ys (record { at = u; count = r .count; number = 0 }) (switchIf (head (typeOf (tree a))) tag o)
-      go (Cases.made y f g m v) = Builds.made (IrNode.Switch unplaced (aligned (head (typeOf (tree a)) .alignment)) tag (y .0) DefaultNode.noDefault, y .1) refl g
+      go : {o : Outcome (SwitchCases × Registry)} → Cases s x₃ d ws x₄ r count o →
+          Builds s xs at ws ys (record { at = u; count = r .count; number = 0 }) (switchIf (head (typeOf (tree a))) tag o)
+      go (Cases.made y f g m v) =
+          Builds.made
+          (IrNode.Switch unplaced (aligned (head (typeOf (tree a)) .alignment)) tag (y .0) DefaultNode.noDefault, y .1) refl g
           (rw (hd a .alignment) (switch-write (h .alignment) tag count (y .0) m w₁ w₂ w₃ v w₄ w₅))
       go (Cases.not q f g) = absurd (omega arith)
 
@@ -163,7 +185,8 @@ same-union : {k : ResolvedTypeKind} {fs gs : Fields} → k ≡ ResolvedTypeKind.
 same-union p q = cc
 
 -- and two size-discriminated unions
-same-sized : {k : ResolvedTypeKind} {vs us : Variants} → k ≡ ResolvedTypeKind.SizeDiscriminatedUnion vs → k ≡ ResolvedTypeKind.SizeDiscriminatedUnion us → vs ≡ us
+same-sized : {k : ResolvedTypeKind} {vs us : Variants} → k ≡ ResolvedTypeKind.SizeDiscriminatedUnion vs →
+    k ≡ ResolvedTypeKind.SizeDiscriminatedUnion us → vs ≡ us
 same-sized p q = cc
 
 -- the tag of an enum, under the type's own name and by its own expression
@@ -302,7 +325,8 @@ module _ {s xs us : List ℕ} {at kind : ℕ} {h : TypeHead} {x : Held} (g : Reg
             (tag-stops _ _ _ (synthetic-tag 3 _ hd tg a) y))
 
         -- it is the switch over its variants
-        pub sized-done : {ys : List ℕ} {r : Built} → t .number ≡ 0 → Switched s xs at kind 35 (p .count) (p .first) t vs ys r → SizedUnions s xs at kind g vs ys r
+        pub sized-done : {ys : List ℕ} {r : Built} → t .number ≡ 0 → Switched s xs at kind 35 (p .count) (p .first) t vs ys r →
+            SizedUnions s xs at kind g vs ys r
         unfolding build-size-discriminated-union-node madePath madeParameter
         sized-done y sw a vs′ q =
             refs-go _ a

@@ -33,27 +33,36 @@ use Rattle.builder_switches.proofs.Marks.{path-is, path-held}
 
 -- ---- a path's entry
 
-module _ {s ws : List ℕ} {n e m : ℕ} (owner : Name) (u : (a : Accepted s 64 91 e) (path : List Name) → exprOf (tree a) ≡ ExprKind.FieldRef path → m ≡ length (pathOf 0 path)) where
-  pub tag-long : 511 < m → Standing s ws n → length owner ≤ 255 →
-      (a : Accepted s 64 91 e) (path : List Name) → exprOf (tree a) ≡ ExprKind.FieldRef path → Looked s ws n Missing (tag-lookup owner (join path) (entriesOf s ws n))
+module _ {s ws : List ℕ} {n e m : ℕ} (owner : Name)
+    (u : (a : Accepted s 64 91 e) (path : List Name) → exprOf (tree a) ≡ ExprKind.FieldRef path → m ≡ length (pathOf 0 path)) where
+  -- a path of over 511 bytes is no entry's
+  pub tag-long : 511 < m → Standing s ws n → length owner ≤ 255 → (a : Accepted s 64 91 e) (path : List Name) →
+      exprOf (tree a) ≡ ExprKind.FieldRef path → Looked s ws n Missing (tag-lookup owner (join path) (entriesOf s ws n))
   unfolding tag-lookup
   tag-long l st o a path x =
       let p : m ≡ length (join path) = u a path x ∙ ap length (path-is path) in
       rw (long-lookup st owner (join path) o (omega arith), long-qualified st owner (join path) o (omega arith)) Looked.missing
 
-  module _ {xs ys : List ℕ} {r : ℕ} {f : Found} (l : m ≤ 511) (z : length xs ≡ 512) (w : (a : Accepted s 64 91 e) (path : List Name) → exprOf (tree a) ≡ ExprKind.FieldRef path → Wrote xs 0 (pathOf 0 path) ys r)
+  module _ {xs ys : List ℕ} {r : ℕ} {f : Found} (l : m ≤ 511) (z : length xs ≡ 512)
+      (w : (a : Accepted s 64 91 e) (path : List Name) → exprOf (tree a) ≡ ExprKind.FieldRef path → Wrote xs 0 (pathOf 0 path) ys r)
       (k : Looked s ws n f (lookup-name owner (take m ys) (entriesOf s ws n))) where
+    -- the buffer holds the joined path
     held-path : (a : Accepted s 64 91 e) (path : List Name) → exprOf (tree a) ≡ ExprKind.FieldRef path → take m ys ≡ join path
     held-path a path x = path-held m path z l (u a path x) (w a path x)
 
-    pub tag-found : {i : ℕ} → f ≡ At i → (a : Accepted s 64 91 e) (path : List Name) → exprOf (tree a) ≡ ExprKind.FieldRef path → Looked s ws n (At i) (tag-lookup owner (join path) (entriesOf s ws n))
+    -- the owner has an entry of the path
+    pub tag-found : {i : ℕ} → f ≡ At i → (a : Accepted s 64 91 e) (path : List Name) → exprOf (tree a) ≡ ExprKind.FieldRef path →
+        Looked s ws n (At i) (tag-lookup owner (join path) (entriesOf s ws n))
     unfolding tag-lookup
     tag-found d a path x =
         let q = looked-at d (subst (λ (p : Name). Looked s ws n f (lookup-name owner p (entriesOf s ws n))) (held-path a path x) k) in
         rw (q .1) (Looked.at (q .0))
 
-    pub tag-other : {g : Found} → f ≡ Missing → Looked s ws n g (lookupQualified owner (qualify-parent-path owner (take m ys)) (entriesOf s ws n)) →
-        (a : Accepted s 64 91 e) (path : List Name) → exprOf (tree a) ≡ ExprKind.FieldRef path → Looked s ws n g (tag-lookup owner (join path) (entriesOf s ws n))
+    -- it has none: the parent's entry, or none
+    pub tag-other : {g : Found} → f ≡ Missing →
+        Looked s ws n g (lookupQualified owner (qualify-parent-path owner (take m ys)) (entriesOf s ws n)) →
+        (a : Accepted s 64 91 e) (path : List Name) → exprOf (tree a) ≡ ExprKind.FieldRef path →
+        Looked s ws n g (tag-lookup owner (join path) (entriesOf s ws n))
     unfolding tag-lookup
     tag-other {g} d c a path x =
         rw (looked-none d (subst (λ (p : Name). Looked s ws n f (lookup-name owner p (entriesOf s ws n))) (held-path a path x) k))
@@ -61,10 +70,12 @@ module _ {s ws : List ℕ} {n e m : ℕ} (owner : Name) (u : (a : Accepted s 64 
 
 -- ---- the tag
 
+-- the tag of an entry that was found; refusal 12 where there is none
 abbrev tagOf : Option Name → Registry → Outcome (Name × Registry)
 tagOf none g = refused (plain MissingParameter)
 tagOf (some x) g = done (x, g)
 
+-- the tag of a field reference is that of its path
 found-tag : (owner : Name) (path : List Name) (g : Registry) → enum-tag-parameter owner (ExprKind.FieldRef path) g ≡ tagOf (tag-lookup owner (join path) g) g
 unfolding enum-tag-parameter _>>=_ _andThen_ reads need give refuse
 found-tag owner path g = go (tag-lookup owner (join path) g)
@@ -75,29 +86,39 @@ found-tag owner path g = go (tag-lookup owner (join path) g)
 
 module _ {s ws : List ℕ} {n e : ℕ} {f : Found} (o owner : Name) (d : o ≡ owner) (k : le2 s (e + 4) ≡ 65)
     (l₀ : (a : Accepted s 64 91 e) (path : List Name) → exprOf (tree a) ≡ ExprKind.FieldRef path → Looked s ws n f (tag-lookup o (join path) (entriesOf s ws n))) where
+  -- the lookup, under the type's name
   l : (a : Accepted s 64 91 e) (path : List Name) → exprOf (tree a) ≡ ExprKind.FieldRef path → Looked s ws n f (tag-lookup owner (join path) (entriesOf s ws n))
   l a path x = subst (λ (z : Name). Looked s ws n f (tag-lookup z (join path) (entriesOf s ws n))) d (l₀ a path x)
 
-  pub tag-known : {i : ℕ} → f ≡ At i → (a : Accepted s 64 91 e) → Tags s ws (record { at = i; count = n; number = 0 }) (enum-tag-parameter owner (exprOf (tree a)) (entriesOf s ws n))
+  -- the path has an entry
+  pub tag-known : {i : ℕ} → f ≡ At i → (a : Accepted s 64 91 e) →
+      Tags s ws (record { at = i; count = n; number = 0 }) (enum-tag-parameter owner (exprOf (tree a)) (entriesOf s ws n))
   tag-known {i} h a =
       let p = field-ref-at a k in
-      rw (p .is, found-tag owner (textsOf (p .list .got .0)) (entriesOf s ws n)) (go (tag-lookup owner (join (textsOf (p .list .got .0))) (entriesOf s ws n)) h (l a (textsOf (p .list .got .0)) (p .is)))
+      rw
+      (p .is, found-tag owner (textsOf (p .list .got .0)) (entriesOf s ws n))
+      (go (tag-lookup owner (join (textsOf (p .list .got .0))) (entriesOf s ws n)) h (l a (textsOf (p .list .got .0)) (p .is)))
     where
       go : {f : Found} (o : Option Name) → f ≡ At i → Looked s ws n f o → Tags s ws (record { at = i; count = n; number = 0 }) (tagOf o (entriesOf s ws n))
       go none d Looked.missing = let z : _≡_ {A = ℕ} 0 1 = cc in absurd (omega arith)
       go (some x) d (Looked.at {i = j} h) = let z : j ≡ i = cc in rw z (Tags.tags (entriesOf s ws n) refl refl (rw (← z) h))
 
-  pub tag-unknown : f ≡ Missing → {i : ℕ} (a : Accepted s 64 91 e) → Tags s ws (record { at = i; count = n; number = 12 }) (enum-tag-parameter owner (exprOf (tree a)) (entriesOf s ws n))
+  -- it has none
+  pub tag-unknown : f ≡ Missing → {i : ℕ} (a : Accepted s 64 91 e) →
+      Tags s ws (record { at = i; count = n; number = 12 }) (enum-tag-parameter owner (exprOf (tree a)) (entriesOf s ws n))
   tag-unknown h {i} a =
       let p = field-ref-at a k in
-      rw (p .is, found-tag owner (textsOf (p .list .got .0)) (entriesOf s ws n)) (go (tag-lookup owner (join (textsOf (p .list .got .0))) (entriesOf s ws n)) h (l a (textsOf (p .list .got .0)) (p .is)))
+      rw
+      (p .is, found-tag owner (textsOf (p .list .got .0)) (entriesOf s ws n))
+      (go (tag-lookup owner (join (textsOf (p .list .got .0))) (entriesOf s ws n)) h (l a (textsOf (p .list .got .0)) (p .is)))
     where
       go : {f : Found} (o : Option Name) → f ≡ Missing → Looked s ws n f o → Tags s ws (record { at = i; count = n; number = 12 }) (tagOf o (entriesOf s ws n))
       go none d Looked.missing = Tags.not 12 refl (omega arith)
       go (some x) d (Looked.at h) = let z : _≡_ {A = ℕ} 0 1 = cc in absurd (omega arith)
 
--- any other expression
-not-path : {s : List ℕ} {e : ℕ} (owner : Name) (g : Registry) (u : ℕ) → u ≡ le2 s (e + 4) → (u ≡ 65 → ⊥) → (a : Accepted s 64 91 e) → enum-tag-parameter owner (exprOf (tree a)) g ≡ computed-tag owner (exprOf (tree a)) g
+-- of any other expression the tag is made
+not-path : {s : List ℕ} {e : ℕ} (owner : Name) (g : Registry) (u : ℕ) → u ≡ le2 s (e + 4) → (u ≡ 65 → ⊥) → (a : Accepted s 64 91 e) →
+    enum-tag-parameter owner (exprOf (tree a)) g ≡ computed-tag owner (exprOf (tree a)) g
 unfolding enum-tag-parameter
 not-path {s} {e} owner g u d n a = go (eqb u 64) refl (eqb u 66) refl (eqb u 67) refl (leb u 78) refl (leb u 82) refl
   where
@@ -106,20 +127,33 @@ not-path {s} {e} owner g u d n a = go (eqb u 64) refl (eqb u 66) refl (eqb u 67)
     go true x b₂ x₂ b₃ x₃ b₄ x₄ b₅ x₅ = rw (literal-at a (sym d ∙ eqb-true u 64 x) .is) refl
     go false x true x₂ b₃ x₃ b₄ x₄ b₅ x₅ = rw (sizeof-at a (sym d ∙ eqb-true u 66 x₂)) refl
     go false x false x₂ true x₃ b₄ x₄ b₅ x₅ = rw (alignof-at a (sym d ∙ eqb-true u 67 x₃)) refl
-    go false x false x₂ false x₃ true x₄ b₅ x₅ = rw (binary-at a (omega (arith, eqb-false u 64 x, eqb-false u 66 x₂, eqb-false u 67 x₃, opened a refl refl .least)) (omega (arith, leb-true u 78 x₄)) .is) refl
+    go false x false x₂ false x₃ true x₄ b₅ x₅ =
+        rw
+        (binary-at a
+        (omega (arith, eqb-false u 64 x, eqb-false u 66 x₂, eqb-false u 67 x₃, opened a refl refl .least))
+        (omega (arith, leb-true u 78 x₄)) .is) refl
     go false x false x₂ false x₃ false x₄ true x₅ = rw (unary-at a (omega (arith, leb-false u 78 x₄)) (omega (arith, leb-true u 82 x₅)) .is) refl
     go false x false x₂ false x₃ false x₄ false x₅ = rw (compare-at a (omega (arith, leb-false u 82 x₅)) .is) refl
 
-made-tag : (owner : Name) (e : ExprKind) (g : Registry) → computed-tag owner e g ≡ add-synthetic owner (madePath 1) (madeParameter 1 owner) (mark-all owner (field-refs e) g)
+-- its references are marked first
+made-tag : (owner : Name) (e : ExprKind) (g : Registry) →
+    computed-tag owner e g ≡ add-synthetic owner (madePath 1) (madeParameter 1 owner) (mark-all owner (field-refs e) g)
 unfolding computed-tag _>>=_ _andThen_ change madePath madeParameter
 made-tag owner e g = refl
 
-pub tag-made : {s us : List ℕ} {e : ℕ} {r : Tagged} (ws : List ℕ) (n : ℕ) (g : Registry) (o : Name) (q u : ℕ) → o ≡ nameAt s q → Named s q → u ≡ le2 s (e + 4) → (u ≡ 65 → ⊥) →
-    ((a : Accepted s 64 91 e) → entriesOf s ws n ≡ mark-all o (field-refs (exprOf (tree a))) g) → Tags s us r (add-synthetic (held s q) (madePath 1) (madeParameter 1 (held s q)) (entriesOf s ws n)) →
-    (a : Accepted s 64 91 e) → Tags s us r (enum-tag-parameter (nameAt s q) (exprOf (tree a)) g)
+-- the tag that was made
+pub tag-made : {s us : List ℕ} {e : ℕ} {r : Tagged} (ws : List ℕ) (n : ℕ) (g : Registry) (o : Name) (q u : ℕ) → o ≡ nameAt s q → Named s q →
+    u ≡ le2 s (e + 4) → (u ≡ 65 → ⊥) → ((a : Accepted s 64 91 e) → entriesOf s ws n ≡ mark-all o (field-refs (exprOf (tree a))) g) →
+    Tags s us r (add-synthetic (held s q) (madePath 1) (madeParameter 1 (held s q)) (entriesOf s ws n)) → (a : Accepted s 64 91 e) →
+    Tags s us r (enum-tag-parameter (nameAt s q) (exprOf (tree a)) g)
 tag-made {s} {us} {r} ws n g o q u b h d z m t a =
-    subst (λ (o : Outcome (Name × Registry)). Tags s us r o)
-    (ap (λ (x : Name). add-synthetic x (madePath 1) (madeParameter 1 x) (entriesOf s ws n)) (held-name h) ∙ ap (add-synthetic (nameAt s q) (madePath 1) (madeParameter 1 (nameAt s q))) (m a ∙ ap (λ (x : Name). mark-all x (field-refs (exprOf (tree a))) g) b) ∙ sym (not-path (nameAt s q) g u d z a ∙ made-tag (nameAt s q) (exprOf (tree a)) g)) t
+    subst
+    (λ (o : Outcome (Name × Registry)). Tags s us r o)
+    (ap (λ (x : Name). add-synthetic x (madePath 1) (madeParameter 1 x) (entriesOf s ws n)) (held-name h)
+    ∙ ap
+    (add-synthetic (nameAt s q) (madePath 1) (madeParameter 1 (nameAt s q)))
+    (m a ∙ ap (λ (x : Name). mark-all x (field-refs (exprOf (tree a))) g) b)
+    ∙ sym (not-path (nameAt s q) g u d z a ∙ made-tag (nameAt s q) (exprOf (tree a)) g)) t
 
 -- a name of the set is short
 pub owned : {s : List ℕ} {o : Name} (q : ℕ) → Named s q → o ≡ nameAt s q → length o ≤ 255

@@ -47,7 +47,8 @@ pub record AltAt {s : List ℕ} {k q : ℕ} (c : Accepted s k k q) (i : ℕ) (r 
 
 -- The bytes of so many cases in the output ys and the next cursor, and the entries in the words us; or the refusal.
 pub data Cases (s xs : List ℕ) (at : ℕ) (us ys : List ℕ) (r : Built) (count : ℕ) : Outcome (SwitchCases × Registry) → Type 0 where
-  made : (x : SwitchCases × Registry) → r .number ≡ 0 → entriesOf s us (r .count) ≡ x .1 → caseCount (x .0) ≡ count → Wrote xs at (write (casesTree (x .0))) ys (r .at) → Cases s xs at us ys r count (done x)
+  made : (x : SwitchCases × Registry) → r .number ≡ 0 → entriesOf s us (r .count) ≡ x .1 → caseCount (x .0) ≡ count →
+      Wrote xs at (write (casesTree (x .0))) ys (r .at) → Cases s xs at us ys r count (done x)
   not : (k : ℕ) → r .number ≡ k → 0 < k → Cases s xs at us ys r count (refused (plain k))
 
 -- the case of the alternative at place i, under the references os, from the registry g
