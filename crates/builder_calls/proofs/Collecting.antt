@@ -112,11 +112,11 @@ module _ {s xs us ys : List ℕ} {at : ℕ} {before : List IrArgument} {r : Coll
   pub collected : {x : Outcome (List IrArgument × Registry)} (as′ : List IrArgument) (g : Registry) → x ≡ done (before ++ as′, g) →
       r .number ≡ 0 → r .made ≡ length before + length as′ → entriesOf s us (r .count) ≡ g →
       Wrote xs at (write (entriesTree argumentTree as′)) ys (r .at) → Collects s xs at before us ys r x
-  collected as′ g e z m h w = subst (Collects s xs at before us ys r) (sym e) (Collects.made as′ g z m h w)
+  collected as′ g e z m h w = rw e (Collects.made as′ g z m h w)
 
   -- collecting was refused
   pub refusal : {x : Outcome (List IrArgument × Registry)} (k : ℕ) → x ≡ refused (plain k) → r .number ≡ k → 0 < k → Collects s xs at before us ys r x
-  refusal k e z l = subst (Collects s xs at before us ys r) (sym e) (Collects.not k z l)
+  refusal k e z l = rw e (Collects.not k z l)
 
   -- a step that gave no refusal: its arguments, their bytes, and the registry behind it
   pub collects-done : {x : Outcome (List IrArgument × Registry)} → r .number ≡ 0 → Collects s xs at before us ys r x →
@@ -167,7 +167,7 @@ module _ {s xs vs zs : List ℕ} {at : ℕ} {before : List IrArgument} {a : Coll
           (as′ ++ bs) g
           (ap (λ (l : List IrArgument). done (l, g)) (append-assoc before as′ bs)) e
           (omega (arith, m, length-append before as′, length-append as′ bs)) h
-          (subst (λ (l : List ℕ). Wrote xs at l ys (r .at)) (sym (entries-append as′ bs)) (both w v))
+          (rw (entries-append as′ bs) (both w v))
       go as′ w (Collects.not k e l) = Collects.not k e l
 
 -- ---- the cursor, and how many arguments there are

@@ -72,9 +72,7 @@ module _ (s xs : List ℕ) (at owner path made : ℕ) (o p : List ℕ) (g₀ : R
   -- what is said of the two names is said of their offsets
   renamed : {us ys : List ℕ} {r : Collected} → Behind s xs at made us ys r (collectPaths o (p ∷ []) g₀) →
       Behind s xs at made us ys r (collectPaths (nameAt s owner) (nameAt s path ∷ []) g₀)
-  renamed {us} {ys} {r} h before e =
-      subst (λ (z : Name). Collects s xs at before us ys r (collect-paths z (nameAt s path ∷ []) before g₀)) eo
-      (subst (λ (z : Name). Collects s xs at before us ys r (collect-paths o (z ∷ []) before g₀)) ep (h before e))
+  renamed h before e = rw (← eo, ← ep) (h before e)
 
   -- the canonical name is too long
   pub argument-long : {us ys : List ℕ} {m q c k : ℕ} → m ≡ length (canonical-name o p) → 255 < m →
@@ -85,9 +83,7 @@ module _ (s xs : List ℕ) (at owner path made : ℕ) (o p : List ℕ) (g₀ : R
       (k : Kept s us h (ensure (held s owner) (held s path) g₀)) where
     -- what is entered, by the names
     kept-names : Kept s us h (ensure o p g₀)
-    kept-names =
-        subst (λ (z : Name). Kept s us h (ensure z p g₀)) (held-name no ∙ sym eo)
-        (subst (λ (z : Name). Kept s us h (ensure (held s owner) z g₀)) (held-name np ∙ sym ep) k)
+    kept-names = rw (eo, ← held-name no, ep, ← held-name np) k
 
     -- what the outcome of entering the path decides
     abbrev Entered : List ℕ → Collected → Type 0
@@ -96,12 +92,7 @@ module _ (s xs : List ℕ) (at owner path made : ℕ) (o p : List ℕ) (g₀ : R
 
     -- a path of this length, once it is entered
     after-entry : {ys : List ℕ} {r : Collected} → Entered ys r → Behind s xs at made us ys r (collectPaths (nameAt s owner) (nameAt s path ∷ []) g₀)
-    after-entry {ys} {r} f =
-        renamed
-        (λ before e. subst
-        (Collects s xs at before us ys r)
-        (sym (one-short o p before g₀ (omega (arith, el))))
-        (f before e (ensure o p g₀) kept-names))
+    after-entry f = renamed (λ before e. rw (one-short o p before g₀ (omega (arith, el))) (f before e (ensure o p g₀) kept-names))
 
     -- the registry is full
     pub argument-full : {ys : List ℕ} {q c j : ℕ} → (h .number ≡ 0 → ⊥) →
@@ -165,26 +156,19 @@ module _ {s : List ℕ} {left path : ℕ} (z : left ≡ 0 → ⊥) (l : Entries 
 pub paths-none : {s xs ws : List ℕ} {at n left path made : ℕ} (o : Name) → left ≡ 0 → (l : Entries s Item.names left path) →
     Behind s xs at made ws xs (record { at = at; count = n; made = made; number = 0 }) (collectPaths o (textsOf (l .got .0)) (entriesOf s ws n))
 unfolding entries collect-paths give
-paths-none {s} {xs} {ws} {at} {n} {made} o z l before e =
-    subst
-    (λ (t : Tree). Collects s xs at before ws xs
-    (record { at = at; count = n; made = made; number = 0 })
-    (collect-paths o (textsOf t) before (entriesOf s ws n)))
-    (sym (ap (λ (y : Tree × ℕ). y .0) (none-left l (omega arith))))
-    (collects-none e)
+paths-none o z l before e = rw (none-left l (omega arith)) (collects-none e)
 
 module _ {s xs vs zs : List ℕ} {at left path made : ℕ} {a : Collected} (o : Name) (g : Registry) (z : left ≡ 0 → ⊥)
     (f : Behind s xs at made vs zs a (collectPaths o (nameAt s path ∷ []) g)) where
   -- the first path was refused
   pub paths-stop : (a .number ≡ 0 → ⊥) → (l : Entries s Item.names left path) → Behind s xs at made vs zs a (collectPaths o (textsOf (l .got .0)) g)
-  paths-stop y l before e = subst (Collects s xs at before vs zs a) (sym (first-path z l o before g)) (stopped _ (f before e) y)
+  paths-stop y l before e = rw (first-path z l o before g) (stopped _ (f before e) y)
 
   -- the first path's argument, then those of the others
   pub paths-go : {us ys : List ℕ} {u : ℕ} {r : Collected} → a .number ≡ 0 → u ≡ le2 s path →
       ((l : Entries s Item.names (left - 1) (path + 2 + u)) → Behind s zs (a .at) (a .made) us ys r (collectPaths o (textsOf (l .got .0)) (entriesOf s vs (a .count)))) →
       (l : Entries s Item.names left path) → Behind s xs at made us ys r (collectPaths o (textsOf (l .got .0)) g)
-  paths-go {us} {ys} {u} {r} y eu h l before e =
-      subst (Collects s xs at before us ys r) (sym (first-path z l o before g)) (joined _ (f before e) y ((rw eu at h) (next-path z l .rest)))
+  paths-go y eu h l before e = rw (first-path z l o before g) (joined _ (f before e) y ((rw eu at h) (next-path z l .rest)))
 
 -- ---- owners
 
@@ -222,13 +206,7 @@ module _ {s : List ℕ} {left owner : ℕ} (z : left ≡ 0 → ⊥) (l : Listed 
 pub owners-none : {s xs ws : List ℕ} {at n left owner made : ℕ} → left ≡ 0 → (l : Listed s 37 37 left owner) →
     Behind s xs at made ws xs (record { at = at; count = n; made = made; number = 0 }) (collectOwners (entries ownerOf (l .got .0)) (entriesOf s ws n))
 unfolding entries collect-callee-arguments give
-owners-none {s} {xs} {ws} {at} {n} {made} z l before e =
-    subst
-    (λ (t : Tree). Collects s xs at before ws xs
-    (record { at = at; count = n; made = made; number = 0 })
-    (collect-callee-arguments (entries ownerOf t) before (entriesOf s ws n)))
-    (sym (ap (λ (y : Tree × ℕ). y .0) (none-left l (omega arith))))
-    (collects-none e)
+owners-none z l before e = rw (none-left l (omega arith)) (collects-none e)
 
 module _ {s xs vs zs : List ℕ} {at left owner q count made : ℕ} {a : Collected} (g : Registry) (z : left ≡ 0 → ⊥)
     (w : (b : Accepted s 37 37 owner) → OwnerAt b q) (ef : count ≡ le2 s q)
@@ -240,17 +218,14 @@ module _ {s xs vs zs : List ℕ} {at left owner q count made : ℕ} {a : Collect
 
   -- the first owner was refused
   pub owners-stop : (a .number ≡ 0 → ⊥) → (l : Listed s 37 37 left owner) → Behind s xs at made vs zs a (collectOwners (entries ownerOf (l .got .0)) g)
-  owners-stop y l before e = subst (Collects s xs at before vs zs a) (sym (first-owner z l (w (owner-here z l)) before g)) (stopped _ (of-owner l before e) y)
+  owners-stop y l before e = rw (first-owner z l (w (owner-here z l)) before g) (stopped _ (of-owner l before e) y)
 
   -- the first owner's arguments, then those of the others
   pub owners-go : {us ys : List ℕ} {u : ℕ} {r : Collected} → a .number ≡ 0 → u ≡ le4 s owner →
       ((l : Listed s 37 37 (left - 1) (owner + 4 + u)) → Behind s zs (a .at) (a .made) us ys r (collectOwners (entries ownerOf (l .got .0)) (entriesOf s vs (a .count)))) →
       (l : Listed s 37 37 left owner) → Behind s xs at made us ys r (collectOwners (entries ownerOf (l .got .0)) g)
-  owners-go {us} {ys} {u} {r} y eu h l before e =
-      subst
-      (Collects s xs at before us ys r)
-      (sym (first-owner z l (w (owner-here z l)) before g))
-      (joined _ (of-owner l before e) y ((rw eu at h) (owner-next z l .rest)))
+  owners-go y eu h l before e =
+      rw (first-owner z l (w (owner-here z l)) before g) (joined _ (of-owner l before e) y ((rw eu at h) (owner-next z l .rest)))
 
 -- ---- counting
 
@@ -297,7 +272,7 @@ Count s b left at n = Left (Counts n) s (Item.blocks 37 37) (le2 s (b + 6)) (b +
 
 -- before the loop no owner is passed
 pub count-begin : {s : List ℕ} (b : ℕ) {left : ℕ} → Accepted s 32 32 b → left ≡ le2 s (b + 6) → Count s b left (b + 6 + 2) 0
-count-begin {s} b a e = subst (λ (k : ℕ). Count s b k (b + 6 + 2) 0) (sym e) (starts (λ t. record { is = omega arith }) (owners-list a))
+count-begin b a e = rw e (starts (λ t. record { is = omega arith }) (owners-list a))
 
 module _ {s : List ℕ} (b : ℕ) {left at n : ℕ} where
   -- the next owner
@@ -313,8 +288,7 @@ module _ {s : List ℕ} (b : ℕ) {left at n : ℕ} where
       Count s b (left - 1) (at + 4 + v) (n + u)
   unfolding entries pathsIn
   count-next {q} {u} {v} h w eu ev c =
-      subst (λ (k : ℕ). Count s b (left - 1) (at + 4 + k) (n + u)) (sym ev)
-      (steps (λ r. tree (block-entry r h .child)) (λ r. block-entry r h .after) (λ r x y p. record { is = p .is ∙ one r y }) c)
+      rw ev (steps (λ r. tree (block-entry r h .child)) (λ r. block-entry r h .after) (λ r x y p. record { is = p .is ∙ one r y }) c)
     where
       one : (r : Listed s 37 37 left at) (y : Tree) →
           n + pathsIn (entries ownerOf (cons (tree (block-entry r h .child)) y)) ≡ n + u + pathsIn (entries ownerOf y)
@@ -352,9 +326,9 @@ module _ {s x₃ x₄ us : List ℕ} {v callee left : ℕ} {h : TypeHead} {r : C
     pub call-stop : {q c : ℕ} → (r .number ≡ 0 → ⊥) → (a : Accepted s 1 7 callee) →
         Builds s xs at us ys (record { at = q; count = c; number = r .number }) (callOf (typeOf (tree a)) nm alignment g)
     unfolding callOf
-    call-stop {q} {c} z a =
+    call-stop z a =
         let d = collects-refused z (call-arguments a) in
-        subst (Builds s xs at us ys (record { at = q; count = c; number = r .number })) (sym (step-refused _ _ g (d .0))) (Builds.not (r .number) refl (d .1))
+        rw (step-refused _ _ g (d .0)) (Builds.not (r .number) refl (d .1))
 
     -- the bytes of the call
     call-puts : {x₁ x₂ : List ℕ} {p u q : ℕ} (count : ℕ) (as′ : List IrArgument) → count ≡ length as′ →
@@ -436,16 +410,8 @@ module _ {s : List ℕ} {kind q : ℕ} {nm : List ℕ} {f : Found} (g : Registry
   pub typeref-missing : {xs us ys : List ℕ} {at p c : ℕ} → f ≡ Missing → (t : Tree) (a : Accepted s 1 7 kind) (target : Name) →
       readSet s ≡ done t → kindOf (typeOf (tree a)) ≡ ResolvedTypeKind.TypeRef target →
       Builds s xs at us ys (record { at = p; count = c; number = 15 }) (build-typeref-node (typesOf t) (head (typeOf (tree a))) target g)
-  typeref-missing {xs} {us} {ys} {at} {p} {c} e t a target d i =
-      subst
-      (λ (z : Name). Builds s xs at us ys
-      (record { at = p; count = c; number = 15 })
-      (build-typeref-node (typesOf t) (head (typeOf (tree a))) z g))
-      (target-is a i)
-      (subst
-      (Builds s xs at us ys (record { at = p; count = c; number = 15 }))
-      (sym (typeref-none (typesOf t) (head (typeOf (tree a))) nm g (found-none e (k t d))))
-      (Builds.not 15 refl (omega arith)))
+  typeref-missing e t a target d i =
+      rw (← target-is a i, typeref-none (typesOf t) (head (typeOf (tree a))) nm g (found-none e (k t d))) (Builds.not 15 refl (omega arith))
 
   -- the call of the type that was found
   pub typeref-done : {xs us ys : List ℕ} {at : ℕ} {h : TypeHead} {callee : ℕ} {r : Built} → ((a : Accepted s 1 7 kind) → HeadAt a h) →
@@ -453,8 +419,6 @@ module _ {s : List ℕ} {kind q : ℕ} {nm : List ℕ} {f : Found} (g : Registry
       (t : Tree) (a : Accepted s 1 7 kind) (target : Name) → readSet s ≡ done t →
       kindOf (typeOf (tree a)) ≡ ResolvedTypeKind.TypeRef target →
       Builds s xs at us ys r (build-typeref-node (typesOf t) (head (typeOf (tree a))) target g)
-  typeref-done {xs} {us} {ys} {at} {h} {r} hd e b t a target d i =
+  typeref-done hd e b t a target d i =
       let w = found-at e (k t d) in
-      subst (λ (z : Name). Builds s xs at us ys r (build-typeref-node (typesOf t) (head (typeOf (tree a))) z g)) (target-is a i)
-      (subst (Builds s xs at us ys r) (sym (typeref-is (typesOf t) (head (typeOf (tree a))) nm g (w .1)))
-      (subst (λ (m : ℕ). Builds s xs at us ys r (callOf (typeOf (tree (w .0))) nm m g)) (sym (hd a .alignment)) (b (w .0))))
+      rw (← target-is a i, typeref-is (typesOf t) (head (typeOf (tree a))) nm g (w .1), hd a .alignment) (b (w .0))

@@ -144,13 +144,8 @@ module _ {N : Name → Type 0} {s : List ℕ} {count first left at : ℕ} (h : 0
   -- a field that is none is passed
   pub go-on : {z : ℕ} → ((n : Name) → N n → (b : Accepted s 33 33 at) (u : Tree) → within n (cons (tree b) u) ≡ within n u) → z ≡ le4 s at →
       Search N s count first left at → Search N s count first (left - 1) (at + 4 + z)
-  go-on {z} g e c =
-      subst
-      (λ (k : ℕ). Search N s count first (left - 1) (at + 4 + k))
-      (sym e)
-      (steps
-      (λ l. block-entry l h .child .got .0)
-      (λ l. block-entry l h .after)
+  go-on g e c =
+      rw e (steps (λ l. block-entry l h .child .got .0) (λ l. block-entry l h .after)
       (λ l w t q. record { is = λ n m. q .is n m ∙ g n m (block-entry l h .child) t }) c)
 
 -- ---- names of elements

@@ -230,20 +230,20 @@ left t s ws i n = write (entriesTree parameterTree (listed t s ws i (n - i)))
 module _ {xs ys : List ℕ} {p q : ℕ} (t : ResolvedType) (s ws : List ℕ) {i n : ℕ} {r : Bool} (h : i < n) (e : r ≡ lists t s ws i) where
   -- an entry that is not listed writes nothing
   pub pass : not r ≡ true → Wrote xs p (left t s ws (i + 1) n) ys q → Wrote xs p (left t s ws i n) ys q
-  pass f w = subst (λ (l : List IrParameter). Wrote xs p (write (entriesTree parameterTree l)) ys q) (sym (listed-no t s ws h e f)) w
+  pass f w = rw (listed-no t s ws h e f) w
 
   -- one that is listed is written in front of the rest
   pub put : {zs : List ℕ} {u : ℕ} → not r ≡ false → Wrote xs p (write (parameterTree (entryOf s (getD ws i 0) .parameter))) ys q →
       Wrote ys q (left t s ws (i + 1) n) zs u → Wrote xs p (left t s ws i n) zs u
   unfolding entriesTree
-  put {zs} {u} f v w =
-      subst (λ (l : List IrParameter). Wrote xs p (write (entriesTree parameterTree l)) zs u) (sym (listed-yes t s ws h e f))
+  put f v w =
+      rw (listed-yes t s ws h e f)
       (parts (parameterTree (entryOf s (getD ws i 0) .parameter)) (entriesTree parameterTree (listed t s ws (i + 1) (n - (i + 1)))) v w)
 
 -- nothing is left
 pub all-put : (xs : List ℕ) (p : ℕ) (t : ResolvedType) (s ws : List ℕ) {i n : ℕ} → n ≤ i → Wrote xs p (left t s ws i n) xs p
 unfolding entriesTree
-all-put xs p t s ws h = subst (λ (l : List IrParameter). Wrote xs p (write (entriesTree parameterTree l)) xs p) (sym (listed-end t s ws h)) (no-parts xs p)
+all-put xs p t s ws h = rw (listed-end t s ws h) (no-parts xs p)
 
 -- before the loop all is left
 pub from-first : {xs ys : List ℕ} {p q : ℕ} (t : ResolvedType) (s ws : List ℕ) (n : ℕ) → Wrote xs p (left t s ws 0 n) ys q →
@@ -284,9 +284,9 @@ counted : {xs ys zs : List ℕ} {p q u : ℕ} (t : ResolvedType) (s ws : List �
     k ≡ length (listed t s ws 0 n) → Wrote xs p (bytes 2 k) ys q → Wrote ys q (write (entriesTree parameterTree (listed t s ws 0 n))) zs u →
     Wrote xs p (write (listTree parameterTree (filter-jagged-element-parameters t (into-parameters (entriesOf s ws n))))) zs u
 unfolding write
-counted {xs} {ys} {zs} {p} {q} {u} t s ws n h e v w =
-    subst (λ (l : List IrParameter). Wrote xs p (write (listTree parameterTree l)) zs u) (sym (listed-is t s ws n h))
-    (parts (num 2 (length (listed t s ws 0 n))) (entriesTree parameterTree (listed t s ws 0 n)) (subst (λ (m : ℕ). Wrote xs p (bytes 2 m) ys q) e v) w)
+counted t s ws n h e v w =
+    rw (listed-is t s ws n h)
+    (parts (num 2 (length (listed t s ws 0 n))) (entriesTree parameterTree (listed t s ws 0 n)) (rw e at v) w)
 
 -- a store behind a write may come first
 set-behind : (xs : List ℕ) (i j x : ℕ) (cs : List ℕ) → i + length cs ≤ j → set (poke xs i cs) j x ≡ poke (set xs j x) i cs

@@ -227,7 +227,7 @@ module _ (n : Name) (from to : ℕ) (g : before-element (split n) ≡ before (ta
 
     -- it is `element`: the segment at hand stands before it
     pub element-next : from ≤ to → b ≡ true → Found n (Part from to) (before-element (split n))
-    element-next l t = subst (Found n (Part from to)) (sym (next t)) (Found.part l (omega arith))
+    element-next l t = rw (next t) (Found.part l (omega arith))
 
     -- it is not: it is the segment at hand from now on
     pub goes-on : b ≡ false → before-element (split n) ≡ before (take (end - (to + 1)) (drop (to + 1) n)) (behind n end)

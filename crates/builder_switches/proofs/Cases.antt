@@ -192,7 +192,7 @@ module _ {s : List ℕ} {references : ℕ} {f : Paths} {o : Name} (q : ℕ) (d :
     (p : (a : Accepted s 32 32 references) → PathsFound s o (ownersOf (tree a)) f) where
   -- what was found is found by the name at q
   named-paths : (a : Accepted s 32 32 references) → PathsFound s (nameAt s q) (ownersOf (tree a)) f
-  named-paths a = subst (λ (z : Name). PathsFound s z (ownersOf (tree a)) f) d (p a)
+  named-paths a = rw d at (p a)
 
   -- no references have the name
   no-paths : f ≡ Missing → (a : Accepted s 32 32 references) → get (nameAt s q) (ownersOf (tree a)) ≡ none
@@ -479,7 +479,7 @@ case-stop {s} {xs} {ws} {ys} {zs} {at} {p} {r} {t} os x xs′ j g z e c =
 
 -- a block of a kind that has another name
 pub at-kind : {s : List ℕ} {k j q : ℕ} → k ≡ j → Accepted s k k q → Accepted s j j q
-at-kind {s} {q} e a = subst (λ (j : ℕ). Accepted s j j q) e a
+at-kind e a = rw e at a
 
 -- a kind that is not 33 is 34 or 35
 pub not-union : {k : ℕ} → Kind k → (k ≡ 33 → ⊥) → 34 ≤ k

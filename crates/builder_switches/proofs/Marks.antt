@@ -190,6 +190,6 @@ left-in {s} {e} u d l m a = go (leb u 78) refl
 -- the right operand of 68 to 78, behind the left one
 pub right-in : {s : List ℕ} {e : ℕ} (u v : ℕ) → u ≡ le2 s (e + 4) → 68 ≤ u → u ≤ 78 → v ≡ le4 s (e + 6) → Accepted s 64 91 e →
     Accepted s 64 91 (e + 10 + v) × (10 + le4 s (e + 10 + v) ≤ le4 s e)
-right-in {s} {e} u v d l m w a =
+right-in u v d l m w a =
     let b = binary-at a (omega arith) (omega arith) in
-    subst (λ (v : ℕ). Accepted s 64 91 (e + 10 + v) × (10 + le4 s (e + 10 + v) ≤ le4 s e)) (sym w) (b .right, omega (arith, b .room))
+    rw w (b .right, omega (arith, b .room))

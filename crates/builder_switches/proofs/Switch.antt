@@ -71,7 +71,7 @@ switch-write {x₂} {x₃} {x₅} {c} {d} {u} a tag count cs e w₁ w₂ w₃ w�
     (parts
     (cons (num 2 (caseCount cs)) (casesTree cs))
     (cons (cons (num 1 0) nil) nil)
-    (parts (num 2 (caseCount cs)) (casesTree cs) (subst (λ (k : ℕ). Wrote x₂ c (bytes 2 k) x₃ d) (sym e) w₃) w₄)
+    (parts (num 2 (caseCount cs)) (casesTree cs) (rw e w₃) w₄)
     (parts (cons (num 1 0) nil) nil (parts (num 1 0) nil w₅ (no-parts x₅ u)) (no-parts x₅ u)))) w₆
 
 module _ {s xs ws x₁ x₂ x₃ x₄ : List ℕ} {at b c d kind first k count : ℕ} {h : TypeHead} {r : Built} (n : ℕ) (tag : Name)
@@ -171,8 +171,7 @@ synthetic-tag : {s us : List ℕ} {kind : ℕ} {h : TypeHead} {t : Tagged} (made
     Tags s us t (add-synthetic (held s (kind + 6)) (madePath made) (madeParameter made (held s (kind + 6))) g) →
     (a : Accepted s 1 7 kind) →
     Tags s us t (add-synthetic (head (typeOf (tree a)) .name) (madePath made) (madeParameter made (head (typeOf (tree a)) .name)) g)
-synthetic-tag {s} {us} {kind} {t} made g hd tg a =
-    subst (λ (n : Name). Tags s us t (add-synthetic n (madePath made) (madeParameter made n) g)) (held-name (hd a .named) ∙ sym (hd a .name)) tg
+synthetic-tag made g hd tg a = rw (hd a .name, ← held-name (hd a .named)) tg
 
 -- ---- the three types
 

@@ -55,7 +55,7 @@ module _ {s ws : List ℕ} {n e m : ℕ} (owner : Name)
         Looked s ws n (At i) (tag-lookup owner (join path) (entriesOf s ws n))
     unfolding tag-lookup
     tag-found d a path x =
-        let q = looked-at d (subst (λ (p : Name). Looked s ws n f (lookup-name owner p (entriesOf s ws n))) (held-path a path x) k) in
+        let q = looked-at d (rw (held-path a path x) at k) in
         rw (q .1) (Looked.at (q .0))
 
     -- it has none: the parent's entry, or none
@@ -65,8 +65,8 @@ module _ {s ws : List ℕ} {n e m : ℕ} (owner : Name)
         Looked s ws n g (tag-lookup owner (join path) (entriesOf s ws n))
     unfolding tag-lookup
     tag-other {g} d c a path x =
-        rw (looked-none d (subst (λ (p : Name). Looked s ws n f (lookup-name owner p (entriesOf s ws n))) (held-path a path x) k))
-        (subst (λ (p : Name). Looked s ws n g (lookupQualified owner (qualify-parent-path owner p) (entriesOf s ws n))) (held-path a path x) c)
+        rw (looked-none d (rw (held-path a path x) at k))
+        (rw (held-path a path x) at c)
 
 -- ---- the tag
 
@@ -88,7 +88,7 @@ module _ {s ws : List ℕ} {n e : ℕ} {f : Found} (o owner : Name) (d : o ≡ o
     (l₀ : (a : Accepted s 64 91 e) (path : List Name) → exprOf (tree a) ≡ ExprKind.FieldRef path → Looked s ws n f (tag-lookup o (join path) (entriesOf s ws n))) where
   -- the lookup, under the type's name
   l : (a : Accepted s 64 91 e) (path : List Name) → exprOf (tree a) ≡ ExprKind.FieldRef path → Looked s ws n f (tag-lookup owner (join path) (entriesOf s ws n))
-  l a path x = subst (λ (z : Name). Looked s ws n f (tag-lookup z (join path) (entriesOf s ws n))) d (l₀ a path x)
+  l a path x = rw d at (l₀ a path x)
 
   -- the path has an entry
   pub tag-known : {i : ℕ} → f ≡ At i → (a : Accepted s 64 91 e) →
