@@ -1,5 +1,5 @@
 -- The switch over alternatives, and the three types that it stands for.
-use mathlib.Core.Path.{_≡_, refl, sym, ap, subst, _∙_}
+use mathlib.Core.Path.{_≡_, refl, ap, _∙_}
 use mathlib.Core.Bool.{true, false, cond}
 use mathlib.Core.List.{List}
 use Prim.Native.Nat.{ℕ, _+_, _-_, _≤_, _<_}
@@ -14,12 +14,12 @@ use Rattle.blocks.specs.Write.{write}
 use Rattle.accepted.specs.Accepted.{Accepted, tree, Listed}
 use Rattle.accepted.proofs.Laws.{opened, none-left, block-entry}
 use Rattle.expr.specs.Expr.{ExprKind, exprOf}
-use Rattle.resolved.specs.Resolved.{Owner, Head, Fields, Variants, ResolvedTypeKind, head, kindOf, fields, variants}
+use Rattle.resolved.specs.Resolved.{Head, Fields, Variants, ResolvedTypeKind, head, kindOf}
 use Rattle.resolved.specs.Set.{formOf, makeThing, thingOf, variantsIn, typeOf}
 use Rattle.ir.specs.Ir.{IrNode, SwitchCases, DefaultNode, aligned, unplaced}
 use Rattle.ir.specs.Layout.{nodeTree, casesTree, caseCount, defaultTree}
 use Rattle.builder.specs.Registry.{Registry, Build, _>>=_, give, extend-with, add-synthetic}
-use Rattle.builder.specs.Nodes.{Alternative, notEmpty, enum-tag-parameter, enum-alternatives, union-alternatives, sized-alternatives}
+use Rattle.builder.specs.Nodes.{Alternative, notEmpty, enum-tag-parameter}
 use Rattle.builder.specs.Nodes.{build-cases, build-switch, build-enum-node, build-union-node, build-size-discriminated-union-node}
 use Rattle.builder.proofs.Steps.{step-done, step-refused, require-yes, require-no}
 use Rattle.wire.specs.Poke.{Wrote}

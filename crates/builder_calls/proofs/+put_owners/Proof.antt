@@ -4,7 +4,7 @@ use borrow.Author.Needs.{needs}
 use native.Mathlib.Omega.{arith}
 use Rattle.builder_calls.proofs.Collecting.{fills-none, fills-both, room-more}
 use Rattle.builder_calls.proofs.Laws.{owner-here, owner-inside, owner-rest, owners-none, owners-stop, owners-go, paths-list}
-use Prim.Native.Nat.{ℕ, _<_, _+_, _-_}
+use Prim.Native.Nat.{ℕ, _<_}
 use borrow.Fn.Kinds.{In}
 use borrow.Fn.PlainCycle.{Measures, is, falls, and}
 use Rattle.builder_calls.proofs.put_owners.Reads as self

@@ -3,7 +3,7 @@
 use Rattle.builder_sums.proofs.Sums.{sum-first, sum-stops, sum-stops-last, sum-done, stopped, widened, sum-within}
 use borrow.Author.Needs.{needs}
 use native.Mathlib.Omega.{arith}
-use Prim.Native.Nat.{ℕ, _<_, _+_, _-_}
+use Prim.Native.Nat.{ℕ, _<_}
 use borrow.Fn.Kinds.{In}
 use borrow.Fn.PlainCycle.{Measures, is, falls, and}
 use Rattle.builder_sums.proofs.put_sum.Reads as self
