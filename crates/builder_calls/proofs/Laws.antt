@@ -250,10 +250,6 @@ pub owners : {s : List ℕ} {at : ℕ} (a : Accepted s 32 32 at) → Sole a (Ite
 unfolding partsOf findRow grammar nodeTable
 owners a = sole a refl Counted.ascending
 
--- the count of owners lies inside the set
-pub owners-inside : {s : List ℕ} {at : ℕ} → Accepted s 32 32 at → at + 6 + 2 ≤ length s
-owners-inside a = owners a .inside
-
 -- a block has at most 64 owners
 pub owners-most : {s : List ℕ} {at : ℕ} → Accepted s 32 32 at → le2 s (at + 6) ≤ 64
 owners-most a = owners a .few

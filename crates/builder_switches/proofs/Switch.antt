@@ -150,7 +150,7 @@ switching p e c i low high l h = record {
 }
 
 -- the references that were entered are those of the type itself
-owners-kept : {s us : List ℕ} {kind : ℕ} {h : TypeHead} {x : Held} (g : Registry) → ((a : Accepted s 1 7 kind) → HeadAt a h) →
+pub owners-kept : {s us : List ℕ} {kind : ℕ} {h : TypeHead} {x : Held} (g : Registry) → ((a : Accepted s 1 7 kind) → HeadAt a h) →
     ((a : Accepted s 32 32 (h .references)) → Kept s us x (extend-with (ownersOf (tree a)) g)) →
     (a : Accepted s 1 7 kind) → Kept s us x (extend-with (head (typeOf (tree a)) .dynamic-params) g)
 owners-kept g hd kp a = rw (hd a .owners) (kp (hd a .references))

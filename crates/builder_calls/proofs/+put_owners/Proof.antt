@@ -4,7 +4,11 @@ use borrow.Author.Needs.{needs}
 use native.Mathlib.Omega.{arith}
 use Rattle.builder_calls.proofs.Collecting.{fills-none, fills-both, room-more}
 use Rattle.builder_calls.proofs.Laws.{owner-here, owner-inside, owner-rest, owners-none, owners-stop, owners-go, paths-list}
-use Prim.Native.Nat.{ℕ, _<_}
+use lib.ListN.{length}
+use Prim.Native.Nat.{ℕ, _+_, _≤_, _<_}
+use Rattle.blocks.specs.Bytes.{le4}
+use Rattle.accepted.specs.Accepted.{Listed}
+use Rattle.resolved_parts.specs.Types.{OwnerAt}
 use borrow.Fn.Kinds.{In}
 use borrow.Fn.PlainCycle.{Measures, is, falls, and}
 use Rattle.builder_calls.proofs.put_owners.Reads as self
@@ -45,11 +49,22 @@ callees t = (
 )
 
 -- The places, each seen from a later one: what was known there.
-abbrev at-start :
-    {t : ℕ} →
-    walk.Else1 (callees t) (entered t) self.Post →
-    walk.Start (callees t) (entered t) self.Post
+abbrev at-start : {t : ℕ} → walk.Else1 (callees t) (entered t) self.Post → walk.Start (callees t) (entered t) self.Post
 at-start r = r .before .before .before .before
+
+-- the owners that are left, and the first of them
+left-owners : {t : ℕ} (r : walk.Else1 (callees t) (entered t) self.Post) →
+    Listed (at-start r .args .s .now) 37 37 (at-start r .args .left) (at-start r .args .owner)
+left-owners r = at-start r .pre .1 .list
+
+owner-at : {t : ℕ} (r : walk.After-owner-paths (callees t) (entered t) self.Post) →
+    OwnerAt (owner-here (r .before .if1 .left) (left-owners (r .before))) (r .owner-paths .result)
+owner-at r = r .owner-paths .ensures (owner-here (r .before .if1 .left) (left-owners (r .before)))
+
+-- it lies inside the set, which is not too long
+ends : {t : ℕ} (r : walk.Else1 (callees t) (entered t) self.Post) →
+    at-start r .args .owner + 4 + le4 (at-start r .args .s .now) (at-start r .args .owner) ≤ length (at-start r .args .s .now)
+ends r = owner-inside (r .if1 .left) (left-owners r)
 
 returns : (t : ℕ) → walk.Need-returns (callees t) (entered t) self.Post
 returns t c =
@@ -59,45 +74,26 @@ returns t c =
     )
 
 owner-paths-requires : (t : ℕ) → walk.Need-owner-paths-requires (callees t) (entered t) self.Post
-owner-paths-requires t c κs = owner-here (c .if1 .left) (at-start c .pre .1 .list)
+owner-paths-requires t c κs = owner-here (c .if1 .left) (left-owners c)
 
 read2-requires : (t : ℕ) → walk.Need-read2-requires (callees t) (entered t) self.Post
-read2-requires t c κs =
-    let at-else1 = c .before in
-    c .owner-paths .ensures
-    (owner-here (at-else1 .if1 .left) (at-start at-else1 .pre .1 .list)) .paths .inside
+read2-requires t c κs = owner-at c .paths .inside
 
 add-put-arguments : (t : ℕ) → walk.Need-add-put-arguments (callees t) (entered t) self.Post
 add-put-arguments t c =
     let at-else1 = c .before .before .before in
-    omega (
-      arith,
-      owner-inside (at-else1 .if1 .left) (at-start at-else1 .pre .1 .list),
-      at-start at-else1 .pre .1 .room .standing .size,
-    )
+    omega (arith, ends at-else1, at-start at-else1 .pre .1 .room .standing .size)
 
 add-put-arguments-2 : (t : ℕ) → walk.Need-add-put-arguments-2 (callees t) (entered t) self.Post
-add-put-arguments-2 t c =
-    let at-owner-paths = c .before .before in
-    let at-else1 = at-owner-paths .before in
-    omega (
-      arith,
-      at-owner-paths .owner-paths .ensures
-          (owner-here (at-else1 .if1 .left) (at-start at-else1 .pre .1 .list)) .paths .inside,
-    )
+add-put-arguments-2 t c = omega (arith, owner-at (c .before .before) .paths .inside)
 
 put-arguments-requires : (t : ℕ) → walk.Need-put-arguments-requires (callees t) (entered t) self.Post
 put-arguments-requires t c κs =
     let at-read2 = c .before .before in
-    let at-owner-paths = at-read2 .before in
-    let at-else1 = at-owner-paths .before in record {
-      room = at-start at-else1 .pre .1 .room;
-      owned = at-owner-paths .owner-paths .ensures
-          (owner-here (at-else1 .if1 .left) (at-start at-else1 .pre .1 .list)) .named;
-      list = paths-list
-          (at-read2 .read2 .ensures .0)
-          (at-owner-paths .owner-paths .ensures
-          (owner-here (at-else1 .if1 .left) (at-start at-else1 .pre .1 .list)) .paths);
+    let at-owner-paths = at-read2 .before in record {
+      room = at-start (at-owner-paths .before) .pre .1 .room;
+      owned = owner-at at-owner-paths .named;
+      list = paths-list (at-read2 .read2 .ensures .0) (owner-at at-owner-paths .paths);
     }
 
 same-length : (t : ℕ) → walk.Need-same-length (callees t) (entered t) self.Post
@@ -124,26 +120,17 @@ returns-2 t c =
 add-next : (t : ℕ) → walk.Need-add-next (callees t) (entered t) self.Post
 add-next t c =
     let at-else1 = c .before .before .before .before .before .before .before .before .before .before .before in
-    omega (
-      arith,
-      owner-inside (at-else1 .if1 .left) (at-start at-else1 .pre .1 .list),
-      at-start at-else1 .pre .1 .room .standing .size,
-    )
+    omega (arith, ends at-else1, at-start at-else1 .pre .1 .room .standing .size)
 
 read4-requires : (t : ℕ) → walk.Need-read4-requires (callees t) (entered t) self.Post
 read4-requires t c κs =
     let at-else1 = c .before .before .before .before .before .before .before .before .before .before .before in
-    omega (arith, owner-inside (at-else1 .if1 .left) (at-start at-else1 .pre .1 .list))
+    omega (arith, ends at-else1)
 
 add-next-2 : (t : ℕ) → walk.Need-add-next-2 (callees t) (entered t) self.Post
 add-next-2 t c =
     let at-else1 = c .before .before .before .before .before .before .before .before .before .before .before .before in
-    omega (
-      arith,
-      c .read4 .ensures .0,
-      owner-inside (at-else1 .if1 .left) (at-start at-else1 .pre .1 .list),
-      at-start at-else1 .pre .1 .room .standing .size,
-    )
+    omega (arith, c .read4 .ensures .0, ends at-else1, at-start at-else1 .pre .1 .room .standing .size)
 
 sub-put-owners : (t : ℕ) → walk.Need-sub-put-owners (callees t) (entered t) self.Post
 sub-put-owners t c =

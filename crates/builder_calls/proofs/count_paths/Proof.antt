@@ -2,7 +2,8 @@
 -- that are left (`Count`); an owner has at most 64 paths and a block 64 owners, so the count stays at most 4096.
 use Prim.Native.Nat.{_+_, _*_, _≤_}
 use native.Mathlib.Omega.{arith}
-use Rattle.builder_calls.proofs.Laws.{Count, count-begin, count-next, count-end, count-here, count-inside, owners-inside, owners-most}
+use Rattle.builder_registry.proofs.Extend.{owners-inside}
+use Rattle.builder_calls.proofs.Laws.{Count, count-begin, count-next, count-end, count-here, count-inside, owners-most}
 use Rattle.builder_calls.proofs.count_paths.Statement.{statement}
 use Rattle.builder_calls.proofs.count_paths.Tie as tie
 

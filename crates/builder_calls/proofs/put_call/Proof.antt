@@ -2,7 +2,9 @@
 -- that of the paths, found in a pass before; where collecting succeeds there is an argument for each path (`owners-count`), so it fits.
 use borrow.Author.Needs.{needs}
 use native.Mathlib.Omega.{arith}
-use Rattle.builder_calls.proofs.Laws.{owners-inside, owners-at, call-ends, call-stop, call-done}
+use Rattle.accepted.specs.Accepted.{Accepted}
+use Rattle.builder_registry.proofs.Extend.{owners-inside}
+use Rattle.builder_calls.proofs.Laws.{owners-at, call-ends, call-stop, call-done}
 use Rattle.builder_calls.proofs.put_call.Statement.{statement}
 use Rattle.builder_calls.proofs.put_call.Tie as tie
 
@@ -25,26 +27,18 @@ at-type-head r = at-count-paths r .before
 abbrev at-start : tie.After-put-name → tie.Start
 at-start r = at-type-head r .before .before .before .before .before
 
+-- the references of the type that is called, and their count, which lies inside the set
+references : (r : tie.After-type-head) → Accepted (r .before .before .before .before .before .args .s .now) 32 32 (r .type-head .result .references)
+references r = r .type-head .ensures (r .before .before .before .before .before .pre .type-at) .references
+
 count-paths-requires : tie.Need-count-paths-requires
-count-paths-requires c κs =
-    let at-start = c .before .before .before .before .before in
-    c .type-head .ensures (at-start .pre .type-at) .references
+count-paths-requires c κs = references c
 
 add-read2 : tie.Need-add-read2
-add-read2 c =
-    let at-start = c .before .before .before .before .before .before in
-    omega (
-      arith,
-      owners-inside (c .before .type-head .ensures (at-start .pre .type-at) .references),
-    )
+add-read2 c = omega (arith, owners-inside (references (c .before)))
 
 read2-requires : tie.Need-read2-requires
-read2-requires c κs =
-    let at-start = c .before .before .before .before .before .before in
-    omega (
-      arith,
-      owners-inside (c .before .type-head .ensures (at-start .pre .type-at) .references),
-    )
+read2-requires c κs = omega (arith, owners-inside (references (c .before)))
 
 open-node-requires : tie.Need-open-node-requires
 open-node-requires c κs = search needs
@@ -69,20 +63,12 @@ put-le-requires c κs =
 add-put-owners : tie.Need-add-put-owners
 add-put-owners c =
     let at-type-head = c .before .before .before .before .before .before .before .before .before .before .before .before .before .before .before in
-    let at-start = at-type-head .before .before .before .before .before in
-    omega (
-      arith,
-      owners-inside (at-type-head .type-head .ensures (at-start .pre .type-at) .references),
-    )
+    omega (arith, owners-inside (references at-type-head))
 
 add-put-owners-2 : tie.Need-add-put-owners-2
 add-put-owners-2 c =
     let at-type-head = c .before .before .before .before .before .before .before .before .before .before .before .before .before .before .before in
-    let at-start = at-type-head .before .before .before .before .before in
-    omega (
-      arith,
-      owners-inside (at-type-head .type-head .ensures (at-start .pre .type-at) .references),
-    )
+    omega (arith, owners-inside (references at-type-head))
 
 put-owners-requires : tie.Need-put-owners-requires
 put-owners-requires c κs =
@@ -100,10 +86,7 @@ put-owners-requires c κs =
           at-start at-put-name .pre .short,
         );
       };
-      list = owners-at
-          (at-read2 at-put-name .read2 .ensures .0)
-          (at-type-head at-put-name .type-head .ensures
-          (at-start at-put-name .pre .type-at) .references);
+      list = owners-at (at-read2 at-put-name .read2 .ensures .0) (references (at-type-head at-put-name));
     }
 
 same-length : tie.Need-same-length
