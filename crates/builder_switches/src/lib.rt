@@ -29,6 +29,20 @@ pub struct Choice {
     pub alignment: u64,
 }
 
+// An alternative: the kind of its block, where that stands, and its place in the list.
+struct Place {
+    kind: usize,
+    block: usize,
+    index: usize,
+}
+
+// A list of alternatives: the kind of its blocks, how many there are, and where the first stands.
+struct Alternatives {
+    kind: usize,
+    count: usize,
+    first: usize,
+}
+
 // The entry of a field reference's path (65) is marked; without a segment there is none.
 fn mark_path(s: &[u8], words: &mut [u64], n: usize, owner: &[u8], e: usize)
     requires { ⌜ Marking (now s) (now words) n (now owner) e × (le2 (now s) (e + 4) ≡ 65) ⌝ }
@@ -197,23 +211,22 @@ fn put_node(
     }
 }
 
-// The case of the alternative at q, which has place i.
+// The case of an alternative.
 fn put_case(
     s: &[u8],
     words: &[u64],
     n: usize,
     references: usize,
-    k: usize,
-    q: usize,
-    i: usize,
+    place: Place,
     out: &mut [u8],
     at: usize,
 ) -> Built
-    requires { ⌜ Casing (now s) (now words) n references k q at ⌝ }
+    requires { ⌜ Casing (now s) (now words) n references (place .kind) (place .block) at ⌝ }
     ensures { λ r. ⌜ Within at 540000 r ⌝ }
-    ensures { λ r. ⌜ ((c : Accepted (now (s .entry)) k k q) (a : Accepted (now (s .entry)) 32 32 references) → CaseAt c i (now (out .entry)) at (now (words .entry)) (now (out .exit)) r (ownersOf (tree a)) (entriesOf (now (s .entry)) (now (words .entry)) n)) ⌝ }
+    ensures { λ r. ⌜ ((c : Accepted (now (s .entry)) (place .kind) (place .kind) (place .block)) (a : Accepted (now (s .entry)) 32 32 references) → CaseAt c (place .index) (now (out .entry)) at (now (words .entry)) (now (out .exit)) r (ownersOf (tree a)) (entriesOf (now (s .entry)) (now (words .entry)) n)) ⌝ }
 {
-    let x = alternative(s, k, q, i);
+    let q = place.block;
+    let x = alternative(s, place.kind, q, place.index);
     let b = wire::open_block(out, at, 163);
     let p = wire::put_le(out, b, 8, x.tag);
     let r = put_node(s, words, n, references, q + 6, x, out, p);
@@ -246,22 +259,27 @@ fn put_cases(
     words: &[u64],
     n: usize,
     references: usize,
-    k: usize,
-    count: usize,
-    first: usize,
+    list: Alternatives,
     out: &mut [u8],
     at: usize,
 ) -> Built
-    requires { ⌜ Listed-cases (now s) (now words) n references k count first at ⌝ }
-    ensures { λ r. ⌜ Within at (540000 * count) r ⌝ }
-    ensures { λ r. ⌜ ((l : Listed (now (s .entry)) k k count first) (a : Accepted (now (s .entry)) 32 32 references) → Cases (now (s .entry)) (now (out .entry)) at (now (words .entry)) (now (out .exit)) r count (build-cases (ownersOf (tree a)) (alternatives k 0 (l .got .0)) (entriesOf (now (s .entry)) (now (words .entry)) n))) ⌝ }
+    requires { ⌜ Listed-cases (now s) (now words) n references (list .kind) (list .count) (list .first) at ⌝ }
+    ensures { λ r. ⌜ Within at (540000 * list .count) r ⌝ }
+    ensures { λ r. ⌜ ((l : Listed (now (s .entry)) (list .kind) (list .kind) (list .count) (list .first)) (a : Accepted (now (s .entry)) 32 32 references) → Cases (now (s .entry)) (now (out .entry)) at (now (words .entry)) (now (out .exit)) r (list .count) (build-cases (ownersOf (tree a)) (alternatives (list .kind) 0 (l .got .0)) (entriesOf (now (s .entry)) (now (words .entry)) n))) ⌝ }
 {
+    let kind = list.kind;
+    let count = list.count;
     let mut i = 0;
-    let mut q = first;
+    let mut q = list.first;
     let mut p = at;
     let mut m = n;
     while i < count {
-        let r = put_case(s, words, m, references, k, q, i, out, p);
+        let place = Place {
+            kind,
+            block: q,
+            index: i,
+        };
+        let r = put_case(s, words, m, references, place, out, p);
         if r.number != 0 {
             return Built {
                 at,
@@ -288,21 +306,19 @@ fn put_switch(
     n: usize,
     kind: usize,
     entry: usize,
-    k: usize,
-    count: usize,
-    first: usize,
+    list: Alternatives,
     out: &mut [u8],
     at: usize,
 ) -> Built
-    requires { ⌜ Switching (now s) (now words) n kind entry k count first at ⌝ }
+    requires { ⌜ Switching (now s) (now words) n kind entry (list .kind) (list .count) (list .first) at ⌝ }
     ensures { λ r. ⌜ Within at (2 ^ 27) r ⌝ }
-    ensures { λ r. ⌜ ((a : Accepted (now (s .entry)) 1 7 kind) (l : Listed (now (s .entry)) k k count first) → Builds (now (s .entry)) (now (out .entry)) at (now (words .entry)) (now (out .exit)) r (build-switch (head (typeOf (tree a))) (entryName (now (s .entry)) (getD (now (words .entry)) entry 0)) (alternatives k 0 (l .got .0)) (entriesOf (now (s .entry)) (now (words .entry)) n))) ⌝ }
+    ensures { λ r. ⌜ ((a : Accepted (now (s .entry)) 1 7 kind) (l : Listed (now (s .entry)) (list .kind) (list .kind) (list .count) (list .first)) → Builds (now (s .entry)) (now (out .entry)) at (now (words .entry)) (now (out .exit)) r (build-switch (head (typeOf (tree a))) (entryName (now (s .entry)) (getD (now (words .entry)) entry 0)) (alternatives (list .kind) 0 (l .got .0)) (entriesOf (now (s .entry)) (now (words .entry)) n))) ⌝ }
 {
     let h = resolved_parts::type_head(s, kind);
     let b = builder_nodes::open_node(out, at, 132, h.alignment);
     let c = builder_registry::put_entry_name(s, words[entry], out, b);
-    let d = wire::put_le(out, c, 2, count as u64);
-    let r = put_cases(s, words, n, h.references, k, count, first, out, d);
+    let d = wire::put_le(out, c, 2, list.count as u64);
+    let r = put_cases(s, words, n, h.references, list, out, d);
     if r.number != 0 {
         return Built {
             at,
@@ -350,7 +366,12 @@ pub fn build_enum_node(
             number: t.number,
         };
     }
-    put_switch(s, words, t.count, kind, t.at, 34, p.count, p.first, out, at)
+    let variants = Alternatives {
+        kind: 34,
+        count: p.count,
+        first: p.first,
+    };
+    put_switch(s, words, t.count, kind, t.at, variants, out, at)
 }
 
 // A union: the tag of a variant is its place.
@@ -384,7 +405,12 @@ pub fn build_union_node(
         };
     }
     let p = resolved_parts::field_list(s, kind);
-    put_switch(s, words, t.count, kind, t.at, 33, p.count, p.first, out, at)
+    let fields = Alternatives {
+        kind: 33,
+        count: p.count,
+        first: p.first,
+    };
+    put_switch(s, words, t.count, kind, t.at, fields, out, at)
 }
 
 // A size-discriminated union: tag and size of a variant are its expected size.
@@ -425,5 +451,10 @@ pub fn build_size_discriminated_union_node(
             number: t.number,
         };
     }
-    put_switch(s, words, t.count, kind, t.at, 35, p.count, p.first, out, at)
+    let list = Alternatives {
+        kind: 35,
+        count: p.count,
+        first: p.first,
+    };
+    put_switch(s, words, t.count, kind, t.at, list, out, at)
 }

@@ -11,11 +11,11 @@ use Rattle.builder_switches.proofs.put_cases.Statement.{statement}
 use Rattle.builder_switches.proofs.put_cases.Tie as tie
 
 abbrev Inv-loop : tie.InvT-loop
-Inv-loop s words n references k count first out₀ at i₀ q₀ p₀ m₀ out i q p m =
-    Written s out₀ at words n references k count first i q out p m
+Inv-loop s words n references out₀ at kind count i₀ q₀ p₀ m₀ out i q p m =
+    Written s out₀ at words n references kind count q₀ i q out p m
 
 abbrev μ-loop : tie.MeasureT-loop
-μ-loop s words n references k count first out₀ at i₀ q₀ p₀ m₀ out i q p m = count - i
+μ-loop s words n references out₀ at kind count i₀ q₀ p₀ m₀ out i q p m = count - i
 
 -- The places, each seen from a later one: what was known there.
 abbrev in-loop : tie.Else1 Inv-loop μ-loop → tie.In-loop Inv-loop μ-loop

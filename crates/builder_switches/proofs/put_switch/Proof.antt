@@ -148,7 +148,7 @@ same-length-2 c =
       at-open-node (at-put-le at-put-flag) .open-node .kept .0,
       at-put-entry-name (at-put-le at-put-flag) .put-entry-name .kept .1 .1 .0,
       at-put-le at-put-flag .put-le .kept .0,
-      at-put-cases at-put-flag .put-cases .kept .1 .1 .1 .1 .1 .1 .1 .0,
+      at-put-cases at-put-flag .put-cases .kept .1 .1 .1 .1 .1 .0,
       at-put-flag .put-flag .kept .0,
       at-close-block .close-block .kept .0,
     )
