@@ -28,6 +28,13 @@ pub struct Collected {
     pub number: u64,
 }
 
+// Paths of an owner: where its name stands, how many paths are left, and where the next stands.
+struct OwnerPaths {
+    owner: usize,
+    left: usize,
+    path: usize,
+}
+
 // How many paths the owners of a references block have.
 fn count_paths(s: &[u8], references: usize) -> usize
     requires { ⌜ Accepted (now s) 32 32 references ⌝ }
@@ -100,22 +107,23 @@ fn put_argument(
     }
 }
 
-// The arguments of the paths of an owner: `left` of them are left, from `path` on.
+// The arguments of the paths of an owner.
 fn put_arguments(
     s: &[u8],
     words: &mut [u64],
     n: usize,
-    owner: usize,
-    left: usize,
-    path: usize,
+    paths: OwnerPaths,
     made: usize,
     out: &mut [u8],
     at: usize,
 ) -> Collected
-    requires { ⌜ ReadyPaths (now s) (now words) n owner left path made at ⌝ }
+    requires { ⌜ ReadyPaths (now s) (now words) n (paths .owner) (paths .left) (paths .path) made at ⌝ }
     ensures { λ r. ⌜ Fills at made r ⌝ }
-    ensures { λ r. ⌜ ((l : Entries (now (s .entry)) Item.names left path) (before : List IrArgument) → length before ≡ made → Collects (now (s .entry)) (now (out .entry)) at before (now (words .exit)) (now (out .exit)) r (collect-paths (nameAt (now (s .entry)) owner) (textsOf (l .got .0)) before (entriesOf (now (s .entry)) (now (words .entry)) n))) ⌝ }
+    ensures { λ r. ⌜ ((l : Entries (now (s .entry)) Item.names (paths .left) (paths .path)) (before : List IrArgument) → length before ≡ made → Collects (now (s .entry)) (now (out .entry)) at before (now (words .exit)) (now (out .exit)) r (collect-paths (nameAt (now (s .entry)) (paths .owner)) (textsOf (l .got .0)) before (entriesOf (now (s .entry)) (now (words .entry)) n))) ⌝ }
 {
+    let owner = paths.owner;
+    let left = paths.left;
+    let path = paths.path;
     if left == 0 {
         return Collected {
             at,
@@ -132,7 +140,13 @@ fn put_arguments(
     let count = r.count;
     let sum = r.made;
     let to = r.at;
-    put_arguments(s, words, count, owner, left - 1, next, sum, out, to)
+    let others = left - 1;
+    let rest = OwnerPaths {
+        owner,
+        left: others,
+        path: next,
+    };
+    put_arguments(s, words, count, rest, sum, out, to)
 }
 
 // The arguments of owners: `left` of them are left, from `owner` on.
@@ -160,7 +174,14 @@ fn put_owners(
     }
     let q = resolved_parts::owner_paths(s, owner);
     let path_count = wire::read2(s, q);
-    let r = put_arguments(s, words, n, owner + 6, path_count, q + 2, made, out, at);
+    let name = owner + 6;
+    let first = q + 2;
+    let paths = OwnerPaths {
+        owner: name,
+        left: path_count,
+        path: first,
+    };
+    let r = put_arguments(s, words, n, paths, made, out, at);
     if r.number != 0 {
         return r;
     }

@@ -17,7 +17,7 @@ use Rattle.builder_calls.proofs.+put_arguments.Tie.{close}
 
 -- the measure
 abbrev μ : Measures 3 kinds.ps ℕ
-μ κs a = a .1 .1 .1 .1 .0
+μ κs a = a .1 .1 .1 .0 .left
 
 -- what is known where the measure is t
 abbrev entered : ℕ → In 3 kinds.ps
@@ -98,9 +98,9 @@ add-next-2 t c =
       at-start .pre .1 .room .standing .size,
     )
 
-sub-put-arguments : (t : ℕ) → walk.Need-sub-put-arguments (callees t) (entered t) self.Post
-sub-put-arguments t c =
-    let at-else1 = c .before .before .before .before .before .before .before .before .before .before .before in
+sub-others : (t : ℕ) → walk.Need-sub-others (callees t) (entered t) self.Post
+sub-others t c =
+    let at-else1 = c .before .before .before .before .before .before .before .before .before .before in
     omega (arith, at-else1 .if1 .left)
 
 put-arguments-requires : (t : ℕ) → walk.Need-put-arguments-requires (callees t) (entered t) self.Post
@@ -146,5 +146,5 @@ pub +put-arguments-spec : {M : Type 1} → statement M
 +put-arguments-spec =
     close μ
     (λ t. walk.spec (callees t) (entered t) self.Post (returns t) (put-argument-requires t) (same-length t)
-    (same-length-2 t) (returns-2 t) (add-next t) (read2-requires t) (add-next-2 t) (sub-put-arguments t)
+    (same-length-2 t) (returns-2 t) (add-next t) (read2-requires t) (add-next-2 t) (sub-others t)
     (put-arguments-requires t) (same-length-3 t) (same-length-4 t) (returns-3 t))

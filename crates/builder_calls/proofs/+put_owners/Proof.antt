@@ -79,13 +79,13 @@ owner-paths-requires t c κs = owner-here (c .if1 .left) (left-owners c)
 read2-requires : (t : ℕ) → walk.Need-read2-requires (callees t) (entered t) self.Post
 read2-requires t c κs = owner-at c .paths .inside
 
-add-put-arguments : (t : ℕ) → walk.Need-add-put-arguments (callees t) (entered t) self.Post
-add-put-arguments t c =
-    let at-else1 = c .before .before .before in
+add-name : (t : ℕ) → walk.Need-add-name (callees t) (entered t) self.Post
+add-name t c =
+    let at-else1 = c .before .before in
     omega (arith, ends at-else1, at-start at-else1 .pre .1 .room .standing .size)
 
-add-put-arguments-2 : (t : ℕ) → walk.Need-add-put-arguments-2 (callees t) (entered t) self.Post
-add-put-arguments-2 t c = omega (arith, owner-at (c .before .before) .paths .inside)
+add-first : (t : ℕ) → walk.Need-add-first (callees t) (entered t) self.Post
+add-first t c = omega (arith, owner-at (c .before) .paths .inside)
 
 put-arguments-requires : (t : ℕ) → walk.Need-put-arguments-requires (callees t) (entered t) self.Post
 put-arguments-requires t c κs =
@@ -183,6 +183,6 @@ pub +put-owners-spec : {M : Type 1} → statement M
 +put-owners-spec =
     close μ
     (λ t. walk.spec (callees t) (entered t) self.Post (returns t) (owner-paths-requires t) (read2-requires t)
-    (add-put-arguments t) (add-put-arguments-2 t) (put-arguments-requires t) (same-length t) (same-length-2 t)
+    (add-name t) (add-first t) (put-arguments-requires t) (same-length t) (same-length-2 t)
     (returns-2 t) (add-next t) (read4-requires t) (add-next-2 t) (sub-put-owners t) (put-owners-requires t)
     (same-length-3 t) (same-length-4 t) (returns-3 t))
