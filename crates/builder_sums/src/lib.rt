@@ -14,6 +14,12 @@ ghost use Rattle.builder_nodes.specs.Built.{Builds, Within};
 ghost use Rattle.builder_sums.specs.Ready.{Ready, chosen, someName};
 ghost use Rattle.builder_sums.specs.Paths.{Reading, Summing, taken, picks, build-ref};
 
+// The paths that a sum takes: those of the list at `paths`, or only those of them that end in `.payload_size`.
+struct PathChoice {
+    only: bool,
+    paths: usize,
+}
+
 // 1 where the path at an offset is chosen, else 0.
 fn weight(s: &[u8], only: bool, q: usize) -> usize
     requires { ⌜ Named (now s) q ⌝ }
@@ -78,17 +84,16 @@ fn put_ref(
     words: &[u64],
     n: usize,
     owner: &[u8],
-    only: bool,
-    paths: usize,
+    chosen: PathChoice,
     i: usize,
     out: &mut [u8],
     at: usize,
 ) -> Built
-    requires { ⌜ Summing (now s) (now words) n (now owner) paths × (i < length (picks (now s) only paths)) × (at < 2 ^ 59) ⌝ }
+    requires { ⌜ Summing (now s) (now words) n (now owner) (chosen .paths) × (i < length (picks (now s) (chosen .only) (chosen .paths))) × (at < 2 ^ 59) ⌝ }
     ensures { λ r. ⌜ Within at 1100 r ⌝ }
-    ensures { λ r. ⌜ Builds (now (s .entry)) (now (out .entry)) at (now (words .entry)) (now (out .exit)) r (build-ref (now (owner .entry)) (getD (picks (now (s .entry)) only paths) i []) (entriesOf (now (s .entry)) (now (words .entry)) n)) ⌝ }
+    ensures { λ r. ⌜ Builds (now (s .entry)) (now (out .entry)) at (now (words .entry)) (now (out .exit)) r (build-ref (now (owner .entry)) (getD (picks (now (s .entry)) (chosen .only) (chosen .paths)) i []) (entriesOf (now (s .entry)) (now (words .entry)) n)) ⌝ }
 {
-    let q = chosen_path(s, only, paths, i);
+    let q = chosen_path(s, chosen.only, chosen.paths, i);
     let path = resolved_parts::name_at(s, q);
     match builder_registry::lookup_name(s, words, n, owner, path) {
         Found::At(e) => {
@@ -120,21 +125,20 @@ fn put_sum(
     words: &[u64],
     n: usize,
     owner: &[u8],
-    only: bool,
-    paths: usize,
+    chosen: PathChoice,
     k: usize,
     out: &mut [u8],
     at: usize,
 ) -> Built
-    requires { ⌜ Summing (now s) (now words) n (now owner) paths × (k ≤ length (picks (now s) only paths)) × (0 < k) × (at + 1115 * k < 2 ^ 58) ⌝ }
+    requires { ⌜ Summing (now s) (now words) n (now owner) (chosen .paths) × (k ≤ length (picks (now s) (chosen .only) (chosen .paths))) × (0 < k) × (at + 1115 * k < 2 ^ 58) ⌝ }
     ensures { λ r. ⌜ Within at (1115 * k) r ⌝ }
-    ensures { λ r. ⌜ Builds (now (s .entry)) (now (out .entry)) at (now (words .entry)) (now (out .exit)) r (sum-refs (now (owner .entry)) (take k (picks (now (s .entry)) only paths)) (entriesOf (now (s .entry)) (now (words .entry)) n)) ⌝ }
+    ensures { λ r. ⌜ Builds (now (s .entry)) (now (out .entry)) at (now (words .entry)) (now (out .exit)) r (sum-refs (now (owner .entry)) (take k (picks (now (s .entry)) (chosen .only) (chosen .paths))) (entriesOf (now (s .entry)) (now (words .entry)) n)) ⌝ }
 {
     if k == 1 {
-        return put_ref(s, words, n, owner, only, paths, 0, out, at);
+        return put_ref(s, words, n, owner, chosen, 0, out, at);
     }
     let p = builder_nodes::open_add(out, at);
-    let l = put_sum(s, words, n, owner, only, paths, k - 1, out, p);
+    let l = put_sum(s, words, n, owner, chosen, k - 1, out, p);
     if l.number != 0 {
         return Built {
             at,
@@ -142,7 +146,7 @@ fn put_sum(
             number: l.number,
         };
     }
-    let m = put_ref(s, words, n, owner, only, paths, k - 1, out, l.at);
+    let m = put_ref(s, words, n, owner, chosen, k - 1, out, l.at);
     if m.number != 0 {
         return Built {
             at,
@@ -181,5 +185,6 @@ pub fn sum_refs(
             number: 11,
         };
     }
-    put_sum(s, words, n, owner, only, paths, k, out, at)
+    let chosen = PathChoice { only, paths };
+    put_sum(s, words, n, owner, chosen, k, out, at)
 }

@@ -17,7 +17,7 @@ use Rattle.builder_sums.proofs.+put_sum.Tie.{close}
 
 -- the measure
 abbrev μ : Measures 4 kinds.ps ℕ
-μ κs a = a .1 .1 .1 .1 .1 .1 .0
+μ κs a = a .1 .1 .1 .1 .1 .0
 
 -- what is known where the measure is t
 abbrev entered : ℕ → In 4 kinds.ps
