@@ -270,23 +270,31 @@ fn is_first(
     is_new(s, words, n, links, wide(last), name, b)
 }
 
+// What is listed: how many entries there are, the type, and whether it is a struct with a jagged array.
+struct Listing {
+    n: usize,
+    kind: usize,
+    jagged: bool,
+}
+
 // Whether an entry is listed. It is linked behind the earlier ones.
 fn is_listed(
     s: &[u8],
     words: &[u64],
-    n: usize,
+    listing: Listing,
     i: usize,
-    kind: usize,
-    jagged: bool,
     table: &mut [u16; 2039],
     links: &mut [u16; 512],
     a: &mut [u8],
     b: &mut [u8],
 ) -> bool
-    requires { ⌜ Asks (now s) (now words) n kind jagged (now a) (now b) × (i < n) × Linked (now table) (now links) (now s) (now words) i ⌝ }
-    ensures { λ r. ⌜ ((x : Accepted (now (s .entry)) 1 7 kind) → r ≡ lists (typeOf (tree x)) (now (s .entry)) (now (words .entry)) i) ⌝ }
+    requires { ⌜ Asks (now s) (now words) (listing .n) (listing .kind) (listing .jagged) (now a) (now b) × (i < listing .n) × Linked (now table) (now links) (now s) (now words) i ⌝ }
+    ensures { λ r. ⌜ ((x : Accepted (now (s .entry)) 1 7 (listing .kind)) → r ≡ lists (typeOf (tree x)) (now (s .entry)) (now (words .entry)) i) ⌝ }
     ensures { λ _. ⌜ Linked (now (table .exit)) (now (links .exit)) (now (s .entry)) (now (words .entry)) (i + 1) ⌝ }
 {
+    let n = listing.n;
+    let kind = listing.kind;
+    let jagged = listing.jagged;
     if !is_first(s, words, n, i, table, links, a, b) {
         return false;
     }
@@ -321,10 +329,8 @@ pub fn put_parameters(
         if !is_listed(
             s,
             words,
-            n,
+            Listing { n, kind, jagged },
             i,
-            kind,
-            jagged,
             &mut table,
             &mut links,
             &mut a,

@@ -76,8 +76,8 @@ loop-again c =
     (in-loop at-b .loop-test .taken)
     (at-is-listed .is-listed .ensures .0)
     (at-is-listed .is-listed .ensures .1)
-    (at-is-listed .is-listed .kept .1 .1 .1 .1 .1 .1 .1 .1 .0)
-    (at-is-listed .is-listed .kept .1 .1 .1 .1 .1 .1 .1 .1 .1 .0)
+    (at-is-listed .is-listed .kept .1 .1 .1 .1 .1 .1 .0)
+    (at-is-listed .is-listed .kept .1 .1 .1 .1 .1 .1 .1 .0)
     (c .if1 .taken)
 
 mul-put-parameter : tie.Need-mul-put-parameter Inv-loop μ-loop
@@ -134,8 +134,8 @@ loop-again-2 c =
     (in-loop at-b .loop-test .taken)
     (at-is-listed .is-listed .ensures .0)
     (at-is-listed .is-listed .ensures .1)
-    (at-is-listed .is-listed .kept .1 .1 .1 .1 .1 .1 .1 .1 .0)
-    (at-is-listed .is-listed .kept .1 .1 .1 .1 .1 .1 .1 .1 .1 .0)
+    (at-is-listed .is-listed .kept .1 .1 .1 .1 .1 .1 .0)
+    (at-is-listed .is-listed .kept .1 .1 .1 .1 .1 .1 .1 .0)
     (at-else1 .if1 .left)
     (at-put-parameter .put-parameter .ensures .0)
     (at-put-parameter .put-parameter .ensures .1)
