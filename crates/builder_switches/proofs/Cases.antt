@@ -65,35 +65,14 @@ module _ {s : List ℕ} {k q i : ℕ} {f : FieldParts} {h : TypeHead} (e : k ≡
   -- a field of a union, with its place as the tag
   pub alt-union : (c : Accepted s k k q) → AltAt c i (record { tag = i; variable = h .variable; size = h .size; alignment = h .alignment })
   unfolding union-alternatives
-  alt-union =
-      subst
-      (λ (k : ℕ). (c : Accepted s k k q) → AltAt c i (record { tag = i; variable = h .variable; size = h .size; alignment = h .alignment }))
-      (sym e) go
+  alt-union = rw e go
     where
       go : (c : Accepted s 33 33 q) → AltAt c i (record { tag = i; variable = h .variable; size = h .size; alignment = h .alignment })
       go c =
           let x = p c in
           let y = t (x .type) in record {
             named = x .named;
-            is = λ u. union-are i (cons (tree c) u)
-                ∙ ap (union-alternatives i) (x .is u)
-                ∙ ap
-                (λ (z : Size). alternativeOf i
-                (nameAt s (q + 6)) z
-                (head (typeOf (tree (x .type))) .alignment) ∷ union-alternatives
-                (suc i)
-                (fields (fieldsIn (view thingOf u))))
-                (y .size)
-                ∙ ap
-                (λ (z : ℕ). alternativeOf i
-                (nameAt s (q + 6))
-                (sized (h .variable) (h .size)) z ∷ union-alternatives
-                (suc i)
-                (fields (fieldsIn (view thingOf u))))
-                (y .alignment)
-                ∙ ap
-                (λ (z : List Alternative). alternativeOf i (nameAt s (q + 6)) (sized (h .variable) (h .size)) (h .alignment) ∷ z)
-                (sym (union-are (suc i) u));
+            is = λ u. union-are i (cons (tree c) u) ∙ ap (union-alternatives i) (x .is u) ∙ rw (y .size, y .alignment, union-are (suc i) u) refl;
           }
 
 module _ {s : List ℕ} {k q i : ℕ} {v : VariantParts} {h : TypeHead} (p : (c : Accepted s k k q) → VariantAt c v)
@@ -105,26 +84,8 @@ module _ {s : List ℕ} {k q i : ℕ} {v : VariantParts} {h : TypeHead} (p : (c 
       let x = p c in
       let y = t (x .type) in record {
         named = x .named;
-        is = λ u. ap (λ (j : ℕ). alternatives j i (cons (tree c) u)) e
-            ∙ enum-are i (cons (tree c) u)
-            ∙ ap enum-alternatives (x .is u)
-            ∙ ap
-            (λ (z : Size). alternativeOf
-            (v .number)
-            (nameAt s (q + 6)) z
-            (head (typeOf (tree (x .type))) .alignment) ∷ enum-alternatives
-            (variants (variantsIn (view thingOf u))))
-            (y .size)
-            ∙ ap
-            (λ (z : ℕ). alternativeOf
-            (v .number)
-            (nameAt s (q + 6))
-            (sized (h .variable) (h .size)) z ∷ enum-alternatives
-            (variants (variantsIn (view thingOf u))))
-            (y .alignment)
-            ∙ ap
-            (λ (z : List Alternative). alternativeOf (v .number) (nameAt s (q + 6)) (sized (h .variable) (h .size)) (h .alignment) ∷ z)
-            (sym (ap (λ (j : ℕ). alternatives j (suc i) u) e ∙ enum-are (suc i) u));
+        is = λ u. ap (λ (j : ℕ). alternatives j i (cons (tree c) u)) e ∙ enum-are i (cons (tree c) u) ∙ ap enum-alternatives (x .is u)
+            ∙ rw (y .size, y .alignment, ap (λ (j : ℕ). alternatives j (suc i) u) e ∙ enum-are (suc i) u) refl;
       }
 
   -- a variant of a size-discriminated union, with its expected size as tag and size
@@ -134,19 +95,8 @@ module _ {s : List ℕ} {k q i : ℕ} {v : VariantParts} {h : TypeHead} (p : (c 
       let x = p c in
       let y = t (x .type) in record {
         named = x .named;
-        is = λ u. ap (λ (j : ℕ). alternatives j i (cons (tree c) u)) e
-            ∙ sized-are i (cons (tree c) u)
-            ∙ ap sized-alternatives (x .is u)
-            ∙ ap
-            (λ (z : ℕ). alternativeOf
-            (v .number)
-            (nameAt s (q + 6))
-            (Size.Const (v .number)) z ∷ sized-alternatives
-            (variants (variantsIn (view thingOf u))))
-            (y .alignment)
-            ∙ ap
-            (λ (z : List Alternative). alternativeOf (v .number) (nameAt s (q + 6)) (Size.Const (v .number)) (h .alignment) ∷ z)
-            (sym (ap (λ (j : ℕ). alternatives j (suc i) u) e ∙ sized-are (suc i) u));
+        is = λ u. ap (λ (j : ℕ). alternatives j i (cons (tree c) u)) e ∙ sized-are i (cons (tree c) u) ∙ ap sized-alternatives (x .is u)
+            ∙ rw (y .alignment, ap (λ (j : ℕ). alternatives j (suc i) u) e ∙ sized-are (suc i) u) refl;
       }
 
 -- behind the last there is none
@@ -187,7 +137,6 @@ missing-node : (os : List Owner) (n : Name) (a : ℕ) (g : Registry) → get n o
 unfolding build-alternative _>>=_ _andThen_ need refuse
 missing-node os n a g e = rw e refl
 
--- what the references of a name tell
 module _ {s : List ℕ} {references : ℕ} {f : Paths} {o : Name} (q : ℕ) (d : o ≡ nameAt s q)
     (p : (a : Accepted s 32 32 references) → PathsFound s o (ownersOf (tree a)) f) where
   -- what was found is found by the name at q
@@ -211,13 +160,8 @@ module _ {s : List ℕ} {references : ℕ} {f : Paths} {o : Name} (q : ℕ) (d :
           (y : PathsAt s b) × (get (nameAt s q) os ≡ some (textsOf (y .list .got .0)))
       go {os} h (PathsFound.at {q = j} y e) =
           let z : j ≡ b = cc in
-          (subst
-          (λ (b : ℕ). (y : PathsAt s j) → get
-          (nameAt s q) os ≡ some
-          (textsOf (y .list .got .0)) →
-          (y : PathsAt s b) ×
-          (get (nameAt s q) os ≡ some (textsOf (y .list .got .0)))) z
-          (λ y e. (y, e))) y e
+          let w : (y : PathsAt s j) × (get (nameAt s q) os ≡ some (textsOf (y .list .got .0))) = (y, e) in
+          rw z at w
       go h (PathsFound.missing e) = let z : _≡_ {A = ℕ} 0 1 = cc in absurd (omega arith)
 
   -- the same, as `sum_refs` asks for it
@@ -389,20 +333,10 @@ module _ {s xs ws x₁ x₂ x₃ : List ℕ} {k q i at b p references : ℕ} {x 
       go : {t : Outcome (IrNode × Registry)} → Builds s x₂ p ws x₃ r t →
           Cases s xs at ws ys (record { at = u; count = r .count; number = 0 }) 1 (casesIf (ownersOf (tree a)) (alternativeAt s q x) [] t)
       go (Builds.made y e f w) =
-          let v : Wrote x₃ (r .at) (write (listTree parameterTree (owner-parameters (nameAt s (q + 6)) (y .1)))) x₄ u = subst
-          (λ (g : Registry). Wrote x₃ (r .at) (write (listTree parameterTree (owner-parameters (nameAt s (q + 6)) g))) x₄ u) f
-          (subst
-          (λ (m : Name). Wrote x₃ (r .at) (write (listTree parameterTree (owner-parameters m (entriesOf s ws (r .count))))) x₄ u) d w₃) in
-          rw
-          (no-cases (ownersOf (tree a)) (y .1))
-          (Cases.made
-          (SwitchCases.case (x .tag) (y .0) (owner-parameters (nameAt s (q + 6)) (y .1)) SwitchCases.noCase, y .1) refl f
-          (omega arith)
-          (one-case
-          (x .tag)
-          (y .0)
-          (owner-parameters (nameAt s (q + 6)) (y .1))
-          (case-write (x .tag) (y .0) (owner-parameters (nameAt s (q + 6)) (y .1)) w₁ w₂ w v w₄)))
+          let ps = owner-parameters (nameAt s (q + 6)) (y .1) in
+          rw (no-cases (ownersOf (tree a)) (y .1))
+          (Cases.made (SwitchCases.case (x .tag) (y .0) ps SwitchCases.noCase, y .1) refl f (omega arith)
+          (one-case (x .tag) (y .0) ps (case-write (x .tag) (y .0) ps w₁ w₂ w (rw (d, f) at w₃) w₄)))
       go (Builds.not h e l) = absurd (omega arith)
 
 -- ---- one case more
@@ -433,23 +367,14 @@ case-more {s} {xs} {ws} {ys} {zs} {at} {r} {t} os x xs′ j g z c d =
         o ≡ done (SwitchCases.case (x .tag) n ps SwitchCases.noCase, h) → Cases s xs at ws ys r 1 o →
         (entriesOf s ws (r .count) ≡ h) × Wrote xs at (write (casesTree (SwitchCases.case (x .tag) n ps SwitchCases.noCase))) ys (r .at)
     still n ps h e (Cases.made y f l m v) = let q : y ≡ (SwitchCases.case (x .tag) n ps SwitchCases.noCase, h) = done-one e in
-        (l ∙ ap (λ (a : SwitchCases × Registry). a .1) q, subst (λ (a : SwitchCases × Registry). Wrote xs at (write (casesTree (a .0))) ys (r .at)) q v)
+        (l ∙ ap (λ (a : SwitchCases × Registry). a .1) q, rw q at v)
     still n ps h e (Cases.not k f l) = absurd (omega arith)
 
     go : (o : Outcome (IrNode × Registry)) → Cases s xs at ws ys r 1 (casesIf os x [] o) → Cases s xs at ws zs t (suc j) (casesIf os x xs′ o)
     go (done y) c =
-        let b = still
-        (y .0)
-        (owner-parameters (x .name) (y .1))
-        (y .1)
-        (ap (caseIf x (y .0) (owner-parameters (x .name) (y .1))) (no-cases os (y .1))) c in
-        last
-        (y .0)
-        (owner-parameters (x .name) (y .1))
-        (y .1)
-        (b .0)
-        (b .1)
-        (subst (λ (h : Registry). Cases s ys (r .at) ws zs t j (build-cases os xs′ h)) (b .0) d)
+        let ps = owner-parameters (x .name) (y .1) in
+        let b = still (y .0) ps (y .1) (ap (caseIf x (y .0) ps) (no-cases os (y .1))) c in
+        last (y .0) ps (y .1) (b .0) (b .1) (rw (b .0) at d)
     go (refused q) c = absurd (never c)
       where
         never : {q : Refusal} → Cases s xs at ws ys r 1 (refused q) → ⊥
@@ -517,15 +442,12 @@ switch-ends eb h ed l w eu = record { low = omega (arith, h .0, w .low); high = 
 
 -- ---- all the cases
 
--- i of the cases are written up to p, and m is the count of entries: whatever writes the others makes the whole
-abbrev pub Goes : List ℕ → List ℕ → ℕ → List ℕ → ℕ → ℕ → ℕ → ℕ → ℕ → List ℕ → ℕ → ℕ → Tree → Tree → Type 0
-Goes s xs at ws n references k count i ys p m w u =
-    (a : Accepted s 32 32 references)
-    (zs : List ℕ)
-    (r : Built) → Cases s ys p ws zs r
-    (count - i)
-    (build-cases (ownersOf (tree a)) (alternatives k i u) (entriesOf s ws m)) → Cases s xs at ws zs r count
-    (build-cases (ownersOf (tree a)) (alternatives k 0 w) (entriesOf s ws n))
+-- i of the cases are written up to p, and m is the count of entries: whatever writes the others, j of them, makes the whole
+abbrev pub Goes : List ℕ → List ℕ → ℕ → List ℕ → ℕ → ℕ → ℕ → ℕ → ℕ → ℕ → List ℕ → ℕ → ℕ → Tree → Tree → Type 0
+Goes s xs at ws n references k count j i ys p m w u =
+    (a : Accepted s 32 32 references) (zs : List ℕ) (r : Built) →
+    Cases s ys p ws zs r j (build-cases (ownersOf (tree a)) (alternatives k i u) (entriesOf s ws m)) →
+    Cases s xs at ws zs r count (build-cases (ownersOf (tree a)) (alternatives k 0 w) (entriesOf s ws n))
 
 -- and so far the cursor and the entries are within their bounds
 pub record Written (s xs : List ℕ) (at : ℕ) (ws : List ℕ) (n references k count first i q : ℕ) (ys : List ℕ) (p m : ℕ) : Type 0 where
@@ -534,7 +456,7 @@ pub record Written (s xs : List ℕ) (at : ℕ) (ws : List ℕ) (n references k 
   pub within : i ≤ count
   pub entries : m ≤ 512
   pub long : length ys ≡ length xs
-  pub rest : Left (Goes s xs at ws n references k count i ys p m) s (Item.blocks k k) count first (count - i) q
+  pub rest : Left (Goes s xs at ws n references k count (count - i) i ys p m) s (Item.blocks k k) count first (count - i) q
 
 -- before the loop no case is written
 pub cases-begin : {s xs ws : List ℕ} {at n references k count first : ℕ} → n ≤ 512 → Listed s k k count first →
@@ -545,16 +467,9 @@ cases-begin {s} {xs} {ws} {at} {n} {references} {k} {count} {first} h l = record
   within = omega arith;
   entries = h;
   long = refl;
-  rest = subst
-      (λ (j : ℕ). Left
-      (λ w u. (a : Accepted s 32 32 references)
-      (zs : List ℕ)
-      (r : Built) → Cases s xs at ws zs r j
-      (build-cases (ownersOf (tree a)) (alternatives k 0 u) (entriesOf s ws n)) → Cases s xs at ws zs r count
-      (build-cases (ownersOf (tree a)) (alternatives k 0 w) (entriesOf s ws n))) s
-      (Item.blocks k k) count first j first)
-      (let e : count ≡ count - 0 = omega arith in e)
-      (starts (λ t a zs r c. c) l);
+  rest =
+      let e : count ≡ count - 0 = omega arith in
+      subst (λ (j : ℕ). Left (Goes s xs at ws n references k count j 0 xs at n) s (Item.blocks k k) count first j first) e (starts (λ t a zs r c. c) l);
 }
 
 module _ {s xs ws : List ℕ} {at n references k count first i q : ℕ} {ys : List ℕ} {p m : ℕ} (h : i < count)
@@ -593,15 +508,15 @@ module _ {s xs ws : List ℕ} {at n references k count first i q : ℕ} {ys : Li
         (c .made)))
 
     -- its case was written: whatever writes those behind it makes the whole
-    step : r .number ≡ 0 → (c : Accepted s k k q) (w u : Tree) → Goes s xs at ws n references k count i ys p m w (cons (tree c) u) →
-        Goes s xs at ws n references k count (i + 1) y (r .at) (r .count) w u
+    step : r .number ≡ 0 → (c : Accepted s k k q) (w u : Tree) → Goes s xs at ws n references k count (count - i) i ys p m w (cons (tree c) u) →
+        Goes s xs at ws n references k count (count - i - 1) (i + 1) y (r .at) (r .count) w u
     step z c w u f a zs t d =
         let x = put c a in
-        let j : suc (count - (i + 1)) ≡ count - i = omega arith in
+        let j : suc (count - i - 1) ≡ count - i = omega arith in
         f a zs t
         (rw
         (x .is u, ← add-one i, ← j)
-        (case-more (ownersOf (tree a)) (x .alternative) (alternatives k (i + 1) u) (count - (i + 1)) (entriesOf s ws m) z (x .made) d))
+        (case-more (ownersOf (tree a)) (x .alternative) (alternatives k (i + 1) u) (count - i - 1) (entriesOf s ws m) z (x .made) d))
 
     -- the loop goes on behind it
     pub cases-more : {v : ℕ} → r .number ≡ 0 → Within p 540000 r → length y ≡ length ys → v ≡ le4 s q →

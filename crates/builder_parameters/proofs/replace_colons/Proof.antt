@@ -16,10 +16,7 @@ Inv-loop name out₀ p₀ i₀ out p i =
     (p ≤ i) ×
     (i ≤ length name) ×
     (length out ≡ length out₀) ×
-    ((zs : List ℕ)
-    (r : ℕ) → Wrote out p
-    (replace-colons (drop i name)) zs r → Wrote out₀ 0
-    (replace-colons name) zs r)
+    ((zs : List ℕ) (r : ℕ) → Wrote out p (replace-colons (drop i name)) zs r → Wrote out₀ 0 (replace-colons name) zs r)
 
 abbrev μ-loop : tie.MeasureT-loop
 μ-loop name out₀ p₀ i₀ out p i = length name - i
