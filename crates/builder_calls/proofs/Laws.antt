@@ -124,8 +124,7 @@ module _ (s xs : List ℕ) (at owner path made : ℕ) (o p : List ℕ) (g₀ : R
       where
         go : Entered ys (record { at = v; count = h .count; made = made + 1; number = 0 })
         go before e _ (Kept.kept g y w) =
-            rw
-            (lt-ltb (length before) 512 (omega arith))
+            rw (lt-ltb (length before) 512 (omega arith))
             (Collects.made (argument (canonical-name o p) ∷ []) g refl (omega arith) w (argument-puts (canonical-name o p) w₁ w₂ w₃ w₄))
         go before e _ (Kept.not i y w) = absurd (let u : ⊥ = omega arith in u)
 
@@ -196,8 +195,7 @@ module _ {s : List ℕ} {left owner : ℕ} (z : left ≡ 0 → ⊥) (l : Listed 
   unfolding entries collect-callee-arguments _>>=_
   first-owner w before g =
       ap (λ (t : Tree). collect-callee-arguments (entries ownerOf t) before g) (owner-next .tree)
-      ∙ ap
-      (λ (o : Owner). _andThen_
+      ∙ ap (λ (o : Owner). _andThen_
       (collect-paths (o .name) (o .paths) before g)
       (λ x. collect-callee-arguments (entries ownerOf (owner-next .rest .got .0)) (x .0) (x .1)))
       (w .is)
@@ -352,11 +350,8 @@ module _ {s x₃ x₄ us : List ℕ} {v callee left : ℕ} {h : TypeHead} {r : C
         let d = collects-done z (call-arguments a) in
         let m = owners-count (head (typeOf (tree a)) .dynamic-params) [] g _ (d .1) in
         let e : count ≡ length (d .0) = omega (arith, m, ef (hd a .references), ap pathsIn (hd a .owners)) in
-        subst
-        (Builds s xs at us ys (record { at = r .at; count = r .count; number = 0 }))
-        (sym (step-done _ _ g (d .1)))
-        (Builds.made
-        (IrNode.CallNested unplaced (aligned alignment) nm (d .0), entriesOf s us (r .count)) refl refl
+        rw (step-done _ _ g (d .1))
+        (Builds.made (IrNode.CallNested unplaced (aligned alignment) nm (d .0), entriesOf s us (r .count)) refl refl
         (call-puts count (d .0) e w₁ w₂ w₃ (d .3) w₅))
 
 -- where a call ends: the head of its node, the name, the count of arguments, and the arguments

@@ -125,8 +125,7 @@ module _ {s : List ℕ} {kind : ℕ} {a : Accepted s 1 7 kind} {r : ListParts} (
     found h g =
         let w = c .whole (f .list) in
         let k = block-entry (w .0) h in
-        sym
-        (ap (λ (q : ResolvedTypeKind). has-jagged n (fieldsOf q)) (f .struct e)
+        sym (ap (λ (q : ResolvedTypeKind). has-jagged n (fieldsOf q)) (f .struct e)
         ∙ w .1 .is n m
         ∙ ap (within n) (k .after .tree)
         ∙ g (k .child) (k .after .rest .got .0))

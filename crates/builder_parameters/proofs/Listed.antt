@@ -129,23 +129,11 @@ module _ (t : ResolvedType) (s ws : List ℕ) {i n : ℕ} where
   module _ {r : Bool} (h : i < n) (e : r ≡ lists t s ws i) where
     -- it is not
     pub listed-no : not r ≡ true → listed t s ws i (n - i) ≡ listed t s ws (i + 1) (n - (i + 1))
-    listed-no f =
-        listed-step h
-        ∙ ap
-        (λ (b : Bool). cond b
-        (entryOf s (getD ws i 0) .parameter ∷ listed t s ws (i + 1) (n - (i + 1)))
-        (listed t s ws (i + 1) (n - (i + 1))))
-        (sym e ∙ was-false r f)
+    listed-no f = rw (listed-step h, ← e, was-false r f) refl
 
     -- it is
     pub listed-yes : not r ≡ false → listed t s ws i (n - i) ≡ entryOf s (getD ws i 0) .parameter ∷ listed t s ws (i + 1) (n - (i + 1))
-    listed-yes f =
-        listed-step h
-        ∙ ap
-        (λ (b : Bool). cond b
-        (entryOf s (getD ws i 0) .parameter ∷ listed t s ws (i + 1) (n - (i + 1)))
-        (listed t s ws (i + 1) (n - (i + 1))))
-        (sym e ∙ was-true r f)
+    listed-yes f = rw (listed-step h, ← e, was-true r f) refl
 
   -- behind the last entry nothing is
   pub listed-end : n ≤ i → listed t s ws i (n - i) ≡ []
@@ -199,21 +187,16 @@ listed-from t s ws (suc k) i seen h c =
     rest : List IrParameter
     rest = listed t s ws (i + 1) k
 
+    picked : Bool → List IrParameter
+    picked b = cond (not b && not (is-jagged-element-parameter t (nameIn s ws i))) (p ∷ rest) rest
+
     go : (b : Bool) → among (nameIn s ws i) seen ≡ b → ((l : List Name) → Seen l s ws (i + 1) → filter-jagged-element-parameters t (firsts l es) ≡ rest) →
         filter-jagged-element-parameters t (cond b (firsts seen es) (p ∷ firsts (nameIn s ws i ∷ seen) es)) ≡ cond (lists t s ws i) (p ∷ rest) rest
-    go true e ih =
-        ih seen (seen-again c e)
-        ∙ ap
-        (λ (b : Bool). cond (not b && not (is-jagged-element-parameter t (nameIn s ws i))) (p ∷ rest) rest)
-        (sym e ∙ c .is (nameIn s ws i))
+    go true e ih = ih seen (seen-again c e) ∙ ap picked (sym e ∙ c .is (nameIn s ws i))
     go false e ih =
-        ap
-        (λ (l : List IrParameter). cond (is-jagged-element-parameter t (nameIn s ws i)) l (p ∷ l))
-        (ih (nameIn s ws i ∷ seen) (seen-new c))
+        ap (λ (l : List IrParameter). cond (is-jagged-element-parameter t (nameIn s ws i)) l (p ∷ l)) (ih (nameIn s ws i ∷ seen) (seen-new c))
         ∙ turned (is-jagged-element-parameter t (nameIn s ws i)) rest (p ∷ rest)
-        ∙ ap
-        (λ (b : Bool). cond (not b && not (is-jagged-element-parameter t (nameIn s ws i))) (p ∷ rest) rest)
-        (sym e ∙ c .is (nameIn s ws i))
+        ∙ ap picked (sym e ∙ c .is (nameIn s ws i))
 
 -- so it does from the first on
 pub listed-is : (t : ResolvedType) (s ws : List ℕ) (n : ℕ) → n ≤ length ws →

@@ -205,10 +205,7 @@ module _ (n : Name) {to : ℕ} {b : Bool} (e : to ≡ 0 + first-length (drop 0 n
   -- the first segment is `element`: no segment stands before it
   pub element-first : b ≡ true → Found n Missing (before-element (split n))
   element-first t =
-      subst
-      (Found n Missing)
-      (sym (ap before-element (segments n 0 to (omega arith) e) ∙ tested-first (take (to - 0) (drop 0 n)) (behind n to) (sym f ∙ t)))
-      Found.missing
+      rw (ap before-element (segments n 0 to (omega arith) e) ∙ tested-first (take (to - 0) (drop 0 n)) (behind n to) (sym f ∙ t)) Found.missing
 
   -- it is not: the search goes on behind it
   pub begins : b ≡ false → before-element (split n) ≡ before (take (to - 0) (drop 0 n)) (behind n to)

@@ -288,10 +288,8 @@ module _ {s xs ws x₁ x₂ : List ℕ} {at k p : ℕ} {l : Built} (owner : Name
     sum-done y u =
         let d = built-done (entriesOf s ws n) (before owner cs k (entriesOf s ws n)) z front in
         let q = built-done (entriesOf s ws n) (last owner cs k (entriesOf s ws n)) y back in
-        rw
-        (whole owner cs k (entriesOf s ws n) h h₁ h₂, d .1, q .1)
-        (Builds.made
-        (IrNode.Binary unplaced default-metadata BinaryOp.AddChecked (d .0) (q .0), entriesOf s ws n) refl refl
+        rw (whole owner cs k (entriesOf s ws n) h h₁ h₂, d .1, q .1)
+        (Builds.made (IrNode.Binary unplaced default-metadata BinaryOp.AddChecked (d .0) (q .0), entriesOf s ws n) refl refl
         (node-closed 134 1
         (cons (nodeTree (d .0)) (cons (nodeTree (q .0)) nil)) w
         (parts (nodeTree (d .0)) (cons (nodeTree (q .0)) nil) (d .2) (parts (nodeTree (q .0)) nil (q .2) (no-parts x₃ (m .at)))) u))

@@ -178,8 +178,7 @@ module _ {s xs ws : List ℕ} {at references : ℕ} (n q : ℕ) (x : Choice) whe
       Wrote xs at (write (nodeTree (const-or-zero (x .size) (x .alignment)))) ys r → (a : Accepted s 32 32 references) →
       Builds s xs at ws ys (record { at = r; count = n; number = 0 }) (nodeOf a q x (entriesOf s ws n))
   node-const h w a =
-      rw
-      (h, const-node (ownersOf (tree a)) (nameAt s q) (x .size) (x .alignment) (entriesOf s ws n))
+      rw (h, const-node (ownersOf (tree a)) (nameAt s q) (x .size) (x .alignment) (entriesOf s ws n))
       (Builds.made (const-or-zero (x .size) (x .alignment), entriesOf s ws n) refl refl w)
 
   -- the name has no references
@@ -187,8 +186,7 @@ module _ {s xs ws : List ℕ} {at references : ℕ} (n q : ℕ) (x : Choice) whe
       ((a : Accepted s 32 32 references) → PathsFound s o (ownersOf (tree a)) f) → f ≡ Missing → (a : Accepted s 32 32 references) →
       Builds s xs at ws ys (record { at = at; count = n; number = 11 }) (nodeOf a q x (entriesOf s ws n))
   node-missing v d p h a =
-      rw
-      (v, missing-node (ownersOf (tree a)) (nameAt s q) (x .alignment) (entriesOf s ws n) (no-paths q d p h a))
+      rw (v, missing-node (ownersOf (tree a)) (nameAt s q) (x .alignment) (entriesOf s ws n) (no-paths q d p h a))
       (Builds.not 11 refl (omega arith))
 
   module _ {f : Paths} {o : Name} {zs y : List ℕ} {b t : ℕ} {r : Built} (v : x .variable ≡ true) (d : o ≡ nameAt s q)
@@ -199,8 +197,7 @@ module _ {s xs ws : List ℕ} {at references : ℕ} (n q : ℕ) (x : Choice) whe
     summed : (a : Accepted s 32 32 references) →
         Builds s zs t ws y r (sum-refs (nameAt s q) (textsOf (some-paths q d p h a .0 .list .got .0)) (entriesOf s ws n))
     summed a =
-        subst
-        (λ (z : Name). Builds s zs t ws y r (sum-refs z (textsOf (some-paths q d p h a .0 .list .got .0)) (entriesOf s ws n))) d
+        subst (λ (z : Name). Builds s zs t ws y r (sum-refs z (textsOf (some-paths q d p h a .0 .list .got .0)) (entriesOf s ws n))) d
         (m (some-paths q d p h a .0))
 
     -- the node is that sum, aligned
@@ -497,10 +494,8 @@ module _ {s xs ws : List ℕ} {at n references k count first i q : ℕ} {ys : Li
         let b = block-entry (w .0) left-over in
         let c = put (b .child) a in
         w .1 a zs t
-        (rw
-        (b .after .tree, c .is (b .after .rest .got .0))
-        (case-stop
-        (ownersOf (tree a))
+        (rw (b .after .tree, c .is (b .after .rest .got .0))
+        (case-stop (ownersOf (tree a))
         (c .alternative)
         (alternatives k (suc i) (b .after .rest .got .0))
         (count - i)
@@ -514,8 +509,7 @@ module _ {s xs ws : List ℕ} {at n references k count first i q : ℕ} {ys : Li
         let x = put c a in
         let j : suc (count - i - 1) ≡ count - i = omega arith in
         f a zs t
-        (rw
-        (x .is u, ← add-one i, ← j)
+        (rw (x .is u, ← add-one i, ← j)
         (case-more (ownersOf (tree a)) (x .alternative) (alternatives k (i + 1) u) (count - i - 1) (entriesOf s ws m) z (x .made) d))
 
     -- the loop goes on behind it
@@ -548,8 +542,7 @@ cases-end {s} {ws} {k} {count} {i} {ys} {p} {m} h inv l a =
     (omega arith)
     (inv .rest) l .0 a ys
     (record { at = p; count = m; number = 0 })
-    (rw
-    (none-more k i, no-cases (ownersOf (tree a)) (entriesOf s ws m))
+    (rw (none-more k i, no-cases (ownersOf (tree a)) (entriesOf s ws m))
     (Cases.made (SwitchCases.noCase, entriesOf s ws m) refl refl z (no-parts ys p)))
 
 -- the cursor of a switch is small enough for its head

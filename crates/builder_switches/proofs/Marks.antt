@@ -43,13 +43,9 @@ part-long m ys h l = sym (length-take-le m ys (omega arith))
 -- a path that was written whole into the buffer
 pub path-held : {xs ys : List ℕ} {r : ℕ} (m : ℕ) (path : List Name) → length xs ≡ 512 → m ≤ 511 → m ≡ length (pathOf 0 path) →
     Wrote xs 0 (pathOf 0 path) ys r → take m ys ≡ join path
-path-held {xs} {ys} m path l h e w =
-    ap (take m) (w .left ∙ poke-whole xs (pathOf 0 path) (omega arith))
-    ∙ subst
-    (λ (k : ℕ). take k (pathOf 0 path ++ drop (length (pathOf 0 path)) xs) ≡ pathOf 0 path)
-    (sym e)
-    (take-append-seam (pathOf 0 path) (drop (length (pathOf 0 path)) xs))
-    ∙ path-is path
+path-held {xs} m path l h e w =
+    rw (w .left, poke-whole xs (pathOf 0 path) (omega arith), e)
+    (take-append-seam (pathOf 0 path) (drop (length (pathOf 0 path)) xs) ∙ path-is path)
 
 -- a path that has a segment is one reference
 one-ref : (path : List Name) → noNames path ≡ false → field-refs (ExprKind.FieldRef path) ≡ join path ∷ []
@@ -97,13 +93,10 @@ module _ {s : List ℕ} {e : ℕ} (owner : Name) (g : Registry) (k : le2 s (e + 
     pub mark-path : {xs ys : List ℕ} {r : ℕ} {h : Registry} → b ≡ false → m ≤ 511 → length xs ≡ 512 →
         ((a : Accepted s 64 91 e) (path : List Name) → exprOf (tree a) ≡ ExprKind.FieldRef path → Wrote xs 0 (pathOf 0 path) ys r) →
         h ≡ mark-derived owner (take m ys) g → (a : Accepted s 64 91 e) → h ≡ mark-all owner (field-refs (exprOf (tree a))) g
-    mark-path {ys} n l x w d a =
+    mark-path n l x w d a =
         let f = field-ref-at a k in
-        marks-one n a
-        (d
-        ∙ ap
-        (λ (p : Name). mark-derived owner p g)
-        (path-held m (textsOf (f .list .got .0)) x l (u a (textsOf (f .list .got .0)) (f .is)) (w a (textsOf (f .list .got .0)) (f .is))))
+        let path = textsOf (f .list .got .0) in
+        marks-one n a (d ∙ ap (λ (p : Name). mark-derived owner p g) (path-held m path x l (u a path (f .is)) (w a path (f .is))))
 
 -- ---- the walk
 
@@ -165,17 +158,15 @@ module _ {s : List ℕ} {e : ℕ} (owner : Name) (g : Registry) where
       ((x : Accepted s 64 91 (e + 10 + v)) → i ≡ mark-all owner (field-refs (exprOf (tree x))) h) → (a : Accepted s 64 91 e) →
       i ≡ mark-all owner (field-refs (exprOf (tree a))) g
   unfolding field-refs
-  binary-marks {h} {i} u v d l m w f j a =
+  binary-marks u v d l m w f j a =
       let x = binary-at a (omega arith) (omega arith) in
-      let j′ : (x : Accepted s 64 91 (e + 10 + le4 s (e + 6))) → i ≡ mark-all owner (field-refs (exprOf (tree x))) h = subst
-      (λ (v : ℕ). (x : Accepted s 64 91 (e + 10 + v)) → i ≡ mark-all owner (field-refs (exprOf (tree x))) h) w j in
-      let z : field-refs (exprOf (tree a)) ≡ field-refs (exprOf (tree (x .left))) ++ field-refs (exprOf (tree (x .right))) = ap field-refs
-      (x .is)
-      ∙ rw (in-range (le2 s (e + 4)) (omega arith) (omega arith)) refl in
-      j′ (x .right)
-      ∙ ap (λ (y : Registry). mark-all owner (field-refs (exprOf (tree (x .right)))) y) (f (x .left))
-      ∙ sym (mark-both owner (field-refs (exprOf (tree (x .left)))) (field-refs (exprOf (tree (x .right)))) g)
-      ∙ ap (λ (z : List Name). mark-all owner z g) (sym z)
+      let ls = field-refs (exprOf (tree (x .left))) in
+      let rs = field-refs (exprOf (tree (x .right))) in
+      let z : field-refs (exprOf (tree a)) ≡ ls ++ rs = ap field-refs (x .is) ∙ rw (in-range (le2 s (e + 4)) (omega arith) (omega arith)) refl in
+      (rw w at j) (x .right)
+      ∙ ap (mark-all owner rs) (f (x .left))
+      ∙ sym (mark-both owner ls rs g)
+      ∙ ap (λ (ns : List Name). mark-all owner ns g) (sym z)
 
 -- the operand of 68 to 82, or the left one: a block inside the expression
 pub left-in : {s : List ℕ} {e : ℕ} (u : ℕ) → u ≡ le2 s (e + 4) → 68 ≤ u → u ≤ 82 → Accepted s 64 91 e → Accepted s 64 91 (e + 6) × (6 + le4 s (e + 6) ≤ le4 s e)

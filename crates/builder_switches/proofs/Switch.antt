@@ -102,8 +102,7 @@ module _ {s xs ws x₁ x₂ x₃ x₄ : List ℕ} {at b c d kind first k count :
       go : {o : Outcome (SwitchCases × Registry)} → Cases s x₃ d ws x₄ r count o →
           Builds s xs at ws ys (record { at = u; count = r .count; number = 0 }) (switchIf (head (typeOf (tree a))) tag o)
       go (Cases.made y f g m v) =
-          Builds.made
-          (IrNode.Switch unplaced (aligned (head (typeOf (tree a)) .alignment)) tag (y .0) DefaultNode.noDefault, y .1) refl g
+          Builds.made (IrNode.Switch unplaced (aligned (head (typeOf (tree a)) .alignment)) tag (y .0) DefaultNode.noDefault, y .1) refl g
           (rw (hd a .alignment) (switch-write (h .alignment) tag count (y .0) m w₁ w₂ w₃ v w₄ w₅))
       go (Cases.not q f g) = absurd (omega arith)
 

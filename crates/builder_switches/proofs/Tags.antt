@@ -95,9 +95,8 @@ module _ {s ws : List ℕ} {n e : ℕ} {f : Found} (o owner : Name) (d : o ≡ o
       Tags s ws (record { at = i; count = n; number = 0 }) (enum-tag-parameter owner (exprOf (tree a)) (entriesOf s ws n))
   tag-known {i} h a =
       let p = field-ref-at a k in
-      rw
-      (p .is, found-tag owner (textsOf (p .list .got .0)) (entriesOf s ws n))
-      (go (tag-lookup owner (join (textsOf (p .list .got .0))) (entriesOf s ws n)) h (l a (textsOf (p .list .got .0)) (p .is)))
+      let path = textsOf (p .list .got .0) in
+      rw (p .is, found-tag owner path (entriesOf s ws n)) (go (tag-lookup owner (join path) (entriesOf s ws n)) h (l a path (p .is)))
     where
       go : {f : Found} (o : Option Name) → f ≡ At i → Looked s ws n f o → Tags s ws (record { at = i; count = n; number = 0 }) (tagOf o (entriesOf s ws n))
       go none d Looked.missing = let z : _≡_ {A = ℕ} 0 1 = cc in absurd (omega arith)
@@ -108,9 +107,8 @@ module _ {s ws : List ℕ} {n e : ℕ} {f : Found} (o owner : Name) (d : o ≡ o
       Tags s ws (record { at = i; count = n; number = 12 }) (enum-tag-parameter owner (exprOf (tree a)) (entriesOf s ws n))
   tag-unknown h {i} a =
       let p = field-ref-at a k in
-      rw
-      (p .is, found-tag owner (textsOf (p .list .got .0)) (entriesOf s ws n))
-      (go (tag-lookup owner (join (textsOf (p .list .got .0))) (entriesOf s ws n)) h (l a (textsOf (p .list .got .0)) (p .is)))
+      let path = textsOf (p .list .got .0) in
+      rw (p .is, found-tag owner path (entriesOf s ws n)) (go (tag-lookup owner (join path) (entriesOf s ws n)) h (l a path (p .is)))
     where
       go : {f : Found} (o : Option Name) → f ≡ Missing → Looked s ws n f o → Tags s ws (record { at = i; count = n; number = 12 }) (tagOf o (entriesOf s ws n))
       go none d Looked.missing = Tags.not 12 refl (omega arith)
@@ -128,8 +126,7 @@ not-path {s} {e} owner g u d n a = go (eqb u 64) refl (eqb u 66) refl (eqb u 67)
     go false x true x₂ b₃ x₃ b₄ x₄ b₅ x₅ = rw (sizeof-at a (sym d ∙ eqb-true u 66 x₂)) refl
     go false x false x₂ true x₃ b₄ x₄ b₅ x₅ = rw (alignof-at a (sym d ∙ eqb-true u 67 x₃)) refl
     go false x false x₂ false x₃ true x₄ b₅ x₅ =
-        rw
-        (binary-at a
+        rw (binary-at a
         (omega (arith, eqb-false u 64 x, eqb-false u 66 x₂, eqb-false u 67 x₃, opened a refl refl .least))
         (omega (arith, leb-true u 78 x₄)) .is) refl
     go false x false x₂ false x₃ false x₄ true x₅ = rw (unary-at a (omega (arith, leb-false u 78 x₄)) (omega (arith, leb-true u 82 x₅)) .is) refl
@@ -146,14 +143,9 @@ pub tag-made : {s us : List ℕ} {e : ℕ} {r : Tagged} (ws : List ℕ) (n : ℕ
     u ≡ le2 s (e + 4) → (u ≡ 65 → ⊥) → ((a : Accepted s 64 91 e) → entriesOf s ws n ≡ mark-all o (field-refs (exprOf (tree a))) g) →
     Tags s us r (add-synthetic (held s q) (madePath 1) (madeParameter 1 (held s q)) (entriesOf s ws n)) → (a : Accepted s 64 91 e) →
     Tags s us r (enum-tag-parameter (nameAt s q) (exprOf (tree a)) g)
-tag-made {s} {us} {r} ws n g o q u b h d z m t a =
-    subst
-    (λ (o : Outcome (Name × Registry)). Tags s us r o)
-    (ap (λ (x : Name). add-synthetic x (madePath 1) (madeParameter 1 x) (entriesOf s ws n)) (held-name h)
-    ∙ ap
-    (add-synthetic (nameAt s q) (madePath 1) (madeParameter 1 (nameAt s q)))
-    (m a ∙ ap (λ (x : Name). mark-all x (field-refs (exprOf (tree a))) g) b)
-    ∙ sym (not-path (nameAt s q) g u d z a ∙ made-tag (nameAt s q) (exprOf (tree a)) g)) t
+tag-made {s} ws n g o q u b h d z m t a =
+    let marked : entriesOf s ws n ≡ mark-all (nameAt s q) (field-refs (exprOf (tree a))) g = rw b at (m a) in
+    rw (not-path (nameAt s q) g u d z a, made-tag (nameAt s q) (exprOf (tree a)) g, ← marked, ← held-name h) t
 
 -- a name of the set is short
 pub owned : {s : List ℕ} {o : Name} (q : ℕ) → Named s q → o ≡ nameAt s q → length o ≤ 255
