@@ -1,5 +1,5 @@
 -- The alternatives of a switch, their nodes and their cases, one by one.
-use mathlib.Core.Path.{_≡_, refl, sym, ap, subst, _∙_}
+use mathlib.Core.Path.{_≡_, refl, ap, subst, _∙_}
 use mathlib.Core.Bool.{Bool, true, false, cond}
 use mathlib.Core.List.{List, [], _∷_, _++_, append-nil}
 use mathlib.Core.Option.{some, none}
@@ -18,8 +18,8 @@ use Rattle.blocks.specs.Write.{write}
 use Rattle.accepted.specs.Accepted.{Accepted, tree, Item, Listed}
 use Rattle.accepted.proofs.Laws.{block-entry}
 use Rattle.accepted.proofs.Lists.{Left, starts, steps, ended}
-use Rattle.resolved.specs.Resolved.{Owner, Size, head, fields, variants, get}
-use Rattle.resolved.specs.Set.{thingOf, fieldsIn, variantsIn, typeOf}
+use Rattle.resolved.specs.Resolved.{Owner, Size, fields, variants, get}
+use Rattle.resolved.specs.Set.{thingOf, fieldsIn, variantsIn}
 use Rattle.ir.specs.Ir.{IrNode, IrParameter, SwitchCases, unplaced}
 use Rattle.ir.specs.Layout.{nodeTree, casesTree, caseCount, listTree, parameterTree}
 use Rattle.builder.specs.Registry.{Registry, _>>=_, give, refuse, need, reads, owner-parameters}

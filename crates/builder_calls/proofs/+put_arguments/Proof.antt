@@ -5,6 +5,7 @@ use native.Mathlib.Omega.{arith}
 use Rattle.builder_calls.proofs.Collecting.{fills-none, fills-both, room-more}
 use Rattle.builder_calls.proofs.Laws.{path-named, path-rest, paths-none, paths-stop, paths-go}
 use Prim.Native.Nat.{ℕ, _<_}
+use Rattle.resolved_parts.specs.Types.{Named}
 use borrow.Fn.Kinds.{In}
 use borrow.Fn.PlainCycle.{Measures, is, falls, and}
 use Rattle.builder_calls.proofs.put_arguments.Reads as self
@@ -38,6 +39,14 @@ callees t = (
   self.Post,
 )
 
+-- The places, each seen from a later one: what was known there.
+abbrev at-start : {t : ℕ} → walk.Else1 (callees t) (entered t) self.Post → walk.Start (callees t) (entered t) self.Post
+at-start r = r .before .before .before .before
+
+-- the first of the paths that are left
+path-here : {t : ℕ} (r : walk.Else1 (callees t) (entered t) self.Post) → Named (at-start r .args .s .now) (at-start r .args .paths .path)
+path-here r = path-named (r .if1 .left) (at-start r .pre .1 .list)
+
 returns : (t : ℕ) → walk.Need-returns (callees t) (entered t) self.Post
 returns t c =
     let at-start = c .before .before .before .before in (
@@ -48,11 +57,8 @@ returns t c =
 put-argument-requires : (t : ℕ) → walk.Need-put-argument-requires (callees t) (entered t) self.Post
 put-argument-requires t c κs =
     let at-else1 = c .before .before in
-    let at-start = at-else1 .before .before .before .before in record {
-      room = at-start .pre .1 .room;
-      owned = at-start .pre .1 .owned;
-      named = path-named (at-else1 .if1 .left) (at-start .pre .1 .list);
-    }
+    let known = at-start at-else1 .pre .1 in
+    record { room = known .room; owned = known .owned; named = path-here at-else1 }
 
 same-length : (t : ℕ) → walk.Need-same-length (callees t) (entered t) self.Post
 same-length t c = search needs
@@ -74,29 +80,17 @@ returns-2 t c =
 add-next : (t : ℕ) → walk.Need-add-next (callees t) (entered t) self.Post
 add-next t c =
     let at-else1 = c .before .before .before .before .before .before .before .before .before in
-    let at-start = at-else1 .before .before .before .before in
-    omega (
-      arith,
-      path-named (at-else1 .if1 .left) (at-start .pre .1 .list) .inside,
-      at-start .pre .1 .room .standing .size,
-    )
+    omega (arith, path-here at-else1 .inside, at-start at-else1 .pre .1 .room .standing .size)
 
 read2-requires : (t : ℕ) → walk.Need-read2-requires (callees t) (entered t) self.Post
 read2-requires t c κs =
     let at-else1 = c .before .before .before .before .before .before .before .before .before in
-    let at-start = at-else1 .before .before .before .before in
-    omega (arith, path-named (at-else1 .if1 .left) (at-start .pre .1 .list) .inside)
+    omega (arith, path-here at-else1 .inside)
 
 add-next-2 : (t : ℕ) → walk.Need-add-next-2 (callees t) (entered t) self.Post
 add-next-2 t c =
     let at-else1 = c .before .before .before .before .before .before .before .before .before .before in
-    let at-start = at-else1 .before .before .before .before in
-    omega (
-      arith,
-      c .read2 .ensures .0,
-      path-named (at-else1 .if1 .left) (at-start .pre .1 .list) .inside,
-      at-start .pre .1 .room .standing .size,
-    )
+    omega (arith, c .read2 .ensures .0, path-here at-else1 .inside, at-start at-else1 .pre .1 .room .standing .size)
 
 sub-others : (t : ℕ) → walk.Need-sub-others (callees t) (entered t) self.Post
 sub-others t c =
@@ -108,15 +102,12 @@ put-arguments-requires t c κs =
     let at-read2 = c .before .before in
     let at-put-argument = at-read2 .before .before .before .before .before .before .before in
     let at-else1 = at-put-argument .before .before .before in
-    let at-start = at-else1 .before .before .before .before in (
-      omega (arith, at-start .pre .0, at-else1 .if1 .left),
+    let known = at-start at-else1 .pre in (
+      omega (arith, known .0, at-else1 .if1 .left),
       record {
-        room = room-more (at-start .pre .1 .room) (search needs) (at-put-argument .put-argument .ensures .0);
-        owned = at-start .pre .1 .owned;
-        list = path-rest
-            (at-else1 .if1 .left)
-            (at-start .pre .1 .list)
-            (at-read2 .read2 .ensures .0);
+        room = room-more (known .1 .room) (search needs) (at-put-argument .put-argument .ensures .0);
+        owned = known .1 .owned;
+        list = path-rest (at-else1 .if1 .left) (known .1 .list) (at-read2 .read2 .ensures .0);
       },
     )
 
