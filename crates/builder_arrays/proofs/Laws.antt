@@ -41,6 +41,7 @@ use Rattle.builder_arrays.proofs.Steps.{elementOf, array-sums, array-mu
 
 -- ---- the shape of an array
 
+-- the shape that the code reads says what the array and its element are
 pub shaped : {s : List ℕ} {at : ℕ} {a : Accepted s 1 7 at} {h e : TypeHead} {p : ArrayParts} {b : Bool} → HeadAt a h → (q : ArrayAt a p) → HeadAt (q .element) e → b ≡ (p .jagged && e .variable) →
     ShapeAt a (record { sums = b; alignment = h .alignment; size = p .size; element = p .element; variable = e .variable; constant = e .size; inner = e .alignment; references = e .references })
 shaped {p} h q i x =
@@ -58,12 +59,14 @@ shaped {p} h q i x =
       owners = i .owners;
     }
 
+-- the code's flag is the definition's question
 variable-as : (b : Bool) (v : ℕ) → isVariable (sized b v) ≡ b
 variable-as true v = refl
 variable-as false v = refl
 
 -- ---- the beginning of an array
 
+-- the count stands behind the two nodes' metadata
 pub behind-both : (at : ℕ) {p q room : ℕ} {r : Built} → p ≡ at + 23 → q ≡ p + 15 → Within q room r → Within (at + 38) room r
 behind-both at e f w = record { low = omega (arith, w .low); high = omega (arith, w .high); count = w .count }
 
@@ -75,11 +78,13 @@ begins {xs} {x₁} {x₂} {at} {q} kind alignment e w v (Builds.made x z g c) =
 begins kind alignment e w v (Builds.not k z l) = Begins.not k z l
 
 module _ {s xs us ys : List ℕ} {at kind alignment : ℕ} {r : Built} where
+  -- a count that was built: what the definition gives, the entries, and the bytes
   pub begun : {x : Outcome (IrNode × Registry)} → r .number ≡ 0 → Begins s xs at us kind alignment ys r x →
       (y : IrNode × Registry) × (x ≡ done y) × (entriesOf s us (r .count) ≡ y .1) × Begun xs at kind alignment (y .0) ys (r .at)
   begun z (Begins.begun y e g w) = (y, refl, g, w)
   begun z (Begins.not k e l) = absurd (let z : ⊥ = omega arith in z)
 
+  -- a count that was refused: the definition refuses it with the same number
   pub not-begun : {x : Outcome (IrNode × Registry)} → (r .number ≡ 0 → ⊥) → Begins s xs at us kind alignment ys r x → (x ≡ refused (plain (r .number))) × (0 < r .number)
   not-begun z (Begins.begun y e g w) = absurd (z e)
   not-begun z (Begins.not k e l) = (ap (λ (q : ℕ). refused (plain q)) (sym e), omega arith)
@@ -102,6 +107,7 @@ count-entered c owner prefix x os g {y} e w f (Kept.kept h z i) =
 count-entered c owner prefix x os g {y} e w f (Kept.not q z l) =
     rw (step-done (build-expr-ir owner prefix x) _ g e, step-refused (extend-with os) _ (y .1) f) (Begins.not q z l)
 
+-- the count was built, and the element's references enter or are refused
 pub count-goes : {s xs ws us ys : List ℕ} {at alignment : ℕ} {c : Built} {k : Held} (owner prefix : Name) (x : ExprKind) (os : List Owner) (g : Registry) → c .number ≡ 0 →
     Begins s xs at ws 136 alignment ys c (build-expr-ir owner prefix x g) → Kept s us k (extend-with os (entriesOf s ws (c .count))) →
     Begins s xs at us 136 alignment ys (record { at = c .at; count = k .count; number = k .number }) (counted owner prefix x os g)
@@ -134,6 +140,7 @@ Multiplied h m e g = (m >>= (λ count. e >>= (λ element. give (product h count 
 
 -- the element was built behind the count, and the array finished
 module _ {s xs y₁ : List ℕ} {at alignment : ℕ} (h : Head) (m e : Build IrNode) (g : Registry) (d : h .alignment ≡ alignment) where
+  -- the element's node was built or refused, by cases of what the definition gives
   finished : (c : Built) {us y₂ ys : List ℕ} {n : ℕ} {b r : Built} {y : IrNode × Registry} {o : Outcome (IrNode × Registry)} → m g ≡ done y → Begun xs at 136 alignment (y .0) y₁ (c .at) → e (y .1) ≡ o → Builds s y₁ (c .at) us y₂ b o → Finished y₂ at n b ys r → Builds s xs at us ys r (Multiplied h m e g)
   unfolding give
   finished c {y} a w f (Builds.made x q k v) (Finished.closed p t) =
@@ -143,6 +150,7 @@ module _ {s xs y₁ : List ℕ} {at alignment : ℕ} (h : Head) (m e : Build IrN
   finished c {y} a w f (Builds.not k q l) (Finished.stopped p) = rw (step-done m _ g a, step-refused e _ (y .1) f) (Builds.not k q l)
 
   module _ {ws : List ℕ} {c : Built} (z : c .number ≡ 0) (i : Begins s xs at ws 136 alignment y₁ c (m g)) where
+    -- what the code leaves behind the element: the product's bytes, or the element's refusal
     multiplies : {us y₂ ys : List ℕ} {n : ℕ} {b r : Built} → Builds s y₁ (c .at) us y₂ b (e (entriesOf s ws (c .count))) → Finished y₂ at n b ys r → Builds s xs at us ys r (Multiplied h m e g)
     multiplies k f = let j = begun z i in finished c (j .1) (j .3) (ap e (sym (j .2))) k f
 
@@ -167,24 +175,30 @@ abbrev Counts : (s xs : List ℕ) (at : ℕ) (us ys : List ℕ) (r : Built) (own
 Counts s xs at us ys r owner depth p g = (e : Accepted s 64 91 (p .size)) (f : Accepted s 32 32 (p .references)) → Begins s xs at us 136 (p .alignment) ys r (counted owner (prefixOf depth) (exprOf (tree e)) (ownersOf (tree f)) g)
 
 module _ {s : List ℕ} {array : ℕ} {p : Shape} (owner : Name) (depth : ℕ) (g : Registry) (sh : (a : Accepted s 1 7 array) → ShapeAt a p) where
+  -- whether a jagged array sums over its elements, as the code has it
   sums-as : (a : Accepted s 1 7 array) → (sh a .jagged && isVariable (head (typeOf (tree (sh a .element))) .size)) ≡ p .sums
   sums-as a = rw (sh a .inner-size, variable-as (p .variable) (p .constant)) (sym (sh a .sums))
 
+  -- a jagged array of variable elements is what `sum_over_array` leaves
   pub sums-leave : {xs us ys : List ℕ} {at : ℕ} {r : Built} → p .sums ≡ true → SumLeft s xs at us ys r owner depth (p .alignment) (p .size) (p .element) g → Leaves s xs at us ys r owner depth array g
   sums-leave t b a =
       let q = sh a in
       rw (array-sums owner (prefixOf depth) (typeOf (tree a)) _ _ _ g (q .is) (sums-as a ∙ t)) (b (q .size) (q .element) (head (typeOf (tree a))) (q .alignment))
 
   module _ {xs ws y₁ : List ℕ} {at : ℕ} {c : Built} (t : p .sums ≡ false) (k : Counts s xs at ws y₁ c owner depth p g) where
+    -- the element as it is built inside
     abbrev elementAt : (a : Accepted s 1 7 array) → Build IrNode
     elementAt a = elementOf owner (prefixOf depth) (typeOf (tree (sh a .element)))
 
+    -- the count, with the element's references entered
     abbrev countAt : (a : Accepted s 1 7 array) → Build IrNode
     countAt a = counted owner (prefixOf depth) (exprOf (tree (sh a .size))) (head (typeOf (tree (sh a .element))) .dynamic-params)
 
+    -- every other array multiplies its count with its element
     multiplied : (a : Accepted s 1 7 array) → build-array-node-with-prefix owner (prefixOf depth) (typeOf (tree a)) g ≡ Multiplied (head (typeOf (tree a))) (countAt a) (elementAt a) g
     multiplied a = array-multiplies owner (prefixOf depth) (typeOf (tree a)) _ _ _ g (sh a .is) (sums-as a ∙ t)
 
+    -- the count that the code built is the definition's
     counts : (a : Accepted s 1 7 array) → Begins s xs at ws 136 (p .alignment) y₁ c (countAt a g)
     counts a = rw (sh a .owners) (k (sh a .size) (sh a .references))
 
@@ -202,12 +216,14 @@ module _ {s : List ℕ} {array : ℕ} {p : Shape} (owner : Name) (depth : ℕ) (
           rw (multiplied a)
           (multiplies-not (head (typeOf (tree a))) (countAt a) (elementAt a) g (q .alignment) z (counts a) (omega arith) (element-refused _ _ _ _ (q .inner-size ∙ rw e) (not-array (q .element) f)))
 
+      -- an element that is an array: built one array deeper
       pub element-nests : {us y₂ ys : List ℕ} {n : ℕ} {b r : Built} → p .variable ≡ true → le2 s (p .element + 4) ≡ 5 → Leaves s y₁ (c .at) us y₂ b owner (depth + 1) (p .element) (entriesOf s ws (c .count)) → Finished y₂ at n b ys r → Leaves s xs at us ys r owner depth array g
       element-nests {us} {y₂} {b} e f w h a =
           let q = sh a in
           let x : elementAt a (entriesOf s ws (c .count)) ≡ build-array-node-with-prefix owner (prefixOf (depth + 1)) (typeOf (tree (q .element))) (entriesOf s ws (c .count)) = rw (deeper depth) (element-inside _ _ _ _ (q .inner-size ∙ rw e) (is-array (q .element) f .1)) in
           rw (multiplied a) (multiplies (head (typeOf (tree a))) (countAt a) (elementAt a) g (q .alignment) z (counts a) (rw x (w (q .element))) h)
 
+      -- an element of constant size
       pub element-made : {y₂ ys : List ℕ} {n u : ℕ} {r : Built} → p .variable ≡ false → Wrote y₁ (c .at) (write (nodeTree (IrNode.Const unplaced (aligned (p .inner)) (p .constant)))) y₂ u → Finished y₂ at n (record { at = u; count = c .count; number = 0 }) ys r → Leaves s xs at ws ys r owner depth array g
       element-made e w h a =
           let q = sh a in
@@ -218,17 +234,20 @@ module _ {s : List ℕ} {array : ℕ} {p : Shape} (owner : Name) (depth : ℕ) (
 -- ---- a sum over an array
 
 module _ {s xs ws y₁ : List ℕ} {at : ℕ} {c : Built} (owner : Name) (depth alignment : ℕ) {size element : ℕ} (g : Registry) (k : (e : Accepted s 64 91 size) → Begins s xs at ws 144 alignment y₁ c (build-expr-ir owner (prefixOf depth) (exprOf (tree e)) g)) where
+  -- the count was refused
   pub sum-count-stops : {us ys : List ℕ} {u v : ℕ} → (c .number ≡ 0 → ⊥) → SumLeft s xs at us ys (record { at = u; count = v; number = c .number }) owner depth alignment size element g
   sum-count-stops z e t h d =
       let i = not-begun z (k e) in
       refuses (c .number) refl (i .1) (sum-stops h owner (prefixOf depth) _ _ g (i .0))
 
   module _ (z : c .number ≡ 0) where
+    -- an element that is no type reference: 13
     pub sum-element-stops : {us ys : List ℕ} {w u v : ℕ} → w ≡ le2 s (element + 4) → (w ≡ 7 → ⊥) → SumLeft s xs at us ys (record { at = u; count = v; number = 13 }) owner depth alignment size element g
     sum-element-stops x y e t h d =
         let i = begun z (k e) in
         refuses 13 refl (omega arith) (sum-refused h owner (prefixOf depth) _ _ g (i .1) (not-target t (rw x at y)))
 
+    -- the names of the called type and of the owner stand behind the count
     pub sum-made : {y₂ y₃ ys : List ℕ} {v w q : ℕ} {n : Name} → ((t : Accepted s 1 7 element) → TargetAt t q) → n ≡ nameAt s q → Wrote y₁ (c .at) (write (name n)) y₂ v → Wrote y₂ v (write (name owner)) y₃ w → Closed y₃ at w ys → SumLeft s xs at ws ys (record { at = w; count = c .count; number = 0 }) owner depth alignment size element g
     sum-made x y a b f e t h d =
         let i = begun z (k e) in
@@ -242,6 +261,7 @@ named-short {s} {q} h e = rw e (simp length-take (omega (arith, h .short)))
 -- ---- what calls stand on
 
 module _ {s ws : List ℕ} {n depth array at : ℕ} {owner : Name} {p : Shape} (r : ReadyInside s ws n owner depth array at) (q : ShapeAt (r .ready .type) p) where
+  -- what the count stands on
   pub count-ready : ReadyCount s ws n owner depth (p .size) (at + 38)
   count-ready =
       record {
@@ -252,10 +272,12 @@ module _ {s ws : List ℕ} {n depth array at : ℕ} {owner : Name} {p : Shape} (
         cursor = omega (arith, r .ready .cursor, q .room);
       }
 
+  -- a sum is as short as an array may be
   pub sum-within : {b : Built} → Within at (2048 + 1024 * (4 + le4 s (p .size))) b → Within at (1024 * (4 + le4 s array)) b
   sum-within w = wider (omega (arith, q .room)) w
 
   module _ {c : Built} (w : Within (at + 38) (1024 * (4 + le4 s (p .size))) c) where
+    -- what an array inside this one stands on: it is shorter, and one array deeper
     pub nested-ready : {us : List ℕ} → length us ≡ length ws → le2 s (p .element + 4) ≡ 5 → ReadyInside s us (c .count) owner (depth + 1) (p .element) (c .at)
     nested-ready e k =
         record {
@@ -264,13 +286,16 @@ module _ {s ws : List ℕ} {n depth array at : ℕ} {owner : Name} {p : Shape} (
           deep = omega (arith, r .deep, q .room);
         }
 
+    -- a constant has room behind the count
     pub constant-cursor : c .at < 2 ^ 60
     constant-cursor = omega (arith, r .ready .cursor, q .room, w .high)
 
     module _ {b : Built} (v : Within (c .at) (1024 * (4 + le4 s (p .element))) b) where
+      -- what closing the array stands on
       pub finish-ready : (at + 38 ≤ b .at) × (b .at < 2 ^ 61)
       finish-ready = (omega (arith, w .low, v .low), omega (arith, r .ready .cursor, q .room, w .high, v .high))
 
+      -- a closed array is as short as an array may be
       pub finish-within : {xs ys : List ℕ} {f : Built} → Finished xs at n b ys f → Within at (1024 * (4 + le4 s array)) f
       finish-within (Finished.closed z c) = record { low = omega (arith, w .low, v .low); high = omega (arith, q .room, w .high, v .high); count = v .count }
       finish-within (Finished.stopped z) = stays (r .ready .standing .count)

@@ -8,9 +8,9 @@ use native.Mathlib.Omega.{arith}
 use Prim.Native.Nat.{ℕ, _<_, _+_, _-_}
 use borrow.Fn.Kinds.{In}
 use borrow.Fn.PlainCycle.{Measures, is, falls, and}
-use Rattle.builder_arrays.proofs.build_array_node_with_prefix.Reads as build-array-node-with-prefix
-use Rattle.builder_arrays.proofs.build_array_node_with_prefix.Kinds as build-array-node-with-prefix-kinds
-use Rattle.builder_arrays.proofs.+build_array_node_with_prefix.Lts-build_array_node_with_prefix as build-array-node-with-prefix-lts
+use Rattle.builder_arrays.proofs.build_array_node_with_prefix.Reads as reads
+use Rattle.builder_arrays.proofs.build_array_node_with_prefix.Kinds as kinds
+use Rattle.builder_arrays.proofs.+build_array_node_with_prefix.Lts-build_array_node_with_prefix as lts
 use Rattle.builder_arrays.proofs.build_counted.Reads as build-counted-reads
 use Rattle.builder_arrays.proofs.finish.Reads as finish-reads
 use Rattle.builder_arrays.proofs.read_shape.Reads as read-shape-reads
@@ -20,104 +20,303 @@ use Rattle.builder_nodes.proofs.put_const.Reads as put-const-reads
 use Rattle.builder_arrays.proofs.+build_array_node_with_prefix.{statement}
 use Rattle.builder_arrays.proofs.+build_array_node_with_prefix.Tie.{close}
 
-abbrev μ-build-array-node-with-prefix : Measures 4 build-array-node-with-prefix-kinds.ps ℕ
-μ-build-array-node-with-prefix κs a = le4 (a .0 .now) (a .1 .1 .1 .1 .1 .0)
+abbrev μ : Measures 4 kinds.ps ℕ
+μ κs a = le4 (a .0 .now) (a .1 .1 .1 .1 .1 .0)
 
-abbrev build-array-node-with-prefix-at : ℕ → In 4 build-array-node-with-prefix-kinds.ps
-build-array-node-with-prefix-at t =
+abbrev within : ℕ → In 4 kinds.ps
+within t =
     and
     4
-    build-array-node-with-prefix-kinds.ps
-    (is 4 build-array-node-with-prefix-kinds.ps μ-build-array-node-with-prefix t)
-    build-array-node-with-prefix.Pre
+    kinds.ps
+    (is 4 kinds.ps μ t)
+    reads.Pre
 
-abbrev build-array-node-with-prefix-below : ℕ → In 4 build-array-node-with-prefix-kinds.ps
-build-array-node-with-prefix-below t =
+abbrev below : ℕ → In 4 kinds.ps
+below t =
     and
     4
-    build-array-node-with-prefix-kinds.ps
-    (falls 4 build-array-node-with-prefix-kinds.ps _<_ μ-build-array-node-with-prefix t)
-    build-array-node-with-prefix.Pre
+    kinds.ps
+    (falls 4 kinds.ps _<_ μ t)
+    reads.Pre
 
-abbrev build-array-node-with-prefix-with : ℕ → build-array-node-with-prefix-lts.Claims
-build-array-node-with-prefix-with t = (read-shape-reads.Asked, read-shape-reads.Learnt, sum-over-array-reads.Asked, sum-over-array-reads.Learnt, build-counted-reads.Asked, build-counted-reads.Learnt, read2-reads.Asked, read2-reads.Learnt, build-array-node-with-prefix-below t, build-array-node-with-prefix.Post, finish-reads.Asked, finish-reads.Learnt, put-const-reads.Asked, put-const-reads.Learnt)
+abbrev calls : ℕ → lts.Claims
+calls t = (
+  read-shape-reads.Asked,
+  read-shape-reads.Learnt,
+  sum-over-array-reads.Asked,
+  sum-over-array-reads.Learnt,
+  build-counted-reads.Asked,
+  build-counted-reads.Learnt,
+  read2-reads.Asked,
+  read2-reads.Learnt,
+  below t,
+  reads.Post,
+  finish-reads.Asked,
+  finish-reads.Learnt,
+  put-const-reads.Asked,
+  put-const-reads.Learnt,
+)
 
-build-array-node-with-prefix-read-shape-requires : (t : ℕ) → build-array-node-with-prefix-lts.Need-read-shape-requires (build-array-node-with-prefix-with t) (build-array-node-with-prefix-at t) build-array-node-with-prefix.Post
-build-array-node-with-prefix-read-shape-requires t c κs = search needs
+read-shape-requires : (t : ℕ) → lts.Need-read-shape-requires (calls t) (within t) reads.Post
+read-shape-requires t c κs = search needs
 
-build-array-node-with-prefix-sum-over-array-requires : (t : ℕ) → build-array-node-with-prefix-lts.Need-sum-over-array-requires (build-array-node-with-prefix-with t) (build-array-node-with-prefix-at t) build-array-node-with-prefix.Post
-build-array-node-with-prefix-sum-over-array-requires t c κs = (count-ready (c .before .before .before .before .before .before .before .before .before .pre .1) (c .before .before .before .read-shape .ensures (c .before .before .before .before .before .before .before .before .before .pre .1 .ready .type)), c .before .before .before .read-shape .ensures (c .before .before .before .before .before .before .before .before .before .pre .1 .ready .type) .element)
+-- The places, each seen from a later one: what was known there.
+abbrev at-start :
+    {t : ℕ} →
+    lts.After-read-shape (calls t) (within t) reads.Post →
+    lts.Start (calls t) (within t) reads.Post
+at-start r = r .before .before .before .before .before .before
 
-build-array-node-with-prefix-same-length : (t : ℕ) → build-array-node-with-prefix-lts.Need-same-length (build-array-node-with-prefix-with t) (build-array-node-with-prefix-at t) build-array-node-with-prefix.Post
-build-array-node-with-prefix-same-length t c = search needs
+sum-over-array-requires : (t : ℕ) → lts.Need-sum-over-array-requires (calls t) (within t) reads.Post
+sum-over-array-requires t c κs =
+    let at-read-shape = c .before .before .before in (
+      count-ready
+          (at-start at-read-shape .pre .1)
+          (at-read-shape .read-shape .ensures (at-start at-read-shape .pre .1 .ready .type)),
+      at-read-shape .read-shape .ensures (at-start at-read-shape .pre .1 .ready .type) .element,
+    )
 
-build-array-node-with-prefix-same-length-2 : (t : ℕ) → build-array-node-with-prefix-lts.Need-same-length-2 (build-array-node-with-prefix-with t) (build-array-node-with-prefix-at t) build-array-node-with-prefix.Post
-build-array-node-with-prefix-same-length-2 t c = search needs
+same-length : (t : ℕ) → lts.Need-same-length (calls t) (within t) reads.Post
+same-length t c = search needs
 
-build-array-node-with-prefix-returns : (t : ℕ) → build-array-node-with-prefix-lts.Need-returns (build-array-node-with-prefix-with t) (build-array-node-with-prefix-at t) build-array-node-with-prefix.Post
-build-array-node-with-prefix-returns t c = (sum-within (c .before .before .before .before .before .before .before .before .before .before .before .before .pre .1) (c .before .before .before .before .before .before .read-shape .ensures (c .before .before .before .before .before .before .before .before .before .before .before .before .pre .1 .ready .type)) (c .before .before .sum-over-array .ensures .0), sums-leave _ _ _ (c .before .before .before .before .before .before .read-shape .ensures) (c .before .before .before .before .before .if1 .taken) (c .before .before .sum-over-array .ensures .1))
+same-length-2 : (t : ℕ) → lts.Need-same-length-2 (calls t) (within t) reads.Post
+same-length-2 t c = search needs
 
-build-array-node-with-prefix-build-counted-requires : (t : ℕ) → build-array-node-with-prefix-lts.Need-build-counted-requires (build-array-node-with-prefix-with t) (build-array-node-with-prefix-at t) build-array-node-with-prefix.Post
-build-array-node-with-prefix-build-counted-requires t c κs = (count-ready (c .before .before .before .before .before .before .before .before .before .pre .1) (c .before .before .before .read-shape .ensures (c .before .before .before .before .before .before .before .before .before .pre .1 .ready .type)), c .before .before .before .read-shape .ensures (c .before .before .before .before .before .before .before .before .before .pre .1 .ready .type) .references)
+returns : (t : ℕ) → lts.Need-returns (calls t) (within t) reads.Post
+returns t c =
+    let at-sum-over-array = c .before .before in
+    let at-then1 = at-sum-over-array .before .before .before in
+    let at-read-shape = at-then1 .before in (
+      sum-within
+          (at-start at-read-shape .pre .1)
+          (at-read-shape .read-shape .ensures (at-start at-read-shape .pre .1 .ready .type))
+          (at-sum-over-array .sum-over-array .ensures .0),
+      sums-leave _ _ _
+          (at-read-shape .read-shape .ensures)
+          (at-then1 .if1 .taken)
+          (at-sum-over-array .sum-over-array .ensures .1),
+    )
 
-build-array-node-with-prefix-same-length-3 : (t : ℕ) → build-array-node-with-prefix-lts.Need-same-length-3 (build-array-node-with-prefix-with t) (build-array-node-with-prefix-at t) build-array-node-with-prefix.Post
-build-array-node-with-prefix-same-length-3 t c = search needs
+build-counted-requires : (t : ℕ) → lts.Need-build-counted-requires (calls t) (within t) reads.Post
+build-counted-requires t c κs =
+    let at-read-shape = c .before .before .before in (
+      count-ready
+          (at-start at-read-shape .pre .1)
+          (at-read-shape .read-shape .ensures (at-start at-read-shape .pre .1 .ready .type)),
+      at-read-shape .read-shape .ensures (at-start at-read-shape .pre .1 .ready .type) .references,
+    )
 
-build-array-node-with-prefix-same-length-4 : (t : ℕ) → build-array-node-with-prefix-lts.Need-same-length-4 (build-array-node-with-prefix-with t) (build-array-node-with-prefix-at t) build-array-node-with-prefix.Post
-build-array-node-with-prefix-same-length-4 t c = search needs
+same-length-3 : (t : ℕ) → lts.Need-same-length-3 (calls t) (within t) reads.Post
+same-length-3 t c = search needs
 
-build-array-node-with-prefix-returns-2 : (t : ℕ) → build-array-node-with-prefix-lts.Need-returns-2 (build-array-node-with-prefix-with t) (build-array-node-with-prefix-at t) build-array-node-with-prefix.Post
-build-array-node-with-prefix-returns-2 t c = (stays (c .before .before .before .before .before .before .before .before .before .before .before .before .before .before .before .before .pre .1 .ready .standing .count), counted-stops _ _ _ (c .before .before .before .before .before .before .before .before .before .before .read-shape .ensures) (c .before .before .before .before .before .before .before .before .before .if1 .left) (c .before .before .before .before .before .before .build-counted .ensures .1) (c .if2 .taken))
+same-length-4 : (t : ℕ) → lts.Need-same-length-4 (calls t) (within t) reads.Post
+same-length-4 t c = search needs
 
-build-array-node-with-prefix-add-read2 : (t : ℕ) → build-array-node-with-prefix-lts.Need-add-read2 (build-array-node-with-prefix-with t) (build-array-node-with-prefix-at t) build-array-node-with-prefix.Post
-build-array-node-with-prefix-add-read2 t c = omega (arith, header-inside (c .before .before .before .before .before .before .before .before .before .before .before .read-shape .ensures (c .before .before .before .before .before .before .before .before .before .before .before .before .before .before .before .before .before .pre .1 .ready .type) .element), c .before .before .before .before .before .before .before .before .before .before .before .before .before .before .before .before .before .pre .1 .ready .standing .size)
+returns-2 : (t : ℕ) → lts.Need-returns-2 (calls t) (within t) reads.Post
+returns-2 t c =
+    let at-build-counted = c .before .before .before .before .before .before in
+    let at-else1 = at-build-counted .before .before .before in
+    let at-read-shape = at-else1 .before in (
+      stays (at-start at-read-shape .pre .1 .ready .standing .count),
+      counted-stops _ _ _
+          (at-read-shape .read-shape .ensures)
+          (at-else1 .if1 .left)
+          (at-build-counted .build-counted .ensures .1)
+          (c .if2 .taken),
+    )
 
-build-array-node-with-prefix-read2-requires : (t : ℕ) → build-array-node-with-prefix-lts.Need-read2-requires (build-array-node-with-prefix-with t) (build-array-node-with-prefix-at t) build-array-node-with-prefix.Post
-build-array-node-with-prefix-read2-requires t c κs = omega (arith, header-inside (c .before .before .before .before .before .before .before .before .before .before .before .read-shape .ensures (c .before .before .before .before .before .before .before .before .before .before .before .before .before .before .before .before .before .pre .1 .ready .type) .element))
+add-read2 : (t : ℕ) → lts.Need-add-read2 (calls t) (within t) reads.Post
+add-read2 t c =
+    let at-read-shape = c .before .before .before .before .before .before .before .before .before .before .before in
+    let at-start = at-read-shape .before .before .before .before .before .before in
+    omega (
+      arith,
+      header-inside (at-read-shape .read-shape .ensures (at-start .pre .1 .ready .type) .element),
+      at-start .pre .1 .ready .standing .size,
+    )
 
-build-array-node-with-prefix-same-length-5 : (t : ℕ) → build-array-node-with-prefix-lts.Need-same-length-5 (build-array-node-with-prefix-with t) (build-array-node-with-prefix-at t) build-array-node-with-prefix.Post
-build-array-node-with-prefix-same-length-5 t c = search needs
+read2-requires : (t : ℕ) → lts.Need-read2-requires (calls t) (within t) reads.Post
+read2-requires t c κs =
+    let at-read-shape = c .before .before .before .before .before .before .before .before .before .before .before in
+    let at-start = at-read-shape .before .before .before .before .before .before in
+    omega (
+      arith,
+      header-inside (at-read-shape .read-shape .ensures (at-start .pre .1 .ready .type) .element),
+    )
 
-build-array-node-with-prefix-same-length-6 : (t : ℕ) → build-array-node-with-prefix-lts.Need-same-length-6 (build-array-node-with-prefix-with t) (build-array-node-with-prefix-at t) build-array-node-with-prefix.Post
-build-array-node-with-prefix-same-length-6 t c = search needs
+same-length-5 : (t : ℕ) → lts.Need-same-length-5 (calls t) (within t) reads.Post
+same-length-5 t c = search needs
 
-build-array-node-with-prefix-returns-3 : (t : ℕ) → build-array-node-with-prefix-lts.Need-returns-3 (build-array-node-with-prefix-with t) (build-array-node-with-prefix-at t) build-array-node-with-prefix.Post
-build-array-node-with-prefix-returns-3 t c = (stays (c .before .before .before .before .before .before .before .before .before .before .before .before .before .before .before .before .before .before .before .pre .1 .ready .standing .count), element-stops _ _ _ (c .before .before .before .before .before .before .before .before .before .before .before .before .before .read-shape .ensures) (c .before .before .before .before .before .before .before .before .before .before .before .before .if1 .left) (c .before .before .before .before .before .before .before .before .before .build-counted .ensures .1) (c .before .before .before .if2 .left) (c .before .before .if3 .taken) (λ q. c .if4 .taken (c .before .read2 .ensures .0 ∙ q)))
+same-length-6 : (t : ℕ) → lts.Need-same-length-6 (calls t) (within t) reads.Post
+same-length-6 t c = search needs
 
-build-array-node-with-prefix-add-build-array-node-with-prefix : (t : ℕ) → build-array-node-with-prefix-lts.Need-add-build-array-node-with-prefix (build-array-node-with-prefix-with t) (build-array-node-with-prefix-at t) build-array-node-with-prefix.Post
-build-array-node-with-prefix-add-build-array-node-with-prefix t c = omega (arith, c .before .before .before .before .before .before .before .before .before .before .before .before .before .before .before .before .before .before .before .before .pre .1 .deep)
+returns-3 : (t : ℕ) → lts.Need-returns-3 (calls t) (within t) reads.Post
+returns-3 t c =
+    let at-then3 = c .before .before in
+    let at-else2 = at-then3 .before in
+    let at-build-counted = at-else2 .before .before .before .before .before .before in
+    let at-else1 = at-build-counted .before .before .before in
+    let at-read-shape = at-else1 .before in (
+      stays (at-start at-read-shape .pre .1 .ready .standing .count),
+      element-stops _ _ _
+          (at-read-shape .read-shape .ensures)
+          (at-else1 .if1 .left)
+          (at-build-counted .build-counted .ensures .1)
+          (at-else2 .if2 .left)
+          (at-then3 .if3 .taken)
+          (λ q. c .if4 .taken (c .before .read2 .ensures .0 ∙ q)),
+    )
 
-build-array-node-with-prefix-build-array-node-with-prefix-requires : (t : ℕ) → build-array-node-with-prefix-lts.Need-build-array-node-with-prefix-requires (build-array-node-with-prefix-with t) (build-array-node-with-prefix-at t) build-array-node-with-prefix.Post
-build-array-node-with-prefix-build-array-node-with-prefix-requires t c κs = (omega (arith, c .before .before .before .before .before .before .before .before .before .before .before .before .before .before .before .before .before .before .before .before .before .pre .0, c .before .before .before .before .before .before .before .before .before .before .before .before .before .before .before .read-shape .ensures (c .before .before .before .before .before .before .before .before .before .before .before .before .before .before .before .before .before .before .before .before .before .pre .1 .ready .type) .room), nested-ready (c .before .before .before .before .before .before .before .before .before .before .before .before .before .before .before .before .before .before .before .before .before .pre .1) (c .before .before .before .before .before .before .before .before .before .before .before .before .before .before .before .read-shape .ensures (c .before .before .before .before .before .before .before .before .before .before .before .before .before .before .before .before .before .before .before .before .before .pre .1 .ready .type)) (c .before .before .before .before .before .before .before .before .before .before .before .build-counted .ensures .0) (search needs) (sym (c .before .before .before .read2 .ensures .0) ∙ c .before .before .if4 .left))
+add-build-array-node-with-prefix : (t : ℕ) → lts.Need-add-build-array-node-with-prefix (calls t) (within t) reads.Post
+add-build-array-node-with-prefix t c =
+    let at-read-shape = c .before .before .before .before .before .before .before .before .before .before .before .before .before .before in
+    omega (arith, at-start at-read-shape .pre .1 .deep)
 
-build-array-node-with-prefix-finish-requires : (t : ℕ) → build-array-node-with-prefix-lts.Need-finish-requires (build-array-node-with-prefix-with t) (build-array-node-with-prefix-at t) build-array-node-with-prefix.Post
-build-array-node-with-prefix-finish-requires t c κs = finish-ready (c .before .before .before .before .before .before .before .before .before .before .before .before .before .before .before .before .before .before .before .before .before .before .before .before .before .before .before .pre .1) (c .before .before .before .before .before .before .before .before .before .before .before .before .before .before .before .before .before .before .before .before .before .read-shape .ensures (c .before .before .before .before .before .before .before .before .before .before .before .before .before .before .before .before .before .before .before .before .before .before .before .before .before .before .before .pre .1 .ready .type)) (c .before .before .before .before .before .before .before .before .before .before .before .before .before .before .before .before .before .build-counted .ensures .0) (c .before .before .before .before .before .build-array-node-with-prefix .ensures .0)
+build-array-node-with-prefix-requires : (t : ℕ) → lts.Need-build-array-node-with-prefix-requires (calls t) (within t) reads.Post
+build-array-node-with-prefix-requires t c κs =
+    let at-else4 = c .before .before in
+    let at-read2 = at-else4 .before in
+    let at-build-counted = at-read2 .before .before .before .before .before .before .before .before in
+    let at-read-shape = at-build-counted .before .before .before .before in
+    let at-start = at-read-shape .before .before .before .before .before .before in (
+      omega (
+        arith,
+        at-start .pre .0,
+        at-read-shape .read-shape .ensures (at-start .pre .1 .ready .type) .room,
+      ),
+      nested-ready
+          (at-start .pre .1)
+          (at-read-shape .read-shape .ensures (at-start .pre .1 .ready .type))
+          (at-build-counted .build-counted .ensures .0)
+          (search needs)
+          (sym (at-read2 .read2 .ensures .0) ∙ at-else4 .if4 .left),
+    )
 
-build-array-node-with-prefix-same-length-7 : (t : ℕ) → build-array-node-with-prefix-lts.Need-same-length-7 (build-array-node-with-prefix-with t) (build-array-node-with-prefix-at t) build-array-node-with-prefix.Post
-build-array-node-with-prefix-same-length-7 t c = search needs
+finish-requires : (t : ℕ) → lts.Need-finish-requires (calls t) (within t) reads.Post
+finish-requires t c κs =
+    let at-build-array-node-with-prefix = c .before .before .before .before .before in
+    let at-build-counted = at-build-array-node-with-prefix .before .before .before .before .before .before .before .before .before .before .before .before in
+    let at-read-shape = at-build-counted .before .before .before .before in
+    finish-ready
+    (at-start at-read-shape .pre .1)
+    (at-read-shape .read-shape .ensures (at-start at-read-shape .pre .1 .ready .type))
+    (at-build-counted .build-counted .ensures .0)
+    (at-build-array-node-with-prefix .build-array-node-with-prefix .ensures .0)
 
-build-array-node-with-prefix-same-length-8 : (t : ℕ) → build-array-node-with-prefix-lts.Need-same-length-8 (build-array-node-with-prefix-with t) (build-array-node-with-prefix-at t) build-array-node-with-prefix.Post
-build-array-node-with-prefix-same-length-8 t c = search needs
+same-length-7 : (t : ℕ) → lts.Need-same-length-7 (calls t) (within t) reads.Post
+same-length-7 t c = search needs
 
-build-array-node-with-prefix-returns-4 : (t : ℕ) → build-array-node-with-prefix-lts.Need-returns-4 (build-array-node-with-prefix-with t) (build-array-node-with-prefix-at t) build-array-node-with-prefix.Post
-build-array-node-with-prefix-returns-4 t c = (finish-within (c .before .before .before .before .before .before .before .before .before .before .before .before .before .before .before .before .before .before .before .before .before .before .before .before .before .before .before .before .before .before .pre .1) (c .before .before .before .before .before .before .before .before .before .before .before .before .before .before .before .before .before .before .before .before .before .before .before .before .read-shape .ensures (c .before .before .before .before .before .before .before .before .before .before .before .before .before .before .before .before .before .before .before .before .before .before .before .before .before .before .before .before .before .before .pre .1 .ready .type)) (c .before .before .before .before .before .before .before .before .before .before .before .before .before .before .before .before .before .before .before .before .build-counted .ensures .0) (c .before .before .before .before .before .before .before .before .build-array-node-with-prefix .ensures .0) (c .before .before .finish .ensures), element-nests _ _ _ (c .before .before .before .before .before .before .before .before .before .before .before .before .before .before .before .before .before .before .before .before .before .before .before .before .read-shape .ensures) (c .before .before .before .before .before .before .before .before .before .before .before .before .before .before .before .before .before .before .before .before .before .before .before .if1 .left) (c .before .before .before .before .before .before .before .before .before .before .before .before .before .before .before .before .before .before .before .before .build-counted .ensures .1) (c .before .before .before .before .before .before .before .before .before .before .before .before .before .before .if2 .left) (c .before .before .before .before .before .before .before .before .before .before .before .before .before .if3 .taken) (sym (c .before .before .before .before .before .before .before .before .before .before .before .before .read2 .ensures .0) ∙ c .before .before .before .before .before .before .before .before .before .before .before .if4 .left) (c .before .before .before .before .before .before .before .before .build-array-node-with-prefix .ensures .1) (c .before .before .finish .ensures))
+same-length-8 : (t : ℕ) → lts.Need-same-length-8 (calls t) (within t) reads.Post
+same-length-8 t c = search needs
 
-build-array-node-with-prefix-put-const-requires : (t : ℕ) → build-array-node-with-prefix-lts.Need-put-const-requires (build-array-node-with-prefix-with t) (build-array-node-with-prefix-at t) build-array-node-with-prefix.Post
-build-array-node-with-prefix-put-const-requires t c κs = let p = c .before .before .before .before .before .before .before .before .before .before .before .before .before .before .before .before .before .before .pre .1 .ready .standing in let e = constant-cursor (c .before .before .before .before .before .before .before .before .before .before .before .before .before .before .before .before .before .before .pre .1) (c .before .before .before .before .before .before .before .before .before .before .before .before .read-shape .ensures (c .before .before .before .before .before .before .before .before .before .before .before .before .before .before .before .before .before .before .pre .1 .ready .type)) (c .before .before .before .before .before .before .before .before .build-counted .ensures .0) in search needs
+returns-4 : (t : ℕ) → lts.Need-returns-4 (calls t) (within t) reads.Post
+returns-4 t c =
+    let at-finish = c .before .before in
+    let at-build-array-node-with-prefix = at-finish .before .before .before .before .before .before in
+    let at-else4 = at-build-array-node-with-prefix .before .before .before in
+    let at-read2 = at-else4 .before in
+    let at-then3 = at-read2 .before in
+    let at-else2 = at-then3 .before in
+    let at-build-counted = at-else2 .before .before .before .before .before .before in
+    let at-else1 = at-build-counted .before .before .before in
+    let at-read-shape = at-else1 .before in (
+      finish-within
+          (at-start at-read-shape .pre .1)
+          (at-read-shape .read-shape .ensures (at-start at-read-shape .pre .1 .ready .type))
+          (at-build-counted .build-counted .ensures .0)
+          (at-build-array-node-with-prefix .build-array-node-with-prefix .ensures .0)
+          (at-finish .finish .ensures),
+      element-nests _ _ _
+          (at-read-shape .read-shape .ensures)
+          (at-else1 .if1 .left)
+          (at-build-counted .build-counted .ensures .1)
+          (at-else2 .if2 .left)
+          (at-then3 .if3 .taken)
+          (sym (at-read2 .read2 .ensures .0) ∙ at-else4 .if4 .left)
+          (at-build-array-node-with-prefix .build-array-node-with-prefix .ensures .1)
+          (at-finish .finish .ensures),
+    )
 
-build-array-node-with-prefix-finish-requires-2 : (t : ℕ) → build-array-node-with-prefix-lts.Need-finish-requires-2 (build-array-node-with-prefix-with t) (build-array-node-with-prefix-at t) build-array-node-with-prefix.Post
-build-array-node-with-prefix-finish-requires-2 t c κs = finish-ready (c .before .before .before .before .before .before .before .before .before .before .before .before .before .before .before .before .before .before .before .before .before .before .pre .1) (c .before .before .before .before .before .before .before .before .before .before .before .before .before .before .before .before .read-shape .ensures (c .before .before .before .before .before .before .before .before .before .before .before .before .before .before .before .before .before .before .before .before .before .before .pre .1 .ready .type)) (c .before .before .before .before .before .before .before .before .before .before .before .before .build-counted .ensures .0) (constant-within (c .before .before .before .before .before .before .before .before .before .before .before .before .build-counted .ensures .0 .count) (c .before .before .before .put-const .ensures .1) (omega arith))
+put-const-requires : (t : ℕ) → lts.Need-put-const-requires (calls t) (within t) reads.Post
+put-const-requires t c κs =
+    let at-build-counted = c .before .before .before .before .before .before .before .before in
+    let at-read-shape = at-build-counted .before .before .before .before in
+    let at-start = at-read-shape .before .before .before .before .before .before in
+    let p = at-start .pre .1 .ready .standing in
+    let e = constant-cursor
+    (at-start .pre .1)
+    (at-read-shape .read-shape .ensures (at-start .pre .1 .ready .type))
+    (at-build-counted .build-counted .ensures .0) in
+    search needs
 
-build-array-node-with-prefix-same-length-9 : (t : ℕ) → build-array-node-with-prefix-lts.Need-same-length-9 (build-array-node-with-prefix-with t) (build-array-node-with-prefix-at t) build-array-node-with-prefix.Post
-build-array-node-with-prefix-same-length-9 t c = search needs
+finish-requires-2 : (t : ℕ) → lts.Need-finish-requires-2 (calls t) (within t) reads.Post
+finish-requires-2 t c κs =
+    let at-put-const = c .before .before .before in
+    let at-build-counted = at-put-const .before .before .before .before .before .before .before .before .before in
+    let at-read-shape = at-build-counted .before .before .before .before in
+    let at-start = at-read-shape .before .before .before .before .before .before in
+    finish-ready
+    (at-start .pre .1)
+    (at-read-shape .read-shape .ensures (at-start .pre .1 .ready .type))
+    (at-build-counted .build-counted .ensures .0)
+    (constant-within
+    (at-build-counted .build-counted .ensures .0 .count)
+    (at-put-const .put-const .ensures .1)
+    (omega arith))
 
-build-array-node-with-prefix-same-length-10 : (t : ℕ) → build-array-node-with-prefix-lts.Need-same-length-10 (build-array-node-with-prefix-with t) (build-array-node-with-prefix-at t) build-array-node-with-prefix.Post
-build-array-node-with-prefix-same-length-10 t c = search needs
+same-length-9 : (t : ℕ) → lts.Need-same-length-9 (calls t) (within t) reads.Post
+same-length-9 t c = search needs
 
-build-array-node-with-prefix-returns-5 : (t : ℕ) → build-array-node-with-prefix-lts.Need-returns-5 (build-array-node-with-prefix-with t) (build-array-node-with-prefix-at t) build-array-node-with-prefix.Post
-build-array-node-with-prefix-returns-5 t c = (finish-within (c .before .before .before .before .before .before .before .before .before .before .before .before .before .before .before .before .before .before .before .before .before .before .before .before .before .pre .1) (c .before .before .before .before .before .before .before .before .before .before .before .before .before .before .before .before .before .before .before .read-shape .ensures (c .before .before .before .before .before .before .before .before .before .before .before .before .before .before .before .before .before .before .before .before .before .before .before .before .before .pre .1 .ready .type)) (c .before .before .before .before .before .before .before .before .before .before .before .before .before .before .before .build-counted .ensures .0) (constant-within (c .before .before .before .before .before .before .before .before .before .before .before .before .before .before .before .build-counted .ensures .0 .count) (c .before .before .before .before .before .before .put-const .ensures .1) (omega arith)) (c .before .before .finish2 .ensures), element-made _ _ _ (c .before .before .before .before .before .before .before .before .before .before .before .before .before .before .before .before .before .before .before .read-shape .ensures) (c .before .before .before .before .before .before .before .before .before .before .before .before .before .before .before .before .before .before .if1 .left) (c .before .before .before .before .before .before .before .before .before .before .before .before .before .before .before .build-counted .ensures .1) (c .before .before .before .before .before .before .before .before .before .if2 .left) (c .before .before .before .before .before .before .before .before .if3 .left) (c .before .before .before .before .before .before .put-const .ensures .0) (c .before .before .finish2 .ensures))
+same-length-10 : (t : ℕ) → lts.Need-same-length-10 (calls t) (within t) reads.Post
+same-length-10 t c = search needs
+
+returns-5 : (t : ℕ) → lts.Need-returns-5 (calls t) (within t) reads.Post
+returns-5 t c =
+    let at-finish2 = c .before .before in
+    let at-put-const = at-finish2 .before .before .before .before in
+    let at-else3 = at-put-const .before .before in
+    let at-else2 = at-else3 .before in
+    let at-build-counted = at-else2 .before .before .before .before .before .before in
+    let at-else1 = at-build-counted .before .before .before in
+    let at-read-shape = at-else1 .before in
+    let at-start = at-read-shape .before .before .before .before .before .before in (
+      finish-within
+          (at-start .pre .1)
+          (at-read-shape .read-shape .ensures (at-start .pre .1 .ready .type))
+          (at-build-counted .build-counted .ensures .0)
+          (constant-within
+          (at-build-counted .build-counted .ensures .0 .count)
+          (at-put-const .put-const .ensures .1)
+          (omega arith))
+          (at-finish2 .finish2 .ensures),
+      element-made _ _ _
+          (at-read-shape .read-shape .ensures)
+          (at-else1 .if1 .left)
+          (at-build-counted .build-counted .ensures .1)
+          (at-else2 .if2 .left)
+          (at-else3 .if3 .left)
+          (at-put-const .put-const .ensures .0)
+          (at-finish2 .finish2 .ensures),
+    )
 
 pub +build-array-node-with-prefix-spec : {M : Type 1} → statement M
 +build-array-node-with-prefix-spec =
-    close μ-build-array-node-with-prefix
-    (λ t. build-array-node-with-prefix-lts.spec (build-array-node-with-prefix-with t) (build-array-node-with-prefix-at t) build-array-node-with-prefix.Post (build-array-node-with-prefix-read-shape-requires t) (build-array-node-with-prefix-sum-over-array-requires t) (build-array-node-with-prefix-same-length t) (build-array-node-with-prefix-same-length-2 t) (build-array-node-with-prefix-returns t) (build-array-node-with-prefix-build-counted-requires t) (build-array-node-with-prefix-same-length-3 t) (build-array-node-with-prefix-same-length-4 t) (build-array-node-with-prefix-returns-2 t) (build-array-node-with-prefix-add-read2 t) (build-array-node-with-prefix-read2-requires t) (build-array-node-with-prefix-same-length-5 t) (build-array-node-with-prefix-same-length-6 t) (build-array-node-with-prefix-returns-3 t) (build-array-node-with-prefix-add-build-array-node-with-prefix t) (build-array-node-with-prefix-build-array-node-with-prefix-requires t) (build-array-node-with-prefix-finish-requires t) (build-array-node-with-prefix-same-length-7 t) (build-array-node-with-prefix-same-length-8 t) (build-array-node-with-prefix-returns-4 t) (build-array-node-with-prefix-put-const-requires t) (build-array-node-with-prefix-finish-requires-2 t) (build-array-node-with-prefix-same-length-9 t) (build-array-node-with-prefix-same-length-10 t) (build-array-node-with-prefix-returns-5 t))
+    close μ
+    (λ t. lts.spec (calls t)
+    (within t) reads.Post
+    (read-shape-requires t)
+    (sum-over-array-requires t)
+    (same-length t) (same-length-2 t)
+    (returns t) (build-counted-requires t)
+    (same-length-3 t) (same-length-4 t)
+    (returns-2 t) (add-read2 t)
+    (read2-requires t) (same-length-5 t)
+    (same-length-6 t) (returns-3 t)
+    (add-build-array-node-with-prefix t)
+    (build-array-node-with-prefix-requires t)
+    (finish-requires t) (same-length-7 t)
+    (same-length-8 t) (returns-4 t)
+    (put-const-requires t)
+    (finish-requires-2 t)
+    (same-length-9 t) (same-length-10 t)
+    (returns-5 t))

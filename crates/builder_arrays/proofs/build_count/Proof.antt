@@ -16,7 +16,20 @@ same-length : tie.Need-same-length
 same-length c = search needs
 
 returns : tie.Need-returns
-returns c = (behind-both _ (c .before .before .before .before .before .before .before .before .before .before .open-align .ensures .1) (c .before .before .before .before .before .before .open-node .ensures .1) (c .before .before .build-expr-ir .ensures .0), λ e. begins _ _ (c .before .before .before .before .before .before .before .before .before .before .open-align .ensures .1) (c .before .before .before .before .before .before .before .before .before .before .open-align .ensures .0) (c .before .before .before .before .before .before .open-node .ensures .0) (c .before .before .build-expr-ir .ensures .1 e))
+returns c =
+    let at-build-expr-ir = c .before .before in
+    let at-open-node = at-build-expr-ir .before .before .before .before in
+    let at-open-align = at-open-node .before .before .before .before in (
+      behind-both _
+          (at-open-align .open-align .ensures .1)
+          (at-open-node .open-node .ensures .1)
+          (at-build-expr-ir .build-expr-ir .ensures .0),
+      λ e. begins _ _
+          (at-open-align .open-align .ensures .1)
+          (at-open-align .open-align .ensures .0)
+          (at-open-node .open-node .ensures .0)
+          (at-build-expr-ir .build-expr-ir .ensures .1 e),
+    )
 
 pub build-count-spec : {M : Type 1} → statement M
 build-count-spec =

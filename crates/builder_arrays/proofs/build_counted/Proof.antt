@@ -13,7 +13,11 @@ same-length-2 : tie.Need-same-length-2
 same-length-2 c = search needs
 
 returns : tie.Need-returns
-returns c = (c .before .before .before .before .build-count .ensures .0, λ e f. count-stops _ _ _ _ _ (c .if1 .taken) (c .before .before .before .before .build-count .ensures .1 e))
+returns c =
+    let at-build-count = c .before .before .before .before in (
+      at-build-count .build-count .ensures .0,
+      λ e f. count-stops _ _ _ _ _ (c .if1 .taken) (at-build-count .build-count .ensures .1 e),
+    )
 
 extend-with-requires : tie.Need-extend-with-requires
 extend-with-requires c κs = search needs
@@ -25,7 +29,20 @@ same-length-4 : tie.Need-same-length-4
 same-length-4 c = search needs
 
 returns-2 : tie.Need-returns-2
-returns-2 c = (record { low = c .before .before .before .before .before .before .before .before .build-count .ensures .0 .low; high = c .before .before .before .before .before .before .before .before .build-count .ensures .0 .high; count = c .before .before .extend-with .ensures .0 }, λ e f. count-goes _ _ _ _ _ (c .before .before .before .before .if1 .left) (c .before .before .before .before .before .before .before .before .build-count .ensures .1 e) (c .before .before .extend-with .ensures .1 f))
+returns-2 c =
+    let at-extend-with = c .before .before in
+    let at-else1 = at-extend-with .before .before in
+    let at-build-count = at-else1 .before .before .before .before in (
+      record {
+        low = at-build-count .build-count .ensures .0 .low;
+        high = at-build-count .build-count .ensures .0 .high;
+        count = at-extend-with .extend-with .ensures .0;
+      },
+      λ e f. count-goes _ _ _ _ _
+          (at-else1 .if1 .left)
+          (at-build-count .build-count .ensures .1 e)
+          (at-extend-with .extend-with .ensures .1 f),
+    )
 
 pub build-counted-spec : {M : Type 1} → statement M
 build-counted-spec =

@@ -13,7 +13,10 @@ same-length : tie.Need-same-length
 same-length c = search needs
 
 returns-2 : tie.Need-returns-2
-returns-2 c = Finished.closed (c .before .before .before .before .if1 .left) (c .before .before .close-array .ensures)
+returns-2 c =
+    let at-close-array = c .before .before in
+    let at-else1 = at-close-array .before .before in
+    Finished.closed (at-else1 .if1 .left) (at-close-array .close-array .ensures)
 
 pub finish-spec : {M : Type 1} → statement M
 finish-spec = tie.close (tie.spec returns close-array-requires same-length returns-2)

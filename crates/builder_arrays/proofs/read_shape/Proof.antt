@@ -11,13 +11,23 @@ array-parts-requires : tie.Need-array-parts-requires
 array-parts-requires c κs = search needs
 
 type-head-requires-2 : tie.Need-type-head-requires-2
-type-head-requires-2 c κs = let e : Accepted _ 1 7 _ = c .array-parts .ensures (c .before .before .before .before .pre .1) .element in search needs
+type-head-requires-2 c κs =
+    let at-start = c .before .before .before .before in
+    let e : Accepted _ 1 7 _ = c .array-parts .ensures (at-start .pre .1) .element in
+    search needs
 
 both-requires : tie.Need-both-requires
 both-requires c κs = search needs
 
 returns : tie.Need-returns
-returns c = λ a. shaped (c .before .before .before .type-head .ensures a) (c .before .before .array-parts .ensures a) (c .before .type-head2 .ensures (c .before .before .array-parts .ensures a .element)) (c .both .ensures)
+returns c =
+    let at-array-parts = c .before .before in
+    let at-type-head = at-array-parts .before in
+    λ a. shaped
+    (at-type-head .type-head .ensures a)
+    (at-array-parts .array-parts .ensures a)
+    (c .before .type-head2 .ensures (at-array-parts .array-parts .ensures a .element))
+    (c .both .ensures)
 
 pub read-shape-spec : {M : Type 1} → statement M
 read-shape-spec =

@@ -25,16 +25,28 @@ same-length-2 : tie.Need-same-length-2
 same-length-2 c = search needs
 
 returns : tie.Need-returns
-returns c = let l = leaves-refused (set-19 _ _ (now (c .before .before .before .before .before .before .before .before .before .before .before .before .args .out)) (c .before .before .before .before .if1 .taken)) refl (c .before .before .clear-bytes .ensures) in (l .0, (l .1, c .before .before .before .before .before .before .before .clear-words .ensures))
+returns c =
+    let at-clear-bytes = c .before .before in
+    let at-then1 = at-clear-bytes .before .before in
+    let at-clear-words = at-then1 .before .before .before in
+    let at-start = at-clear-words .before .before .before .before .before in
+    let l = leaves-refused
+    (set-19 _ _ (now (at-start .args .out)) (at-then1 .if1 .taken)) refl
+    (at-clear-bytes .clear-bytes .ensures) in
+    (l .0, (l .1, at-clear-words .clear-words .ensures))
 
 slice-relend-prefix-entries : tie.Need-slice-relend-prefix-entries
 slice-relend-prefix-entries c = search needs
 
 slice-aggregate-entries : tie.Need-slice-aggregate-entries
-slice-aggregate-entries c = sym (length-take-le 512 (c .before .before .before .before .clear-words .last .0) (omega arith))
+slice-aggregate-entries c =
+    let at-clear-words = c .before .before .before .before in
+    sym (length-take-le 512 (at-clear-words .clear-words .last .0) (omega arith))
 
 built-requires : tie.Need-built-requires
-built-requires c κs = omega (arith, length-take-le 512 (c .before .before .before .before .before .before .clear-words .last .0) (omega arith))
+built-requires c κs =
+    let at-clear-words = c .before .before .before .before .before .before in
+    omega (arith, length-take-le 512 (at-clear-words .clear-words .last .0) (omega arith))
 
 clear-words-requires-2 : tie.Need-clear-words-requires-2
 clear-words-requires-2 c κs = search needs
@@ -55,7 +67,31 @@ same-length-4 : tie.Need-same-length-4
 same-length-4 c = search needs
 
 returns-2 : tie.Need-returns-2
-returns-2 c = let l = leaves-built (c .before .before .before .before .before .before .before .before .before .before .built .ensures _ (c .before .before .before .before .before .before .before .before .before .before .before .before .before .before .if1 .left)) (c .before .a .given .1) in (l .0, (l .1, part-cleared (length (now (c .before .before .before .before .before .before .before .before .before .before .before .before .before .before .before .before .before .before .before .before .before .before .args .words))) 512 (c .before .before .before .before .before .before .before .before .before .before .before .before .before .before .before .before .before .clear-words .last .0) _ (c .before .before .before .before .before .before .before .before .before .before .before .before .before .before .before .before .before .clear-words .ensures) (omega arith) (c .before .before .before .before .before .clear-words2 .ensures ∙ ap (λ (n : ℕ). replicate n 0) (let e : length (c .before .before .before .before .before .before .before .before .before .before .built .last .1 .1 .0) ≡ length (take 512 (c .before .before .before .before .before .before .before .before .before .before .before .before .before .before .before .before .before .clear-words .last .0)) = omega arith in e))))
+returns-2 c =
+    let at-clear-words2 = c .before .before .before .before .before in
+    let at-built = at-clear-words2 .before .before .before .before .before in
+    let at-else1 = at-built .before .before .before .before in
+    let at-clear-words = at-else1 .before .before .before in
+    let at-start = at-clear-words .before .before .before .before .before in
+    let l = leaves-built
+    (at-built .built .ensures _ (at-else1 .if1 .left))
+    (c .before .a .given .1) in (
+      l .0,
+      (
+        l .1,
+        part-cleared
+            (length (now (at-start .args .words))) 512
+            (at-clear-words .clear-words .last .0) _
+            (at-clear-words .clear-words .ensures)
+            (omega arith)
+            (at-clear-words2 .clear-words2 .ensures
+            ∙ ap
+            (λ (n : ℕ). replicate n 0)
+            (let e : length (at-built .built .last .1 .1 .0) ≡ length (take 512 (at-clear-words .clear-words .last .0)) = omega
+            arith in
+            e)),
+      ),
+    )
 
 same-length-5 : tie.Need-same-length-5
 same-length-5 c = search needs
@@ -64,7 +100,38 @@ same-length-6 : tie.Need-same-length-6
 same-length-6 c = search needs
 
 returns-3 : tie.Need-returns-3
-returns-3 c = let l = leaves-refused (c .before .before .before .before .before .before .before .before .before .before .before .before .before .before .built .ensures _ (c .before .before .before .before .before .before .before .before .before .before .before .before .before .before .before .before .before .before .if1 .left)) (c .before .before .before .before .before .a2 .given .1) (zeros (now (c .before .before .before .before .before .before .before .before .before .before .before .before .before .before .before .before .before .before .before .before .before .before .before .before .before .before .args .out)) (c .before .before .before .before .before .before .before .before .before .before .before .before .before .before .built .last .1 .0) (c .before .before .clear-bytes2 .ensures) (omega arith)) in (l .0, (l .1, part-cleared (length (now (c .before .before .before .before .before .before .before .before .before .before .before .before .before .before .before .before .before .before .before .before .before .before .before .before .before .before .args .words))) 512 (c .before .before .before .before .before .before .before .before .before .before .before .before .before .before .before .before .before .before .before .before .before .clear-words .last .0) _ (c .before .before .before .before .before .before .before .before .before .before .before .before .before .before .before .before .before .before .before .before .before .clear-words .ensures) (omega arith) (c .before .before .before .before .before .before .before .before .before .clear-words2 .ensures ∙ ap (λ (n : ℕ). replicate n 0) (let e : length (c .before .before .before .before .before .before .before .before .before .before .before .before .before .before .built .last .1 .1 .0) ≡ length (take 512 (c .before .before .before .before .before .before .before .before .before .before .before .before .before .before .before .before .before .before .before .before .before .clear-words .last .0)) = omega arith in e))))
+returns-3 c =
+    let at-clear-bytes2 = c .before .before in
+    let at-a2 = at-clear-bytes2 .before .before .before in
+    let at-clear-words2 = at-a2 .before .before .before .before in
+    let at-built = at-clear-words2 .before .before .before .before .before in
+    let at-else1 = at-built .before .before .before .before in
+    let at-clear-words = at-else1 .before .before .before in
+    let at-start = at-clear-words .before .before .before .before .before in
+    let l = leaves-refused
+    (at-built .built .ensures _ (at-else1 .if1 .left))
+    (at-a2 .a2 .given .1)
+    (zeros
+    (now (at-start .args .out))
+    (at-built .built .last .1 .0)
+    (at-clear-bytes2 .clear-bytes2 .ensures)
+    (omega arith)) in (
+      l .0,
+      (
+        l .1,
+        part-cleared
+            (length (now (at-start .args .words))) 512
+            (at-clear-words .clear-words .last .0) _
+            (at-clear-words .clear-words .ensures)
+            (omega arith)
+            (at-clear-words2 .clear-words2 .ensures
+            ∙ ap
+            (λ (n : ℕ). replicate n 0)
+            (let e : length (at-built .built .last .1 .1 .0) ≡ length (take 512 (at-clear-words .clear-words .last .0)) = omega
+            arith in
+            e)),
+      ),
+    )
 
 pub build-set-spec : {M : Type 1} → statement M
 build-set-spec =

@@ -12,19 +12,51 @@ use Rattle.builder_set.proofs.build_types.Tie as tie
 
 abbrev Inv-loop : tie.InvT-loop
 Inv-loop s words₀ out₀ at left₀ from₀ place₀ p₀ words out left from place p =
-    (place + left ≤ 256) × (at ≤ p) × (p ≤ at + 2 ^ 42 * place) × (from ≤ 65536) × Ready s words × Loop s out₀ at out left from place p × (length words ≡ length words₀) × (length out ≡ length out₀)
+    (place + left ≤ 256) ×
+    (at ≤ p) ×
+    (p ≤ at + 2 ^ 42 * place) ×
+    (from ≤ 65536) × Ready s words × Loop s out₀ at out left from place p ×
+    (length words ≡ length words₀) ×
+    (length out ≡ length out₀)
 
 abbrev μ-loop : tie.MeasureT-loop
 μ-loop s words₀ out₀ at left₀ from₀ place₀ p₀ words out left from place p = left
 
+-- The places, each seen from a later one: what was known there.
+abbrev in-loop : tie.Else1 Inv-loop μ-loop → tie.In-loop Inv-loop μ-loop
+in-loop r = r .before .before .before .before .before .before .before .before .before
+
+abbrev at-loop : tie.Else1 Inv-loop μ-loop → tie.At-loop Inv-loop μ-loop
+at-loop r = in-loop r .before
+
 read2-requires : tie.Need-read2-requires Inv-loop μ-loop
-read2-requires c κs = omega (arith, count-few (c .before .before .before .pre .0) .0)
+read2-requires c κs =
+    let at-start = c .before .before .before in
+    omega (arith, count-few (at-start .pre .0) .0)
 
 loop-holds : tie.Need-loop-holds Inv-loop μ-loop
-loop-holds c = (omega (arith, count-few (c .before .before .before .before .pre .0) .1, c .read2 .ensures .0), omega arith, omega arith, omega arith, c .before .before .before .before .pre .0, begin (c .read2 .ensures .0), refl, refl)
+loop-holds c =
+    let at-start = c .before .before .before .before in (
+      omega (arith, count-few (at-start .pre .0) .1, c .read2 .ensures .0),
+      omega arith,
+      omega arith,
+      omega arith,
+      at-start .pre .0,
+      begin (c .read2 .ensures .0),
+      refl,
+      refl,
+    )
 
 build-type-requires : tie.Need-build-type-requires Inv-loop μ-loop
-build-type-requires c κs = type-ready (c .before .before .before .loop .inv .4) (c .before .before .loop-test .taken) (c .before .before .before .loop .inv .5) (omega (arith, c .before .before .before .before .before .before .before .before .pre .1, c .before .before .before .loop .inv))
+build-type-requires c κs =
+    let in-loop = c .before .before in
+    let at-loop = in-loop .before in
+    let at-start = at-loop .before .before .before .before .before in
+    type-ready
+    (at-loop .loop .inv .4)
+    (in-loop .loop-test .taken)
+    (at-loop .loop .inv .5)
+    (omega (arith, at-start .pre .1, at-loop .loop .inv))
 
 same-length : tie.Need-same-length Inv-loop μ-loop
 same-length c = search needs
@@ -33,16 +65,41 @@ same-length-2 : tie.Need-same-length-2 Inv-loop μ-loop
 same-length-2 c = search needs
 
 returns : tie.Need-returns Inv-loop μ-loop
-returns c = ((omega arith, omega arith), stopped (c .before .before .before .before .before .before .before .before .before .loop-test .taken) (c .before .before .before .before .before .before .build-type .ensures .1) (c .if1 .taken) refl refl (c .before .before .before .before .before .before .before .before .before .before .loop .inv .5))
+returns c =
+    let at-build-type = c .before .before .before .before .before .before in
+    let in-loop = at-build-type .before .before .before in
+    let at-loop = in-loop .before in (
+      (omega arith, omega arith),
+      stopped
+          (in-loop .loop-test .taken)
+          (at-build-type .build-type .ensures .1)
+          (c .if1 .taken) refl refl
+          (at-loop .loop .inv .5),
+    )
 
 add-from : tie.Need-add-from Inv-loop μ-loop
-add-from c = omega (arith, next-end (c .before .before .before .before .before .before .before .before .before .before .loop .inv .4) (c .before .before .before .before .before .before .before .before .before .loop-test .taken) (c .before .before .before .before .before .before .before .before .before .before .loop .inv .5))
+add-from c = omega (
+  arith,
+  next-end (at-loop c .loop .inv .4) (in-loop c .loop-test .taken) (at-loop c .loop .inv .5),
+)
 
 read4-requires : tie.Need-read4-requires Inv-loop μ-loop
-read4-requires c κs = omega (arith, next-inside (c .before .before .before .before .before .before .before .before .before .before .loop .inv .4) (c .before .before .before .before .before .before .before .before .before .loop-test .taken) (c .before .before .before .before .before .before .before .before .before .before .loop .inv .5))
+read4-requires c κs = omega (
+  arith,
+  next-inside (at-loop c .loop .inv .4) (in-loop c .loop-test .taken) (at-loop c .loop .inv .5),
+)
 
 add-from-2 : tie.Need-add-from-2 Inv-loop μ-loop
-add-from-2 c = omega (arith, next-end (c .before .before .before .before .before .before .before .before .before .before .before .loop .inv .4) (c .before .before .before .before .before .before .before .before .before .before .loop-test .taken) (c .before .before .before .before .before .before .before .before .before .before .before .loop .inv .5), c .read4 .ensures .0)
+add-from-2 c =
+    let at-else1 = c .before in
+    omega (
+      arith,
+      next-end
+          (at-loop at-else1 .loop .inv .4)
+          (in-loop at-else1 .loop-test .taken)
+          (at-loop at-else1 .loop .inv .5),
+      c .read4 .ensures .0,
+    )
 
 add-place : tie.Need-add-place Inv-loop μ-loop
 add-place c = omega arith
@@ -54,7 +111,28 @@ loop-less : tie.Need-loop-less Inv-loop μ-loop
 loop-less c = omega arith
 
 loop-again : tie.Need-loop-again Inv-loop μ-loop
-loop-again c = (omega arith, omega (arith, c .before .before .before .before .before .before .before .build-type .ensures .0 .0), omega (arith, c .before .before .before .before .before .before .before .build-type .ensures .0 .1), omega (arith, next-end (c .before .before .before .before .before .before .before .before .before .before .before .loop .inv .4) (c .before .before .before .before .before .before .before .before .before .before .loop-test .taken) (c .before .before .before .before .before .before .before .before .before .before .before .loop .inv .5), c .read4 .ensures .0), ready-again (c .before .before .before .before .before .before .before .before .before .before .before .loop .inv .4) (omega arith), go-on (c .before .before .before .before .before .before .before .before .before .before .loop-test .taken) (c .before .before .before .before .before .before .before .build-type .ensures .1) (c .before .if1 .left) (c .read4 .ensures .0) (c .before .before .before .before .before .before .before .before .before .before .before .loop .inv .5), omega (arith, c .before .before .before .before .before .before .before .before .before .before .before .loop .inv .6), omega (arith, c .before .before .before .before .before .before .before .before .before .before .before .loop .inv .7))
+loop-again c =
+    let at-build-type = c .before .before .before .before .before .before .before in
+    let in-loop = at-build-type .before .before .before in
+    let at-loop = in-loop .before in (
+      omega arith,
+      omega (arith, at-build-type .build-type .ensures .0 .0),
+      omega (arith, at-build-type .build-type .ensures .0 .1),
+      omega (
+        arith,
+        next-end (at-loop .loop .inv .4) (in-loop .loop-test .taken) (at-loop .loop .inv .5),
+        c .read4 .ensures .0,
+      ),
+      ready-again (at-loop .loop .inv .4) (omega arith),
+      go-on
+          (in-loop .loop-test .taken)
+          (at-build-type .build-type .ensures .1)
+          (c .before .if1 .left)
+          (c .read4 .ensures .0)
+          (at-loop .loop .inv .5),
+      omega (arith, at-loop .loop .inv .6),
+      omega (arith, at-loop .loop .inv .7),
+    )
 
 same-length-3 : tie.Need-same-length-3 Inv-loop μ-loop
 same-length-3 c = search needs
@@ -63,7 +141,10 @@ same-length-4 : tie.Need-same-length-4 Inv-loop μ-loop
 same-length-4 c = search needs
 
 returns-2 : tie.Need-returns-2 Inv-loop μ-loop
-returns-2 c = ((omega arith, omega arith), no-more (c .loop-test .left) refl refl (c .before .loop .inv .5))
+returns-2 c = (
+  (omega arith, omega arith),
+  no-more (c .loop-test .left) refl refl (c .before .loop .inv .5),
+)
 
 pub build-types-spec : {M : Type 1} → statement M
 build-types-spec =

@@ -17,10 +17,25 @@ enum-told : tie.Need-enum-told
 enum-told c = search needs
 
 build-layout-requires : tie.Need-build-layout-requires
-build-layout-requires c κs = set-ready (c .before .before .before .before .before .before .before .before .before .pre) (c .before .before .before .before .before .if1 .left) (c .before .before .before .before .read-input .ensures) (c .before .before .enum-told .given .1)
+build-layout-requires c κs =
+    let at-enum-told = c .before .before in
+    let at-read-input = at-enum-told .before .before in
+    let at-else1 = at-read-input .before in
+    let at-start = at-else1 .before .before .before .before in
+    set-ready
+    (at-start .pre)
+    (at-else1 .if1 .left)
+    (at-read-input .read-input .ensures)
+    (at-enum-told .enum-told .given .1)
 
 returns-2 : tie.Need-returns-2
-returns-2 c = λ n h. set-unread _ _ _ h (c .before .before .before .before .if1 .left) (c .before .before .before .read-input .ensures) (c .before .q .given .1)
+returns-2 c =
+    let at-read-input = c .before .before .before in
+    let at-else1 = at-read-input .before in
+    λ n h. set-unread _ _ _ h
+    (at-else1 .if1 .left)
+    (at-read-input .read-input .ensures)
+    (c .before .q .given .1)
 
 same-length : tie.Need-same-length
 same-length c = search needs
@@ -29,7 +44,16 @@ same-length-2 : tie.Need-same-length-2
 same-length-2 c = search needs
 
 returns-3 : tie.Need-returns-3
-returns-3 c = λ n h. set-read _ _ _ h (c .before .before .before .before .before .before .before .before .before .before .if1 .left) (c .before .before .before .before .before .before .before .before .before .read-input .ensures) (c .before .before .before .before .before .before .before .enum-told .given .1) (c .before .before .before .before .build-layout .ensures)
+returns-3 c =
+    let at-build-layout = c .before .before .before .before in
+    let at-enum-told = at-build-layout .before .before .before in
+    let at-read-input = at-enum-told .before .before in
+    let at-else1 = at-read-input .before in
+    λ n h. set-read _ _ _ h
+    (at-else1 .if1 .left)
+    (at-read-input .read-input .ensures)
+    (at-enum-told .enum-told .given .1)
+    (at-build-layout .build-layout .ensures)
 
 pub built-spec : {M : Type 1} → statement M
 built-spec =

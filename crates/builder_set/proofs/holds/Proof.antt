@@ -26,10 +26,26 @@ enum-told-2 : tie.Need-enum-told-2
 enum-told-2 c = search needs
 
 returns-3 : tie.Need-returns-3
-returns-3 c = holds-no _ _ _ (c .before .before .before .before .before .if1 .left) (c .before .before .before .before .if2 .left) (c .before .before .read-input .ensures) (c .enum-told .given .1)
+returns-3 c =
+    let at-read-input = c .before .before in
+    let at-else2 = at-read-input .before .before in
+    let at-else1 = at-else2 .before in
+    holds-no _ _ _
+    (at-else1 .if1 .left)
+    (at-else2 .if2 .left)
+    (at-read-input .read-input .ensures)
+    (c .enum-told .given .1)
 
 returns-4 : tie.Need-returns-4
-returns-4 c = holds-yes _ _ _ (c .before .before .before .before .before .if1 .left) (c .before .before .before .before .if2 .left) (c .before .before .read-input .ensures) (c .enum-told2 .given .1)
+returns-4 c =
+    let at-read-input = c .before .before in
+    let at-else2 = at-read-input .before .before in
+    let at-else1 = at-else2 .before in
+    holds-yes _ _ _
+    (at-else1 .if1 .left)
+    (at-else2 .if2 .left)
+    (at-read-input .read-input .ensures)
+    (c .enum-told2 .given .1)
 
 pub holds-spec : {M : Type 1} → statement M
 holds-spec =

@@ -25,13 +25,27 @@ same-length : tie.Need-same-length
 same-length c = search needs
 
 returns : tie.Need-returns
-returns c = leaves-built (c .before .before .before .before .before .before .built .ensures 8192 (omega arith)) (c .before .a .given .1)
+returns c =
+    let at-built = c .before .before .before .before .before .before in
+    leaves-built (at-built .built .ensures 8192 (omega arith)) (c .before .a .given .1)
 
 same-length-2 : tie.Need-same-length-2
 same-length-2 c = search needs
 
 returns-2 : tie.Need-returns-2
-returns-2 c = leaves-refused (c .before .before .before .before .before .before .before .before .before .before .built .ensures 8192 (omega arith)) (c .before .before .before .before .before .a2 .given .1) (zeros (now (c .before .before .before .before .before .before .before .before .before .before .before .before .before .before .before .args .out)) (c .before .before .before .before .before .before .before .before .before .before .built .last .1 .0) (c .before .before .clear-bytes .ensures) (omega arith))
+returns-2 c =
+    let at-clear-bytes = c .before .before in
+    let at-a2 = at-clear-bytes .before .before .before in
+    let at-built = at-a2 .before .before .before .before .before in
+    let at-start = at-built .before .before .before .before .before in
+    leaves-refused
+    (at-built .built .ensures 8192 (omega arith))
+    (at-a2 .a2 .given .1)
+    (zeros
+    (now (at-start .args .out))
+    (at-built .built .last .1 .0)
+    (at-clear-bytes .clear-bytes .ensures)
+    (omega arith))
 
 pub layout-of-spec : {M : Type 1} → statement M
 layout-of-spec =

@@ -6,10 +6,14 @@ use Rattle.builder_structs.proofs.build_field.Statement.{statement}
 use Rattle.builder_structs.proofs.build_field.Tie as tie
 
 type-head-requires : tie.Need-type-head-requires
-type-head-requires c κs = c .before .before .before .pre .field .base .type-at
+type-head-requires c κs =
+    let at-start = c .before .before .before in
+    at-start .pre .field .base .type-at
 
 variable-field-requires : tie.Need-variable-field-requires
-variable-field-requires c κs = c .before .before .before .before .before .before .before .pre
+variable-field-requires c κs =
+    let at-start = c .before .before .before .before .before .before .before in
+    at-start .pre
 
 same-length : tie.Need-same-length
 same-length c = search needs
@@ -18,16 +22,42 @@ same-length-2 : tie.Need-same-length-2
 same-length-2 c = search needs
 
 returns : tie.Need-returns
-returns c = (c .before .before .before .before .variable-field .ensures .0, field-variable _ _ _ (c .before .before .before .before .before .before .before .before .type-head .ensures) (c .before .before .before .before .before .before .before .if1 .taken) (c .before .before .before .before .variable-field .ensures .1))
+returns c =
+    let at-variable-field = c .before .before .before .before in
+    let at-then1 = at-variable-field .before .before .before in
+    let at-type-head = at-then1 .before in (
+      at-variable-field .variable-field .ensures .0,
+      field-variable _ _ _
+          (at-type-head .type-head .ensures)
+          (at-then1 .if1 .taken)
+          (at-variable-field .variable-field .ensures .1),
+    )
 
 enter-own-requires : tie.Need-enter-own-requires
-enter-own-requires c κs = (c .before .before .before .before .before .before .pre .field .base .standing, c .before .before .before .before .before .before .pre .field .base .type-at)
+enter-own-requires c κs =
+    let at-start = c .before .before .before .before .before .before in
+    (at-start .pre .field .base .standing, at-start .pre .field .base .type-at)
 
 same-length-3 : tie.Need-same-length-3
 same-length-3 c = search needs
 
 returns-2 : tie.Need-returns-2
-returns-2 c = (record { low = omega arith; high = omega arith; count = c .before .before .before .before .before .before .before .before .before .before .before .pre .field .base .standing .count }, field-stops _ _ _ (c .before .before .before .before .before .before .before .type-head .ensures) (c .before .before .before .before .before .before .if1 .left) (c .before .before .before .before .enter-own .ensures .1) (c .if2 .taken))
+returns-2 c =
+    let at-enter-own = c .before .before .before .before in
+    let at-else1 = at-enter-own .before .before in
+    let at-type-head = at-else1 .before in
+    let at-start = at-type-head .before .before .before .before in (
+      record {
+        low = omega arith;
+        high = omega arith;
+        count = at-start .pre .field .base .standing .count;
+      },
+      field-stops _ _ _
+          (at-type-head .type-head .ensures)
+          (at-else1 .if1 .left)
+          (at-enter-own .enter-own .ensures .1)
+          (c .if2 .taken),
+    )
 
 put-const-or-zero-requires : tie.Need-put-const-or-zero-requires
 put-const-or-zero-requires c κs = search needs
@@ -39,7 +69,28 @@ same-length-5 : tie.Need-same-length-5
 same-length-5 c = search needs
 
 returns-3 : tie.Need-returns-3
-returns-3 c = (record { low = omega (arith, c .before .before .put-const-or-zero .ensures .1); high = omega (arith, c .before .before .put-const-or-zero .ensures .1); count = c .before .before .before .before .before .before .before .before .enter-own .ensures .0 }, field-done _ _ _ (c .before .before .before .before .before .before .before .before .before .before .before .type-head .ensures) (c .before .before .before .before .before .before .before .before .before .before .if1 .left) (c .before .before .before .before .before .before .before .before .enter-own .ensures .1) (c .before .before .before .before .if2 .left) (c .before .before .put-const-or-zero .ensures .0))
+returns-3 c =
+    let at-put-const-or-zero = c .before .before in
+    let at-else2 = at-put-const-or-zero .before .before in
+    let at-enter-own = at-else2 .before .before .before .before in
+    let at-else1 = at-enter-own .before .before in
+    let at-type-head = at-else1 .before in (
+      record {
+        low = omega (arith, at-put-const-or-zero .put-const-or-zero .ensures .1);
+        high = omega (arith, at-put-const-or-zero .put-const-or-zero .ensures .1);
+        count = at-enter-own .enter-own .ensures .0;
+      },
+      field-done _ _ _
+          (at-type-head .type-head .ensures)
+          (at-else1 .if1 .left)
+          (at-enter-own .enter-own .ensures .1)
+          (at-else2 .if2 .left)
+          (at-put-const-or-zero .put-const-or-zero .ensures .0),
+    )
 
 pub build-field-spec : {M : Type 1} → statement M
-build-field-spec = tie.close (tie.spec type-head-requires variable-field-requires same-length same-length-2 returns enter-own-requires same-length-3 returns-2 put-const-or-zero-requires same-length-4 same-length-5 returns-3)
+build-field-spec =
+    tie.close
+    (tie.spec type-head-requires variable-field-requires same-length same-length-2 returns
+    enter-own-requires same-length-3 returns-2 put-const-or-zero-requires same-length-4
+    same-length-5 returns-3)

@@ -5,23 +5,69 @@ use Rattle.builder_structs.proofs.Laws.{struct-none, struct-stops, stru
 use Rattle.builder_structs.proofs.build_variable_struct.Statement.{statement}
 use Rattle.builder_structs.proofs.build_variable_struct.Tie as tie
 
+-- The places, each seen from a later one: what was known there.
+abbrev at-type-head : tie.After-field-list → tie.After-type-head
+at-type-head r = r .before
+
+abbrev at-start : tie.After-field-list → tie.Start
+at-start r = at-type-head r .before .before .before .before
+
 type-head-requires : tie.Need-type-head-requires
-type-head-requires c κs = c .before .before .before .pre .0 .type-at
+type-head-requires c κs =
+    let at-start = c .before .before .before in
+    at-start .pre .0 .type-at
 
 field-list-requires : tie.Need-field-list-requires
-field-list-requires c κs = (c .before .before .before .before .pre .0 .type-at, (omega (arith, c .before .before .before .before .pre .0 .kind-is), omega (arith, c .before .before .before .before .pre .0 .kind-is)))
+field-list-requires c κs =
+    let at-start = c .before .before .before .before in (
+      at-start .pre .0 .type-at,
+      (omega (arith, at-start .pre .0 .kind-is), omega (arith, at-start .pre .0 .kind-is)),
+    )
 
 count-nodes-requires : tie.Need-count-nodes-requires
-count-nodes-requires c κs = (c .field-list .ensures (c .before .before .before .before .before .pre .0 .type-at) .list, c .field-list .ensures (c .before .before .before .before .before .pre .0 .type-at) .few)
+count-nodes-requires c κs = (
+  c .field-list .ensures (at-start c .pre .0 .type-at) .list,
+  c .field-list .ensures (at-start c .pre .0 .type-at) .few,
+)
 
 returns : tie.Need-returns
-returns c = (record { low = omega arith; high = omega arith; count = c .before .before .before .before .before .before .before .pre .0 .standing .count }, struct-none _ (c .before .before .before .before .before .before .before .pre .0 .kind-is) (c .before .before .before .type-head .ensures) (c .before .before .field-list .ensures) (c .before .count-nodes .ensures .1) (c .if1 .taken))
+returns c =
+    let at-field-list = c .before .before in (
+      record {
+        low = omega arith;
+        high = omega arith;
+        count = at-start at-field-list .pre .0 .standing .count;
+      },
+      struct-none _
+          (at-start at-field-list .pre .0 .kind-is)
+          (at-type-head at-field-list .type-head .ensures)
+          (at-field-list .field-list .ensures)
+          (c .before .count-nodes .ensures .1)
+          (c .if1 .taken),
+    )
 
 open-align-requires : tie.Need-open-align-requires
 open-align-requires c κs = search needs
 
 sum-requires : tie.Need-sum-requires
-sum-requires c κs = record { standing = c .before .before .before .before .before .before .before .before .before .before .before .before .before .pre .0 .standing; set = c .before .before .before .before .before .before .before .before .before .before .before .before .before .pre .0 .set; refs = c .before .before .before .before .before .before .before .before .before .type-head .ensures (c .before .before .before .before .before .before .before .before .before .before .before .before .before .pre .0 .type-at) .references; list = c .before .before .before .before .before .before .before .before .field-list .ensures (c .before .before .before .before .before .before .before .before .before .before .before .before .before .pre .0 .type-at) .list; some = omega (arith, c .before .before .before .before .before .before .if1 .left); room = omega (arith, c .before .before .before .before .open-align .ensures .1, c .before .before .before .before .before .before .before .count-nodes .ensures .0, c .before .before .before .before .before .before .before .before .before .before .before .before .before .pre .1) }
+sum-requires c κs =
+    let at-open-align = c .before .before .before .before in
+    let at-else1 = at-open-align .before .before in
+    let at-count-nodes = at-else1 .before in
+    let at-field-list = at-count-nodes .before in record {
+      standing = at-start at-field-list .pre .0 .standing;
+      set = at-start at-field-list .pre .0 .set;
+      refs = at-type-head at-field-list .type-head .ensures
+          (at-start at-field-list .pre .0 .type-at) .references;
+      list = at-field-list .field-list .ensures (at-start at-field-list .pre .0 .type-at) .list;
+      some = omega (arith, at-else1 .if1 .left);
+      room = omega (
+        arith,
+        at-open-align .open-align .ensures .1,
+        at-count-nodes .count-nodes .ensures .0,
+        at-start at-field-list .pre .1,
+      );
+    }
 
 same-length : tie.Need-same-length
 same-length c = search needs
@@ -30,10 +76,38 @@ same-length-2 : tie.Need-same-length-2
 same-length-2 c = search needs
 
 returns-2 : tie.Need-returns-2
-returns-2 c = (record { low = omega arith; high = omega arith; count = c .before .before .before .before .before .before .before .before .before .before .before .before .before .before .before .before .before .before .before .before .pre .0 .standing .count }, struct-stops _ (c .before .before .before .before .before .before .before .before .before .before .before .before .before .before .before .before .before .before .before .before .pre .0 .kind-is) (c .before .before .before .before .before .before .before .before .before .before .before .before .before .before .before .before .type-head .ensures) (c .before .before .before .before .before .before .before .before .before .before .before .before .before .before .before .field-list .ensures) (c .before .before .before .before .before .before .before .before .before .before .before .before .before .before .count-nodes .ensures .1) (c .before .before .before .before .before .before .sum .ensures .1) (c .if2 .taken))
+returns-2 c =
+    let at-sum = c .before .before .before .before .before .before in
+    let at-count-nodes = at-sum .before .before .before .before .before .before .before .before in
+    let at-field-list = at-count-nodes .before in (
+      record {
+        low = omega arith;
+        high = omega arith;
+        count = at-start at-field-list .pre .0 .standing .count;
+      },
+      struct-stops _
+          (at-start at-field-list .pre .0 .kind-is)
+          (at-type-head at-field-list .type-head .ensures)
+          (at-field-list .field-list .ensures)
+          (at-count-nodes .count-nodes .ensures .1)
+          (at-sum .sum .ensures .1)
+          (c .if2 .taken),
+    )
 
 close-block-requires : tie.Need-close-block-requires
-close-block-requires c κs = (omega (arith, c .before .before .before .before .before .before .before .before .before .before .before .before .open-align .ensures .1, c .before .before .before .before .before .before .before .sum .ensures .0 .low), omega (arith, c .before .before .before .before .before .before .before .before .before .before .before .before .open-align .ensures .1, c .before .before .before .before .before .before .before .sum .ensures .0 .high, c .before .before .before .before .before .before .before .before .before .before .before .before .before .before .before .count-nodes .ensures .0, c .before .before .before .before .before .before .before .before .before .before .before .before .before .before .before .before .before .before .before .before .before .pre .1))
+close-block-requires c κs =
+    let at-sum = c .before .before .before .before .before .before .before in
+    let at-open-align = at-sum .before .before .before .before .before in
+    let at-count-nodes = at-open-align .before .before .before in (
+      omega (arith, at-open-align .open-align .ensures .1, at-sum .sum .ensures .0 .low),
+      omega (
+        arith,
+        at-open-align .open-align .ensures .1,
+        at-sum .sum .ensures .0 .high,
+        at-count-nodes .count-nodes .ensures .0,
+        at-start (at-count-nodes .before) .pre .1,
+      ),
+    )
 
 same-length-3 : tie.Need-same-length-3
 same-length-3 c = search needs
@@ -42,7 +116,37 @@ same-length-4 : tie.Need-same-length-4
 same-length-4 c = search needs
 
 returns-3 : tie.Need-returns-3
-returns-3 c = (record { low = omega (arith, c .before .before .before .before .before .before .before .before .before .before .before .before .before .before .before .open-align .ensures .1, c .before .before .before .before .before .before .before .before .before .before .sum .ensures .0 .low); high = omega (arith, c .before .before .before .before .before .before .before .before .before .before .before .before .before .before .before .open-align .ensures .1, c .before .before .before .before .before .before .before .before .before .before .sum .ensures .0 .high, c .before .before .before .before .before .before .before .before .before .before .before .before .before .before .before .before .before .before .count-nodes .ensures .0); count = c .before .before .before .before .before .before .before .before .before .before .sum .ensures .0 .count }, struct-done _ (c .before .before .before .before .before .before .before .before .before .before .before .before .before .before .before .before .before .before .before .before .before .before .before .before .pre .0 .kind-is) (c .before .before .before .before .before .before .before .before .before .before .before .before .before .before .before .before .before .before .before .before .type-head .ensures) (c .before .before .before .before .before .before .before .before .before .before .before .before .before .before .before .before .before .before .before .field-list .ensures) (c .before .before .before .before .before .before .before .before .before .before .before .before .before .before .before .before .before .before .count-nodes .ensures .1) (c .before .before .before .before .before .before .before .before .before .before .sum .ensures .1) (c .before .before .before .before .before .before .before .before .before .before .before .before .before .before .before .open-align .ensures .0) (c .before .before .before .before .if2 .left) (c .before .before .close-block .ensures .0))
+returns-3 c =
+    let at-close-block = c .before .before in
+    let at-else2 = at-close-block .before .before in
+    let at-sum = at-else2 .before .before .before .before .before .before in
+    let at-open-align = at-sum .before .before .before .before .before in
+    let at-count-nodes = at-open-align .before .before .before in
+    let at-field-list = at-count-nodes .before in (
+      record {
+        low = omega (arith, at-open-align .open-align .ensures .1, at-sum .sum .ensures .0 .low);
+        high = omega (
+          arith,
+          at-open-align .open-align .ensures .1,
+          at-sum .sum .ensures .0 .high,
+          at-count-nodes .count-nodes .ensures .0,
+        );
+        count = at-sum .sum .ensures .0 .count;
+      },
+      struct-done _
+          (at-start at-field-list .pre .0 .kind-is)
+          (at-type-head at-field-list .type-head .ensures)
+          (at-field-list .field-list .ensures)
+          (at-count-nodes .count-nodes .ensures .1)
+          (at-sum .sum .ensures .1)
+          (at-open-align .open-align .ensures .0)
+          (at-else2 .if2 .left)
+          (at-close-block .close-block .ensures .0),
+    )
 
 pub build-variable-struct-spec : {M : Type 1} → statement M
-build-variable-struct-spec = tie.close (tie.spec type-head-requires field-list-requires count-nodes-requires returns open-align-requires sum-requires same-length same-length-2 returns-2 close-block-requires same-length-3 same-length-4 returns-3)
+build-variable-struct-spec =
+    tie.close
+    (tie.spec type-head-requires field-list-requires count-nodes-requires returns
+    open-align-requires sum-requires same-length same-length-2 returns-2 close-block-requires
+    same-length-3 same-length-4 returns-3)

@@ -8,13 +8,20 @@ type-head-requires : tie.Need-type-head-requires
 type-head-requires c κs = c .before .before .pre .1
 
 extend-with-requires : tie.Need-extend-with-requires
-extend-with-requires c κs = (c .before .before .before .before .pre .0, c .before .type-head .ensures (c .before .before .before .before .pre .1) .references)
+extend-with-requires c κs =
+    let at-start = c .before .before .before .before in
+    (at-start .pre .0, c .before .type-head .ensures (at-start .pre .1) .references)
 
 same-length : tie.Need-same-length
 same-length c = search needs
 
 returns : tie.Need-returns
-returns c = (c .before .before .extend-with .ensures .0, own-entered _ (c .before .before .before .before .type-head .ensures) (c .before .before .extend-with .ensures .1))
+returns c =
+    let at-extend-with = c .before .before in
+    let at-type-head = at-extend-with .before .before in (
+      at-extend-with .extend-with .ensures .0,
+      own-entered _ (at-type-head .type-head .ensures) (at-extend-with .extend-with .ensures .1),
+    )
 
 pub enter-own-spec : {M : Type 1} → statement M
 enter-own-spec = tie.close (tie.spec type-head-requires extend-with-requires same-length returns)

@@ -4,20 +4,46 @@ use Rattle.builder_structs.proofs.Field.{paths-found, enum-payload, enu
 use Rattle.builder_structs.proofs.field_enum.Statement.{statement}
 use Rattle.builder_structs.proofs.field_enum.Tie as tie
 
+-- The places, each seen from a later one: what was known there.
+abbrev at-name-at : tie.After-get → tie.After-name-at
+at-name-at r = r .before
+
+abbrev at-start : tie.After-get → tie.Start
+at-start r = at-name-at r .before .before .before .before
+
 name-at-requires : tie.Need-name-at-requires
-name-at-requires c κs = c .before .before .before .pre .field .field .named
+name-at-requires c κs =
+    let at-start = c .before .before .before in
+    at-start .pre .field .field .named
 
 get-requires : tie.Need-get-requires
-get-requires c κs = c .before .before .before .before .pre .field .refs
+get-requires c κs =
+    let at-start = c .before .before .before .before in
+    at-start .pre .field .refs
 
 enum-known-paths : tie.Need-enum-known-paths
 enum-known-paths c = search needs
 
 has-payload-requires : tie.Need-has-payload-requires
-has-payload-requires c κs = let p = paths-found (c .before .paths .given .1) (c .before .before .before .get .ensures) (c .before .before .before .before .before .before .before .before .pre .field .refs) in search needs
+has-payload-requires c κs =
+    let at-get = c .before .before .before in
+    let at-start = at-get .before .before .before .before .before in
+    let p = paths-found
+    (c .before .paths .given .1)
+    (at-get .get .ensures)
+    (at-start .pre .field .refs) in
+    search needs
 
 put-payload-requires : tie.Need-put-payload-requires
-put-payload-requires c κs = record { field = c .before .before .before .before .before .before .before .before .before .before .before .before .pre .field .field; list = paths-found (c .before .before .before .before .before .paths .given .1) (c .before .before .before .before .before .before .before .get .ensures) (c .before .before .before .before .before .before .before .before .before .before .before .before .pre .field .refs) }
+put-payload-requires c κs =
+    let at-paths = c .before .before .before .before .before in
+    let at-get = at-paths .before .before in record {
+      field = at-start at-get .pre .field .field;
+      list = paths-found
+          (at-paths .paths .given .1)
+          (at-get .get .ensures)
+          (at-start at-get .pre .field .refs);
+    }
 
 same-length : tie.Need-same-length
 same-length c = search needs
@@ -26,16 +52,39 @@ same-length-2 : tie.Need-same-length-2
 same-length-2 c = search needs
 
 returns : tie.Need-returns
-returns c = (c .before .before .put-payload .ensures .0, enum-payload _ _ _ (c .before .before .before .before .before .before .before .before .before .before .before .name-at .ensures) (c .before .before .before .before .before .before .before .before .before .before .get .ensures) (c .before .before .before .before .before .before .before .before .before .before .before .before .before .before .before .pre .kind-is) (c .before .before .before .before .before .before .before .before .paths .given .1) (c .before .before .before .before .before .before .has-payload .ensures) (c .before .before .before .before .before .if1 .taken) (c .before .before .put-payload .ensures .1))
+returns c =
+    let at-put-payload = c .before .before in
+    let at-then1 = at-put-payload .before .before .before in
+    let at-has-payload = at-then1 .before in
+    let at-paths = at-has-payload .before .before in
+    let at-get = at-paths .before .before in (
+      at-put-payload .put-payload .ensures .0,
+      enum-payload _ _ _
+          (at-name-at at-get .name-at .ensures)
+          (at-get .get .ensures)
+          (at-start at-get .pre .kind-is)
+          (at-paths .paths .given .1)
+          (at-has-payload .has-payload .ensures)
+          (at-then1 .if1 .taken)
+          (at-put-payload .put-payload .ensures .1),
+    )
 
 field-switch-requires : tie.Need-field-switch-requires
-field-switch-requires c κs = record { base = c .before .before .before .before .before .before .before .before .before .before .before .before .pre .field .field .base; kind-is = c .before .before .before .before .before .before .before .before .before .before .before .before .pre .kind-is }
+field-switch-requires c κs =
+    let at-get = c .before .before .before .before .before .before .before in record {
+      base = at-start at-get .pre .field .field .base;
+      kind-is = at-start at-get .pre .kind-is;
+    }
 
 enum-told : tie.Need-enum-told
 enum-told c = search needs
 
 field-switch-requires-2 : tie.Need-field-switch-requires-2
-field-switch-requires-2 c κs = record { base = c .before .before .before .before .before .before .before .before .before .pre .field .field .base; kind-is = c .before .before .before .before .before .before .before .before .before .pre .kind-is }
+field-switch-requires-2 c κs =
+    let at-get = c .before .before .before .before in record {
+      base = at-start at-get .pre .field .field .base;
+      kind-is = at-start at-get .pre .kind-is;
+    }
 
 same-length-3 : tie.Need-same-length-3
 same-length-3 c = search needs
@@ -44,7 +93,22 @@ same-length-4 : tie.Need-same-length-4
 same-length-4 c = search needs
 
 returns-2 : tie.Need-returns-2
-returns-2 c = (c .before .before .before .before .field-switch .ensures .0, enum-plain _ _ _ (c .before .before .before .before .before .before .before .before .before .before .before .before .before .name-at .ensures) (c .before .before .before .before .before .before .before .before .before .before .before .before .get .ensures) (c .before .before .before .before .before .before .before .before .before .before .before .before .before .before .before .before .before .pre .kind-is) (c .before .before .before .before .before .before .before .before .before .before .paths .given .1) (c .before .before .before .before .before .before .before .before .has-payload .ensures) (c .before .before .before .before .before .before .before .if1 .left) (c .before .before .before .before .field-switch .ensures .1))
+returns-2 c =
+    let at-field-switch = c .before .before .before .before in
+    let at-else1 = at-field-switch .before .before .before in
+    let at-has-payload = at-else1 .before in
+    let at-paths = at-has-payload .before .before in
+    let at-get = at-paths .before .before in (
+      at-field-switch .field-switch .ensures .0,
+      enum-plain _ _ _
+          (at-name-at at-get .name-at .ensures)
+          (at-get .get .ensures)
+          (at-start at-get .pre .kind-is)
+          (at-paths .paths .given .1)
+          (at-has-payload .has-payload .ensures)
+          (at-else1 .if1 .left)
+          (at-field-switch .field-switch .ensures .1),
+    )
 
 same-length-5 : tie.Need-same-length-5
 same-length-5 c = search needs
@@ -53,7 +117,23 @@ same-length-6 : tie.Need-same-length-6
 same-length-6 c = search needs
 
 returns-3 : tie.Need-returns-3
-returns-3 c = (c .before .before .before .before .field-switch2 .ensures .0, enum-missing _ _ _ (c .before .before .before .before .before .before .before .before .before .before .name-at .ensures) (c .before .before .before .before .before .before .before .before .before .get .ensures) (c .before .before .before .before .before .before .before .before .before .before .before .before .before .before .pre .kind-is) (c .before .before .before .before .before .before .before .enum-told .given .1) (c .before .before .before .before .field-switch2 .ensures .1))
+returns-3 c =
+    let at-field-switch2 = c .before .before .before .before in
+    let at-enum-told = at-field-switch2 .before .before .before in
+    let at-get = at-enum-told .before .before in (
+      at-field-switch2 .field-switch2 .ensures .0,
+      enum-missing _ _ _
+          (at-name-at at-get .name-at .ensures)
+          (at-get .get .ensures)
+          (at-start at-get .pre .kind-is)
+          (at-enum-told .enum-told .given .1)
+          (at-field-switch2 .field-switch2 .ensures .1),
+    )
 
 pub field-enum-spec : {M : Type 1} → statement M
-field-enum-spec = tie.close (tie.spec name-at-requires get-requires enum-known-paths has-payload-requires put-payload-requires same-length same-length-2 returns field-switch-requires enum-told field-switch-requires-2 same-length-3 same-length-4 returns-2 same-length-5 same-length-6 returns-3)
+field-enum-spec =
+    tie.close
+    (tie.spec name-at-requires get-requires enum-known-paths has-payload-requires
+    put-payload-requires same-length same-length-2 returns field-switch-requires enum-told
+    field-switch-requires-2 same-length-3 same-length-4 returns-2 same-length-5 same-length-6
+    returns-3)

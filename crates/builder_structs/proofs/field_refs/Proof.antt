@@ -5,17 +5,30 @@ use Rattle.builder_structs.proofs.Field.{paths-found, refs-missing, ref
 use Rattle.builder_structs.proofs.field_refs.Statement.{statement}
 use Rattle.builder_structs.proofs.field_refs.Tie as tie
 
+-- The places, each seen from a later one: what was known there.
+abbrev at-start : tie.After-slice-known2 → tie.Start
+at-start r = r .before .before .before
+
 name-at-requires : tie.Need-name-at-requires
-name-at-requires c κs = c .before .before .before .pre .field .named
+name-at-requires c κs = at-start c .pre .field .named
 
 get-requires : tie.Need-get-requires
-get-requires c κs = c .before .before .before .before .pre .refs
+get-requires c κs = at-start (c .before) .pre .refs
 
 enum-known-paths : tie.Need-enum-known-paths
 enum-known-paths c = search needs
 
 put-sum-requires : tie.Need-put-sum-requires
-put-sum-requires c κs = record { field = c .before .before .before .before .before .before .before .before .before .before .pre .field; list = paths-found (c .before .before .before .paths .given .1) (c .before .before .before .before .before .get .ensures) (c .before .before .before .before .before .before .before .before .before .before .pre .refs) }
+put-sum-requires c κs =
+    let at-paths = c .before .before .before in
+    let at-get = at-paths .before .before in
+    let at-slice-known2 = at-get .before .before in record {
+      field = at-start at-slice-known2 .pre .field;
+      list = paths-found
+          (at-paths .paths .given .1)
+          (at-get .get .ensures)
+          (at-start at-slice-known2 .pre .refs);
+    }
 
 enum-told : tie.Need-enum-told
 enum-told c = search needs
@@ -27,10 +40,36 @@ same-length-2 : tie.Need-same-length-2
 same-length-2 c = search needs
 
 returns : tie.Need-returns
-returns c = (c .before .before .before .before .put-sum .ensures .0, refs-found _ _ _ (c .before .before .before .before .before .before .before .before .before .before .before .name-at .ensures) (c .before .before .before .before .before .before .before .before .before .before .get .ensures) (c .before .before .before .before .before .before .before .before .paths .given .1) (c .before .before .before .before .put-sum .ensures .1))
+returns c =
+    let at-put-sum = c .before .before .before .before in
+    let at-paths = at-put-sum .before .before .before .before in
+    let at-get = at-paths .before .before in
+    let at-name-at = at-get .before in (
+      at-put-sum .put-sum .ensures .0,
+      refs-found _ _ _
+          (at-name-at .name-at .ensures)
+          (at-get .get .ensures)
+          (at-paths .paths .given .1)
+          (at-put-sum .put-sum .ensures .1),
+    )
 
 returns-2 : tie.Need-returns-2
-returns-2 c = (record { low = omega arith; high = omega arith; count = c .before .before .before .before .before .before .before .pre .field .base .standing .count }, refs-missing _ _ _ (c .before .before .before .name-at .ensures) (c .before .before .get .ensures) (c .enum-told .given .1))
+returns-2 c =
+    let at-get = c .before .before in
+    let at-name-at = at-get .before in (
+      record {
+        low = omega arith;
+        high = omega arith;
+        count = at-start (at-name-at .before) .pre .field .base .standing .count;
+      },
+      refs-missing _ _ _
+          (at-name-at .name-at .ensures)
+          (at-get .get .ensures)
+          (c .enum-told .given .1),
+    )
 
 pub field-refs-spec : {M : Type 1} → statement M
-field-refs-spec = tie.close (tie.spec name-at-requires get-requires enum-known-paths put-sum-requires enum-told same-length same-length-2 returns returns-2)
+field-refs-spec =
+    tie.close
+    (tie.spec name-at-requires get-requires enum-known-paths put-sum-requires enum-told same-length
+    same-length-2 returns returns-2)

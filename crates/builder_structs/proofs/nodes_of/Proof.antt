@@ -10,10 +10,26 @@ padding-requires : tie.Need-padding-requires
 padding-requires c κs = search needs
 
 returns : tie.Need-returns
-returns c = (omega arith, one-node (c .before .before .args .end) (offsetOf (c .before .before .args .placed) (c .before .before .args .offset)) (c .before .padding .ensures) (c .if1 .taken))
+returns c =
+    let at-start = c .before .before in (
+      omega arith,
+      one-node
+          (at-start .args .end)
+          (offsetOf (at-start .args .placed) (at-start .args .offset))
+          (c .before .padding .ensures)
+          (c .if1 .taken),
+    )
 
 returns-2 : tie.Need-returns-2
-returns-2 c = (omega arith, two-nodes (c .before .before .args .end) (offsetOf (c .before .before .args .placed) (c .before .before .args .offset)) (c .before .padding .ensures) (c .if1 .left))
+returns-2 c =
+    let at-start = c .before .before in (
+      omega arith,
+      two-nodes
+          (at-start .args .end)
+          (offsetOf (at-start .args .placed) (at-start .args .offset))
+          (c .before .padding .ensures)
+          (c .if1 .left),
+    )
 
 pub nodes-of-spec : {M : Type 1} → statement M
 nodes-of-spec = tie.close (tie.spec padding-requires returns returns-2)
