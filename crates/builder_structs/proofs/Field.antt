@@ -1,9 +1,9 @@
--- Nodes of fields: what is built, then what is entered, then what stands around it.
+-- Nodes of fields: what is built, the references that enter behind it, the AlignUp node around it.
 use mathlib.Core.Path.{_≡_, refl, sym, _∙_, ap, subst}
 use mathlib.Core.Bool.{Bool, true, false}
 use mathlib.Core.List.{List, [], _∷_, _++_}
 use mathlib.Core.Option.{some, none}
-use Prim.Native.Nat.{ℕ, _+_, _-_, _≤_, _<_}
+use Prim.Native.Nat.{ℕ, _+_, _-_, _^_, _≤_, _<_}
 use native.Mathlib.Omega.{arith}
 use lib.Dec.{eqb}
 use lib.ListN.{length}
@@ -35,113 +35,130 @@ use Rattle.builder_registry.specs.declared.Held.{Held}
 use Rattle.builder_registry.specs.Words.{Kept, entriesOf}
 use Rattle.builder_paths.specs.Joined.{prefixOf}
 use Rattle.builder_nodes.specs.declared.Built.{Built}
-use Rattle.builder_nodes.specs.Built.{Builds, nodeStart}
+use Rattle.builder_nodes.specs.Built.{Builds, Within, nodeStart}
 use Rattle.builder_nodes.proofs.Laws.{align-closed}
 use Rattle.builder_sums.specs.Ready.{someName}
-use Rattle.builder_structs.specs.Field.{sumOf, payloadOf}
+use Rattle.builder_expressions.proofs.Laws.{makes, refuses}
+use Rattle.builder_arrays.proofs.Steps.{between}
+use Rattle.builder_structs.specs.Field.{withOwn, withAlign, sumOf, payloadOf, EntersOwn, ClosesAligned}
 
 -- ---- what callees leave
 
+-- a node that was built: what the definition gives, and the bytes
 pub builds-done : {s xs us ys : List ℕ} {at : ℕ} {r : Built} {x : Outcome (IrNode × Registry)} → r .number ≡ 0 → Builds s xs at us ys r x →
     (n : IrNode) × (x ≡ done (n, entriesOf s us (r .count))) × Wrote xs at (write (nodeTree n)) ys (r .at)
 builds-done z (Builds.made x e h w) = (x .0, ap (λ (g : Registry). done (x .0, g)) (sym h), w)
 builds-done z (Builds.not k e l) = absurd (let z : ⊥ = omega arith in z)
 
-pub builds-refused : {s xs us ys : List ℕ} {at : ℕ} {r : Built} {x : Outcome (IrNode × Registry)} → (r .number ≡ 0 → ⊥) → Builds s xs at us ys r x → (x ≡ refused (plain (r .number))) × (0 < r .number)
+-- a node that was refused: the definition refuses it with the same number
+pub builds-refused : {s xs us ys : List ℕ} {at : ℕ} {r : Built} {x : Outcome (IrNode × Registry)} → (r .number ≡ 0 → ⊥) → Builds s xs at us ys r x →
+    (x ≡ refused (plain (r .number))) × (0 < r .number)
 builds-refused z (Builds.made x e h w) = absurd (z e)
 builds-refused z (Builds.not k e l) = (ap (λ (n : ℕ). refused (plain n)) (sym e), omega arith)
 
+-- references that entered: what the definition gives
 kept-done : {s us : List ℕ} {r : Held} {x : Outcome (Unit {0} × Registry)} → r .number ≡ 0 → Kept s us r x → x ≡ done (tt, entriesOf s us (r .count))
 kept-done z (Kept.kept g e h) = ap (λ (l : Registry). done (tt, l)) (sym h)
 kept-done z (Kept.not k e l) = absurd (let z : ⊥ = omega arith in z)
 
+-- references that were refused: the definition refuses them with the same number
 kept-refused : {s us : List ℕ} {r : Held} {x : Outcome (Unit {0} × Registry)} → (r .number ≡ 0 → ⊥) → Kept s us r x → (x ≡ refused (plain (r .number))) × (0 < r .number)
 kept-refused z (Kept.kept g e h) = absurd (z e)
 kept-refused z (Kept.not k e l) = (ap (λ (n : ℕ). refused (plain n)) (sym e), omega arith)
 
-module _ {s xs us ys : List ℕ} {at p c : ℕ} where
-  -- a refusal of this number
-  pub stops : {x : Outcome (IrNode × Registry)} (k : ℕ) → x ≡ refused (plain k) → 0 < k → Builds s xs at us ys (record { at = p; count = c; number = k }) x
-  stops k e l = subst (Builds s xs at us ys (record { at = p; count = c; number = k })) (sym e) (Builds.not k refl l)
+-- ---- what follows a field's node
 
-  -- this node
-  pub makes : {x : Outcome (IrNode × Registry)} (n : IrNode) → x ≡ done (n, entriesOf s us c) → Wrote xs at (write (nodeTree n)) ys p → Builds s xs at us ys (record { at = p; count = c; number = 0 }) x
-  makes n e w = subst (Builds s xs at us ys (record { at = p; count = c; number = 0 })) (sym e) (Builds.made (n, entriesOf s us c) refl refl w)
+-- behind a node that was refused nothing enters
+pub own-stops : {s ws us : List ℕ} {node : Built} (h : Head) → (node .number ≡ 0 → ⊥) → EntersOwn s ws node h us node
+unfolding withOwn
+own-stops h z xs ys at m g b =
+    let d = builds-refused z b in
+    refuses _ refl (d .1) (step-refused m _ g (d .0))
 
--- ---- a node and what is done with it: f
+-- what entering leaves, by cases of it
+own-kept : {s xs ys us : List ℕ} {at u : ℕ} {k : Held} (h : Head) (m : Build IrNode) (g : Registry) (n : IrNode) (l : Registry) {o : Outcome (Unit {0} × Registry)} →
+    m g ≡ done (n, l) → Wrote xs at (write (nodeTree n)) ys u → extend-with (h .dynamic-params) l ≡ o → Kept s us k o →
+    Builds s xs at us ys (record { at = u; count = k .count; number = k .number }) (withOwn h m g)
+unfolding withOwn give
+own-kept h m g n l e w f (Kept.kept r z i) = rw (step-done m _ g e, step-done (extend-with (h .dynamic-params)) _ l f) (Builds.made (n, r) z i w)
+own-kept h m g n l e w f (Kept.not q z i) = rw (step-done m _ g e, step-refused (extend-with (h .dynamic-params)) _ l f) (Builds.not q z i)
 
-module _ {s x₁ x₂ us : List ℕ} {p : ℕ} {r : Built} (m : Build IrNode) (g : Registry) (b : Builds s x₁ p us x₂ r (m g)) where
-  -- it was refused
-  pub node-stops : {xs vs ys : List ℕ} {at q c : ℕ} (f : IrNode → Build IrNode) → (r .number ≡ 0 → ⊥) → Builds s xs at vs ys (record { at = q; count = c; number = r .number }) ((m >>= f) g)
-  node-stops f z = let d = builds-refused z b in stops (r .number) (step-refused m f g (d .0)) (d .1)
+-- behind a node that was built the references of its type enter
+pub own-enters : {s ws us : List ℕ} {node : Built} {k : Held} (h : Head) → node .number ≡ 0 → Kept s us k (extend-with (h .dynamic-params) (entriesOf s ws (node .count))) →
+    EntersOwn s ws node h us (record { at = node .at; count = k .count; number = k .number })
+own-enters h z k xs ys at m g b =
+    let d = builds-done z b in
+    own-kept h m g (d .0) _ (d .1) (d .2) refl k
 
-  -- it is aligned
-  pub node-aligned : {xs ys : List ℕ} {at q : ℕ} (a : ℕ) → r .number ≡ 0 → Wrote xs at (nodeStart 131 a ++ write (num 8 a)) x₁ p → Wrote x₂ at (bytes 4 (r .at - at - 4)) ys q →
-      Builds s xs at us ys (record { at = r .at; count = r .count; number = 0 }) ((m >>= (λ n. give (align-node n a))) g)
-  unfolding give
-  node-aligned a z w c = let d = builds-done z b in makes (align-node (d .0) a) (step-done m _ g (d .1)) (align-closed a (d .0) w (d .2) c)
+-- around a node that was refused nothing is closed
+pub aligned-stops : {ys zs : List ℕ} {at : ℕ} {node : Built} → (node .number ≡ 0 → ⊥) → ClosesAligned ys at node zs node
+unfolding withAlign
+aligned-stops z s us xs x₁ p a m g w b =
+    let d = builds-refused z b in
+    refuses _ refl (d .1) (step-refused m _ g (d .0))
 
-  -- references are entered behind it
-  module _ {vs : List ℕ} {h : Held} (os : List Owner) (z : r .number ≡ 0) (k : Kept s vs h (extend-with os (entriesOf s us (r .count)))) where
-    pub own-stops : {xs ys : List ℕ} {at q c : ℕ} (f : IrNode → IrNode) → (h .number ≡ 0 → ⊥) → Builds s xs at vs ys (record { at = q; count = c; number = h .number }) ((m >>= (λ n. extend-with os >>= (λ _. give (f n)))) g)
-    own-stops f y = let d = builds-done z b in let e = kept-refused y k in stops (h .number) (step-done m _ g (d .1) ∙ step-refused (extend-with os) _ (entriesOf s us (r .count)) (e .0)) (e .1)
+-- around a node that was built the length of the AlignUp node is written
+pub aligned-closes : {ys zs : List ℕ} {at q : ℕ} {node : Built} → node .number ≡ 0 → Wrote ys at (bytes 4 (node .at - at - 4)) zs q → ClosesAligned ys at node zs node
+unfolding withAlign give
+aligned-closes z c s us xs x₁ p a m g w b =
+    let d = builds-done z b in
+    makes (align-node (d .0) a) z refl (align-closed a (d .0) w (d .2) c) (step-done m _ g (d .1))
 
-    own-done : (f : IrNode → IrNode) → h .number ≡ 0 → (n : IrNode) → m g ≡ done (n, entriesOf s us (r .count)) → (m >>= (λ n. extend-with os >>= (λ _. give (f n)))) g ≡ done (f n, entriesOf s vs (h .count))
-    unfolding give
-    own-done f y n e = step-done m _ g e ∙ step-done (extend-with os) _ (entriesOf s us (r .count)) (kept-done y k)
+-- a node with the references of its type ends where it ended
+pub own-within : {at room : ℕ} {node r : Built} → Within at room node → (r .at ≡ node .at) × (r .count ≤ 512) → Within at room r
+own-within w e = record { low = omega (arith, w .low, e .0); high = omega (arith, w .high, e .0); count = e .1 }
 
-    pub own-plain : h .number ≡ 0 → Builds s x₁ p vs x₂ (record { at = r .at; count = h .count; number = 0 }) ((m >>= (λ n. extend-with os >>= (λ _. give n))) g)
-    own-plain y = let d = builds-done z b in makes (d .0) (own-done (λ n. n) y (d .0) (d .1)) (d .2)
+-- what closing an AlignUp node stands on: its beginning has 23 bytes, and the node in it ends at u
+pub close-ready : (at : ℕ) {p room u : ℕ} {node : Built} → p ≡ at + 23 → Within p room node → u ≡ node .at → at + room < 2 ^ 60 → (at + 4 ≤ u) × (u < 2 ^ 61)
+close-ready at e w f h = (omega (arith, w .low), omega (arith, w .high))
 
-    pub own-aligned : {xs ys : List ℕ} {at q : ℕ} (a : ℕ) → h .number ≡ 0 → Wrote xs at (nodeStart 131 a ++ write (num 8 a)) x₁ p → Wrote x₂ at (bytes 4 (r .at - at - 4)) ys q →
-        Builds s xs at vs ys (record { at = r .at; count = h .count; number = 0 }) ((m >>= (λ n. extend-with os >>= (λ _. give (align-node n a)))) g)
-    own-aligned a y w c = let d = builds-done z b in makes (align-node (d .0) a) (own-done (λ n. align-node n a) y (d .0) (d .1)) (align-closed a (d .0) w (d .2) c)
+-- an AlignUp node has as many bytes more than the node in it, which ends at u with c entries
+pub aligned-within : {at p k room u c : ℕ} {node r : Built} → p ≡ at + 23 → Within p k node → (u ≡ node .at) × (c ≤ 512) → (r .at ≡ u) × (r .count ≡ c) → 23 + k ≤ room → Within at room r
+aligned-within e w d f h = record { low = omega (arith, w .low, d .0, f .0); high = omega (arith, w .high, d .0, f .0); count = omega (arith, d .1, f .1) }
+
+-- the beginning of an AlignUp node of a type
+abbrev pub Opened : List ℕ → ℕ → TypeHead → List ℕ → ℕ → Type 0
+Opened xs at h x₁ p = Wrote xs at (nodeStart 131 (h .alignment) ++ write (num 8 (h .alignment))) x₁ p
+
+module _ {s xs x₁ x₂ ys : List ℕ} {at p kind : ℕ} {t : TypeHead} {e r : Built} (g : Registry) (hd : (a : Accepted s 1 7 kind) → HeadAt a t) (w : Opened xs at t x₁ p) (c : ClosesAligned x₂ at e ys r) where
+  -- the closed node, by the alignment of the type
+  aligned-at : {us : List ℕ} (a : Accepted s 1 7 kind) (m : Build IrNode) → Builds s x₁ p us x₂ e (m g) → Builds s xs at us ys r (withAlign (head (typeOf (tree a)) .alignment) m g)
+  aligned-at {us} a m b = subst (λ (z : ℕ). Builds s xs at us ys r (withAlign z m g)) (sym (hd a .alignment)) (c s us xs x₁ p (t .alignment) m g w b)
+
+  -- the same where the references of the type entered in between
+  own-aligned : {ws us : List ℕ} {node : Built} (a : Accepted s 1 7 kind) (m : Build IrNode) → EntersOwn s ws node (head (typeOf (tree a))) us e → Builds s x₁ p ws x₂ node (m g) →
+      Builds s xs at us ys r ((m >>= (λ n. extend-with (head (typeOf (tree a)) .dynamic-params) >>= (λ _. give (align-node n (head (typeOf (tree a)) .alignment))))) g)
+  unfolding withOwn withAlign
+  own-aligned {us} a m k b =
+      let h = head (typeOf (tree a)) in
+      subst (Builds s xs at us ys r) (sym (between m (extend-with (h .dynamic-params)) (λ n. give (align-node n (h .alignment))) g))
+      (aligned-at a (withOwn h m) (k x₁ x₂ p m g b))
 
 -- ---- a type's own references
 
+-- as the definition has them, by the head that was read
 pub own-entered : {s us : List ℕ} {kind : ℕ} {h : TypeHead} {r : Held} (g : Registry) → ((a : Accepted s 1 7 kind) → HeadAt a h) → ((a : Accepted s 32 32 (h .references)) → Kept s us r (extend-with (ownersOf (tree a)) g)) →
     (a : Accepted s 1 7 kind) → Kept s us r (extend-with (head (typeOf (tree a)) .dynamic-params) g)
 own-entered {s} {us} {r} g hd k a = subst (λ (os : List Owner). Kept s us r (extend-with os g)) (sym (hd a .owners)) (k (hd a .references))
 
 -- ---- sums of paths
 
-module _ {s ws x₁ x₂ : List ℕ} {p paths : ℕ} {o : List ℕ} {r : Built} (kind name : ℕ) (g : Registry) (eo : o ≡ nameAt s name) where
-  module _ (b : (q : PathsAt s paths) → Builds s x₁ p ws x₂ r (sum-refs o (textsOf (q .list .got .0)) g)) where
-    sum-named : (q : PathsAt s paths) → Builds s x₁ p ws x₂ r (sum-refs (nameAt s name) (textsOf (q .list .got .0)) g)
-    sum-named q = subst (λ (z : Name). Builds s x₁ p ws x₂ r (sum-refs z (textsOf (q .list .got .0)) g)) eo (b q)
+module _ {s ws x₁ x₂ : List ℕ} {p paths kind : ℕ} {o : List ℕ} {node : Built} (name : ℕ) (g : Registry) (eo : o ≡ nameAt s name) where
+  -- the sum of a field's paths, with what entered behind it
+  pub sum-built : {us : List ℕ} {r : Built} → ((q : PathsAt s paths) → Builds s x₁ p ws x₂ node (sum-refs o (textsOf (q .list .got .0)) g)) →
+      ((a : Accepted s 1 7 kind) → EntersOwn s ws node (head (typeOf (tree a))) us r) →
+      (q : PathsAt s paths) (a : Accepted s 1 7 kind) → Builds s x₁ p us x₂ r (sumOf (nameAt s name) (head (typeOf (tree a))) (textsOf (q .list .got .0)) g)
+  sum-built {us} {r} b k q a =
+      subst (λ (z : Name). Builds s x₁ p us x₂ r (sumOf z (head (typeOf (tree a))) (textsOf (q .list .got .0)) g)) eo
+      (k a x₁ x₂ p (sum-refs o (textsOf (q .list .got .0))) g (b q))
 
-    pub sum-stops : {xs us ys : List ℕ} {at u c : ℕ} → (r .number ≡ 0 → ⊥) → (q : PathsAt s paths) (a : Accepted s 1 7 kind) →
-        Builds s xs at us ys (record { at = u; count = c; number = r .number }) (sumOf (nameAt s name) (head (typeOf (tree a))) (textsOf (q .list .got .0)) g)
-    unfolding sumOf
-    sum-stops z q a = node-stops (sum-refs (nameAt s name) (textsOf (q .list .got .0))) g (sum-named q) _ z
-
-    module _ {vs : List ℕ} {h : Held} (z : r .number ≡ 0) (k : (a : Accepted s 1 7 kind) → Kept s vs h (extend-with (head (typeOf (tree a)) .dynamic-params) (entriesOf s ws (r .count)))) where
-      pub sum-own-stops : {xs ys : List ℕ} {at u c : ℕ} → (h .number ≡ 0 → ⊥) → (q : PathsAt s paths) (a : Accepted s 1 7 kind) →
-          Builds s xs at vs ys (record { at = u; count = c; number = h .number }) (sumOf (nameAt s name) (head (typeOf (tree a))) (textsOf (q .list .got .0)) g)
-      unfolding sumOf
-      sum-own-stops y q a = own-stops (sum-refs (nameAt s name) (textsOf (q .list .got .0))) g (sum-named q) (head (typeOf (tree a)) .dynamic-params) z (k a) (λ n. n) y
-
-      pub sum-done : h .number ≡ 0 → (q : PathsAt s paths) (a : Accepted s 1 7 kind) →
-          Builds s x₁ p vs x₂ (record { at = r .at; count = h .count; number = 0 }) (sumOf (nameAt s name) (head (typeOf (tree a))) (textsOf (q .list .got .0)) g)
-      unfolding sumOf
-      sum-done y q a = own-plain (sum-refs (nameAt s name) (textsOf (q .list .got .0))) g (sum-named q) (head (typeOf (tree a)) .dynamic-params) z (k a) y
-
-  module _ (b : (q : PathsAt s paths) → Builds s x₁ p ws x₂ r (sum-refs o (payload-paths (textsOf (q .list .got .0))) g)) where
-    payload-named : (q : PathsAt s paths) → Builds s x₁ p ws x₂ r (sum-refs (nameAt s name) (payload-paths (textsOf (q .list .got .0))) g)
-    payload-named q = subst (λ (z : Name). Builds s x₁ p ws x₂ r (sum-refs z (payload-paths (textsOf (q .list .got .0))) g)) eo (b q)
-
-    pub payload-stops : {xs us ys : List ℕ} {at u c : ℕ} → (r .number ≡ 0 → ⊥) → (q : PathsAt s paths) (a : Accepted s 1 7 kind) →
-        Builds s xs at us ys (record { at = u; count = c; number = r .number }) (payloadOf (nameAt s name) (head (typeOf (tree a))) (textsOf (q .list .got .0)) g)
-    unfolding payloadOf
-    payload-stops z q a = node-stops (sum-refs (nameAt s name) (payload-paths (textsOf (q .list .got .0)))) g (payload-named q) _ z
-
-    pub payload-done : {xs ys : List ℕ} {at u : ℕ} {h : TypeHead} → ((a : Accepted s 1 7 kind) → HeadAt a h) → Wrote xs at (nodeStart 131 (h .alignment) ++ write (num 8 (h .alignment))) x₁ p → r .number ≡ 0 →
-        Wrote x₂ at (bytes 4 (r .at - at - 4)) ys u → (q : PathsAt s paths) (a : Accepted s 1 7 kind) →
-        Builds s xs at ws ys (record { at = r .at; count = r .count; number = 0 }) (payloadOf (nameAt s name) (head (typeOf (tree a))) (textsOf (q .list .got .0)) g)
-    unfolding payloadOf
-    payload-done {xs} {ys} {at} {h} hd w z c q a =
-        subst (λ (m : ℕ). Builds s xs at ws ys (record { at = r .at; count = r .count; number = 0 }) ((sum-refs (nameAt s name) (payload-paths (textsOf (q .list .got .0))) >>= (λ n. give (align-node n m))) g)) (sym (hd a .alignment))
-        (node-aligned (sum-refs (nameAt s name) (payload-paths (textsOf (q .list .got .0)))) g (payload-named q) (h .alignment) z w c)
+  -- the sum of a payload's paths, aligned
+  pub payload-built : {xs ys : List ℕ} {at : ℕ} {t : TypeHead} {r : Built} → ((q : PathsAt s paths) → Builds s x₁ p ws x₂ node (sum-refs o (payload-paths (textsOf (q .list .got .0))) g)) →
+      ((a : Accepted s 1 7 kind) → HeadAt a t) → Opened xs at t x₁ p → ClosesAligned x₂ at node ys r →
+      (q : PathsAt s paths) (a : Accepted s 1 7 kind) → Builds s xs at ws ys r (payloadOf (nameAt s name) (head (typeOf (tree a))) (textsOf (q .list .got .0)) g)
+  payload-built {xs} {ys} {at} {r} b hd w c q a =
+      subst (λ (z : Name). Builds s xs at ws ys r (payloadOf z (head (typeOf (tree a))) (textsOf (q .list .got .0)) g)) eo
+      (aligned-at g hd w c a (sum-refs o (payload-paths (textsOf (q .list .got .0)))) (b q))
 
 -- ---- the struct's references for a field
 
@@ -164,12 +181,12 @@ module _ {s : List ℕ} {references : ℕ} {o : List ℕ} {f : Paths} (kind name
   pub refs-missing : {xs us ys : List ℕ} {at u c : ℕ} → f ≡ Missing → (b : Accepted s 32 32 references) (a : Accepted s 1 7 kind) →
       Builds s xs at us ys (record { at = u; count = c; number = 11 }) (build-field-refs (ownersOf (tree b)) (nameAt s name) (head (typeOf (tree a))) g)
   unfolding build-field-refs
-  refs-missing e b a = stops 11 (need-none 11 _ g (found-none e (refs-named b))) (omega arith)
+  refs-missing e b a = refuses 11 refl (omega arith) (need-none 11 _ g (found-none e (refs-named b)))
 
   pub refs-found : {xs us ys : List ℕ} {at q : ℕ} {r : Built} → f ≡ At q →
       ((p : PathsAt s q) (a : Accepted s 1 7 kind) → Builds s xs at us ys r (sumOf (nameAt s name) (head (typeOf (tree a))) (textsOf (p .list .got .0)) g)) →
       (b : Accepted s 32 32 references) (a : Accepted s 1 7 kind) → Builds s xs at us ys r (build-field-refs (ownersOf (tree b)) (nameAt s name) (head (typeOf (tree a))) g)
-  unfolding build-field-refs sumOf
+  unfolding build-field-refs withOwn
   refs-found {xs} {us} {ys} {at} {r} e h b a = let w = found-at e (refs-named b) in subst (Builds s xs at us ys r) (sym (need-some 11 _ g (w .1))) (h (w .0) a)
 
   -- ---- enums
@@ -198,7 +215,7 @@ module _ {s : List ℕ} {references : ℕ} {o : List ℕ} {f : Paths} (kind name
           ((p : PathsAt s q) (a : Accepted s 1 7 kind) → Builds s xs at us ys r (payloadOf (nameAt s name) (head (typeOf (tree a))) (textsOf (p .list .got .0)) g)) →
           (t : Tree) (b : Accepted s 32 32 references) (a : Accepted s 1 7 kind) → readSet s ≡ done t →
           Builds s xs at us ys r (build-variable-field (typesOf t) (ownersOf (tree b)) (nameAt s name) (head (typeOf (tree a))) (kindOf (typeOf (tree a))) g)
-      unfolding payloadOf
+      unfolding withAlign
       enum-payload e has y h t b a d =
           let w = found-at e (refs-named b) in
           let T : List Name = textsOf (w .0 .list .got .0) in
@@ -228,119 +245,57 @@ module _ {s : List ℕ} {references : ℕ} {o : List ℕ} {f : Paths} (kind name
 
 -- ---- a switch, an array, a call
 
--- what is asked of the nodes that are aligned behind a header
-abbrev Opened : List ℕ → ℕ → TypeHead → List ℕ → ℕ → Type 0
-Opened xs at h x₁ p = Wrote xs at (nodeStart 131 (h .alignment) ++ write (num 8 (h .alignment))) x₁ p
+module _ {s xs x₁ x₂ us ys : List ℕ} {at p kind : ℕ} {h : TypeHead} {e r : Built} (g : Registry) (hd : (a : Accepted s 1 7 kind) → HeadAt a h) (w : Opened xs at h x₁ p) (c : ClosesAligned x₂ at e ys r) where
+  -- an enum as a switch
+  pub switch-built : {ws : List ℕ} {node : Built} →
+      ((a : Accepted s 1 7 kind) (e : ExprKind) (vs : Variants) → kindOf (typeOf (tree a)) ≡ ResolvedTypeKind.Enum e vs → Builds s x₁ p ws x₂ node (build-enum-node (head (typeOf (tree a))) e vs g)) →
+      ((a : Accepted s 1 7 kind) → EntersOwn s ws node (head (typeOf (tree a))) us e) →
+      (name : Name) (a : Accepted s 1 7 kind) (x : ExprKind) (vs : Variants) → kindOf (typeOf (tree a)) ≡ ResolvedTypeKind.Enum x vs →
+      Builds s xs at us ys r (build-field-enum [] name (head (typeOf (tree a))) x vs g)
+  unfolding build-field-enum
+  switch-built b k name a x vs i = own-aligned g hd w c a (build-enum-node (head (typeOf (tree a))) x vs) (k a) (b a x vs i)
 
-module _ {s x₁ x₂ us : List ℕ} {p : ℕ} {r : Built} (kind : ℕ) (g : Registry) where
-  module _ (b : (a : Accepted s 1 7 kind) (e : ExprKind) (vs : Variants) → kindOf (typeOf (tree a)) ≡ ResolvedTypeKind.Enum e vs → Builds s x₁ p us x₂ r (build-enum-node (head (typeOf (tree a))) e vs g)) where
-    pub switch-stops : {xs vs ys : List ℕ} {at u c : ℕ} → (r .number ≡ 0 → ⊥) → (name : Name) (a : Accepted s 1 7 kind) (e : ExprKind) (ws : Variants) → kindOf (typeOf (tree a)) ≡ ResolvedTypeKind.Enum e ws →
-        Builds s xs at vs ys (record { at = u; count = c; number = r .number }) (build-field-enum [] name (head (typeOf (tree a))) e ws g)
-    unfolding build-field-enum
-    switch-stops z name a e ws i = node-stops (build-enum-node (head (typeOf (tree a))) e ws) g (b a e ws i) _ z
+  -- a size-discriminated union
+  pub sized-built : {ws : List ℕ} {node : Built} → le2 s (kind + 4) ≡ 6 →
+      ((a : Accepted s 1 7 kind) (vs : Variants) → kindOf (typeOf (tree a)) ≡ ResolvedTypeKind.SizeDiscriminatedUnion vs → Builds s x₁ p ws x₂ node (build-size-discriminated-union-node (head (typeOf (tree a))) vs g)) →
+      ((a : Accepted s 1 7 kind) → EntersOwn s ws node (head (typeOf (tree a))) us e) →
+      (t : Tree) (refs : List Owner) (name : Name) (a : Accepted s 1 7 kind) → readSet s ≡ done t →
+      Builds s xs at us ys r (build-variable-field (typesOf t) refs name (head (typeOf (tree a))) (kindOf (typeOf (tree a))) g)
+  unfolding build-variable-field
+  sized-built ek b k t refs name a q =
+      let i = sized-at refl refl ek a .is in
+      subst (λ (z : ResolvedTypeKind). Builds s xs at us ys r (build-variable-field (typesOf t) refs name (head (typeOf (tree a))) z g)) (sym i)
+      (own-aligned g hd w c a (build-size-discriminated-union-node (head (typeOf (tree a))) _) (k a) (b a _ i))
 
-    module _ {vs : List ℕ} {h : Held} (z : r .number ≡ 0) (k : (a : Accepted s 1 7 kind) → Kept s vs h (extend-with (head (typeOf (tree a)) .dynamic-params) (entriesOf s us (r .count)))) where
-      pub switch-own-stops : {xs ys : List ℕ} {at u c : ℕ} → (h .number ≡ 0 → ⊥) → (name : Name) (a : Accepted s 1 7 kind) (e : ExprKind) (ws : Variants) → kindOf (typeOf (tree a)) ≡ ResolvedTypeKind.Enum e ws →
-          Builds s xs at vs ys (record { at = u; count = c; number = h .number }) (build-field-enum [] name (head (typeOf (tree a))) e ws g)
-      unfolding build-field-enum
-      switch-own-stops y name a e ws i = own-stops (build-enum-node (head (typeOf (tree a))) e ws) g (b a e ws i) (head (typeOf (tree a)) .dynamic-params) z (k a) (λ n. align-node n (head (typeOf (tree a)) .alignment)) y
+  -- a type reference, which enters none of its own references
+  pub call-built : le2 s (kind + 4) ≡ 7 →
+      ((t : Tree) (a : Accepted s 1 7 kind) (target : Name) → readSet s ≡ done t → kindOf (typeOf (tree a)) ≡ ResolvedTypeKind.TypeRef target → Builds s x₁ p us x₂ e (build-typeref-node (typesOf t) (head (typeOf (tree a))) target g)) →
+      (t : Tree) (refs : List Owner) (name : Name) (a : Accepted s 1 7 kind) → readSet s ≡ done t →
+      Builds s xs at us ys r (build-variable-field (typesOf t) refs name (head (typeOf (tree a))) (kindOf (typeOf (tree a))) g)
+  unfolding build-variable-field withAlign
+  call-built ek b t refs name a q =
+      let i = target-at refl ek a .is in
+      subst (λ (z : ResolvedTypeKind). Builds s xs at us ys r (build-variable-field (typesOf t) refs name (head (typeOf (tree a))) z g)) (sym i)
+      (aligned-at g hd w c a (build-typeref-node (typesOf t) (head (typeOf (tree a))) _) (b t a _ q i))
 
-      pub switch-done : {xs ys : List ℕ} {at u : ℕ} {t : TypeHead} → ((a : Accepted s 1 7 kind) → HeadAt a t) → Opened xs at t x₁ p → h .number ≡ 0 → Wrote x₂ at (bytes 4 (r .at - at - 4)) ys u →
-          (name : Name) (a : Accepted s 1 7 kind) (e : ExprKind) (ws : Variants) → kindOf (typeOf (tree a)) ≡ ResolvedTypeKind.Enum e ws →
-          Builds s xs at vs ys (record { at = r .at; count = h .count; number = 0 }) (build-field-enum [] name (head (typeOf (tree a))) e ws g)
-      unfolding build-field-enum
-      switch-done {xs} {ys} {at} {t} hd w y c name a e ws i =
-          subst (λ (m : ℕ). Builds s xs at vs ys (record { at = r .at; count = h .count; number = 0 }) ((build-enum-node (head (typeOf (tree a))) e ws >>= (λ n. extend-with (head (typeOf (tree a)) .dynamic-params) >>= (λ _. give (align-node n m)))) g)) (sym (hd a .alignment))
-          (own-aligned (build-enum-node (head (typeOf (tree a))) e ws) g (b a e ws i) (head (typeOf (tree a)) .dynamic-params) z (k a) (t .alignment) y w c)
+-- what the definition says of a field that is an array
+array-of : (types : List ResolvedType) (refs : List Owner) (n : Name) (g : Registry) (t : ResolvedType) {x : ResolvedType} {e : ExprKind} {j : Bool} → kindOf t ≡ ResolvedTypeKind.Array x e j →
+    build-variable-field types refs n (head t) (kindOf t) g ≡ withOwn (head t) (build-array-node-with-prefix n [] t) g
+unfolding build-variable-field withOwn
+array-of types refs n g (ResolvedType.resolved h k) {x} {e} {j} i =
+    subst (λ (y : ResolvedTypeKind). build-variable-field types refs n h y g ≡ withOwn h (build-array-node-with-prefix n [] (ResolvedType.resolved h y)) g) (sym i) refl
 
-  module _ (ek : le2 s (kind + 4) ≡ 6)
-      (b : (a : Accepted s 1 7 kind) (vs : Variants) → kindOf (typeOf (tree a)) ≡ ResolvedTypeKind.SizeDiscriminatedUnion vs → Builds s x₁ p us x₂ r (build-size-discriminated-union-node (head (typeOf (tree a))) vs g)) where
-    sized-is : (types : List ResolvedType) (refs : List Owner) (n : Name) (a : Accepted s 1 7 kind) → (vs : Variants) × (kindOf (typeOf (tree a)) ≡ ResolvedTypeKind.SizeDiscriminatedUnion vs) ×
-        (build-variable-field types refs n (head (typeOf (tree a))) (kindOf (typeOf (tree a))) g ≡
-        (build-size-discriminated-union-node (head (typeOf (tree a))) vs >>= (λ node. extend-with (head (typeOf (tree a)) .dynamic-params) >>= (λ _. give (align-node node (head (typeOf (tree a)) .alignment))))) g)
-    unfolding build-variable-field
-    sized-is types refs n a = let i = sized-at refl refl ek a .is in (_, i, ap (λ (z : ResolvedTypeKind). build-variable-field types refs n (head (typeOf (tree a))) z g) i)
-
-    pub sized-stops : {xs vs ys : List ℕ} {at u c : ℕ} → (r .number ≡ 0 → ⊥) → (t : Tree) (refs : List Owner) (name : Name) (a : Accepted s 1 7 kind) → readSet s ≡ done t →
-        Builds s xs at vs ys (record { at = u; count = c; number = r .number }) (build-variable-field (typesOf t) refs name (head (typeOf (tree a))) (kindOf (typeOf (tree a))) g)
-    sized-stops {xs} {vs} {ys} {at} {u} {c} z t refs name a e =
-        let i = sized-is (typesOf t) refs name a in
-        subst (Builds s xs at vs ys (record { at = u; count = c; number = r .number })) (sym (i .2)) (node-stops (build-size-discriminated-union-node (head (typeOf (tree a))) (i .0)) g (b a (i .0) (i .1)) _ z)
-
-    module _ {vs : List ℕ} {h : Held} (z : r .number ≡ 0) (k : (a : Accepted s 1 7 kind) → Kept s vs h (extend-with (head (typeOf (tree a)) .dynamic-params) (entriesOf s us (r .count)))) where
-      pub sized-own-stops : {xs ys : List ℕ} {at u c : ℕ} → (h .number ≡ 0 → ⊥) → (t : Tree) (refs : List Owner) (name : Name) (a : Accepted s 1 7 kind) → readSet s ≡ done t →
-          Builds s xs at vs ys (record { at = u; count = c; number = h .number }) (build-variable-field (typesOf t) refs name (head (typeOf (tree a))) (kindOf (typeOf (tree a))) g)
-      sized-own-stops {xs} {ys} {at} {u} {c} y t refs name a e =
-          let i = sized-is (typesOf t) refs name a in
-          subst (Builds s xs at vs ys (record { at = u; count = c; number = h .number })) (sym (i .2))
-          (own-stops (build-size-discriminated-union-node (head (typeOf (tree a))) (i .0)) g (b a (i .0) (i .1)) (head (typeOf (tree a)) .dynamic-params) z (k a) (λ n. align-node n (head (typeOf (tree a)) .alignment)) y)
-
-      pub sized-done : {xs ys : List ℕ} {at u : ℕ} {w : TypeHead} → ((a : Accepted s 1 7 kind) → HeadAt a w) → Opened xs at w x₁ p → h .number ≡ 0 → Wrote x₂ at (bytes 4 (r .at - at - 4)) ys u →
-          (t : Tree) (refs : List Owner) (name : Name) (a : Accepted s 1 7 kind) → readSet s ≡ done t →
-          Builds s xs at vs ys (record { at = r .at; count = h .count; number = 0 }) (build-variable-field (typesOf t) refs name (head (typeOf (tree a))) (kindOf (typeOf (tree a))) g)
-      sized-done {xs} {ys} {at} {w} hd o y c t refs name a e =
-          let i = sized-is (typesOf t) refs name a in
-          subst (Builds s xs at vs ys (record { at = r .at; count = h .count; number = 0 })) (sym (i .2))
-          (subst (λ (m : ℕ). Builds s xs at vs ys (record { at = r .at; count = h .count; number = 0 }) ((build-size-discriminated-union-node (head (typeOf (tree a))) (i .0) >>= (λ n. extend-with (head (typeOf (tree a)) .dynamic-params) >>= (λ _. give (align-node n m)))) g)) (sym (hd a .alignment))
-          (own-aligned (build-size-discriminated-union-node (head (typeOf (tree a))) (i .0)) g (b a (i .0) (i .1)) (head (typeOf (tree a)) .dynamic-params) z (k a) (w .alignment) y o c))
-
-  module _ (name : ℕ) (ek : le2 s (kind + 4) ≡ 5) {o : List ℕ} (eo : o ≡ nameAt s name) (b : (a : Accepted s 1 7 kind) → Builds s x₁ p us x₂ r (build-array-node-with-prefix o (prefixOf 0) (typeOf (tree a)) g)) where
-    array-of : (types : List ResolvedType) (refs : List Owner) (n : Name) (t : ResolvedType) {x : ResolvedType} {e : ExprKind} {j : Bool} → kindOf t ≡ ResolvedTypeKind.Array x e j →
-        build-variable-field types refs n (head t) (kindOf t) g ≡ (build-array-node-with-prefix n [] t >>= (λ node. extend-with (head t .dynamic-params) >>= (λ _. give node))) g
-    unfolding build-variable-field
-    array-of types refs n (ResolvedType.resolved h k) {x} {e} {j} i = go k i
-      where
-        go : (z : ResolvedTypeKind) → z ≡ ResolvedTypeKind.Array x e j →
-            build-variable-field types refs n h z g ≡ (build-array-node-with-prefix n [] (ResolvedType.resolved h z) >>= (λ node. extend-with (h .dynamic-params) >>= (λ _. give node))) g
-        go z q = subst (λ (y : ResolvedTypeKind). build-variable-field types refs n h y g ≡ (build-array-node-with-prefix n [] (ResolvedType.resolved h y) >>= (λ node. extend-with (h .dynamic-params) >>= (λ _. give node))) g) (sym q) refl
-
-    array-is : (types : List ResolvedType) (refs : List Owner) (a : Accepted s 1 7 kind) → build-variable-field types refs (nameAt s name) (head (typeOf (tree a))) (kindOf (typeOf (tree a))) g ≡
-        (build-array-node-with-prefix (nameAt s name) [] (typeOf (tree a)) >>= (λ node. extend-with (head (typeOf (tree a)) .dynamic-params) >>= (λ _. give node))) g
-    array-is types refs a = array-of types refs (nameAt s name) (typeOf (tree a)) (array-at ek refl refl refl a .is)
-
-    array-named : (a : Accepted s 1 7 kind) → Builds s x₁ p us x₂ r (build-array-node-with-prefix (nameAt s name) [] (typeOf (tree a)) g)
-    unfolding prefixOf
-    array-named a = subst (λ (z : Name). Builds s x₁ p us x₂ r (build-array-node-with-prefix z [] (typeOf (tree a)) g)) eo (b a)
-
-    pub array-stops : {xs vs ys : List ℕ} {at u c : ℕ} → (r .number ≡ 0 → ⊥) → (t : Tree) (refs : List Owner) (a : Accepted s 1 7 kind) → readSet s ≡ done t →
-        Builds s xs at vs ys (record { at = u; count = c; number = r .number }) (build-variable-field (typesOf t) refs (nameAt s name) (head (typeOf (tree a))) (kindOf (typeOf (tree a))) g)
-    array-stops {xs} {vs} {ys} {at} {u} {c} z t refs a e =
-        subst (Builds s xs at vs ys (record { at = u; count = c; number = r .number })) (sym (array-is (typesOf t) refs a)) (node-stops (build-array-node-with-prefix (nameAt s name) [] (typeOf (tree a))) g (array-named a) _ z)
-
-    module _ {vs : List ℕ} {h : Held} (z : r .number ≡ 0) (k : (a : Accepted s 1 7 kind) → Kept s vs h (extend-with (head (typeOf (tree a)) .dynamic-params) (entriesOf s us (r .count)))) where
-      pub array-own-stops : {xs ys : List ℕ} {at u c : ℕ} → (h .number ≡ 0 → ⊥) → (t : Tree) (refs : List Owner) (a : Accepted s 1 7 kind) → readSet s ≡ done t →
-          Builds s xs at vs ys (record { at = u; count = c; number = h .number }) (build-variable-field (typesOf t) refs (nameAt s name) (head (typeOf (tree a))) (kindOf (typeOf (tree a))) g)
-      array-own-stops {xs} {ys} {at} {u} {c} y t refs a e =
-          subst (Builds s xs at vs ys (record { at = u; count = c; number = h .number })) (sym (array-is (typesOf t) refs a))
-          (own-stops (build-array-node-with-prefix (nameAt s name) [] (typeOf (tree a))) g (array-named a) (head (typeOf (tree a)) .dynamic-params) z (k a) (λ n. n) y)
-
-      pub array-done : h .number ≡ 0 → (t : Tree) (refs : List Owner) (a : Accepted s 1 7 kind) → readSet s ≡ done t →
-          Builds s x₁ p vs x₂ (record { at = r .at; count = h .count; number = 0 }) (build-variable-field (typesOf t) refs (nameAt s name) (head (typeOf (tree a))) (kindOf (typeOf (tree a))) g)
-      array-done y t refs a e =
-          subst (Builds s x₁ p vs x₂ (record { at = r .at; count = h .count; number = 0 })) (sym (array-is (typesOf t) refs a))
-          (own-plain (build-array-node-with-prefix (nameAt s name) [] (typeOf (tree a))) g (array-named a) (head (typeOf (tree a)) .dynamic-params) z (k a) y)
-
-  module _ (ek : le2 s (kind + 4) ≡ 7)
-      (b : (t : Tree) (a : Accepted s 1 7 kind) (target : Name) → readSet s ≡ done t → kindOf (typeOf (tree a)) ≡ ResolvedTypeKind.TypeRef target → Builds s x₁ p us x₂ r (build-typeref-node (typesOf t) (head (typeOf (tree a))) target g)) where
-    call-is : (types : List ResolvedType) (refs : List Owner) (n : Name) (a : Accepted s 1 7 kind) → (target : Name) × (kindOf (typeOf (tree a)) ≡ ResolvedTypeKind.TypeRef target) ×
-        (build-variable-field types refs n (head (typeOf (tree a))) (kindOf (typeOf (tree a))) g ≡ (build-typeref-node types (head (typeOf (tree a))) target >>= (λ node. give (align-node node (head (typeOf (tree a)) .alignment)))) g)
-    unfolding build-variable-field
-    call-is types refs n a = let i = target-at refl ek a .is in (_, i, ap (λ (z : ResolvedTypeKind). build-variable-field types refs n (head (typeOf (tree a))) z g) i)
-
-    pub call-stops : {xs vs ys : List ℕ} {at u c : ℕ} → (r .number ≡ 0 → ⊥) → (t : Tree) (refs : List Owner) (name : Name) (a : Accepted s 1 7 kind) → readSet s ≡ done t →
-        Builds s xs at vs ys (record { at = u; count = c; number = r .number }) (build-variable-field (typesOf t) refs name (head (typeOf (tree a))) (kindOf (typeOf (tree a))) g)
-    call-stops {xs} {vs} {ys} {at} {u} {c} z t refs name a e =
-        let i = call-is (typesOf t) refs name a in
-        subst (Builds s xs at vs ys (record { at = u; count = c; number = r .number })) (sym (i .2)) (node-stops (build-typeref-node (typesOf t) (head (typeOf (tree a))) (i .0)) g (b t a (i .0) e (i .1)) _ z)
-
-    pub call-done : {xs ys : List ℕ} {at u : ℕ} {w : TypeHead} → ((a : Accepted s 1 7 kind) → HeadAt a w) → Opened xs at w x₁ p → r .number ≡ 0 → Wrote x₂ at (bytes 4 (r .at - at - 4)) ys u →
-        (t : Tree) (refs : List Owner) (name : Name) (a : Accepted s 1 7 kind) → readSet s ≡ done t →
-        Builds s xs at us ys (record { at = r .at; count = r .count; number = 0 }) (build-variable-field (typesOf t) refs name (head (typeOf (tree a))) (kindOf (typeOf (tree a))) g)
-    call-done {xs} {ys} {at} {w} hd o z c t refs name a e =
-        let i = call-is (typesOf t) refs name a in
-        subst (Builds s xs at us ys (record { at = r .at; count = r .count; number = 0 })) (sym (i .2))
-        (subst (λ (m : ℕ). Builds s xs at us ys (record { at = r .at; count = r .count; number = 0 }) ((build-typeref-node (typesOf t) (head (typeOf (tree a))) (i .0) >>= (λ n. give (align-node n m))) g)) (sym (hd a .alignment))
-        (node-aligned (build-typeref-node (typesOf t) (head (typeOf (tree a))) (i .0)) g (b t a (i .0) e (i .1)) (w .alignment) z o c))
+-- an array under the field's name
+pub array-built : {s xs ws us ys : List ℕ} {at kind : ℕ} {node r : Built} (name : ℕ) (g : Registry) → le2 s (kind + 4) ≡ 5 → {o : List ℕ} → o ≡ nameAt s name →
+    ((a : Accepted s 1 7 kind) → Builds s xs at ws ys node (build-array-node-with-prefix o (prefixOf 0) (typeOf (tree a)) g)) →
+    ((a : Accepted s 1 7 kind) → EntersOwn s ws node (head (typeOf (tree a))) us r) →
+    (t : Tree) (refs : List Owner) (a : Accepted s 1 7 kind) → readSet s ≡ done t →
+    Builds s xs at us ys r (build-variable-field (typesOf t) refs (nameAt s name) (head (typeOf (tree a))) (kindOf (typeOf (tree a))) g)
+unfolding prefixOf
+array-built {s} {xs} {ws} {us} {ys} {at} {node} {r} name g ek eo b k t refs a q =
+    subst (Builds s xs at us ys r) (sym (array-of (typesOf t) refs (nameAt s name) g (typeOf (tree a)) (array-at ek refl refl refl a .is)))
+    (k a xs ys at (build-array-node-with-prefix (nameAt s name) [] (typeOf (tree a))) g
+    (subst (λ (z : Name). Builds s xs at ws ys node (build-array-node-with-prefix z [] (typeOf (tree a)) g)) eo (b a)))
 
 -- ---- by the kind, and by the size
 
@@ -390,12 +345,14 @@ module _ {s : List ℕ} {kind : ℕ} {h : TypeHead} (references name : ℕ) (g :
     pub field-stops : {xs ys : List ℕ} {at u c : ℕ} → (e .number ≡ 0 → ⊥) → (t : Tree) (b : Accepted s 32 32 references) (a : Accepted s 1 7 kind) → readSet s ≡ done t →
         Builds s xs at us ys (record { at = u; count = c; number = e .number }) (build-field (typesOf t) (ownersOf (tree b)) (nameAt s name) (head (typeOf (tree a)) .size) (head (typeOf (tree a))) (kindOf (typeOf (tree a))) g)
     unfolding build-field
-    field-stops z t b a d = let w = kept-refused z (k a) in stops (e .number) (size-is (typesOf t) (ownersOf (tree b)) a false v ∙ step-refused (extend-with (head (typeOf (tree a)) .dynamic-params)) _ g (w .0)) (w .1)
+    field-stops z t b a d =
+        let w = kept-refused z (k a) in
+        refuses (e .number) refl (w .1) (size-is (typesOf t) (ownersOf (tree b)) a false v ∙ step-refused (extend-with (head (typeOf (tree a)) .dynamic-params)) _ g (w .0))
 
     pub field-done : {xs ys : List ℕ} {at u : ℕ} → e .number ≡ 0 → Wrote xs at (write (nodeTree (const-or-zero (h .size) (h .alignment)))) ys u → (t : Tree) (b : Accepted s 32 32 references) (a : Accepted s 1 7 kind) → readSet s ≡ done t →
         Builds s xs at us ys (record { at = u; count = e .count; number = 0 }) (build-field (typesOf t) (ownersOf (tree b)) (nameAt s name) (head (typeOf (tree a)) .size) (head (typeOf (tree a))) (kindOf (typeOf (tree a))) g)
     unfolding build-field give
     field-done z w t b a d =
-        makes (const-or-zero (h .size) (h .alignment))
+        makes (const-or-zero (h .size) (h .alignment)) refl refl w
         (size-is (typesOf t) (ownersOf (tree b)) a false v ∙ step-done (extend-with (head (typeOf (tree a)) .dynamic-params)) _ g (kept-done z (k a))
-        ∙ ap (λ (m : ℕ). done (const-or-zero (h .size) m, entriesOf s us (e .count))) (hd a .alignment)) w
+        ∙ ap (λ (m : ℕ). done (const-or-zero (h .size) m, entriesOf s us (e .count))) (hd a .alignment))

@@ -21,7 +21,7 @@ use Rattle.resolved.specs.Resolved.{Owner, Head, ResolvedType, ResolvedTypeKind
 use Rattle.resolved.specs.Set.{typeOf, typesOf, thingOf, fieldsIn}
 use Rattle.ir.specs.Ir.{IrNode}
 use Rattle.ir.specs.Layout.{nodeTree}
-use Rattle.builder.specs.Registry.{Registry, need, give, refuse}
+use Rattle.builder.specs.Registry.{Registry, _>>=_, need, give, refuse}
 use Rattle.builder.specs.Nodes.{align-node, const-or-zero, build-field, build-variable-struct}
 use Rattle.wire.specs.Poke.{Wrote}
 use Rattle.wire.proofs.Laws.{parts, no-parts}
@@ -32,16 +32,18 @@ use Rattle.resolved_parts.specs.Types.{HeadAt, FieldAt, FieldsAt, ownersOf, off
 use Rattle.builder_registry.specs.Words.{entriesOf}
 use Rattle.builder_nodes.specs.declared.Built.{Built}
 use Rattle.builder_nodes.specs.Built.{Builds, nodeStart}
-use Rattle.builder_nodes.proofs.Laws.{node-closed, align-closed}
+use Rattle.builder_nodes.proofs.Laws.{node-closed}
+use Rattle.builder_expressions.proofs.Laws.{refuses}
 use Rattle.builder_structs.specs.declared.End.{End}
 use Rattle.builder_structs.specs.declared.End.the-variants.{At, Over}
 use Rattle.builder_structs.specs.declared.Run.{Run}
 use Rattle.builder_structs.specs.Fold.{upTo, combine, summed}
 use Rattle.builder_structs.specs.Next.{fieldsOf, padSize, prefixEnd, endOf, State, stateOf, fieldNode, nextOf, next, nodesOf, countOf}
+use Rattle.builder_structs.specs.Field.{withAlign, ClosesAligned}
 use Rattle.builder_structs.specs.Ready.{Ran}
 use Rattle.builder_structs.proofs.Fold.{sumNode, plus, more, summed-one, summed-at}
 use Rattle.builder_structs.proofs.Next.{struct-is}
-use Rattle.builder_structs.proofs.Field.{builds-done, builds-refused, stops, makes}
+use Rattle.builder_structs.proofs.Field.{builds-done, builds-refused, Opened}
 
 -- ---- padding
 
@@ -321,6 +323,24 @@ count-end h c l = let e = ended h c l .0 .is in omega (arith, e)
 
 -- ---- the struct
 
+-- the node, and the registry behind it
+abbrev nodeOut : State × IrNode → Outcome (IrNode × Registry)
+nodeOut y = done (y .1, y .0 .registry)
+
+-- what was built of a sum of nodes, without the fields that are left
+ran-built : {s xs us ys : List ℕ} {at : ℕ} {r : Run} {x : Outcome (State × IrNode)} → Ran s xs at us ys r x →
+    Builds s xs at us ys (record { at = r .at; count = r .count; number = r .number }) (_andThen_ x nodeOut)
+unfolding _andThen_
+ran-built {s} {us} {r} (Ran.ran l n z w) = Builds.made (n, entriesOf s us (r .count)) z refl w
+ran-built (Ran.not k z l) = Builds.not k z l
+
+-- that node, aligned
+up-is : (a : ℕ) (g : Registry) (x : Outcome (State × IrNode)) → _andThen_ x (λ y. done (align-node (y .1) a, y .0 .registry)) ≡ withAlign a (λ _. _andThen_ x nodeOut) g
+unfolding withAlign _>>=_ _andThen_ give
+up-is a g (done y) = refl
+up-is a g (refused q) = refl
+
+-- a struct has one list of fields
 same-fields : {z : ResolvedTypeKind} {fs gs : Fields} → z ≡ ResolvedTypeKind.Struct fs → z ≡ ResolvedTypeKind.Struct gs → fs ≡ gs
 same-fields e j = cc
 
@@ -347,24 +367,18 @@ module _ {s : List ℕ} {kind k : ℕ} {h : TypeHead} {f : ListParts} (g : Regis
       Builds s xs at us ys (record { at = u; count = c; number = 11 }) (build-variable-struct (typesOf t) (head (typeOf (tree a))) fs g)
   unfolding summed upTo combine _andThen_
   struct-none z t a fs q e =
-      stops 11
+      refuses 11 refl (omega arith)
       (sum-is (typesOf t) a e
-      ∙ ap (λ (n : ℕ). _andThen_ (summed (next (typesOf t) (ownersOf (tree (hd a .references)))) n (stateOf g (fieldsOf (fl a .list .got .0)) 0 false)) (up (h .alignment))) z) (omega arith)
+      ∙ ap (λ (n : ℕ). _andThen_ (summed (next (typesOf t) (ownersOf (tree (hd a .references)))) n (stateOf g (fieldsOf (fl a .list .got .0)) 0 false)) (up (h .alignment))) z)
 
-  module _ {us x₁ x₂ : List ℕ} {p : ℕ} {r : Run}
-      (sm : (t : Tree) (d : Accepted s 32 32 (h .references)) (l : Listed s 33 33 (f .count) (f .first)) → readSet s ≡ done t →
-      Ran s x₁ p us x₂ r (summed (next (typesOf t) (ownersOf (tree d))) k (stateOf g (fieldsOf (l .got .0)) 0 false))) where
-    pub struct-stops : {xs vs ys : List ℕ} {at u c : ℕ} → (r .number ≡ 0 → ⊥) → (t : Tree) (a : Accepted s 1 7 kind) (fs : Fields) → readSet s ≡ done t → kindOf (typeOf (tree a)) ≡ ResolvedTypeKind.Struct fs →
-        Builds s xs at vs ys (record { at = u; count = c; number = r .number }) (build-variable-struct (typesOf t) (head (typeOf (tree a))) fs g)
-    unfolding _andThen_
-    struct-stops z t a fs q e =
-        let d = ran-refused z (sm t (hd a .references) (fl a .list) q) in
-        stops (r .number) (sum-is (typesOf t) a e ∙ ap (λ (o : Outcome (State × IrNode)). _andThen_ o (up (h .alignment))) (d .0)) (d .1)
-
-    pub struct-done : {xs ys : List ℕ} {at q : ℕ} → Wrote xs at (nodeStart 131 (h .alignment) ++ write (num 8 (h .alignment))) x₁ p → r .number ≡ 0 → Wrote x₂ at (bytes 4 (r .at - at - 4)) ys q →
-        (t : Tree) (a : Accepted s 1 7 kind) (fs : Fields) → readSet s ≡ done t → kindOf (typeOf (tree a)) ≡ ResolvedTypeKind.Struct fs →
-        Builds s xs at us ys (record { at = r .at; count = r .count; number = 0 }) (build-variable-struct (typesOf t) (head (typeOf (tree a))) fs g)
-    unfolding _andThen_
-    struct-done w z c t a fs q e =
-        let d = ran-done z (sm t (hd a .references) (fl a .list) q) in
-        makes (align-node (d .1) (h .alignment)) (sum-is (typesOf t) a e ∙ ap (λ (o : Outcome (State × IrNode)). _andThen_ o (up (h .alignment))) (d .2)) (align-closed (h .alignment) (d .1) w (d .3) c)
+  -- the sum, aligned
+  pub struct-built : {us xs x₁ x₂ ys : List ℕ} {at p : ℕ} {r : Run} {b : Built} →
+      ((t : Tree) (d : Accepted s 32 32 (h .references)) (l : Listed s 33 33 (f .count) (f .first)) → readSet s ≡ done t →
+      Ran s x₁ p us x₂ r (summed (next (typesOf t) (ownersOf (tree d))) k (stateOf g (fieldsOf (l .got .0)) 0 false))) →
+      Opened xs at h x₁ p → ClosesAligned x₂ at (record { at = r .at; count = r .count; number = r .number }) ys b →
+      (t : Tree) (a : Accepted s 1 7 kind) (fs : Fields) → readSet s ≡ done t → kindOf (typeOf (tree a)) ≡ ResolvedTypeKind.Struct fs →
+      Builds s xs at us ys b (build-variable-struct (typesOf t) (head (typeOf (tree a))) fs g)
+  struct-built {us} {xs} {x₁} {ys} {at} {p} {b} sm w c t a fs q e =
+      let o = summed (next (typesOf t) (ownersOf (tree (hd a .references)))) k (stateOf g (fieldsOf (fl a .list .got .0)) 0 false) in
+      subst (Builds s xs at us ys b) (sym (sum-is (typesOf t) a e ∙ up-is (h .alignment) g o))
+      (c s us xs x₁ p (h .alignment) (λ _. _andThen_ o nodeOut) g w (ran-built (sm t (hd a .references) (fl a .list) q)))

@@ -21,7 +21,7 @@ ghost use Rattle.builder_nodes.specs.Built.{Builds, Within};
 ghost use Rattle.builder_calls.specs.Ready.{Ready};
 ghost use Rattle.builder_structs.specs.Fold.{summed};
 ghost use Rattle.builder_structs.specs.Next.{padSize, prefixEnd, endOf, stateOf, fieldsOf, next, nodesOf, countOf};
-ghost use Rattle.builder_structs.specs.Field.{sumOf, payloadOf};
+ghost use Rattle.builder_structs.specs.Field.{sumOf, payloadOf, EntersOwn, ClosesAligned};
 ghost use Rattle.builder_structs.specs.Ready.{ReadyKind, ReadyArray, ReadyPaths, ReadyField, ReadyEnum, ReadyNext, ReadySum, Ran, Goes};
 
 // The end of the prefix behind a field, unless it is 2^64 or more.
@@ -52,6 +52,38 @@ fn enter_own(s: &[u8], words: &mut [u64], n: usize, kind: usize) -> Held
     builder_registry::extend_with(s, words, n, references)
 }
 
+// What was built of a field, then its type's own references: "a field's own references enter after its node".
+fn enter_behind(s: &[u8], words: &mut [u64], kind: usize, node: Built) -> Built
+    requires { ⌜ Standing (now s) (now words) (node .count) × Accepted (now s) 1 7 kind ⌝ }
+    ensures { λ r. ⌜ (r .at ≡ node .at) × (r .count ≤ 512) ⌝ }
+    ensures { λ r. ⌜ ((a : Accepted (now (s .entry)) 1 7 kind) → EntersOwn (now (s .entry)) (now (words .entry)) node (head (typeOf (tree a))) (now (words .exit)) r) ⌝ }
+{
+    if node.number != 0 {
+        return node;
+    }
+    let at = node.at;
+    let h = enter_own(s, words, node.count, kind);
+    Built {
+        at,
+        count: h.count,
+        number: h.number,
+    }
+}
+
+// The AlignUp node that was opened at `at`, closed around what was built in it, unless that was refused.
+fn close_aligned(out: &mut [u8], at: usize, node: Built) -> Built
+    requires { ⌜ (at + 4 ≤ node .at) × (node .at < 2 ^ 61) ⌝ }
+    ensures { λ r. ⌜ (r .at ≡ node .at) × (r .count ≡ node .count) ⌝ }
+    ensures { λ r. ⌜ ClosesAligned (now (out .entry)) at node (now (out .exit)) r ⌝ }
+{
+    if node.number != 0 {
+        return node;
+    }
+    let end = node.at;
+    wire::close_block(out, at, end);
+    node
+}
+
 // The sum of a field's paths.
 fn put_sum(
     s: &[u8],
@@ -69,27 +101,7 @@ fn put_sum(
 {
     let owner = resolved_parts::name_at(s, name);
     let r = builder_sums::sum_refs(s, words, n, owner, false, paths, out, at);
-    if r.number != 0 {
-        return Built {
-            at,
-            count: n,
-            number: r.number,
-        };
-    }
-    let count = r.count;
-    let h = enter_own(s, words, count, kind);
-    if h.number != 0 {
-        return Built {
-            at,
-            count: n,
-            number: h.number,
-        };
-    }
-    Built {
-        at: r.at,
-        count: h.count,
-        number: 0,
-    }
+    enter_behind(s, words, kind, r)
 }
 
 // A field whose sum is that of the struct's references for it.
@@ -137,20 +149,7 @@ fn put_payload(
     let alignment = resolved_parts::type_head(s, kind).alignment;
     let p = builder_nodes::open_align(out, at, alignment);
     let r = builder_sums::sum_refs(s, words, n, owner, true, paths, out, p);
-    if r.number != 0 {
-        return Built {
-            at,
-            count: n,
-            number: r.number,
-        };
-    }
-    let end = r.at;
-    wire::close_block(out, at, end);
-    Built {
-        at: end,
-        count: r.count,
-        number: 0,
-    }
+    close_aligned(out, at, r)
 }
 
 // An enum as a switch, aligned.
@@ -169,29 +168,8 @@ fn field_switch(
     let alignment = resolved_parts::type_head(s, kind).alignment;
     let p = builder_nodes::open_align(out, at, alignment);
     let r = builder_switches::build_enum_node(s, words, n, kind, out, p);
-    if r.number != 0 {
-        return Built {
-            at,
-            count: n,
-            number: r.number,
-        };
-    }
-    let count = r.count;
-    let h = enter_own(s, words, count, kind);
-    if h.number != 0 {
-        return Built {
-            at,
-            count: n,
-            number: h.number,
-        };
-    }
-    let end = r.at;
-    wire::close_block(out, at, end);
-    Built {
-        at: end,
-        count: h.count,
-        number: 0,
-    }
+    let e = enter_behind(s, words, kind, r);
+    close_aligned(out, at, e)
 }
 
 // An enum: its payload, where the struct's references for it have one.
@@ -237,27 +215,7 @@ fn field_array(
 {
     let owner = resolved_parts::name_at(s, name);
     let r = builder_arrays::build_array_node_with_prefix(s, words, n, owner, 0, kind, out, at);
-    if r.number != 0 {
-        return Built {
-            at,
-            count: n,
-            number: r.number,
-        };
-    }
-    let count = r.count;
-    let h = enter_own(s, words, count, kind);
-    if h.number != 0 {
-        return Built {
-            at,
-            count: n,
-            number: h.number,
-        };
-    }
-    Built {
-        at: r.at,
-        count: h.count,
-        number: 0,
-    }
+    enter_behind(s, words, kind, r)
 }
 
 // A size-discriminated union, aligned.
@@ -276,29 +234,8 @@ fn field_sized(
     let alignment = resolved_parts::type_head(s, kind).alignment;
     let p = builder_nodes::open_align(out, at, alignment);
     let r = builder_switches::build_size_discriminated_union_node(s, words, n, kind, out, p);
-    if r.number != 0 {
-        return Built {
-            at,
-            count: n,
-            number: r.number,
-        };
-    }
-    let count = r.count;
-    let h = enter_own(s, words, count, kind);
-    if h.number != 0 {
-        return Built {
-            at,
-            count: n,
-            number: h.number,
-        };
-    }
-    let end = r.at;
-    wire::close_block(out, at, end);
-    Built {
-        at: end,
-        count: h.count,
-        number: 0,
-    }
+    let e = enter_behind(s, words, kind, r);
+    close_aligned(out, at, e)
 }
 
 // A type reference, aligned; it enters none of its own references.
@@ -317,20 +254,7 @@ fn field_call(
     let alignment = resolved_parts::type_head(s, kind).alignment;
     let p = builder_nodes::open_align(out, at, alignment);
     let r = builder_calls::build_typeref_node(s, words, n, kind, out, p);
-    if r.number != 0 {
-        return Built {
-            at,
-            count: n,
-            number: r.number,
-        };
-    }
-    let end = r.at;
-    wire::close_block(out, at, end);
-    Built {
-        at: end,
-        count: r.count,
-        number: 0,
-    }
+    close_aligned(out, at, r)
 }
 
 // A field of variable size, by the kind of its type.
@@ -654,18 +578,10 @@ pub fn build_variable_struct(
     }
     let p = builder_nodes::open_align(out, at, h.alignment);
     let r = sum(s, words, n, references, field, left, 0, false, k, out, p);
-    if r.number != 0 {
-        return Built {
-            at,
-            count: n,
-            number: r.number,
-        };
-    }
-    let end = r.at;
-    wire::close_block(out, at, end);
-    Built {
-        at: end,
+    let b = Built {
+        at: r.at,
         count: r.count,
-        number: 0,
-    }
+        number: r.number,
+    };
+    close_aligned(out, at, b)
 }

@@ -1,7 +1,7 @@
 -- `build_variable_struct` meets its contract.
 use borrow.Author.Needs.{needs}
 use native.Mathlib.Omega.{arith}
-use Rattle.builder_structs.proofs.Laws.{struct-none, struct-stops, struct-done}
+use Rattle.builder_structs.proofs.Laws.{struct-none, struct-built}
 use Rattle.builder_structs.proofs.build_variable_struct.Statement.{statement}
 use Rattle.builder_structs.proofs.build_variable_struct.Tie as tie
 
@@ -75,28 +75,9 @@ same-length c = search needs
 same-length-2 : tie.Need-same-length-2
 same-length-2 c = search needs
 
-returns-2 : tie.Need-returns-2
-returns-2 c =
-    let at-sum = c .before .before .before .before .before .before in
-    let at-count-nodes = at-sum .before .before .before .before .before .before .before .before in
-    let at-field-list = at-count-nodes .before in (
-      record {
-        low = omega arith;
-        high = omega arith;
-        count = at-start at-field-list .pre .0 .standing .count;
-      },
-      struct-stops _
-          (at-start at-field-list .pre .0 .kind-is)
-          (at-type-head at-field-list .type-head .ensures)
-          (at-field-list .field-list .ensures)
-          (at-count-nodes .count-nodes .ensures .1)
-          (at-sum .sum .ensures .1)
-          (c .if2 .taken),
-    )
-
-close-block-requires : tie.Need-close-block-requires
-close-block-requires c κs =
-    let at-sum = c .before .before .before .before .before .before .before in
+close-aligned-requires : tie.Need-close-aligned-requires
+close-aligned-requires c κs =
+    let at-sum = c .before .before .before .before .before in
     let at-open-align = at-sum .before .before .before .before .before in
     let at-count-nodes = at-open-align .before .before .before in (
       omega (arith, at-open-align .open-align .ensures .1, at-sum .sum .ensures .0 .low),
@@ -109,44 +90,42 @@ close-block-requires c κs =
       ),
     )
 
-same-length-3 : tie.Need-same-length-3
-same-length-3 c = search needs
-
-same-length-4 : tie.Need-same-length-4
-same-length-4 c = search needs
-
-returns-3 : tie.Need-returns-3
-returns-3 c =
-    let at-close-block = c .before .before in
-    let at-else2 = at-close-block .before .before in
-    let at-sum = at-else2 .before .before .before .before .before .before in
+returns-2 : tie.Need-returns-2
+returns-2 c =
+    let at-close-aligned = c .before .before in
+    let at-sum = at-close-aligned .before .before .before .before .before .before in
     let at-open-align = at-sum .before .before .before .before .before in
     let at-count-nodes = at-open-align .before .before .before in
     let at-field-list = at-count-nodes .before in (
       record {
-        low = omega (arith, at-open-align .open-align .ensures .1, at-sum .sum .ensures .0 .low);
+        low = omega (
+          arith,
+          at-open-align .open-align .ensures .1,
+          at-sum .sum .ensures .0 .low,
+          at-close-aligned .close-aligned .ensures .0,
+        );
         high = omega (
           arith,
           at-open-align .open-align .ensures .1,
           at-sum .sum .ensures .0 .high,
           at-count-nodes .count-nodes .ensures .0,
+          at-close-aligned .close-aligned .ensures .0,
         );
-        count = at-sum .sum .ensures .0 .count;
+        count = omega (
+          arith,
+          at-sum .sum .ensures .0 .count,
+          at-close-aligned .close-aligned .ensures .0,
+        );
       },
-      struct-done _
+      struct-built _
           (at-start at-field-list .pre .0 .kind-is)
           (at-type-head at-field-list .type-head .ensures)
           (at-field-list .field-list .ensures)
           (at-count-nodes .count-nodes .ensures .1)
           (at-sum .sum .ensures .1)
           (at-open-align .open-align .ensures .0)
-          (at-else2 .if2 .left)
-          (at-close-block .close-block .ensures .0),
+          (at-close-aligned .close-aligned .ensures .1),
     )
 
 pub build-variable-struct-spec : {M : Type 1} → statement M
-build-variable-struct-spec =
-    tie.close
-    (tie.spec type-head-requires field-list-requires count-nodes-requires returns
-    open-align-requires sum-requires same-length same-length-2 returns-2 close-block-requires
-    same-length-3 same-length-4 returns-3)
+build-variable-struct-spec = tie.close (tie.spec type-head-requires field-list-requires count-nodes-requires returns open-align-requires sum-requires close-aligned-requires same-length same-length-2 returns-2)

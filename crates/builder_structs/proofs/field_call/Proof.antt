@@ -1,7 +1,8 @@
--- `field_call` meets its contract.
+-- `field_call` meets its contract: the call, and the AlignUp node around it.
 use borrow.Author.Needs.{needs}
+use mathlib.Core.Path.{refl}
 use native.Mathlib.Omega.{arith}
-use Rattle.builder_structs.proofs.Field.{call-stops, call-done}
+use Rattle.builder_structs.proofs.Field.{close-ready, aligned-within, call-built}
 use Rattle.builder_structs.proofs.field_call.Statement.{statement}
 use Rattle.builder_structs.proofs.field_call.Tie as tie
 
@@ -24,6 +25,17 @@ build-typeref-node-requires c κs =
       cursor = omega (arith, at-open-align .open-align .ensures .1, at-start .pre .base .cursor);
     }
 
+close-aligned-requires : tie.Need-close-aligned-requires
+close-aligned-requires c κs =
+    let at-node = c .before .before .before .before .before in
+    let at-open-align = at-node .before .before .before .before .before in
+    let at-start = at-open-align .before .before .before .before .before .before in
+    close-ready _
+    (at-open-align .open-align .ensures .1)
+    (at-node .build-typeref-node .ensures .0)
+    refl
+    (omega (arith, at-start .pre .base .cursor))
+
 same-length : tie.Need-same-length
 same-length c = search needs
 
@@ -32,75 +44,24 @@ same-length-2 c = search needs
 
 returns : tie.Need-returns
 returns c =
-    let at-build-typeref-node = c .before .before .before .before .before .before in
-    let at-start = at-build-typeref-node .before .before .before .before .before .before .before .before .before .before .before in (
-      record {
-        low = omega arith;
-        high = omega arith;
-        count = at-start .pre .base .standing .count;
-      },
-      call-stops _ _
-          (at-start .pre .kind-is)
-          (at-build-typeref-node .build-typeref-node .ensures .1)
-          (c .if1 .taken),
-    )
-
-close-block-requires : tie.Need-close-block-requires
-close-block-requires c κs =
-    let at-build-typeref-node = c .before .before .before .before .before .before .before in
-    let at-open-align = at-build-typeref-node .before .before .before .before .before in
-    let at-start = at-open-align .before .before .before .before .before .before in (
-      omega (
-        arith,
-        at-open-align .open-align .ensures .1,
-        at-build-typeref-node .build-typeref-node .ensures .0 .low,
-      ),
-      omega (
-        arith,
-        at-open-align .open-align .ensures .1,
-        at-build-typeref-node .build-typeref-node .ensures .0 .high,
-        at-start .pre .base .cursor,
-      ),
-    )
-
-same-length-3 : tie.Need-same-length-3
-same-length-3 c = search needs
-
-same-length-4 : tie.Need-same-length-4
-same-length-4 c = search needs
-
-returns-2 : tie.Need-returns-2
-returns-2 c =
-    let at-close-block = c .before .before in
-    let at-else1 = at-close-block .before .before in
-    let at-build-typeref-node = at-else1 .before .before .before .before .before .before in
-    let at-open-align = at-build-typeref-node .before .before .before .before .before in
+    let at-close-aligned = c .before .before in
+    let at-node = at-close-aligned .before .before .before .before .before .before in
+    let at-open-align = at-node .before .before .before .before .before in
     let at-type-head = at-open-align .before .before in
     let at-start = at-type-head .before .before .before .before in (
-      record {
-        low = omega (
-          arith,
-          at-open-align .open-align .ensures .1,
-          at-build-typeref-node .build-typeref-node .ensures .0 .low,
-        );
-        high = omega (
-          arith,
-          at-open-align .open-align .ensures .1,
-          at-build-typeref-node .build-typeref-node .ensures .0 .high,
-        );
-        count = at-build-typeref-node .build-typeref-node .ensures .0 .count;
-      },
-      call-done _ _
-          (at-start .pre .kind-is)
-          (at-build-typeref-node .build-typeref-node .ensures .1)
+      aligned-within
+          (at-open-align .open-align .ensures .1)
+          (at-node .build-typeref-node .ensures .0)
+          (refl, at-node .build-typeref-node .ensures .0 .count)
+          (at-close-aligned .close-aligned .ensures .0)
+          (omega arith),
+      call-built _
           (at-type-head .type-head .ensures)
           (at-open-align .open-align .ensures .0)
-          (at-else1 .if1 .left)
-          (at-close-block .close-block .ensures .0),
+          (at-close-aligned .close-aligned .ensures .1)
+          (at-start .pre .kind-is)
+          (at-node .build-typeref-node .ensures .1),
     )
 
 pub field-call-spec : {M : Type 1} → statement M
-field-call-spec =
-    tie.close
-    (tie.spec type-head-requires open-align-requires build-typeref-node-requires same-length
-    same-length-2 returns close-block-requires same-length-3 same-length-4 returns-2)
+field-call-spec = tie.close (tie.spec type-head-requires open-align-requires build-typeref-node-requires close-aligned-requires same-length same-length-2 returns)
