@@ -74,7 +74,14 @@ behind-both at e f w = record { low = omega (arith, w .low); high = omega (arith
 pub begins : {s xs x₁ x₂ us ys : List ℕ} {at p q : ℕ} (kind alignment : ℕ) {r : Built} {o : Outcome (IrNode × Registry)} → p ≡ at + 23 →
     Wrote xs at (nodeStart 131 alignment ++ write (num 8 alignment)) x₁ p → Wrote x₁ p (nodeStart kind alignment) x₂ q → Builds s x₂ q us ys r o → Begins s xs at us kind alignment ys r o
 begins {xs} {x₁} {x₂} {at} {q} kind alignment e w v (Builds.made x z g c) =
-    Begins.begun x z g (record { one = x₁; two = x₂; q = q; align = subst (λ (n : ℕ). Wrote xs at (nodeStart 131 alignment ++ write (num 8 alignment)) x₁ n) e w; node = subst (λ (n : ℕ). Wrote x₁ n (nodeStart kind alignment) x₂ q) e v; count = c })
+    Begins.begun x z g (record {
+      one = x₁;
+      two = x₂;
+      q = q;
+      align = subst (λ (n : ℕ). Wrote xs at (nodeStart 131 alignment ++ write (num 8 alignment)) x₁ n) e w;
+      node = subst (λ (n : ℕ). Wrote x₁ n (nodeStart kind alignment) x₂ q) e v;
+      count = c;
+    })
 begins kind alignment e w v (Builds.not k z l) = Begins.not k z l
 
 module _ {s xs us ys : List ℕ} {at kind alignment : ℕ} {r : Built} where
@@ -98,7 +105,8 @@ count-stops owner prefix x os g z b =
     rw (step-refused (build-expr-ir owner prefix x) _ g (i .0)) (Begins.not _ refl (i .1))
 
 -- what entering the references leaves
-count-entered : {s xs us ys : List ℕ} {at alignment : ℕ} (c : Built) {k : Held} (owner prefix : Name) (x : ExprKind) (os : List Owner) (g : Registry) {y : IrNode × Registry} {o : Outcome (Unit × Registry)} →
+count-entered : {s xs us ys : List ℕ} {at alignment : ℕ} (c : Built) {k : Held} (owner prefix : Name) (x : ExprKind) (os : List Owner) (g : Registry)
+    {y : IrNode × Registry} {o : Outcome (Unit × Registry)} →
     build-expr-ir owner prefix x g ≡ done y → Begun xs at 136 alignment (y .0) ys (c .at) → extend-with os (y .1) ≡ o → Kept s us k o →
     Begins s xs at us 136 alignment ys (record { at = c .at; count = k .count; number = k .number }) (counted owner prefix x os g)
 unfolding counted give
@@ -118,14 +126,18 @@ count-goes {c} owner prefix x os g z b h =
 -- ---- the end of an array
 
 -- the bytes of count times element, inside an AlignUp node
-product-written : {xs y₁ y₂ ys : List ℕ} {at alignment u v : ℕ} (h : Head) (count element : IrNode) → h .alignment ≡ alignment → Begun xs at 136 alignment count y₁ u → Wrote y₁ u (write (nodeTree element)) y₂ v → Closed y₂ at v ys →
+product-written : {xs y₁ y₂ ys : List ℕ} {at alignment u v : ℕ} (h : Head) (count element : IrNode) → h .alignment ≡ alignment → Begun xs at 136 alignment count y₁ u →
+    Wrote y₁ u (write (nodeTree element)) y₂ v → Closed y₂ at v ys →
     Wrote xs at (write (nodeTree (product h count element))) ys v
 unfolding nodeTree
 product-written {alignment} h count element e b w c =
-    rw e (align-closed alignment (IrNode.Binary unplaced (aligned alignment) BinaryOp.MulChecked count element) (b .align) (two-written 136 alignment (nodeTree count) (nodeTree element) (b .node) (b .count) w (c .one)) (c .two))
+    rw e
+    (align-closed alignment (IrNode.Binary unplaced (aligned alignment) BinaryOp.MulChecked count element) (b .align)
+    (two-written 136 alignment (nodeTree count) (nodeTree element) (b .node) (b .count) w (c .one)) (c .two))
 
 -- the bytes of a sum over an array
-sum-written : {xs y₁ y₂ y₃ ys : List ℕ} {at alignment u v w : ℕ} (h : Head) (count : IrNode) (t owner : Name) → h .alignment ≡ alignment → Begun xs at 144 alignment count y₁ u → Wrote y₁ u (write (name t)) y₂ v → Wrote y₂ v (write (name owner)) y₃ w → Closed y₃ at w ys →
+sum-written : {xs y₁ y₂ y₃ ys : List ℕ} {at alignment u v w : ℕ} (h : Head) (count : IrNode) (t owner : Name) → h .alignment ≡ alignment →
+    Begun xs at 144 alignment count y₁ u → Wrote y₁ u (write (name t)) y₂ v → Wrote y₂ v (write (name owner)) y₃ w → Closed y₃ at w ys →
     Wrote xs at (write (nodeTree (align-node (IrNode.SumOverArray unplaced (aligned (h .alignment)) count t owner) (h .alignment)))) ys w
 unfolding nodeTree
 sum-written {y₃} {alignment} {w} h count t owner e b f g c =
@@ -141,7 +153,8 @@ Multiplied h m e g = (m >>= (λ count. e >>= (λ element. give (product h count 
 -- the element was built behind the count, and the array finished
 module _ {s xs y₁ : List ℕ} {at alignment : ℕ} (h : Head) (m e : Build IrNode) (g : Registry) (d : h .alignment ≡ alignment) where
   -- the element's node was built or refused, by cases of what the definition gives
-  finished : (c : Built) {us y₂ ys : List ℕ} {n : ℕ} {b r : Built} {y : IrNode × Registry} {o : Outcome (IrNode × Registry)} → m g ≡ done y → Begun xs at 136 alignment (y .0) y₁ (c .at) → e (y .1) ≡ o → Builds s y₁ (c .at) us y₂ b o → Finished y₂ at n b ys r → Builds s xs at us ys r (Multiplied h m e g)
+  finished : (c : Built) {us y₂ ys : List ℕ} {n : ℕ} {b r : Built} {y : IrNode × Registry} {o : Outcome (IrNode × Registry)} → m g ≡ done y →
+      Begun xs at 136 alignment (y .0) y₁ (c .at) → e (y .1) ≡ o → Builds s y₁ (c .at) us y₂ b o → Finished y₂ at n b ys r → Builds s xs at us ys r (Multiplied h m e g)
   unfolding give
   finished c {y} a w f (Builds.made x q k v) (Finished.closed p t) =
       rw (step-done m _ g a, step-done e _ (y .1) f) (Builds.made (product h (y .0) (x .0), x .1) refl k (product-written h (y .0) (x .0) d w v t))
@@ -168,11 +181,15 @@ Leaves s xs at us ys r owner depth array g = (a : Accepted s 1 7 array) → Buil
 
 -- what sum_over_array leaves
 abbrev SumLeft : (s xs : List ℕ) (at : ℕ) (us ys : List ℕ) (r : Built) (owner : Name) (depth alignment size element : ℕ) (g : Registry) → Type 0
-SumLeft s xs at us ys r owner depth alignment size element g = (e : Accepted s 64 91 size) (t : Accepted s 1 7 element) (h : Head) → h .alignment ≡ alignment → Builds s xs at us ys r (summed h owner (prefixOf depth) (exprOf (tree e)) (kindOf (typeOf (tree t))) g)
+SumLeft s xs at us ys r owner depth alignment size element g =
+    (e : Accepted s 64 91 size) (t : Accepted s 1 7 element) (h : Head) → h .alignment ≡ alignment →
+    Builds s xs at us ys r (summed h owner (prefixOf depth) (exprOf (tree e)) (kindOf (typeOf (tree t))) g)
 
 -- what build_counted leaves
 abbrev Counts : (s xs : List ℕ) (at : ℕ) (us ys : List ℕ) (r : Built) (owner : Name) (depth : ℕ) (p : Shape) (g : Registry) → Type 0
-Counts s xs at us ys r owner depth p g = (e : Accepted s 64 91 (p .size)) (f : Accepted s 32 32 (p .references)) → Begins s xs at us 136 (p .alignment) ys r (counted owner (prefixOf depth) (exprOf (tree e)) (ownersOf (tree f)) g)
+Counts s xs at us ys r owner depth p g =
+    (e : Accepted s 64 91 (p .size)) (f : Accepted s 32 32 (p .references)) →
+    Begins s xs at us 136 (p .alignment) ys r (counted owner (prefixOf depth) (exprOf (tree e)) (ownersOf (tree f)) g)
 
 module _ {s : List ℕ} {array : ℕ} {p : Shape} (owner : Name) (depth : ℕ) (g : Registry) (sh : (a : Accepted s 1 7 array) → ShapeAt a p) where
   -- whether a jagged array sums over its elements, as the code has it
@@ -217,14 +234,18 @@ module _ {s : List ℕ} {array : ℕ} {p : Shape} (owner : Name) (depth : ℕ) (
           (multiplies-not (head (typeOf (tree a))) (countAt a) (elementAt a) g (q .alignment) z (counts a) (omega arith) (element-refused _ _ _ _ (q .inner-size ∙ rw e) (not-array (q .element) f)))
 
       -- an element that is an array: built one array deeper
-      pub element-nests : {us y₂ ys : List ℕ} {n : ℕ} {b r : Built} → p .variable ≡ true → le2 s (p .element + 4) ≡ 5 → Leaves s y₁ (c .at) us y₂ b owner (depth + 1) (p .element) (entriesOf s ws (c .count)) → Finished y₂ at n b ys r → Leaves s xs at us ys r owner depth array g
+      pub element-nests : {us y₂ ys : List ℕ} {n : ℕ} {b r : Built} → p .variable ≡ true → le2 s (p .element + 4) ≡ 5 →
+          Leaves s y₁ (c .at) us y₂ b owner (depth + 1) (p .element) (entriesOf s ws (c .count)) → Finished y₂ at n b ys r → Leaves s xs at us ys r owner depth array g
       element-nests {us} {y₂} {b} e f w h a =
           let q = sh a in
-          let x : elementAt a (entriesOf s ws (c .count)) ≡ build-array-node-with-prefix owner (prefixOf (depth + 1)) (typeOf (tree (q .element))) (entriesOf s ws (c .count)) = rw (deeper depth) (element-inside _ _ _ _ (q .inner-size ∙ rw e) (is-array (q .element) f .1)) in
+          let x : elementAt a (entriesOf s ws (c .count)) ≡ build-array-node-with-prefix owner (prefixOf (depth + 1)) (typeOf (tree (q .element))) (entriesOf s ws (c .count)) =
+          rw (deeper depth) (element-inside _ _ _ _ (q .inner-size ∙ rw e) (is-array (q .element) f .1)) in
           rw (multiplied a) (multiplies (head (typeOf (tree a))) (countAt a) (elementAt a) g (q .alignment) z (counts a) (rw x (w (q .element))) h)
 
       -- an element of constant size
-      pub element-made : {y₂ ys : List ℕ} {n u : ℕ} {r : Built} → p .variable ≡ false → Wrote y₁ (c .at) (write (nodeTree (IrNode.Const unplaced (aligned (p .inner)) (p .constant)))) y₂ u → Finished y₂ at n (record { at = u; count = c .count; number = 0 }) ys r → Leaves s xs at ws ys r owner depth array g
+      pub element-made : {y₂ ys : List ℕ} {n u : ℕ} {r : Built} → p .variable ≡ false →
+          Wrote y₁ (c .at) (write (nodeTree (IrNode.Const unplaced (aligned (p .inner)) (p .constant)))) y₂ u →
+          Finished y₂ at n (record { at = u; count = c .count; number = 0 }) ys r → Leaves s xs at ws ys r owner depth array g
       element-made e w h a =
           let q = sh a in
           let k : head (typeOf (tree (q .element))) .size ≡ Size.Const (p .constant) = q .inner-size ∙ rw e in
@@ -233,7 +254,8 @@ module _ {s : List ℕ} {array : ℕ} {p : Shape} (owner : Name) (depth : ℕ) (
 
 -- ---- a sum over an array
 
-module _ {s xs ws y₁ : List ℕ} {at : ℕ} {c : Built} (owner : Name) (depth alignment : ℕ) {size element : ℕ} (g : Registry) (k : (e : Accepted s 64 91 size) → Begins s xs at ws 144 alignment y₁ c (build-expr-ir owner (prefixOf depth) (exprOf (tree e)) g)) where
+module _ {s xs ws y₁ : List ℕ} {at : ℕ} {c : Built} (owner : Name) (depth alignment : ℕ) {size element : ℕ} (g : Registry)
+    (k : (e : Accepted s 64 91 size) → Begins s xs at ws 144 alignment y₁ c (build-expr-ir owner (prefixOf depth) (exprOf (tree e)) g)) where
   -- the count was refused
   pub sum-count-stops : {us ys : List ℕ} {u v : ℕ} → (c .number ≡ 0 → ⊥) → SumLeft s xs at us ys (record { at = u; count = v; number = c .number }) owner depth alignment size element g
   sum-count-stops z e t h d =
@@ -242,13 +264,16 @@ module _ {s xs ws y₁ : List ℕ} {at : ℕ} {c : Built} (owner : Name) (depth 
 
   module _ (z : c .number ≡ 0) where
     -- an element that is no type reference: 13
-    pub sum-element-stops : {us ys : List ℕ} {w u v : ℕ} → w ≡ le2 s (element + 4) → (w ≡ 7 → ⊥) → SumLeft s xs at us ys (record { at = u; count = v; number = 13 }) owner depth alignment size element g
+    pub sum-element-stops : {us ys : List ℕ} {w u v : ℕ} → w ≡ le2 s (element + 4) → (w ≡ 7 → ⊥) →
+        SumLeft s xs at us ys (record { at = u; count = v; number = 13 }) owner depth alignment size element g
     sum-element-stops x y e t h d =
         let i = begun z (k e) in
         refuses 13 refl (omega arith) (sum-refused h owner (prefixOf depth) _ _ g (i .1) (not-target t (rw x at y)))
 
     -- the names of the called type and of the owner stand behind the count
-    pub sum-made : {y₂ y₃ ys : List ℕ} {v w q : ℕ} {n : Name} → ((t : Accepted s 1 7 element) → TargetAt t q) → n ≡ nameAt s q → Wrote y₁ (c .at) (write (name n)) y₂ v → Wrote y₂ v (write (name owner)) y₃ w → Closed y₃ at w ys → SumLeft s xs at ws ys (record { at = w; count = c .count; number = 0 }) owner depth alignment size element g
+    pub sum-made : {y₂ y₃ ys : List ℕ} {v w q : ℕ} {n : Name} → ((t : Accepted s 1 7 element) → TargetAt t q) → n ≡ nameAt s q → Wrote y₁ (c .at) (write (name n)) y₂ v →
+        Wrote y₂ v (write (name owner)) y₃ w → Closed y₃ at w ys →
+        SumLeft s xs at ws ys (record { at = w; count = c .count; number = 0 }) owner depth alignment size element g
     sum-made x y a b f e t h d =
         let i = begun z (k e) in
         rw (sum-gives h owner (prefixOf depth) _ _ g (i .1) (ap targetOf (x t .is)))

@@ -77,7 +77,8 @@ module _ {s xs us ys : List ℕ} {array at : ℕ} {r : Built} (es : Registry) wh
 
   -- the key is no owner
   pub key-no : {x : Paths} {b : ℕ} {key : Name} (name : Name) → ((g : Accepted s 32 32 b) → PathsFound s key (ownersOf (tree g)) x) → x ≡ Missing →
-      ((g : Accepted s 32 32 b) → Under s xs us ys array at r es (owner-among name (ownersOf (tree g)))) → (g : Accepted s 32 32 b) → Under s xs us ys array at r es (owner-under key name (ownersOf (tree g)))
+      ((g : Accepted s 32 32 b) → Under s xs us ys array at r es (owner-among name (ownersOf (tree g)))) → (g : Accepted s 32 32 b) →
+      Under s xs us ys array at r es (owner-under key name (ownersOf (tree g)))
   key-no {key} name f e b g = let h : has key (ownersOf (tree g)) ≡ false = found-not (f g) e in under (rw h refl) (b g)
 
   -- the type's name is one
@@ -86,7 +87,8 @@ module _ {s xs us ys : List ℕ} {array at : ℕ} {r : Built} (es : Registry) wh
   name-yes {o} name d f e b g = let h : has name (ownersOf (tree g)) ≡ true = subst (λ (z : Name). has z (ownersOf (tree g)) ≡ true) d (found-has (f g) e) in under (d ∙ rw h refl) b
 
   -- the type's name is no owner either: the first owner
-  pub name-no : {x : Paths} {b : ℕ} {o f₁ : Name} (name : Name) → 0 < le2 s (b + 6) → o ≡ name → ((g : Accepted s 32 32 b) → PathsFound s o (ownersOf (tree g)) x) → x ≡ Missing → f₁ ≡ nameAt s (b + 6 + 2 + 6) → Under s xs us ys array at r es f₁ →
+  pub name-no : {x : Paths} {b : ℕ} {o f₁ : Name} (name : Name) → 0 < le2 s (b + 6) → o ≡ name → ((g : Accepted s 32 32 b) → PathsFound s o (ownersOf (tree g)) x) →
+      x ≡ Missing → f₁ ≡ nameAt s (b + 6 + 2 + 6) → Under s xs us ys array at r es f₁ →
       (g : Accepted s 32 32 b) → Under s xs us ys array at r es (owner-among name (ownersOf (tree g)))
   name-no {o} name p d f e k b g =
       let h : has name (ownersOf (tree g)) ≡ false = subst (λ (z : Name). has z (ownersOf (tree g)) ≡ false) d (found-not (f g) e) in
@@ -152,7 +154,8 @@ module _ {s : List ℕ} {array at : ℕ} {h : TypeHead} (f : (a : Accepted s 1 7
         subst (Builds s xs at us ys r) (sym (one-there (typeOf (tree a)) es (ownersOf (tree g)) o os (f a .owners) d ∙ renamed (typeOf (tree a)) (f a .name) (ownersOf (tree g)))) (b g a)
       where
         renamed : (t : ResolvedType) → head t .name ≡ nameAt s (array + 6) → (os : List Owner) →
-            build-array-node-with-prefix (owner-under (fieldKey (rsplit-once (head t .name))) (head t .name) os) (prefixOf 0) t es ≡ build-array-node-with-prefix (owner-under key (nameAt s (array + 6)) os) (prefixOf 0) t es
+            build-array-node-with-prefix (owner-under (fieldKey (rsplit-once (head t .name))) (head t .name) os) (prefixOf 0) t es ≡
+            build-array-node-with-prefix (owner-under key (nameAt s (array + 6)) os) (prefixOf 0) t es
         renamed t e os = rw (e, k) refl
 
 -- ---- the key that a name tells

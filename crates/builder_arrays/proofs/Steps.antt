@@ -69,9 +69,12 @@ module _ (owner prefix : Name) (t e : ResolvedType) (x : ExprKind) (j : Bool) (g
   array-sums b = array-steps ∙ ap steps b
 
   -- every other array
-  pub array-multiplies : (j && isVariable (head e .size)) ≡ false → build-array-node-with-prefix owner prefix t g ≡ (counted owner prefix x (head e .dynamic-params) >>= (λ count. elementOf owner prefix e >>= (λ element. give (product (head t) count element)))) g
+  pub array-multiplies : (j && isVariable (head e .size)) ≡ false →
+      build-array-node-with-prefix owner prefix t g ≡ (counted owner prefix x (head e .dynamic-params) >>= (λ count. elementOf owner prefix e >>= (λ element. give (product (head t) count element)))) g
   unfolding build-elements counted
-  array-multiplies b = array-steps ∙ ap steps b ∙ between (build-expr-ir owner prefix x) (extend-with (head e .dynamic-params)) (λ count. elementOf owner prefix e >>= (λ element. give (product (head t) count element))) g
+  array-multiplies b =
+      array-steps ∙ ap steps b
+      ∙ between (build-expr-ir owner prefix x) (extend-with (head e .dynamic-params)) (λ count. elementOf owner prefix e >>= (λ element. give (product (head t) count element))) g
 
 -- ---- an element
 

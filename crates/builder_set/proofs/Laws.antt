@@ -114,7 +114,8 @@ module _ {s xs ys : List ℕ} {at left from place p : ℕ} {t : Tree} (q : Reach
   }
   reach-more _ d (BuildsType.not k n h f) z = absurd (omega arith)
 
-  reach-none : {zs : List ℕ} {b : TypeTree} (r : Types) (o : Outcome TypeIr) → build-type (typesOf t) (typeOf (tree (e .child))) ≡ o → BuildsType ys p zs b o → (b .number ≡ 0 → ⊥) → r .number ≡ b .number → r .place ≡ place →
+  reach-none : {zs : List ℕ} {b : TypeTree} (r : Types) (o : Outcome TypeIr) → build-type (typesOf t) (typeOf (tree (e .child))) ≡ o → BuildsType ys p zs b o →
+      (b .number ≡ 0 → ⊥) → r .number ≡ b .number → r .place ≡ place →
       BuildsTypes xs at zs r (build-types (typesOf t) 0 (typesOf t))
   reach-none r _ d (BuildsType.made x n w) z g k = absurd (z n)
   reach-none {zs} r _ d (BuildsType.not m n h f) z g k =
@@ -130,7 +131,8 @@ module _ {s xs ys : List ℕ} {at left from place p : ℕ} where
       (e .child, omega (arith, o .high, e .child .fits))
 
   -- it is built
-  pub go-on : {zs : List ℕ} {b : TypeTree} {u : ℕ} → 0 < left → Makes s ys from p zs b → b .number ≡ 0 → u ≡ le4 s from → Loop s xs at ys left from place p → Loop s xs at zs (left - 1) (from + 4 + u) (place + 1) (b .at)
+  pub go-on : {zs : List ℕ} {b : TypeTree} {u : ℕ} → 0 < left → Makes s ys from p zs b → b .number ≡ 0 → u ≡ le4 s from → Loop s xs at ys left from place p →
+      Loop s xs at zs (left - 1) (from + 4 + u) (place + 1) (b .at)
   go-on {zs} {b} h f z g c =
       subst (λ (k : ℕ). Loop s xs at zs (left - 1) (from + 4 + k) (place + 1) (b .at)) (sym g) (record {
         on = λ t r. let e = block-entry (c .on t r .list) h in reach-more (c .on t r) e _ refl (f t (e .child) r) z;
@@ -147,7 +149,8 @@ pub no-more : {s xs ys : List ℕ} {at left from place p : ℕ} {r : Types} → 
 unfolding prepend build-types entries
 no-more {xs} {ys} {at} {place} {r} h z g c t e =
     let q = c .on t e in
-    subst (BuildsTypes xs at ys r) (sym (q .whole ∙ ap (λ (v : Tree × ℕ). prepend (q .built) (build-types (typesOf t) place (entries typeOf (v .0)))) (none-left (q .list) h) ∙ ap done (append-nil (q .built))))
+    subst (BuildsTypes xs at ys r)
+    (sym (q .whole ∙ ap (λ (v : Tree × ℕ). prepend (q .built) (build-types (typesOf t) place (entries typeOf (v .0)))) (none-left (q .list) h) ∙ ap done (append-nil (q .built))))
     (BuildsTypes.made (q .built) z (rw g (q .wrote)))
 
 -- ---- what the calls stand on
@@ -227,12 +230,14 @@ set-count s {t} e d =
     sym (built-count (typesOf t) 0 (typesOf t) d ∙ ap length (l .2) ∙ listed-count typeOf (le2 s 6) 8 (l .1))
 
 -- the layout of so many types: its header, its count and its type trees, and then its length
-pub layout-is : {xs xs₁ xs₂ xs₃ ys : List ℕ} {p q u v n : ℕ} (ts : List TypeIr) → Wrote xs 0 (opened 160) xs₁ p → Wrote xs₁ p (bytes 2 n) xs₂ q → Wrote xs₂ q (write (entriesTree typeIrTree ts)) xs₃ u →
+pub layout-is : {xs xs₁ xs₂ xs₃ ys : List ℕ} {p q u v n : ℕ} (ts : List TypeIr) → Wrote xs 0 (opened 160) xs₁ p → Wrote xs₁ p (bytes 2 n) xs₂ q →
+    Wrote xs₂ q (write (entriesTree typeIrTree ts)) xs₃ u →
     Wrote xs₃ 0 (bytes 4 (u - 0 - 4)) ys v → n ≡ length ts → Wrote xs 0 (write (layoutTree ts)) ys u
 unfolding layoutTree write
 layout-is {xs} {xs₃} {u} {n} ts o k t c e =
     closed 0 160 (cons (cons (num 2 (length ts)) (entriesTree typeIrTree ts)) nil)
-    (subst (λ (bs : List ℕ). Wrote xs 0 bs xs₃ u) (ap (λ (bs : List ℕ). opened 160 ++ bs) (sym (append-nil _) ∙ ap (λ (m : ℕ). (bytes 2 m ++ write (entriesTree typeIrTree ts)) ++ []) e)) (both o (both k t))) c
+    (subst (λ (bs : List ℕ). Wrote xs 0 bs xs₃ u)
+    (ap (λ (bs : List ℕ). opened 160 ++ bs) (sym (append-nil _) ∙ ap (λ (m : ℕ). (bytes 2 m ++ write (entriesTree typeIrTree ts)) ++ []) e)) (both o (both k t))) c
 
 -- a write at the start that fits: what was written, then what stood behind
 pub whole-is : {xs ys bs : List ℕ} {u : ℕ} → Wrote xs 0 bs ys u → length bs ≤ length xs → ys ≡ bs ++ drop (length bs) xs
@@ -246,7 +251,8 @@ same-holds {xs} {ys} {bs} {u} w = go (leb (length bs) (length xs)) refl
     long : length ys ≡ length xs
     long = ap length (w .left) ∙ poke-length xs 0 bs
 
-    go : (b : Bool) → leb (length bs) (length xs) ≡ b → ((leb (length bs) (length xs) && leb (length bs) 65536) && answered (readLayout bs)) ≡ ((leb u (length ys) && leb u 65536) && answered (readLayout (take u ys)))
+    go : (b : Bool) → leb (length bs) (length xs) ≡ b →
+        ((leb (length bs) (length xs) && leb (length bs) 65536) && answered (readLayout bs)) ≡ ((leb u (length ys) && leb u 65536) && answered (readLayout (take u ys)))
     go true e =
         let n : u ≡ length bs = w .end ∙ zero-add (length bs) in
         let h : ys ≡ bs ++ drop (length bs) xs = whole-is w (leb-true _ _ e) in

@@ -120,7 +120,8 @@ aligned-within e w d f h = record { low = omega (arith, w .low, d .0, f .0); hig
 abbrev pub Opened : List ℕ → ℕ → TypeHead → List ℕ → ℕ → Type 0
 Opened xs at h x₁ p = Wrote xs at (nodeStart 131 (h .alignment) ++ write (num 8 (h .alignment))) x₁ p
 
-module _ {s xs x₁ x₂ ys : List ℕ} {at p kind : ℕ} {t : TypeHead} {e r : Built} (g : Registry) (hd : (a : Accepted s 1 7 kind) → HeadAt a t) (w : Opened xs at t x₁ p) (c : ClosesAligned x₂ at e ys r) where
+module _ {s xs x₁ x₂ ys : List ℕ} {at p kind : ℕ} {t : TypeHead} {e r : Built} (g : Registry)
+    (hd : (a : Accepted s 1 7 kind) → HeadAt a t) (w : Opened xs at t x₁ p) (c : ClosesAligned x₂ at e ys r) where
   -- the closed node, by the alignment of the type
   aligned-at : {us : List ℕ} (a : Accepted s 1 7 kind) (m : Build IrNode) → Builds s x₁ p us x₂ e (m g) → Builds s xs at us ys r (withAlign (head (typeOf (tree a)) .alignment) m g)
   aligned-at {us} a m b = subst (λ (z : ℕ). Builds s xs at us ys r (withAlign z m g)) (sym (hd a .alignment)) (c s us xs x₁ p (t .alignment) m g w b)
@@ -137,16 +138,48 @@ module _ {s xs x₁ x₂ ys : List ℕ} {at p kind : ℕ} {t : TypeHead} {e r : 
 -- ---- a type's own references
 
 -- as the definition has them, by the head that was read
-pub own-entered : {s us : List ℕ} {kind : ℕ} {h : TypeHead} {r : Held} (g : Registry) → ((a : Accepted s 1 7 kind) → HeadAt a h) → ((a : Accepted s 32 32 (h .references)) → Kept s us r (extend-with (ownersOf (tree a)) g)) →
+pub own-entered : {s us : List ℕ} {kind : ℕ} {h : TypeHead} {r : Held} (g : Registry) → ((a : Accepted s 1 7 kind) → HeadAt a h) →
+    ((a : Accepted s 32 32 (h .references)) → Kept s us r (extend-with (ownersOf (tree a)) g)) →
     (a : Accepted s 1 7 kind) → Kept s us r (extend-with (head (typeOf (tree a)) .dynamic-params) g)
 own-entered {s} {us} {r} g hd k a = subst (λ (os : List Owner). Kept s us r (extend-with os g)) (sym (hd a .owners)) (k (hd a .references))
+
+-- ---- what the code leaves of a field: its name stands at `name`, its type at `kind`, and the entries were g
+
+-- the references of its type behind its node
+abbrev OwnLeft : (s ws : List ℕ) (node : Built) (kind : ℕ) (us : List ℕ) (r : Built) → Type 0
+OwnLeft s ws node kind us r = (a : Accepted s 1 7 kind) → EntersOwn s ws node (head (typeOf (tree a))) us r
+
+-- an enum as a switch
+abbrev SwitchLeft : (s xs : List ℕ) (at : ℕ) (us ys : List ℕ) (r : Built) (kind : ℕ) (g : Registry) → Type 0
+SwitchLeft s xs at us ys r kind g =
+    (name : Name) (a : Accepted s 1 7 kind) (e : ExprKind) (vs : Variants) → kindOf (typeOf (tree a)) ≡ ResolvedTypeKind.Enum e vs →
+    Builds s xs at us ys r (build-field-enum [] name (head (typeOf (tree a))) e vs g)
+
+-- a field of variable size that asks neither for its name nor for the struct's references
+abbrev UnnamedLeft : (s xs : List ℕ) (at : ℕ) (us ys : List ℕ) (r : Built) (kind : ℕ) (g : Registry) → Type 0
+UnnamedLeft s xs at us ys r kind g =
+    (t : Tree) (refs : List Owner) (name : Name) (a : Accepted s 1 7 kind) → readSet s ≡ done t →
+    Builds s xs at us ys r (build-variable-field (typesOf t) refs name (head (typeOf (tree a))) (kindOf (typeOf (tree a))) g)
+
+-- a field of variable size
+abbrev VariableLeft : (s xs : List ℕ) (at : ℕ) (us ys : List ℕ) (r : Built) (references name kind : ℕ) (g : Registry) → Type 0
+VariableLeft s xs at us ys r references name kind g =
+    (t : Tree) (b : Accepted s 32 32 references) (a : Accepted s 1 7 kind) → readSet s ≡ done t →
+    Builds s xs at us ys r (build-variable-field (typesOf t) (ownersOf (tree b)) (nameAt s name) (head (typeOf (tree a))) (kindOf (typeOf (tree a))) g)
+
+-- a field
+abbrev FieldLeft : (s xs : List ℕ) (at : ℕ) (us ys : List ℕ) (r : Built) (references name kind : ℕ) (g : Registry) → Type 0
+FieldLeft s xs at us ys r references name kind g =
+    (t : Tree) (b : Accepted s 32 32 references) (a : Accepted s 1 7 kind) → readSet s ≡ done t →
+    Builds s xs at us ys r
+    (build-field (typesOf t) (ownersOf (tree b)) (nameAt s name) (head (typeOf (tree a)) .size) (head (typeOf (tree a))) (kindOf (typeOf (tree a))) g)
 
 -- ---- sums of paths
 
 module _ {s ws x₁ x₂ : List ℕ} {p paths kind : ℕ} {o : List ℕ} {node : Built} (name : ℕ) (g : Registry) (eo : o ≡ nameAt s name) where
   -- the sum of a field's paths, with what entered behind it
   pub sum-built : {us : List ℕ} {r : Built} → ((q : PathsAt s paths) → Builds s x₁ p ws x₂ node (sum-refs o (textsOf (q .list .got .0)) g)) →
-      ((a : Accepted s 1 7 kind) → EntersOwn s ws node (head (typeOf (tree a))) us r) →
+      OwnLeft s ws node kind us r →
       (q : PathsAt s paths) (a : Accepted s 1 7 kind) → Builds s x₁ p us x₂ r (sumOf (nameAt s name) (head (typeOf (tree a))) (textsOf (q .list .got .0)) g)
   sum-built {us} {r} b k q a =
       subst (λ (z : Name). Builds s x₁ p us x₂ r (sumOf z (head (typeOf (tree a))) (textsOf (q .list .got .0)) g)) eo
@@ -162,27 +195,34 @@ module _ {s ws x₁ x₂ : List ℕ} {p paths kind : ℕ} {o : List ℕ} {node :
 
 -- ---- the struct's references for a field
 
+-- paths that the code found are those that the definition finds
 found-at : {s : List ℕ} {n : Name} {os : List Owner} {f : Paths} {q : ℕ} → f ≡ At q → PathsFound s n os f → (p : PathsAt s q) × (get n os ≡ some (textsOf (p .list .got .0)))
 found-at {s} {n} {os} {q} e (PathsFound.at {q = u} p g) = let i : u ≡ q = cc in subst (λ (k : ℕ). (p : PathsAt s k) × (get n os ≡ some (textsOf (p .list .got .0)))) i (p, g)
 found-at e (PathsFound.missing g) = let z : _≡_ {A = ℕ} 0 1 = cc in absurd (omega arith)
 
+-- where the code finds none, neither does the definition
 found-none : {s : List ℕ} {n : Name} {os : List Owner} {f : Paths} → f ≡ Missing → PathsFound s n os f → get n os ≡ none
 found-none e (PathsFound.at p g) = let z : _≡_ {A = ℕ} 0 1 = cc in absurd (omega arith)
 found-none e (PathsFound.missing g) = g
 
-pub paths-found : {s : List ℕ} {references q : ℕ} {o : Name} {f : Paths} → f ≡ At q → ((b : Accepted s 32 32 references) → PathsFound s o (ownersOf (tree b)) f) → Accepted s 32 32 references → PathsAt s q
+-- the paths that were found are accepted
+pub paths-found : {s : List ℕ} {references q : ℕ} {o : Name} {f : Paths} → f ≡ At q → ((b : Accepted s 32 32 references) → PathsFound s o (ownersOf (tree b)) f) →
+    Accepted s 32 32 references → PathsAt s q
 paths-found e k b = found-at e (k b) .0
 
-module _ {s : List ℕ} {references : ℕ} {o : List ℕ} {f : Paths} (kind name : ℕ) (g : Registry) (eo : o ≡ nameAt s name) (k : (b : Accepted s 32 32 references) → PathsFound s o (ownersOf (tree b)) f) where
+module _ {s : List ℕ} {references : ℕ} {o : List ℕ} {f : Paths} (kind name : ℕ) (g : Registry) (eo : o ≡ nameAt s name)
+    (k : (b : Accepted s 32 32 references) → PathsFound s o (ownersOf (tree b)) f) where
   -- by the name at the offset
   refs-named : (b : Accepted s 32 32 references) → PathsFound s (nameAt s name) (ownersOf (tree b)) f
   refs-named b = subst (λ (z : Name). PathsFound s z (ownersOf (tree b)) f) eo (k b)
 
+  -- the struct has no references for the field: 11
   pub refs-missing : {xs us ys : List ℕ} {at u c : ℕ} → f ≡ Missing → (b : Accepted s 32 32 references) (a : Accepted s 1 7 kind) →
       Builds s xs at us ys (record { at = u; count = c; number = 11 }) (build-field-refs (ownersOf (tree b)) (nameAt s name) (head (typeOf (tree a))) g)
   unfolding build-field-refs
   refs-missing e b a = refuses 11 refl (omega arith) (need-none 11 _ g (found-none e (refs-named b)))
 
+  -- it has: the sum of their paths
   pub refs-found : {xs us ys : List ℕ} {at q : ℕ} {r : Built} → f ≡ At q →
       ((p : PathsAt s q) (a : Accepted s 1 7 kind) → Builds s xs at us ys r (sumOf (nameAt s name) (head (typeOf (tree a))) (textsOf (p .list .got .0)) g)) →
       (b : Accepted s 32 32 references) (a : Accepted s 1 7 kind) → Builds s xs at us ys r (build-field-refs (ownersOf (tree b)) (nameAt s name) (head (typeOf (tree a))) g)
@@ -193,28 +233,32 @@ module _ {s : List ℕ} {references : ℕ} {o : List ℕ} {f : Paths} (kind name
 
   module _ (ek : le2 s (kind + 4) ≡ 4) where
     -- the field's node, by the paths that end in `.payload_size`
-    enum-is : (types : List ResolvedType) (refs : List Owner) (a : Accepted s 1 7 kind) (ps : List Name) → orElse [] (get (nameAt s name) refs) ≡ ps → {e : ExprKind} {vs : Variants} → kindOf (typeOf (tree a)) ≡ ResolvedTypeKind.Enum e vs →
+    enum-is : (types : List ResolvedType) (refs : List Owner) (a : Accepted s 1 7 kind) (ps : List Name) → orElse [] (get (nameAt s name) refs) ≡ ps →
+        {e : ExprKind} {vs : Variants} → kindOf (typeOf (tree a)) ≡ ResolvedTypeKind.Enum e vs →
         build-variable-field types refs (nameAt s name) (head (typeOf (tree a))) (kindOf (typeOf (tree a))) g ≡ build-field-enum (payload-paths ps) (nameAt s name) (head (typeOf (tree a))) e vs g
     unfolding build-variable-field
     enum-is types refs a ps eps {e} {vs} i =
         ap (λ (z : ResolvedTypeKind). build-variable-field types refs (nameAt s name) (head (typeOf (tree a))) z g) i
         ∙ ap (λ (z : List Name). build-field-enum (payload-paths z) (nameAt s name) (head (typeOf (tree a))) e vs g) eps
 
-    some-payload : (ps : List Name) (h : Head) (e : ExprKind) (vs : Variants) → someName ps ≡ true → build-field-enum ps (nameAt s name) h e vs g ≡ (sum-refs (nameAt s name) ps >>= (λ n. give (align-node n (h .alignment)))) g
+    -- with a path that ends in `.payload_size` an enum is the sum of such paths
+    some-payload : (ps : List Name) (h : Head) (e : ExprKind) (vs : Variants) → someName ps ≡ true →
+        build-field-enum ps (nameAt s name) h e vs g ≡ (sum-refs (nameAt s name) ps >>= (λ n. give (align-node n (h .alignment)))) g
     unfolding build-field-enum
     some-payload [] h e vs y = let z : _≡_ {A = ℕ} 0 1 = cc in absurd (omega arith)
     some-payload (p ∷ ps) h e vs y = refl
 
+    -- without one it is a switch
     no-payload : (ps : List Name) (h : Head) (e : ExprKind) (vs : Variants) → someName ps ≡ false → build-field-enum ps (nameAt s name) h e vs g ≡ build-field-enum [] (nameAt s name) h e vs g
     unfolding build-field-enum
     no-payload [] h e vs y = refl
     no-payload (p ∷ ps) h e vs y = let z : _≡_ {A = ℕ} 0 1 = cc in absurd (omega arith)
 
     module _ {xs us ys : List ℕ} {at q : ℕ} {v : Bool} {r : Built} where
+      -- an enum, where a path of the struct's references for it ends in `.payload_size`
       pub enum-payload : f ≡ At q → ((p : PathsAt s q) → v ≡ someName (payload-paths (textsOf (p .list .got .0)))) → v ≡ true →
           ((p : PathsAt s q) (a : Accepted s 1 7 kind) → Builds s xs at us ys r (payloadOf (nameAt s name) (head (typeOf (tree a))) (textsOf (p .list .got .0)) g)) →
-          (t : Tree) (b : Accepted s 32 32 references) (a : Accepted s 1 7 kind) → readSet s ≡ done t →
-          Builds s xs at us ys r (build-variable-field (typesOf t) (ownersOf (tree b)) (nameAt s name) (head (typeOf (tree a))) (kindOf (typeOf (tree a))) g)
+          VariableLeft s xs at us ys r references name kind g
       unfolding withAlign
       enum-payload e has y h t b a d =
           let w = found-at e (refs-named b) in
@@ -223,10 +267,10 @@ module _ {s : List ℕ} {references : ℕ} {o : List ℕ} {f : Paths} (kind name
           subst (Builds s xs at us ys r)
           (sym (enum-is (typesOf t) (ownersOf (tree b)) a T (ap (orElse []) (w .1)) i ∙ some-payload (payload-paths T) (head (typeOf (tree a))) _ _ (sym (has (w .0)) ∙ y))) (h (w .0) a)
 
+      -- an enum, where no path does
       pub enum-plain : f ≡ At q → ((p : PathsAt s q) → v ≡ someName (payload-paths (textsOf (p .list .got .0)))) → v ≡ false →
-          ((n : Name) (a : Accepted s 1 7 kind) (e : ExprKind) (vs : Variants) → kindOf (typeOf (tree a)) ≡ ResolvedTypeKind.Enum e vs → Builds s xs at us ys r (build-field-enum [] n (head (typeOf (tree a))) e vs g)) →
-          (t : Tree) (b : Accepted s 32 32 references) (a : Accepted s 1 7 kind) → readSet s ≡ done t →
-          Builds s xs at us ys r (build-variable-field (typesOf t) (ownersOf (tree b)) (nameAt s name) (head (typeOf (tree a))) (kindOf (typeOf (tree a))) g)
+          (SwitchLeft s xs at us ys r kind g) →
+          VariableLeft s xs at us ys r references name kind g
       enum-plain e has y h t b a d =
           let w = found-at e (refs-named b) in
           let T : List Name = textsOf (w .0 .list .got .0) in
@@ -234,10 +278,10 @@ module _ {s : List ℕ} {references : ℕ} {o : List ℕ} {f : Paths} (kind name
           subst (Builds s xs at us ys r)
           (sym (enum-is (typesOf t) (ownersOf (tree b)) a T (ap (orElse []) (w .1)) i ∙ no-payload (payload-paths T) (head (typeOf (tree a))) _ _ (sym (has (w .0)) ∙ y))) (h (nameAt s name) a _ _ i)
 
+    -- an enum for which the struct has no references
     pub enum-missing : {xs us ys : List ℕ} {at : ℕ} {r : Built} → f ≡ Missing →
-        ((n : Name) (a : Accepted s 1 7 kind) (e : ExprKind) (vs : Variants) → kindOf (typeOf (tree a)) ≡ ResolvedTypeKind.Enum e vs → Builds s xs at us ys r (build-field-enum [] n (head (typeOf (tree a))) e vs g)) →
-        (t : Tree) (b : Accepted s 32 32 references) (a : Accepted s 1 7 kind) → readSet s ≡ done t →
-        Builds s xs at us ys r (build-variable-field (typesOf t) (ownersOf (tree b)) (nameAt s name) (head (typeOf (tree a))) (kindOf (typeOf (tree a))) g)
+        (SwitchLeft s xs at us ys r kind g) →
+        VariableLeft s xs at us ys r references name kind g
     unfolding payload-paths
     enum-missing {xs} {us} {ys} {at} {r} e h t b a d =
         let i = enum-at ek refl refl refl a .is in
@@ -245,22 +289,22 @@ module _ {s : List ℕ} {references : ℕ} {o : List ℕ} {f : Paths} (kind name
 
 -- ---- a switch, an array, a call
 
-module _ {s xs x₁ x₂ us ys : List ℕ} {at p kind : ℕ} {h : TypeHead} {e r : Built} (g : Registry) (hd : (a : Accepted s 1 7 kind) → HeadAt a h) (w : Opened xs at h x₁ p) (c : ClosesAligned x₂ at e ys r) where
+module _ {s xs x₁ x₂ us ys : List ℕ} {at p kind : ℕ} {h : TypeHead} {e r : Built} (g : Registry)
+    (hd : (a : Accepted s 1 7 kind) → HeadAt a h) (w : Opened xs at h x₁ p) (c : ClosesAligned x₂ at e ys r) where
   -- an enum as a switch
   pub switch-built : {ws : List ℕ} {node : Built} →
       ((a : Accepted s 1 7 kind) (e : ExprKind) (vs : Variants) → kindOf (typeOf (tree a)) ≡ ResolvedTypeKind.Enum e vs → Builds s x₁ p ws x₂ node (build-enum-node (head (typeOf (tree a))) e vs g)) →
-      ((a : Accepted s 1 7 kind) → EntersOwn s ws node (head (typeOf (tree a))) us e) →
-      (name : Name) (a : Accepted s 1 7 kind) (x : ExprKind) (vs : Variants) → kindOf (typeOf (tree a)) ≡ ResolvedTypeKind.Enum x vs →
-      Builds s xs at us ys r (build-field-enum [] name (head (typeOf (tree a))) x vs g)
+      OwnLeft s ws node kind us e →
+      SwitchLeft s xs at us ys r kind g
   unfolding build-field-enum
   switch-built b k name a x vs i = own-aligned g hd w c a (build-enum-node (head (typeOf (tree a))) x vs) (k a) (b a x vs i)
 
   -- a size-discriminated union
   pub sized-built : {ws : List ℕ} {node : Built} → le2 s (kind + 4) ≡ 6 →
-      ((a : Accepted s 1 7 kind) (vs : Variants) → kindOf (typeOf (tree a)) ≡ ResolvedTypeKind.SizeDiscriminatedUnion vs → Builds s x₁ p ws x₂ node (build-size-discriminated-union-node (head (typeOf (tree a))) vs g)) →
-      ((a : Accepted s 1 7 kind) → EntersOwn s ws node (head (typeOf (tree a))) us e) →
-      (t : Tree) (refs : List Owner) (name : Name) (a : Accepted s 1 7 kind) → readSet s ≡ done t →
-      Builds s xs at us ys r (build-variable-field (typesOf t) refs name (head (typeOf (tree a))) (kindOf (typeOf (tree a))) g)
+      ((a : Accepted s 1 7 kind) (vs : Variants) → kindOf (typeOf (tree a)) ≡ ResolvedTypeKind.SizeDiscriminatedUnion vs →
+      Builds s x₁ p ws x₂ node (build-size-discriminated-union-node (head (typeOf (tree a))) vs g)) →
+      OwnLeft s ws node kind us e →
+      UnnamedLeft s xs at us ys r kind g
   unfolding build-variable-field
   sized-built ek b k t refs name a q =
       let i = sized-at refl refl ek a .is in
@@ -269,9 +313,9 @@ module _ {s xs x₁ x₂ us ys : List ℕ} {at p kind : ℕ} {h : TypeHead} {e r
 
   -- a type reference, which enters none of its own references
   pub call-built : le2 s (kind + 4) ≡ 7 →
-      ((t : Tree) (a : Accepted s 1 7 kind) (target : Name) → readSet s ≡ done t → kindOf (typeOf (tree a)) ≡ ResolvedTypeKind.TypeRef target → Builds s x₁ p us x₂ e (build-typeref-node (typesOf t) (head (typeOf (tree a))) target g)) →
-      (t : Tree) (refs : List Owner) (name : Name) (a : Accepted s 1 7 kind) → readSet s ≡ done t →
-      Builds s xs at us ys r (build-variable-field (typesOf t) refs name (head (typeOf (tree a))) (kindOf (typeOf (tree a))) g)
+      ((t : Tree) (a : Accepted s 1 7 kind) (target : Name) → readSet s ≡ done t → kindOf (typeOf (tree a)) ≡ ResolvedTypeKind.TypeRef target →
+      Builds s x₁ p us x₂ e (build-typeref-node (typesOf t) (head (typeOf (tree a))) target g)) →
+      UnnamedLeft s xs at us ys r kind g
   unfolding build-variable-field withAlign
   call-built ek b t refs name a q =
       let i = target-at refl ek a .is in
@@ -288,7 +332,7 @@ array-of types refs n g (ResolvedType.resolved h k) {x} {e} {j} i =
 -- an array under the field's name
 pub array-built : {s xs ws us ys : List ℕ} {at kind : ℕ} {node r : Built} (name : ℕ) (g : Registry) → le2 s (kind + 4) ≡ 5 → {o : List ℕ} → o ≡ nameAt s name →
     ((a : Accepted s 1 7 kind) → Builds s xs at ws ys node (build-array-node-with-prefix o (prefixOf 0) (typeOf (tree a)) g)) →
-    ((a : Accepted s 1 7 kind) → EntersOwn s ws node (head (typeOf (tree a))) us r) →
+    OwnLeft s ws node kind us r →
     (t : Tree) (refs : List Owner) (a : Accepted s 1 7 kind) → readSet s ≡ done t →
     Builds s xs at us ys r (build-variable-field (typesOf t) refs (nameAt s name) (head (typeOf (tree a))) (kindOf (typeOf (tree a))) g)
 unfolding prefixOf
@@ -299,6 +343,7 @@ array-built {s} {xs} {ws} {us} {ys} {at} {node} {r} name g ek eo b k t refs a q 
 
 -- ---- by the kind, and by the size
 
+-- a type's kind stands inside the set
 pub kind-inside : {s : List ℕ} {kind : ℕ} → Accepted s 1 7 kind → kind + 4 + 2 ≤ length s
 kind-inside a = omega (arith, inside a, long a)
 
@@ -306,14 +351,15 @@ kind-inside a = omega (arith, inside a, long a)
 three : {n : ℕ} (k : ℕ) → 1 ≤ n → n ≤ 7 → k ≡ n → (k ≡ 1 → ⊥) → (k ≡ 2 → ⊥) → (k ≡ 4 → ⊥) → (k ≡ 5 → ⊥) → (k ≡ 6 → ⊥) → (k ≡ 7 → ⊥) → n ≡ 3
 three k lo hi e n₁ n₂ n₄ n₅ n₆ n₇ = omega arith
 
+-- a primitive type, a struct or a union is the sum of the struct's references for it
 pub refs-kind : {s xs us ys : List ℕ} {at references kind k : ℕ} {r : Built} (name : ℕ) (g : Registry) → k ≡ le2 s (kind + 4) → (k ≡ 4 → ⊥) → (k ≡ 5 → ⊥) → (k ≡ 6 → ⊥) → (k ≡ 7 → ⊥) →
     ((b : Accepted s 32 32 references) (a : Accepted s 1 7 kind) → Builds s xs at us ys r (build-field-refs (ownersOf (tree b)) (nameAt s name) (head (typeOf (tree a))) g)) →
-    (t : Tree) (b : Accepted s 32 32 references) (a : Accepted s 1 7 kind) → readSet s ≡ done t →
-    Builds s xs at us ys r (build-variable-field (typesOf t) (ownersOf (tree b)) (nameAt s name) (head (typeOf (tree a))) (kindOf (typeOf (tree a))) g)
+    VariableLeft s xs at us ys r references name kind g
 unfolding build-variable-field
 refs-kind {s} {xs} {us} {ys} {at} {kind} {k} {r} name g ek n₄ n₅ n₆ n₇ h t b a d = go (eqb k 1) refl (eqb k 2) refl
   where
-    by : (z : ResolvedTypeKind) → kindOf (typeOf (tree a)) ≡ z → build-variable-field (typesOf t) (ownersOf (tree b)) (nameAt s name) (head (typeOf (tree a))) z g ≡ build-field-refs (ownersOf (tree b)) (nameAt s name) (head (typeOf (tree a))) g →
+    by : (z : ResolvedTypeKind) → kindOf (typeOf (tree a)) ≡ z →
+        build-variable-field (typesOf t) (ownersOf (tree b)) (nameAt s name) (head (typeOf (tree a))) z g ≡ build-field-refs (ownersOf (tree b)) (nameAt s name) (head (typeOf (tree a))) g →
         Builds s xs at us ys r (build-variable-field (typesOf t) (ownersOf (tree b)) (nameAt s name) (head (typeOf (tree a))) (kindOf (typeOf (tree a))) g)
     by z i e = subst (Builds s xs at us ys r) (sym (ap (λ (z : ResolvedTypeKind). build-variable-field (typesOf t) (ownersOf (tree b)) (nameAt s name) (head (typeOf (tree a))) z g) i ∙ e)) (h b a)
 
@@ -334,23 +380,24 @@ module _ {s : List ℕ} {kind : ℕ} {h : TypeHead} (references name : ℕ) (g :
       build-field types refs (nameAt s name) (sized v (h .size)) (head (typeOf (tree a))) (kindOf (typeOf (tree a))) g
   size-is types refs a v e = ap (λ (z : Size). build-field types refs (nameAt s name) z (head (typeOf (tree a))) (kindOf (typeOf (tree a))) g) (hd a .size ∙ ap (λ (b : Bool). sized b (h .size)) e)
 
+  -- a field of variable size
   pub field-variable : {xs us ys : List ℕ} {at : ℕ} {r : Built} → h .variable ≡ true →
-      ((t : Tree) (b : Accepted s 32 32 references) (a : Accepted s 1 7 kind) → readSet s ≡ done t → Builds s xs at us ys r (build-variable-field (typesOf t) (ownersOf (tree b)) (nameAt s name) (head (typeOf (tree a))) (kindOf (typeOf (tree a))) g)) →
-      (t : Tree) (b : Accepted s 32 32 references) (a : Accepted s 1 7 kind) → readSet s ≡ done t →
-      Builds s xs at us ys r (build-field (typesOf t) (ownersOf (tree b)) (nameAt s name) (head (typeOf (tree a)) .size) (head (typeOf (tree a))) (kindOf (typeOf (tree a))) g)
+      (VariableLeft s xs at us ys r references name kind g) →
+      FieldLeft s xs at us ys r references name kind g
   unfolding build-field
   field-variable {xs} {us} {ys} {at} {r} v k t b a d = subst (Builds s xs at us ys r) (sym (size-is (typesOf t) (ownersOf (tree b)) a true v)) (k t b a d)
 
   module _ {us : List ℕ} {e : Held} (v : h .variable ≡ false) (k : (a : Accepted s 1 7 kind) → Kept s us e (extend-with (head (typeOf (tree a)) .dynamic-params) g)) where
-    pub field-stops : {xs ys : List ℕ} {at u c : ℕ} → (e .number ≡ 0 → ⊥) → (t : Tree) (b : Accepted s 32 32 references) (a : Accepted s 1 7 kind) → readSet s ≡ done t →
-        Builds s xs at us ys (record { at = u; count = c; number = e .number }) (build-field (typesOf t) (ownersOf (tree b)) (nameAt s name) (head (typeOf (tree a)) .size) (head (typeOf (tree a))) (kindOf (typeOf (tree a))) g)
+    -- the references of a constant field were refused
+    pub field-stops : {xs ys : List ℕ} {at u c : ℕ} → (e .number ≡ 0 → ⊥) → FieldLeft s xs at us ys (record { at = u; count = c; number = e .number }) references name kind g
     unfolding build-field
     field-stops z t b a d =
         let w = kept-refused z (k a) in
         refuses (e .number) refl (w .1) (size-is (typesOf t) (ownersOf (tree b)) a false v ∙ step-refused (extend-with (head (typeOf (tree a)) .dynamic-params)) _ g (w .0))
 
-    pub field-done : {xs ys : List ℕ} {at u : ℕ} → e .number ≡ 0 → Wrote xs at (write (nodeTree (const-or-zero (h .size) (h .alignment)))) ys u → (t : Tree) (b : Accepted s 32 32 references) (a : Accepted s 1 7 kind) → readSet s ≡ done t →
-        Builds s xs at us ys (record { at = u; count = e .count; number = 0 }) (build-field (typesOf t) (ownersOf (tree b)) (nameAt s name) (head (typeOf (tree a)) .size) (head (typeOf (tree a))) (kindOf (typeOf (tree a))) g)
+    -- a constant field: its references enter, and it is a constant
+    pub field-done : {xs ys : List ℕ} {at u : ℕ} → e .number ≡ 0 → Wrote xs at (write (nodeTree (const-or-zero (h .size) (h .alignment)))) ys u →
+        FieldLeft s xs at us ys (record { at = u; count = e .count; number = 0 }) references name kind g
     unfolding build-field give
     field-done z w t b a d =
         makes (const-or-zero (h .size) (h .alignment)) refl refl w

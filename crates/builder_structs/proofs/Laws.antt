@@ -48,42 +48,56 @@ use Rattle.builder_structs.proofs.Field.{builds-done, builds-refused, O
 -- ---- padding
 
 module _ (placed : Bool) (offset end : ℕ) where
+  -- a field with an offset behind the prefix: the padding is the difference
   pub pad-some : placed ≡ true → offset - end ≡ padSize end (offsetOf placed offset)
   pad-some e = rw e
 
+  -- a field with an offset that the prefix has reached has none
   pub pad-none : placed ≡ true → offset ≤ end → 0 ≡ padSize end (offsetOf placed offset)
   pad-none e l = rw e (omega arith)
 
+  -- a field without an offset has none
   pub pad-absent : placed ≡ false → 0 ≡ padSize end (offsetOf placed offset)
   pad-absent e = rw e
 
+-- a field without padding makes one node
 pub one-node : {v : ℕ} (end : ℕ) (o : Option ℕ) → v ≡ padSize end o → v ≡ 0 → 1 ≡ nodesOf end o 0
 one-node end o e z = let h : padSize end o ≤ 0 = omega arith in rw (le-ltb 0 (padSize end o) h)
 
+-- a field with padding makes two
 pub two-nodes : {v : ℕ} (end : ℕ) (o : Option ℕ) → v ≡ padSize end o → (v ≡ 0 → ⊥) → 2 ≡ nodesOf end o 0
 two-nodes end o e z = let h : 0 < padSize end o = omega arith in rw (lt-ltb 0 (padSize end o) h)
 
 -- ---- the end of the prefix
 
 module _ {s : List ℕ} {kind : ℕ} {h : TypeHead} (placed : Bool) (offset end : ℕ) (hd : (a : Accepted s 1 7 kind) → HeadAt a h) where
+  -- a field without an offset does not move the end of the prefix
   pub end-unplaced : placed ≡ false → (a : Accepted s 1 7 kind) → At end ≡ endOf (prefixEnd end (offsetOf placed offset) (head (typeOf (tree a)) .size))
   unfolding prefixEnd
   end-unplaced e a = rw e
 
+  -- nor does a field of variable size
   pub end-variable : placed ≡ true → h .variable ≡ true → (a : Accepted s 1 7 kind) → At end ≡ endOf (prefixEnd end (offsetOf placed offset) (head (typeOf (tree a)) .size))
   unfolding prefixEnd
   end-variable e v a = rw (hd a .size, e, v)
 
+  -- a constant field with an offset moves it behind itself
   pub end-const : placed ≡ true → h .variable ≡ false → offset < 2 ^ 64 → h .size ≤ 18446744073709551615 - offset → (a : Accepted s 1 7 kind) →
       At (offset + h .size) ≡ endOf (prefixEnd end (offsetOf placed offset) (head (typeOf (tree a)) .size))
   unfolding prefixEnd
   end-const e v f l a = rw (hd a .size, e, v, lt-ltb (offset + h .size) (2 ^ 64) (omega arith))
 
+  -- unless that is 2^64 or more
   pub end-over : placed ≡ true → h .variable ≡ false → offset < 2 ^ 64 → 18446744073709551615 - offset < h .size → (a : Accepted s 1 7 kind) →
       Over ≡ endOf (prefixEnd end (offsetOf placed offset) (head (typeOf (tree a)) .size))
   unfolding prefixEnd
   end-over e v f l a = rw (hd a .size, e, v, le-ltb (offset + h .size) (2 ^ 64) (omega arith))
 
+-- v is the end of the prefix behind a field
+abbrev EndIs : List ℕ → FieldParts → ℕ → End → Type 0
+EndIs s f end v = (a : Accepted s 1 7 (f .kind)) → v ≡ endOf (prefixEnd end (offsetOf (f .placed) (f .offset)) (head (typeOf (tree a)) .size))
+
+-- the end that the code gives is the definition's
 ended-at : {o : Option ℕ} {v : End} {n : ℕ} → v ≡ endOf o → v ≡ At n → o ≡ some n
 ended-at {o} {v} {n} e f = go o (sym e ∙ f)
   where
@@ -91,6 +105,7 @@ ended-at {o} {v} {n} e f = go o (sym e ∙ f)
     go none q = let z : _≡_ {A = ℕ} 0 1 = cc in absurd (omega arith)
     go (some m) q = let i : m ≡ n = cc in ap some i
 
+-- where the code gives none, neither does the definition
 ended-over : {o : Option ℕ} {v : End} → v ≡ endOf o → v ≡ Over → o ≡ none
 ended-over {o} e f = go o (sym e ∙ f)
   where
@@ -100,30 +115,45 @@ ended-over {o} e f = go o (sym e ∙ f)
 
 -- ---- the next node
 
+-- r is what the next node leaves, where `left` fields are left from `field` on and the entries were g
+abbrev NextLeft : (s xs : List ℕ) (at : ℕ) (us ys : List ℕ) (r : Run) (references left field : ℕ) (g : Registry) (end : ℕ) (half : Bool) → Type 0
+NextLeft s xs at us ys r references left field g end half =
+    (t : Tree) (d : Accepted s 32 32 references) (l : Listed s 33 33 left field) → readSet s ≡ done t →
+    Ran s xs at us ys r (next (typesOf t) (ownersOf (tree d)) (stateOf g (fieldsOf (l .got .0)) end half))
+
 module _ {s xs us ys : List ℕ} {at : ℕ} {r : Run} where
+  -- a refusal of this number
   ran-stops : {x : Outcome (State × IrNode)} → x ≡ refused (plain (r .number)) → 0 < r .number → Ran s xs at us ys r x
   ran-stops e l = subst (Ran s xs at us ys r) (sym e) (Ran.not (r .number) refl l)
 
-  ran-makes : {x : Outcome (State × IrNode)} (l : Listed s 33 33 (r .left) (r .field)) (n : IrNode) → x ≡ done (stateOf (entriesOf s us (r .count)) (fieldsOf (l .got .0)) (r .end) (r .half), n) → r .number ≡ 0 →
+  -- this node, and this state behind it
+  ran-makes : {x : Outcome (State × IrNode)} (l : Listed s 33 33 (r .left) (r .field)) (n : IrNode) →
+      x ≡ done (stateOf (entriesOf s us (r .count)) (fieldsOf (l .got .0)) (r .end) (r .half), n) → r .number ≡ 0 →
       Wrote xs at (write (nodeTree n)) ys (r .at) → Ran s xs at us ys r x
   ran-makes l n e z w = subst (Ran s xs at us ys r) (sym e) (Ran.ran l n z w)
 
+-- a node that was made: what the definition gives, and the bytes
 pub ran-done : {s xs us ys : List ℕ} {at : ℕ} {r : Run} {x : Outcome (State × IrNode)} → r .number ≡ 0 → Ran s xs at us ys r x →
-    (l : Listed s 33 33 (r .left) (r .field)) × (n : IrNode) × (x ≡ done (stateOf (entriesOf s us (r .count)) (fieldsOf (l .got .0)) (r .end) (r .half), n)) × Wrote xs at (write (nodeTree n)) ys (r .at)
+    (l : Listed s 33 33 (r .left) (r .field)) × (n : IrNode) × (x ≡ done (stateOf (entriesOf s us (r .count)) (fieldsOf (l .got .0)) (r .end) (r .half), n)) ×
+    Wrote xs at (write (nodeTree n)) ys (r .at)
 ran-done z (Ran.ran l n e w) = (l, n, refl, w)
 ran-done z (Ran.not k e l) = absurd (let z : ⊥ = omega arith in z)
 
+-- a node that was refused: the definition refuses it with the same number
 pub ran-refused : {s xs us ys : List ℕ} {at : ℕ} {r : Run} {x : Outcome (State × IrNode)} → (r .number ≡ 0 → ⊥) → Ran s xs at us ys r x → (x ≡ refused (plain (r .number))) × (0 < r .number)
 ran-refused z (Ran.ran l n e w) = absurd (z e)
 ran-refused z (Ran.not k e l) = (ap (λ (n : ℕ). refused (plain n)) (sym e), omega arith)
 
 module _ {s : List ℕ} {left field : ℕ} (h : 0 < left) where
+  -- the next field is accepted
   pub field-here : Listed s 33 33 left field → Accepted s 33 33 field
   field-here l = block-entry l h .child
 
+  -- it stands inside the set
   pub field-inside : Listed s 33 33 left field → field + 4 + le4 s field ≤ length s
   field-inside l = omega (arith, block-entry l h .after .inside, l .fits)
 
+  -- behind it stand the others
   pub field-rest : {u : ℕ} → u ≡ le4 s field → Listed s 33 33 left field → Listed s 33 33 (left - 1) (field + 4 + u)
   field-rest e l = subst (λ (k : ℕ). Listed s 33 33 (left - 1) (field + 4 + k)) (sym e) (block-entry l h .after .rest)
 
@@ -136,9 +166,11 @@ module _ {s : List ℕ} {left field : ℕ} {f : FieldParts} (h : 0 < left) (fp :
   abbrev fieldAt : Listed s 33 33 left field → ResolvedField
   fieldAt l = record { name = nameAt s (field + 6); offset = offsetOf (f .placed) (f .offset); field-type = typeOf (tree (kindAt l)) }
 
+  -- the fields behind it
   abbrev restAt : Listed s 33 33 left field → Listed s 33 33 (left - 1) (field + 4 + le4 s field)
   restAt l = block-entry l h .after .rest
 
+  -- the fields that are left, by the first
   first-field : (l : Listed s 33 33 left field) → fieldsOf (l .got .0) ≡ fieldAt l ∷ fieldsOf (restAt l .got .0)
   first-field l = ap fieldsOf (block-entry l h .after .tree) ∙ fp (block-entry l h .child) .is (restAt l .got .0)
 
@@ -147,6 +179,7 @@ module _ {s : List ℕ} {left field : ℕ} {f : FieldParts} (h : 0 < left) (fp :
     next-first : (l : Listed s 33 33 left field) (half : Bool) → next types refs (stateOf g (fieldsOf (l .got .0)) end half) ≡ nextOf types refs (fieldAt l ∷ fieldsOf (restAt l .got .0)) end half g
     next-first l half = ap (λ (fs : List ResolvedField). nextOf types refs fs end half g) (first-field l)
 
+    -- the next node, once the padding is made
     next-node : (l : Listed s 33 33 left field) → next types refs (stateOf g (fieldsOf (l .got .0)) end true) ≡ fieldNode types refs (fieldAt l) (fieldsOf (restAt l .got .0)) end g
     unfolding nextOf
     next-node l = next-first l true
@@ -159,6 +192,7 @@ module _ {s : List ℕ} {left field : ℕ} {f : FieldParts} (h : 0 < left) (fp :
         let p : padSize end (offsetOf (f .placed) (f .offset)) ≤ 0 = omega arith in
         next-first l false ∙ rw (le-ltb 0 (padSize end (offsetOf (f .placed) (f .offset))) p) (sym (next-node l))
 
+    -- there is padding: a constant
     next-pad : {v : ℕ} → v ≡ padSize end (offsetOf (f .placed) (f .offset)) → (v ≡ 0 → ⊥) → (l : Listed s 33 33 left field) →
         next types refs (stateOf g (fieldsOf (l .got .0)) end false) ≡ done (stateOf g (fieldsOf (l .got .0)) end true, const-or-zero v 1)
     unfolding nextOf
@@ -166,7 +200,8 @@ module _ {s : List ℕ} {left field : ℕ} {f : FieldParts} (h : 0 < left) (fp :
         let p : 0 < padSize end (offsetOf (f .placed) (f .offset)) = omega arith in
         next-first l false ∙ rw (lt-ltb 0 (padSize end (offsetOf (f .placed) (f .offset))) p, first-field l, e)
 
-    node-over : {v : End} → ((a : Accepted s 1 7 (f .kind)) → v ≡ endOf (prefixEnd end (offsetOf (f .placed) (f .offset)) (head (typeOf (tree a)) .size))) → v ≡ Over → (l : Listed s 33 33 left field) →
+    -- the end of the prefix is 2^64 or more: 16
+    node-over : {v : End} → EndIs s f end v → v ≡ Over → (l : Listed s 33 33 left field) →
         next types refs (stateOf g (fieldsOf (l .got .0)) end true) ≡ refused (plain 16)
     unfolding fieldNode _andThen_ need refuse
     node-over pe e l = let q : prefixEnd end (offsetOf (f .placed) (f .offset)) (head (typeOf (tree (kindAt l))) .size) ≡ none = ended-over (pe (kindAt l)) e in next-node l ∙ rw q
@@ -175,65 +210,84 @@ module _ {s : List ℕ} {left field : ℕ} {f : FieldParts} (h : 0 < left) (fp :
     abbrev nodeOf : ℕ → List ResolvedField → IrNode × Registry → Outcome (State × IrNode)
     nodeOf n fs y = done (stateOf (y .1) fs n false, y .0)
 
-    node-at : {v : End} {n : ℕ} → ((a : Accepted s 1 7 (f .kind)) → v ≡ endOf (prefixEnd end (offsetOf (f .placed) (f .offset)) (head (typeOf (tree a)) .size))) → v ≡ At n → (l : Listed s 33 33 left field) →
+    -- the field's node, and the state behind it
+    node-at : {v : End} {n : ℕ} → EndIs s f end v → v ≡ At n → (l : Listed s 33 33 left field) →
         next types refs (stateOf g (fieldsOf (l .got .0)) end true) ≡
-        _andThen_ (build-field types refs (nameAt s (field + 6)) (head (typeOf (tree (kindAt l))) .size) (head (typeOf (tree (kindAt l)))) (kindOf (typeOf (tree (kindAt l)))) g) (nodeOf n (fieldsOf (restAt l .got .0)))
+        _andThen_ (build-field types refs (nameAt s (field + 6)) (head (typeOf (tree (kindAt l))) .size) (head (typeOf (tree (kindAt l)))) (kindOf (typeOf (tree (kindAt l)))) g)
+        (nodeOf n (fieldsOf (restAt l .got .0)))
     unfolding fieldNode _andThen_ need give
     node-at {n} pe e l = let q : prefixEnd end (offsetOf (f .placed) (f .offset)) (head (typeOf (tree (kindAt l))) .size) ≡ some n = ended-at (pe (kindAt l)) e in next-node l ∙ rw q
 
   -- what the code leaves of it
-  module _ {references : ℕ} (g : Registry) (end : ℕ) {v : End} (pe : (a : Accepted s 1 7 (f .kind)) → v ≡ endOf (prefixEnd end (offsetOf (f .placed) (f .offset)) (head (typeOf (tree a)) .size))) where
-    pub over-left : {xs us ys : List ℕ} {at u c i j : ℕ} {b : Bool} → v ≡ Over → (t : Tree) (d : Accepted s 32 32 references) (l : Listed s 33 33 left field) → readSet s ≡ done t →
-        Ran s xs at us ys (record { at = u; count = c; field = i; left = j; end = end; half = b; number = 16 }) (next (typesOf t) (ownersOf (tree d)) (stateOf g (fieldsOf (l .got .0)) end true))
+  module _ {references : ℕ} (g : Registry) (end : ℕ) {v : End} (pe : EndIs s f end v) where
+    -- 16, as the code leaves it
+    pub over-left : {xs us ys : List ℕ} {at u c i j : ℕ} {b : Bool} → v ≡ Over →
+        NextLeft s xs at us ys (record { at = u; count = c; field = i; left = j; end = end; half = b; number = 16 }) references left field g end true
     over-left e t d l q = ran-stops (node-over (typesOf t) (ownersOf (tree d)) g end pe e l) (omega arith)
 
     module _ {xs us ys : List ℕ} {at n : ℕ} {r : Built} (e : v ≡ At n)
         (b : (t : Tree) (d : Accepted s 32 32 references) (a : Accepted s 1 7 (f .kind)) → readSet s ≡ done t →
         Builds s xs at us ys r (build-field (typesOf t) (ownersOf (tree d)) (nameAt s (field + 6)) (head (typeOf (tree a)) .size) (head (typeOf (tree a))) (kindOf (typeOf (tree a))) g)) where
-      pub node-stopped : {u c i j m : ℕ} {x : Bool} → (r .number ≡ 0 → ⊥) → (t : Tree) (d : Accepted s 32 32 references) (l : Listed s 33 33 left field) → readSet s ≡ done t →
-          Ran s xs at us ys (record { at = u; count = c; field = i; left = j; end = m; half = x; number = r .number }) (next (typesOf t) (ownersOf (tree d)) (stateOf g (fieldsOf (l .got .0)) end true))
+      -- the field was refused
+      pub node-stopped : {u c i j m : ℕ} {x : Bool} → (r .number ≡ 0 → ⊥) →
+          NextLeft s xs at us ys (record { at = u; count = c; field = i; left = j; end = m; half = x; number = r .number }) references left field g end true
       unfolding _andThen_
       node-stopped z t d l q =
           let w = builds-refused z (b t d (kindAt l) q) in
-          ran-stops (node-at (typesOf t) (ownersOf (tree d)) g end pe e l ∙ ap (λ (o : Outcome (IrNode × Registry)). _andThen_ o (nodeOf (typesOf t) (ownersOf (tree d)) g end n (fieldsOf (restAt l .got .0)))) (w .0)) (w .1)
+          ran-stops
+          (node-at (typesOf t) (ownersOf (tree d)) g end pe e l
+          ∙ ap (λ (o : Outcome (IrNode × Registry)). _andThen_ o (nodeOf (typesOf t) (ownersOf (tree d)) g end n (fieldsOf (restAt l .got .0)))) (w .0)) (w .1)
 
-      pub node-left : {u : ℕ} → r .number ≡ 0 → u ≡ le4 s field → (t : Tree) (d : Accepted s 32 32 references) (l : Listed s 33 33 left field) → readSet s ≡ done t →
-          Ran s xs at us ys (record { at = r .at; count = r .count; field = field + 4 + u; left = left - 1; end = n; half = false; number = 0 }) (next (typesOf t) (ownersOf (tree d)) (stateOf g (fieldsOf (l .got .0)) end true))
+      -- the field was built: the next is the one behind it
+      pub node-left : {u : ℕ} → r .number ≡ 0 → u ≡ le4 s field →
+          NextLeft s xs at us ys (record { at = r .at; count = r .count; field = field + 4 + u; left = left - 1; end = n; half = false; number = 0 }) references left field g end true
       unfolding _andThen_
       node-left z eu t d l q =
           let w = builds-done z (b t d (kindAt l) q) in
-          subst (λ (k : ℕ). Ran s xs at us ys (record { at = r .at; count = r .count; field = field + 4 + k; left = left - 1; end = n; half = false; number = 0 }) (next (typesOf t) (ownersOf (tree d)) (stateOf g (fieldsOf (l .got .0)) end true))) (sym eu)
-          (ran-makes (restAt l) (w .0) (node-at (typesOf t) (ownersOf (tree d)) g end pe e l ∙ ap (λ (o : Outcome (IrNode × Registry)). _andThen_ o (nodeOf (typesOf t) (ownersOf (tree d)) g end n (fieldsOf (restAt l .got .0)))) (w .1)) refl (w .2))
+          subst (λ (k : ℕ).
+          Ran s xs at us ys (record { at = r .at; count = r .count; field = field + 4 + k; left = left - 1; end = n; half = false; number = 0 })
+          (next (typesOf t) (ownersOf (tree d)) (stateOf g (fieldsOf (l .got .0)) end true))) (sym eu)
+          (ran-makes (restAt l) (w .0)
+          (node-at (typesOf t) (ownersOf (tree d)) g end pe e l
+          ∙ ap (λ (o : Outcome (IrNode × Registry)). _andThen_ o (nodeOf (typesOf t) (ownersOf (tree d)) g end n (fieldsOf (restAt l .got .0)))) (w .1)) refl (w .2))
 
 -- ---- padding, or the field
 
-pub child-none : {s xs us ys : List ℕ} {at u c i j m references left field : ℕ} {x : Bool} (g : Registry) (end : ℕ) (half : Bool) → left ≡ 0 → (t : Tree) (d : Accepted s 32 32 references) (l : Listed s 33 33 left field) → readSet s ≡ done t →
-    Ran s xs at us ys (record { at = u; count = c; field = i; left = j; end = m; half = x; number = 11 }) (next (typesOf t) (ownersOf (tree d)) (stateOf g (fieldsOf (l .got .0)) end half))
+-- no field is left: 11
+pub child-none : {s xs us ys : List ℕ} {at u c i j m references left field : ℕ} {x : Bool} (g : Registry) (end : ℕ) (half : Bool) → left ≡ 0 →
+    NextLeft s xs at us ys (record { at = u; count = c; field = i; left = j; end = m; half = x; number = 11 }) references left field g end half
 unfolding nextOf fields fieldsIn view
 child-none g end half z t d l q = ran-stops (ap (λ (y : Tree × ℕ). nextOf (typesOf t) (ownersOf (tree d)) (fieldsOf (y .0)) end half g) (none-left l (omega arith))) (omega arith)
 
 module _ {s xs us ys : List ℕ} {at references left field : ℕ} {r : Run} (g : Registry) (end : ℕ) (half : Bool)
-    (k : (t : Tree) (d : Accepted s 32 32 references) (l : Listed s 33 33 left field) → readSet s ≡ done t → Ran s xs at us ys r (next (typesOf t) (ownersOf (tree d)) (stateOf g (fieldsOf (l .got .0)) end true))) where
-  pub child-half : half ≡ true → (t : Tree) (d : Accepted s 32 32 references) (l : Listed s 33 33 left field) → readSet s ≡ done t → Ran s xs at us ys r (next (typesOf t) (ownersOf (tree d)) (stateOf g (fieldsOf (l .got .0)) end half))
+    (k : NextLeft s xs at us ys r references left field g end true) where
+  -- the padding is made: the field's node
+  pub child-half : half ≡ true → NextLeft s xs at us ys r references left field g end half
   child-half e t d l q = subst (λ (b : Bool). Ran s xs at us ys r (next (typesOf t) (ownersOf (tree d)) (stateOf g (fieldsOf (l .got .0)) end b))) (sym e) (k t d l q)
 
+  -- there is no padding: the field's node
   pub child-plain : {f : FieldParts} {v : ℕ} → half ≡ false → 0 < left → ((a : Accepted s 33 33 field) → FieldAt a f) → v ≡ padSize end (offsetOf (f .placed) (f .offset)) → v ≡ 0 →
-      (t : Tree) (d : Accepted s 32 32 references) (l : Listed s 33 33 left field) → readSet s ≡ done t → Ran s xs at us ys r (next (typesOf t) (ownersOf (tree d)) (stateOf g (fieldsOf (l .got .0)) end half))
+      NextLeft s xs at us ys r references left field g end half
   child-plain e h fp ev z t d l q =
       subst (λ (b : Bool). Ran s xs at us ys r (next (typesOf t) (ownersOf (tree d)) (stateOf g (fieldsOf (l .got .0)) end b))) (sym e)
       (subst (Ran s xs at us ys r) (sym (next-same h fp (typesOf t) (ownersOf (tree d)) g end ev z l)) (k t d l q))
 
-pub child-pad : {s xs ws ys : List ℕ} {at u n references left field end v : ℕ} {half : Bool} {f : FieldParts} → half ≡ false → 0 < left → ((a : Accepted s 33 33 field) → FieldAt a f) → v ≡ padSize end (offsetOf (f .placed) (f .offset)) → (v ≡ 0 → ⊥) →
-    Wrote xs at (write (nodeTree (const-or-zero v 1))) ys u → (t : Tree) (d : Accepted s 32 32 references) (l : Listed s 33 33 left field) → readSet s ≡ done t →
-    Ran s xs at ws ys (record { at = u; count = n; field = field; left = left; end = end; half = true; number = 0 }) (next (typesOf t) (ownersOf (tree d)) (stateOf (entriesOf s ws n) (fieldsOf (l .got .0)) end half))
+-- there is padding
+pub child-pad : {s xs ws ys : List ℕ} {at u n references left field end v : ℕ} {half : Bool} {f : FieldParts} → half ≡ false → 0 < left →
+    ((a : Accepted s 33 33 field) → FieldAt a f) → v ≡ padSize end (offsetOf (f .placed) (f .offset)) → (v ≡ 0 → ⊥) →
+    Wrote xs at (write (nodeTree (const-or-zero v 1))) ys u →
+    NextLeft s xs at ws ys (record { at = u; count = n; field = field; left = left; end = end; half = true; number = 0 }) references left field (entriesOf s ws n) end half
 child-pad {s} {xs} {ws} {ys} {at} {u} {n} {left} {field} {end} {v} e h fp ev z w t d l q =
-    subst (λ (b : Bool). Ran s xs at ws ys (record { at = u; count = n; field = field; left = left; end = end; half = true; number = 0 }) (next (typesOf t) (ownersOf (tree d)) (stateOf (entriesOf s ws n) (fieldsOf (l .got .0)) end b))) (sym e)
+    subst (λ (b : Bool).
+    Ran s xs at ws ys (record { at = u; count = n; field = field; left = left; end = end; half = true; number = 0 })
+    (next (typesOf t) (ownersOf (tree d)) (stateOf (entriesOf s ws n) (fieldsOf (l .got .0)) end b))) (sym e)
     (ran-makes l (const-or-zero v 1) (next-pad h fp (typesOf t) (ownersOf (tree d)) (entriesOf s ws n) end ev z l) refl w)
 
 -- ---- sums
 
 -- the bytes of an Add
-sum-puts : {xs x₁ x₂ x₃ ys : List ℕ} {at p u v q : ℕ} (a b : IrNode) → Wrote xs at (nodeStart 134 1) x₁ p → Wrote x₁ p (write (nodeTree a)) x₂ u → Wrote x₂ u (write (nodeTree b)) x₃ v → Wrote x₃ at (bytes 4 (v - at - 4)) ys q →
+sum-puts : {xs x₁ x₂ x₃ ys : List ℕ} {at p u v q : ℕ} (a b : IrNode) → Wrote xs at (nodeStart 134 1) x₁ p → Wrote x₁ p (write (nodeTree a)) x₂ u →
+    Wrote x₂ u (write (nodeTree b)) x₃ v → Wrote x₃ at (bytes 4 (v - at - 4)) ys q →
     Wrote xs at (write (nodeTree (sumNode a b))) ys v
 unfolding nodeTree
 sum-puts {x₃} {v} a b w₁ w₂ w₃ w₄ = node-closed 134 1 (cons (nodeTree a) (cons (nodeTree b) nil)) w₁ (parts (nodeTree a) (cons (nodeTree b) nil) w₂ (parts (nodeTree b) nil w₃ (no-parts x₃ v))) w₄
@@ -243,13 +297,17 @@ pub sum-one : {s xs us ys : List ℕ} {at k : ℕ} {r : Run} (nx : State → Out
 sum-one {s} {xs} {us} {ys} {at} {r} nx st z g = subst (Ran s xs at us ys r) (sym (ap (λ (k : ℕ). summed nx k st) z ∙ summed-one nx st)) g
 
 module _ {s x₁ x₂ us : List ℕ} {k p : ℕ} {a : Run} (nx : State → Outcome (State × IrNode)) (st : State) (z₀ : k ≡ 0 → ⊥) (z₁ : k ≡ 1 → ⊥) (g : Ran s x₁ p us x₂ a (summed nx (k - 1) st)) where
+  -- the sum of the first was refused
   pub sum-stops : {xs vs ys : List ℕ} {at : ℕ} → (a .number ≡ 0 → ⊥) → Ran s xs at vs ys a (summed nx k st)
   unfolding _andThen_
   sum-stops z = let d = ran-refused z g in ran-stops (summed-at nx k st z₀ z₁ ∙ ap (λ (o : Outcome (State × IrNode)). _andThen_ o (more nx)) (d .0)) (d .1)
 
   -- the sum of the first, then the last
-  module _ {x₃ vs : List ℕ} {r : Run} (y : a .number ≡ 0) (f : (l : Listed s 33 33 (a .left) (a .field)) → Ran s x₂ (a .at) vs x₃ r (nx (stateOf (entriesOf s us (a .count)) (fieldsOf (l .got .0)) (a .end) (a .half)))) where
-    sum-last : (n : IrNode) (l : Listed s 33 33 (a .left) (a .field)) → summed nx (k - 1) st ≡ done (stateOf (entriesOf s us (a .count)) (fieldsOf (l .got .0)) (a .end) (a .half), n) → {o : Outcome (State × IrNode)} →
+  module _ {x₃ vs : List ℕ} {r : Run} (y : a .number ≡ 0)
+      (f : (l : Listed s 33 33 (a .left) (a .field)) → Ran s x₂ (a .at) vs x₃ r (nx (stateOf (entriesOf s us (a .count)) (fieldsOf (l .got .0)) (a .end) (a .half)))) where
+    -- the sum, by the sum of the first and the last
+    sum-last : (n : IrNode) (l : Listed s 33 33 (a .left) (a .field)) →
+        summed nx (k - 1) st ≡ done (stateOf (entriesOf s us (a .count)) (fieldsOf (l .got .0)) (a .end) (a .half), n) → {o : Outcome (State × IrNode)} →
         nx (stateOf (entriesOf s us (a .count)) (fieldsOf (l .got .0)) (a .end) (a .half)) ≡ o →
         summed nx k st ≡ _andThen_ o (plus (stateOf (entriesOf s us (a .count)) (fieldsOf (l .got .0)) (a .end) (a .half), n))
     unfolding _andThen_
@@ -257,6 +315,7 @@ module _ {s x₁ x₂ us : List ℕ} {k p : ℕ} {a : Run} (nx : State → Outco
         summed-at nx k st z₀ z₁ ∙ ap (λ (o : Outcome (State × IrNode)). _andThen_ o (more nx)) e
         ∙ ap (λ (o : Outcome (State × IrNode)). _andThen_ o (plus (stateOf (entriesOf s us (a .count)) (fieldsOf (l .got .0)) (a .end) (a .half), n))) i
 
+    -- the last was refused
     pub sum-stops-last : {xs ws ys : List ℕ} {at : ℕ} → (r .number ≡ 0 → ⊥) → Ran s xs at ws ys r (summed nx k st)
     unfolding _andThen_
     sum-stops-last z =
@@ -264,6 +323,7 @@ module _ {s x₁ x₂ us : List ℕ} {k p : ℕ} {a : Run} (nx : State → Outco
         let o = ran-refused z (f (d .0)) in
         ran-stops (sum-last (d .1) (d .0) (d .2) (o .0)) (o .1)
 
+    -- both were made: the Add node is closed
     pub sum-done : {xs ys : List ℕ} {at q : ℕ} → Wrote xs at (nodeStart 134 1) x₁ p → r .number ≡ 0 → Wrote x₃ at (bytes 4 (r .at - at - 4)) ys q →
         Ran s xs at vs ys r (summed nx k st)
     unfolding _andThen_
@@ -282,6 +342,7 @@ pub record Counts (n end : ℕ) (w u : Tree) : Type 0 where
 abbrev pub Count : List ℕ → ℕ → ℕ → ℕ → ℕ → ℕ → ℕ → Type 0
 Count s left field rest at end n = Left (Counts n end) s (Item.blocks 33 33) left field rest at
 
+-- before the first field no node is counted
 pub count-begin : {s : List ℕ} {left field : ℕ} → Listed s 33 33 left field → Count s left field left field 0 0
 count-begin l = starts (λ t. record { is = omega arith }) l
 
@@ -294,9 +355,10 @@ nodes-more end k o = go (ltb 0 (padSize end o))
     go false = omega arith
 
 module _ {s : List ℕ} {at k : ℕ} {f : FieldParts} {v : End} (end : ℕ) (fp : (a : Accepted s 33 33 at) → FieldAt a f) (ek : k ≡ nodesOf end (offsetOf (f .placed) (f .offset)) 0)
-    (pe : (a : Accepted s 1 7 (f .kind)) → v ≡ endOf (prefixEnd end (offsetOf (f .placed) (f .offset)) (head (typeOf (tree a)) .size))) where
+    (pe : EndIs s f end v) where
   -- the field, its own nodes, and those of the fields u behind it
-  count-one : (a : Accepted s 33 33 at) (u : Tree) (m : ℕ) {o : Option ℕ} → prefixEnd end (offsetOf (f .placed) (f .offset)) (head (typeOf (tree (fp a .type))) .size) ≡ o → elim o [ none ↦ 0 | some e ↦ countOf e (fieldsOf u) ] ≡ m →
+  count-one : (a : Accepted s 33 33 at) (u : Tree) (m : ℕ) {o : Option ℕ} →
+      prefixEnd end (offsetOf (f .placed) (f .offset)) (head (typeOf (tree (fp a .type))) .size) ≡ o → elim o [ none ↦ 0 | some e ↦ countOf e (fieldsOf u) ] ≡ m →
       countOf end (fieldsOf (cons (tree a) u)) ≡ k + m
   unfolding countOf
   count-one a u m e i =
@@ -304,12 +366,14 @@ module _ {s : List ℕ} {at k : ℕ} {f : FieldParts} {v : End} (end : ℕ) (fp 
       ∙ ap (λ (o : Option ℕ). nodesOf end (offsetOf (f .placed) (f .offset)) (elim o [ none ↦ 0 | some e ↦ countOf e (fieldsOf u) ])) e
       ∙ ap (nodesOf end (offsetOf (f .placed) (f .offset))) i ∙ nodes-more end m (offsetOf (f .placed) (f .offset)) ∙ ap (λ (z : ℕ). z + m) (sym ek)
 
+  -- a field's nodes are counted, and the next field is reached
   pub count-next : {left field rest n u m : ℕ} → 0 < rest → v ≡ At m → u ≡ le4 s at → Count s left field rest at end n → Count s left field (rest - 1) (at + 4 + u) m (n + k)
   count-next {left} {field} {rest} {n} {u} {m} h e eu c =
       subst (λ (j : ℕ). Count s left field (rest - 1) (at + 4 + j) m (n + k)) (sym eu)
       (steps (λ r. tree (block-entry r h .child)) (λ r. block-entry r h .after)
       (λ r w y q. record { is = let a = block-entry r h .child in let i = count-one a y (countOf m (fieldsOf y)) (ended-at (pe (fp a .type)) e) refl in omega (arith, q .is, i) }) c)
 
+  -- the end of the prefix is 2^64 or more: what is behind does not count
   pub count-over : {left field rest n : ℕ} → 0 < rest → v ≡ Over → Count s left field rest at end n → (l : Listed s 33 33 left field) → n + k ≡ countOf 0 (fieldsOf (l .got .0))
   count-over h e c l =
       let w = c .whole l in
@@ -317,6 +381,7 @@ module _ {s : List ℕ} {at k : ℕ} {f : FieldParts} {v : End} (end : ℕ) (fp 
       let i = count-one (a .child) (a .after .rest .got .0) 0 (ended-over (pe (fp (a .child) .type)) e) refl in
       omega (arith, w .1 .is, i, ap (λ (t : Tree). countOf end (fieldsOf t)) (a .after .tree))
 
+-- no field is left: the count is the definition's
 pub count-end : {s : List ℕ} {left field rest at n end : ℕ} → rest ≤ 0 → Count s left field rest at end n → (l : Listed s 33 33 left field) → n ≡ countOf 0 (fieldsOf (l .got .0))
 unfolding countOf fields fieldsIn view
 count-end h c l = let e = ended h c l .0 .is in omega (arith, e)
@@ -344,14 +409,17 @@ up-is a g (refused q) = refl
 same-fields : {z : ResolvedTypeKind} {fs gs : Fields} → z ≡ ResolvedTypeKind.Struct fs → z ≡ ResolvedTypeKind.Struct gs → fs ≡ gs
 same-fields e j = cc
 
-module _ {s : List ℕ} {kind k : ℕ} {h : TypeHead} {f : ListParts} (g : Registry) (ek : le2 s (kind + 4) ≡ 2) (hd : (a : Accepted s 1 7 kind) → HeadAt a h) (fl : (a : Accepted s 1 7 kind) → FieldsAt a f)
+module _ {s : List ℕ} {kind k : ℕ} {h : TypeHead} {f : ListParts} (g : Registry) (ek : le2 s (kind + 4) ≡ 2)
+    (hd : (a : Accepted s 1 7 kind) → HeadAt a h) (fl : (a : Accepted s 1 7 kind) → FieldsAt a f)
     (ck : (l : Listed s 33 33 (f .count) (f .first)) → k ≡ countOf 0 (fieldsOf (l .got .0))) where
   -- the struct's node, by the sum
   abbrev up : ℕ → State × IrNode → Outcome (IrNode × Registry)
   up a y = done (align-node (y .1) a, y .0 .registry)
 
+  -- the struct's node is the sum of the nodes that the code counts, aligned
   sum-is : (types : List ResolvedType) (a : Accepted s 1 7 kind) {fs : Fields} → kindOf (typeOf (tree a)) ≡ ResolvedTypeKind.Struct fs →
-      build-variable-struct types (head (typeOf (tree a))) fs g ≡ _andThen_ (summed (next types (ownersOf (tree (hd a .references)))) k (stateOf g (fieldsOf (fl a .list .got .0)) 0 false)) (up (h .alignment))
+      build-variable-struct types (head (typeOf (tree a))) fs g ≡
+      _andThen_ (summed (next types (ownersOf (tree (hd a .references)))) k (stateOf g (fieldsOf (fl a .list .got .0)) 0 false)) (up (h .alignment))
   sum-is types a {fs} e =
       let H : Head = head (typeOf (tree a)) in
       let F : Fields = fieldsIn (view thingOf (fl a .list .got .0)) in

@@ -55,6 +55,7 @@ module _ (types : List ResolvedType) (refs : List Owner) where
   built pad none f fs g = refused (plain 16)
   built pad (some e) f fs g = _andThen_ (own f g) (λ y. _andThen_ (build-fields types refs e fs (y .1)) (behind pad y))
 
+  -- the definition, in these cases
   fields-are : (e : ℕ) (f : ResolvedField) (fs : List ResolvedField) (g : Registry) →
       build-fields types refs e (f ∷ fs) g ≡ built (padding e (f .offset)) (prefixEnd e (f .offset) (head (f .field-type) .size)) f fs g
   unfolding build-fields built _>>=_ _andThen_ give need refuse
@@ -100,9 +101,11 @@ module _ (types : List ResolvedType) (refs : List Owner) where
   abbrev andMore : ℕ → State × IrNode → Outcome (State × List IrNode)
   andMore k x = _andThen_ (upTo (next types refs) k (x .0)) (cons x)
 
+  -- a node, k more, and the registry behind them
   abbrev andThose : ℕ → List IrNode → State × IrNode → Outcome (List IrNode × Registry)
   andThose k pad x = _andThen_ (upTo (next types refs) k (x .0)) (λ y. done (pad ++ (x .1 ∷ y .1), y .0 .registry))
 
+  -- without padding nothing stands before the field's node
   alone : (k : ℕ) (a : Outcome (State × IrNode)) → _andThen_ a (andThose k []) ≡ _andThen_ (_andThen_ a (andMore k)) out
   unfolding _andThen_
   alone k (refused r) = refl
@@ -112,6 +115,7 @@ module _ (types : List ResolvedType) (refs : List Owner) where
       go (refused r) = refl
       go (done y) = refl
 
+  -- the node of padding stands before it
   padded : (k : ℕ) (s : State) (p : IrNode) (a : Outcome (State × IrNode)) → _andThen_ a (andThose k (p ∷ [])) ≡ _andThen_ (_andThen_ (_andThen_ a (andMore k)) (cons (s, p))) out
   unfolding _andThen_
   padded k s p (refused r) = refl
@@ -121,11 +125,13 @@ module _ (types : List ResolvedType) (refs : List Owner) where
       go (refused r) = refl
       go (done y) = refl
 
+  -- the nodes made one by one are those of `build-fields`
   pub nodes-are : (fs : List ResolvedField) (e : ℕ) (g : Registry) → build-fields types refs e fs g ≡ _andThen_ (upTo (next types refs) (countOf e fs) (stateOf g fs e false)) out
   unfolding build-fields upTo countOf nextOf _andThen_ give
   nodes-are [] e g = refl
   nodes-are (f ∷ fs) e g =
-      fields-are e f fs g ∙ ap (λ (pad : List IrNode). built pad (prefixEnd e (f .offset) (head (f .field-type) .size)) f fs g) (padding-is e (f .offset)) ∙ go (ltb 0 (padSize e (f .offset))) refl (nodes-are fs)
+      fields-are e f fs g
+      ∙ ap (λ (pad : List IrNode). built pad (prefixEnd e (f .offset) (head (f .field-type) .size)) f fs g) (padding-is e (f .offset)) ∙ go (ltb 0 (padSize e (f .offset))) refl (nodes-are fs)
     where
       pad : IrNode
       pad = const-or-zero (padSize e (f .offset)) 1
@@ -133,7 +139,10 @@ module _ (types : List ResolvedType) (refs : List Owner) where
       go : (b : Bool) → ltb 0 (padSize e (f .offset)) ≡ b →
           ((n : ℕ) (g : Registry) → build-fields types refs n fs g ≡ _andThen_ (upTo (next types refs) (countOf n fs) (stateOf g fs n false)) out) →
           built (cond b (pad ∷ []) []) (prefixEnd e (f .offset) (head (f .field-type) .size)) f fs g ≡ _andThen_ (upTo (next types refs) (countOf e (f ∷ fs)) (stateOf g (f ∷ fs) e false)) out
-      go true q ih = simp q (field-then f fs e g (pad ∷ []) _ refl ih ∙ padded (rest (prefixEnd e (f .offset) (head (f .field-type) .size)) fs) (stateOf g (f ∷ fs) e true) pad (fieldNode types refs f fs e g))
+      go true q ih =
+          simp q
+          (field-then f fs e g (pad ∷ []) _ refl ih
+          ∙ padded (rest (prefixEnd e (f .offset) (head (f .field-type) .size)) fs) (stateOf g (f ∷ fs) e true) pad (fieldNode types refs f fs e g))
       go false q ih = simp q (field-then f fs e g [] _ refl ih ∙ alone (rest (prefixEnd e (f .offset) (head (f .field-type) .size)) fs) (fieldNode types refs f fs e g))
 
 -- the sum of the nodes, aligned, is the struct's node

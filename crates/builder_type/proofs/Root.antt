@@ -179,7 +179,8 @@ module _ {s : List ℕ} {k kind : ℕ} {xs : List ℕ} {at : ℕ} {us ys : List 
       primitive-built f n t a d = variable-built t a v (primitive a (sym e ∙ f)) refl (Builds.not 10 n (omega arith))
 
     -- of constant size, and no type reference
-    pub const-built : not (h .variable) ≡ true → (k ≡ 7 → ⊥) → r .number ≡ 0 → entriesOf s us (r .count) ≡ g → Wrote xs at (write (nodeTree (IrNode.Const unplaced (aligned (h .alignment)) (h .size)))) ys (r .at) → Root s kind xs at us ys r g
+    pub const-built : not (h .variable) ≡ true → (k ≡ 7 → ⊥) → r .number ≡ 0 → entriesOf s us (r .count) ≡ g →
+        Wrote xs at (write (nodeTree (IrNode.Const unplaced (aligned (h .alignment)) (h .size)))) ys (r .at) → Root s kind xs at us ys r g
     const-built v f n c o t a d =
         let z : head (typeOf (tree a)) .size ≡ Size.Const (h .size) = w a .size ∙ ap (λ (b : Bool). sized b (h .size)) (was-false (h .variable) v) in
         let i = const-root (typesOf t) (typeOf (tree a)) g (no-target a (λ u. f (e ∙ u))) z in

@@ -105,14 +105,16 @@ abbrev TreeBuilt : (s : List ℕ) (kind : ℕ) (xs : List ℕ) (at : ℕ) (ys : 
 TreeBuilt s kind xs at ys r = (t : Tree) (a : Accepted s 1 7 kind) → readSet s ≡ done t → BuildsType xs at ys r (build-type (typesOf t) (typeOf (tree a)))
 
 -- the references of the type
-owned : {s us : List ℕ} (ws : List ℕ) {kind : ℕ} {h : TypeHead} {held : Held} (a : Accepted s 1 7 kind) → HeadAt a h → ((b : Accepted s 32 32 (h .references)) → Kept s us held (extend-with (ownersOf (tree b)) (entriesOf s ws 0))) →
+owned : {s us : List ℕ} (ws : List ℕ) {kind : ℕ} {h : TypeHead} {held : Held} (a : Accepted s 1 7 kind) → HeadAt a h →
+    ((b : Accepted s 32 32 (h .references)) → Kept s us held (extend-with (ownersOf (tree b)) (entriesOf s ws 0))) →
     Kept s us held (extend-with (head (typeOf (tree a)) .dynamic-params) [])
 owned {s} {us} ws {held} a o k =
     subst (λ (g : Registry). Kept s us held (extend-with (head (typeOf (tree a)) .dynamic-params) g)) (none-held s ws)
     (subst (λ (l : List Owner). Kept s us held (extend-with l (entriesOf s ws 0))) (sym (o .owners)) (k (o .references)))
 
 module _ {s xs ys : List ℕ} {kind at : ℕ} {r : TypeTree} where
-  module _ {h : TypeHead} (w : (a : Accepted s 1 7 kind) → HeadAt a h) {us : List ℕ} (ws : List ℕ) {held : Held} (k : (b : Accepted s 32 32 (h .references)) → Kept s us held (extend-with (ownersOf (tree b)) (entriesOf s ws 0))) where
+  module _ {h : TypeHead} (w : (a : Accepted s 1 7 kind) → HeadAt a h) {us : List ℕ} (ws : List ℕ) {held : Held}
+      (k : (b : Accepted s 32 32 (h .references)) → Kept s us held (extend-with (ownersOf (tree b)) (entriesOf s ws 0))) where
     pub not-entered : (held .number ≡ 0 → ⊥) → r .number ≡ held .number → r .at ≡ at → TreeBuilt s kind xs at ys r
     not-entered z e f t a d =
         let n = not-kept (owned ws a (w a) k) z in

@@ -6,38 +6,38 @@ use native.Mathlib.Omega.{arith}
 use Prim.Native.Nat.{ℕ, _<_, _+_, _-_}
 use borrow.Fn.Kinds.{In}
 use borrow.Fn.PlainCycle.{Measures, is, falls, and}
-use Rattle.builder_structs.proofs.sum.Reads as sum
-use Rattle.builder_structs.proofs.sum.Kinds as sum-kinds
-use Rattle.builder_structs.proofs.+sum.Lts-sum as sum-lts
+use Rattle.builder_structs.proofs.sum.Reads as reads
+use Rattle.builder_structs.proofs.sum.Kinds as kinds
+use Rattle.builder_structs.proofs.+sum.Lts-sum as lts
 use Rattle.wire.proofs.close_block.Reads as close-block-reads
 use Rattle.builder_nodes.proofs.open_add.Reads as open-add-reads
 use Rattle.builder_structs.proofs.child.Reads as child-reads
 use Rattle.builder_structs.proofs.+sum.{statement}
 use Rattle.builder_structs.proofs.+sum.Tie.{close}
 
-abbrev μ-sum : Measures 3 sum-kinds.ps ℕ
-μ-sum κs a = a .1 .1 .1 .1 .1 .1 .1 .1 .0
+abbrev μ : Measures 3 kinds.ps ℕ
+μ κs a = a .1 .1 .1 .1 .1 .1 .1 .1 .0
 
-abbrev sum-at : ℕ → In 3 sum-kinds.ps
-sum-at t = and 3 sum-kinds.ps (is 3 sum-kinds.ps μ-sum t) sum.Pre
+abbrev within : ℕ → In 3 kinds.ps
+within t = and 3 kinds.ps (is 3 kinds.ps μ t) reads.Pre
 
-abbrev sum-below : ℕ → In 3 sum-kinds.ps
-sum-below t = and 3 sum-kinds.ps (falls 3 sum-kinds.ps _<_ μ-sum t) sum.Pre
+abbrev below : ℕ → In 3 kinds.ps
+below t = and 3 kinds.ps (falls 3 kinds.ps _<_ μ t) reads.Pre
 
-abbrev sum-with : ℕ → sum-lts.Claims
-sum-with t = (
+abbrev calls : ℕ → lts.Claims
+calls t = (
   child-reads.Asked,
   child-reads.Learnt,
   open-add-reads.Asked,
   open-add-reads.Learnt,
-  sum-below t,
-  sum.Post,
+  below t,
+  reads.Post,
   close-block-reads.Asked,
   close-block-reads.Learnt,
 )
 
-sum-child-requires : (t : ℕ) → sum-lts.Need-child-requires (sum-with t) (sum-at t) sum.Post
-sum-child-requires t c κs =
+child-requires : (t : ℕ) → lts.Need-child-requires (calls t) (within t) reads.Post
+child-requires t c κs =
     let at-then1 = c .before .before in
     let at-start = at-then1 .before .before .before .before in record {
       standing = at-start .pre .1 .standing;
@@ -47,14 +47,14 @@ sum-child-requires t c κs =
       cursor = omega (arith, at-start .pre .1 .room, at-then1 .if1 .taken);
     }
 
-sum-same-length : (t : ℕ) → sum-lts.Need-same-length (sum-with t) (sum-at t) sum.Post
-sum-same-length t c = search needs
+same-length : (t : ℕ) → lts.Need-same-length (calls t) (within t) reads.Post
+same-length t c = search needs
 
-sum-same-length-2 : (t : ℕ) → sum-lts.Need-same-length-2 (sum-with t) (sum-at t) sum.Post
-sum-same-length-2 t c = search needs
+same-length-2 : (t : ℕ) → lts.Need-same-length-2 (calls t) (within t) reads.Post
+same-length-2 t c = search needs
 
-sum-returns : (t : ℕ) → sum-lts.Need-returns (sum-with t) (sum-at t) sum.Post
-sum-returns t c =
+returns : (t : ℕ) → lts.Need-returns (calls t) (within t) reads.Post
+returns t c =
     let at-child = c .before .before .before .before in
     let at-then1 = at-child .before .before .before in (
       record {
@@ -66,20 +66,20 @@ sum-returns t c =
       λ t b l q. sum-one _ _ (at-then1 .if1 .taken) (at-child .child .ensures .1 t b l q),
     )
 
-sum-open-add-requires : (t : ℕ) → sum-lts.Need-open-add-requires (sum-with t) (sum-at t) sum.Post
-sum-open-add-requires t c κs =
+open-add-requires : (t : ℕ) → lts.Need-open-add-requires (calls t) (within t) reads.Post
+open-add-requires t c κs =
     let at-start = c .before .before .before .before .before in
     let r = at-start .pre .1 .room in
     let s = at-start .pre .1 .standing in
     search needs
 
-sum-sub-sum : (t : ℕ) → sum-lts.Need-sub-sum (sum-with t) (sum-at t) sum.Post
-sum-sub-sum t c =
+sub-sum : (t : ℕ) → lts.Need-sub-sum (calls t) (within t) reads.Post
+sub-sum t c =
     let at-start = c .before .before .before .before .before .before .before .before .before in
     omega (arith, at-start .pre .1 .some)
 
-sum-sum-requires : (t : ℕ) → sum-lts.Need-sum-requires (sum-with t) (sum-at t) sum.Post
-sum-sum-requires t c κs =
+sum-requires : (t : ℕ) → lts.Need-sum-requires (calls t) (within t) reads.Post
+sum-requires t c κs =
     let at-open-add = c .before .before .before .before in
     let at-else1 = at-open-add .before .before in
     let at-start = at-else1 .before .before .before .before in (
@@ -99,14 +99,14 @@ sum-sum-requires t c κs =
       },
     )
 
-sum-same-length-3 : (t : ℕ) → sum-lts.Need-same-length-3 (sum-with t) (sum-at t) sum.Post
-sum-same-length-3 t c = search needs
+same-length-3 : (t : ℕ) → lts.Need-same-length-3 (calls t) (within t) reads.Post
+same-length-3 t c = search needs
 
-sum-same-length-4 : (t : ℕ) → sum-lts.Need-same-length-4 (sum-with t) (sum-at t) sum.Post
-sum-same-length-4 t c = search needs
+same-length-4 : (t : ℕ) → lts.Need-same-length-4 (calls t) (within t) reads.Post
+same-length-4 t c = search needs
 
-sum-returns-2 : (t : ℕ) → sum-lts.Need-returns-2 (sum-with t) (sum-at t) sum.Post
-sum-returns-2 t c =
+returns-2 : (t : ℕ) → lts.Need-returns-2 (calls t) (within t) reads.Post
+returns-2 t c =
     let at-sum = c .before .before .before .before .before .before in
     let at-open-add = at-sum .before .before .before .before .before in
     let at-else1 = at-open-add .before .before in
@@ -129,8 +129,8 @@ sum-returns-2 t c =
           (c .if2 .taken),
     )
 
-sum-child-requires-2 : (t : ℕ) → sum-lts.Need-child-requires-2 (sum-with t) (sum-at t) sum.Post
-sum-child-requires-2 t c κs =
+child-requires-2 : (t : ℕ) → lts.Need-child-requires-2 (calls t) (within t) reads.Post
+child-requires-2 t c κs =
     let at-sum = c .before .before .before .before .before .before .before .before in
     let at-open-add = at-sum .before .before .before .before .before in
     let at-start = at-open-add .before .before .before .before .before .before in record {
@@ -150,18 +150,18 @@ sum-child-requires-2 t c κs =
       );
     }
 
-sum-same-length-5 : (t : ℕ) → sum-lts.Need-same-length-5 (sum-with t) (sum-at t) sum.Post
-sum-same-length-5 t c = search needs
+same-length-5 : (t : ℕ) → lts.Need-same-length-5 (calls t) (within t) reads.Post
+same-length-5 t c = search needs
 
-sum-same-length-6 : (t : ℕ) → sum-lts.Need-same-length-6 (sum-with t) (sum-at t) sum.Post
-sum-same-length-6 t c =
+same-length-6 : (t : ℕ) → lts.Need-same-length-6 (calls t) (within t) reads.Post
+same-length-6 t c =
     let at-out4 = c .before .before .before in
     let at-out3 = at-out4 .before .before .before .before .before .before .before .before .before in
     let at-out2 = at-out3 .before .before .before .before .before .before .before in
     omega (arith, at-out2 .out2 .given, at-out3 .out3 .given, at-out4 .out4 .given)
 
-sum-returns-3 : (t : ℕ) → sum-lts.Need-returns-3 (sum-with t) (sum-at t) sum.Post
-sum-returns-3 t c =
+returns-3 : (t : ℕ) → lts.Need-returns-3 (calls t) (within t) reads.Post
+returns-3 t c =
     let at-child2 = c .before .before .before .before .before .before in
     let at-else2 = at-child2 .before .before .before in
     let at-sum = at-else2 .before .before .before .before .before .before in
@@ -194,8 +194,8 @@ sum-returns-3 t c =
           (c .if3 .taken),
     )
 
-sum-close-block-requires : (t : ℕ) → sum-lts.Need-close-block-requires (sum-with t) (sum-at t) sum.Post
-sum-close-block-requires t c κs =
+close-block-requires : (t : ℕ) → lts.Need-close-block-requires (calls t) (within t) reads.Post
+close-block-requires t c κs =
     let at-child2 = c .before .before .before .before .before .before .before in
     let at-sum = at-child2 .before .before .before .before .before .before .before .before .before in
     let at-open-add = at-sum .before .before .before .before .before in
@@ -216,11 +216,11 @@ sum-close-block-requires t c κs =
       ),
     )
 
-sum-same-length-7 : (t : ℕ) → sum-lts.Need-same-length-7 (sum-with t) (sum-at t) sum.Post
-sum-same-length-7 t c = search needs
+same-length-7 : (t : ℕ) → lts.Need-same-length-7 (calls t) (within t) reads.Post
+same-length-7 t c = search needs
 
-sum-same-length-8 : (t : ℕ) → sum-lts.Need-same-length-8 (sum-with t) (sum-at t) sum.Post
-sum-same-length-8 t c =
+same-length-8 : (t : ℕ) → lts.Need-same-length-8 (calls t) (within t) reads.Post
+same-length-8 t c =
     let at-out4 = c .before .before .before .before .before .before .before in
     let at-out3 = at-out4 .before .before .before .before .before .before .before .before .before in
     let at-out2 = at-out3 .before .before .before .before .before .before .before in
@@ -232,8 +232,8 @@ sum-same-length-8 t c =
       c .before .out5 .given,
     )
 
-sum-returns-4 : (t : ℕ) → sum-lts.Need-returns-4 (sum-with t) (sum-at t) sum.Post
-sum-returns-4 t c =
+returns-4 : (t : ℕ) → lts.Need-returns-4 (calls t) (within t) reads.Post
+returns-4 t c =
     let at-close-block = c .before .before in
     let at-else3 = at-close-block .before .before in
     let at-child2 = at-else3 .before .before .before .before .before .before in
@@ -272,9 +272,9 @@ sum-returns-4 t c =
 
 pub +sum-spec : {M : Type 1} → statement M
 +sum-spec =
-    close μ-sum
-    (λ t. sum-lts.spec (sum-with t) (sum-at t) sum.Post (sum-child-requires t) (sum-same-length t)
-    (sum-same-length-2 t) (sum-returns t) (sum-open-add-requires t) (sum-sub-sum t)
-    (sum-sum-requires t) (sum-same-length-3 t) (sum-same-length-4 t) (sum-returns-2 t)
-    (sum-child-requires-2 t) (sum-same-length-5 t) (sum-same-length-6 t) (sum-returns-3 t)
-    (sum-close-block-requires t) (sum-same-length-7 t) (sum-same-length-8 t) (sum-returns-4 t))
+    close μ
+    (λ t. lts.spec (calls t) (within t) reads.Post (child-requires t) (same-length t)
+    (same-length-2 t) (returns t) (open-add-requires t) (sub-sum t)
+    (sum-requires t) (same-length-3 t) (same-length-4 t) (returns-2 t)
+    (child-requires-2 t) (same-length-5 t) (same-length-6 t) (returns-3 t)
+    (close-block-requires t) (same-length-7 t) (same-length-8 t) (returns-4 t))

@@ -128,4 +128,6 @@ returns-2 c =
     )
 
 pub build-variable-struct-spec : {M : Type 1} → statement M
-build-variable-struct-spec = tie.close (tie.spec type-head-requires field-list-requires count-nodes-requires returns open-align-requires sum-requires close-aligned-requires same-length same-length-2 returns-2)
+build-variable-struct-spec =
+    tie.close
+    (tie.spec type-head-requires field-list-requires count-nodes-requires returns open-align-requires sum-requires close-aligned-requires same-length same-length-2 returns-2)

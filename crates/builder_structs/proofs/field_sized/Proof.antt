@@ -73,4 +73,6 @@ returns c =
     )
 
 pub field-sized-spec : {M : Type 1} → statement M
-field-sized-spec = tie.close (tie.spec type-head-requires open-align-requires build-size-discriminated-union-node-requires enter-behind-requires close-aligned-requires same-length same-length-2 returns)
+field-sized-spec =
+    tie.close
+    (tie.spec type-head-requires open-align-requires build-size-discriminated-union-node-requires enter-behind-requires close-aligned-requires same-length same-length-2 returns)
