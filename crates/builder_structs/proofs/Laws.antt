@@ -1,7 +1,7 @@
 -- What the code leaves, place by place: padding, the end of the prefix, the next node, sums, the count, the struct.
 use mathlib.Core.Path.{_≡_, refl, sym, _∙_, ap, subst}
 use mathlib.Core.Bool.{Bool, true, false, not, cond}
-use mathlib.Core.List.{List, _∷_, _++_}
+use mathlib.Core.List.{List, _∷_}
 use mathlib.Core.Option.{Option, some, none}
 use Prim.Native.Nat.{ℕ, suc, _+_, _-_, _^_, _≤_, _<_}
 use native.Mathlib.Omega.{arith}
@@ -11,7 +11,7 @@ use borrow.Author.Tests.{lt-ltb, le-ltb}
 use Rattle.errors.specs.Refusal.{Outcome, done, refused, plain}
 use Rattle.errors.specs.Refusal.{_>>=_ as _andThen_}
 use Rattle.blocks.specs.Bytes.{le2, le4, bytes}
-use Rattle.blocks.specs.Tree.{Tree, num, nil, cons, view}
+use Rattle.blocks.specs.Tree.{Tree, nil, cons, view}
 use Rattle.blocks.specs.Read.{readSet}
 use Rattle.blocks.specs.Write.{write}
 use Rattle.accepted.specs.Accepted.{Accepted, tree, nameAt, Item, Listed}

@@ -1,4 +1,6 @@
--- An array's node meets its contract; it is built on its element, which is a shorter block. Assumes nothing.
+-- `build_array_node_with_prefix` meets its contract: a jagged array of variable elements is what `sum_over_array` leaves; of every
+-- other array the count and the element's references come first, then the element, which is a constant or an array that is
+-- built one deeper. The measure is the length of the array's block: its element is shorter.
 use mathlib.Core.Path.{sym, _∙_}
 use Rattle.blocks.specs.Bytes.{le4}
 use Rattle.builder_expressions.proofs.Laws.{header-inside, stays}

@@ -1,4 +1,5 @@
--- `build_array_node` meets its contract.
+-- `build_array_node` meets its contract: without owners it is refused; else the key, which is what stands behind the last `::`
+-- of the type's name, or `array`, goes to `build_under`.
 use mathlib.Core.Path.{refl}
 use Prim.Native.Nat.{_+_}
 use denote.Ref.{now}

@@ -1,3 +1,4 @@
+-- `build_count` meets its contract: the two nodes are opened, and the count is built behind them.
 use Rattle.builder_arrays.proofs.Laws.{behind-both, begins}
 use borrow.Author.Needs.{needs}
 use Rattle.builder_arrays.proofs.build_count.Statement.{statement}

@@ -1,3 +1,4 @@
+-- `build_counted` meets its contract: the count, then the element's references, unless the count was refused.
 use Rattle.builder_arrays.proofs.Laws.{count-stops, count-goes}
 use borrow.Author.Needs.{needs}
 use Rattle.builder_arrays.proofs.build_counted.Statement.{statement}

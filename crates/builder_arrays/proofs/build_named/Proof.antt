@@ -1,4 +1,4 @@
--- `build_named` meets its contract.
+-- `build_named` meets its contract: the type's name where it is an owner, else the first owner, which there is.
 use native.Mathlib.Omega.{arith}
 use Rattle.builder_arrays.proofs.Laws.{named-short}
 use Rattle.builder_arrays.proofs.Owner.{inside-ready, first-is, name-yes, name-no}

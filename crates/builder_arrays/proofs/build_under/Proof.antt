@@ -1,4 +1,4 @@
--- `build_under` meets its contract.
+-- `build_under` meets its contract: the key where it is an owner, else what `build_named` selects.
 use Rattle.builder_arrays.proofs.Owner.{inside-ready, key-yes, key-no}
 use borrow.Author.Needs.{needs}
 use Rattle.builder_arrays.proofs.build_under.Statement.{statement}

@@ -1,3 +1,4 @@
+-- `read_shape` meets its contract: what the heads of the array and of its element say, and the array's parts.
 use Rattle.accepted.specs.Accepted.{Accepted}
 use Rattle.builder_arrays.proofs.Laws.{shaped}
 use borrow.Author.Needs.{needs}

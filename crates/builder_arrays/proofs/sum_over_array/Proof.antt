@@ -1,3 +1,5 @@
+-- `sum_over_array` meets its contract: the count, then the element must be a type reference; its name and the owner's stand behind
+-- the count. Names have 255 bytes at most, which bounds the cursor.
 use native.Mathlib.Omega.{arith}
 use Rattle.resolved_parts.specs.Types.{Named}
 use Rattle.builder_expressions.proofs.Laws.{header-inside, stays}

@@ -1,4 +1,5 @@
--- `sum` meets its contract. The measure is the number of nodes.
+-- `sum` meets its contract: the sum of one node is that node; the sum of more is an Add node of the sum of the first ones, which the
+-- function makes itself, and the last. The measure is the number of nodes.
 use borrow.Author.Needs.{needs}
 use Rattle.builder_registry.proofs.Laws.{standing}
 use Rattle.builder_structs.proofs.Laws.{sum-one, sum-stops, sum-stops-last, sum-done}

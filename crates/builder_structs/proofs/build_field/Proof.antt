@@ -1,4 +1,4 @@
--- `build_field` meets its contract.
+-- `build_field` meets its contract: of variable size it is `variable_field`; else its references enter, and it is a constant.
 use borrow.Author.Needs.{needs}
 use native.Mathlib.Omega.{arith}
 use Rattle.builder_structs.proofs.Field.{field-variable, field-stops, field-done}

@@ -1,4 +1,5 @@
--- `build_variable_struct` meets its contract.
+-- `build_variable_struct` meets its contract: the nodes are counted first, as a left-nested sum begins with as many Add nodes; no
+-- node is refused; else the sum stands in an AlignUp node.
 use borrow.Author.Needs.{needs}
 use native.Mathlib.Omega.{arith}
 use Rattle.builder_structs.proofs.Laws.{struct-none, struct-built}

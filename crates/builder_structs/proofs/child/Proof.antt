@@ -1,4 +1,5 @@
--- `child` meets its contract.
+-- `child` meets its contract: without a field it is refused; where the padding is made, or there is none, it is the field's node, else
+-- a constant for the padding.
 use borrow.Author.Needs.{needs}
 use native.Mathlib.Omega.{arith}
 use Rattle.builder_structs.proofs.Laws.{field-here, child-none, child-half, child-plain, child-pad}

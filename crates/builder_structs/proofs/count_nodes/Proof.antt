@@ -1,4 +1,5 @@
--- `count_nodes` meets its contract. The invariant: the nodes of the fields that were passed are counted, and the prefix ends at `end`. The measure is the fields that are left.
+-- `count_nodes` meets its contract. The invariant: the nodes of the fields that were passed are counted, and the prefix ends at
+-- `end`. The measure is the fields that are left.
 use borrow.Author.Needs.{needs}
 use native.Mathlib.Omega.{arith}
 use Prim.Native.Nat.{_+_, _*_, _≤_}

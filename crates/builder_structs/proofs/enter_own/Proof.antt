@@ -1,4 +1,4 @@
--- `enter_own` meets its contract.
+-- `enter_own` meets its contract: the references of the type's head are those that the definition enters.
 use borrow.Author.Needs.{needs}
 use Rattle.builder_structs.proofs.Field.{own-entered}
 use Rattle.builder_structs.proofs.enter_own.Statement.{statement}

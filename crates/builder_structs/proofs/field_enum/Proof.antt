@@ -1,4 +1,4 @@
--- `field_enum` meets its contract.
+-- `field_enum` meets its contract: the struct's references for the field decide whether it is the sum of its payload or a switch.
 use borrow.Author.Needs.{needs}
 use Rattle.builder_structs.proofs.Field.{paths-found, enum-payload, enum-plain, enum-missing}
 use Rattle.builder_structs.proofs.field_enum.Statement.{statement}

@@ -1,4 +1,4 @@
--- `field_node` meets its contract.
+-- `field_node` meets its contract: 16 where the end of the prefix is 2^64 or more, else the field; the next one is behind it.
 use borrow.Author.Needs.{needs}
 use native.Mathlib.Omega.{arith}
 use Rattle.builder_structs.proofs.Laws.{field-here, field-inside, field-rest, over-left, node-stopped, node-left}

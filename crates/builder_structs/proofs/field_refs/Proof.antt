@@ -1,4 +1,4 @@
--- `field_refs` meets its contract.
+-- `field_refs` meets its contract: the sum of the struct's references for the field, or 11 where there are none.
 use borrow.Author.Needs.{needs}
 use native.Mathlib.Omega.{arith}
 use Rattle.builder_structs.proofs.Field.{paths-found, refs-missing, refs-found}

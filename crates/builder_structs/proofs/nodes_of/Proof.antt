@@ -1,4 +1,4 @@
--- `nodes_of` meets its contract.
+-- `nodes_of` meets its contract: one node, or two where there is padding.
 use borrow.Author.Needs.{needs}
 use native.Mathlib.Omega.{arith}
 use Rattle.resolved_parts.specs.Types.{offsetOf}

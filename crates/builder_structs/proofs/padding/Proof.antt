@@ -1,4 +1,4 @@
--- `padding` meets its contract.
+-- `padding` meets its contract: the difference between a field's offset and the end of the prefix, or 0.
 use borrow.Author.Needs.{needs}
 use Rattle.builder_structs.proofs.Laws.{pad-some, pad-none, pad-absent}
 use Rattle.builder_structs.proofs.padding.Statement.{statement}

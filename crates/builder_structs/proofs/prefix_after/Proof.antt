@@ -1,4 +1,4 @@
--- `prefix_after` meets its contract.
+-- `prefix_after` meets its contract: only a constant field with an offset moves the end of the prefix.
 use borrow.Author.Needs.{needs}
 use native.Mathlib.Omega.{arith}
 use Rattle.builder_structs.proofs.Laws.{end-unplaced, end-variable, end-const, end-over}

@@ -1,4 +1,4 @@
--- `variable_field` meets its contract.
+-- `variable_field` meets its contract: kind by kind.
 use borrow.Author.Needs.{needs}
 use native.Mathlib.Omega.{arith}
 use mathlib.Core.Path.{sym, _∙_}
