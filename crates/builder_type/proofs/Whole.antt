@@ -3,10 +3,10 @@ use mathlib.Core.Path.{_≡_, refl, sym, _∙_, ap, subst}
 use mathlib.Core.List.{List, []}
 use Prim.Native.Nat.{ℕ, _+_, _-_, _^_, _≤_, _<_}
 use native.Mathlib.Omega.{arith}
-use lib.ListN.{length, drop, length-take}
+use lib.ListN.{length}
 use Rattle.errors.specs.Refusal.{Refusal, Outcome, done, refused, plain}
 use Rattle.errors.specs.Refusal.{_>>=_ as _then_}
-use Rattle.blocks.specs.Bytes.{le2, bytes}
+use Rattle.blocks.specs.Bytes.{bytes}
 use Rattle.blocks.specs.Tree.{Tree, name, num, nil, cons}
 use Rattle.blocks.specs.Read.{readSet}
 use Rattle.blocks.specs.Write.{write}
@@ -16,7 +16,7 @@ use Rattle.ir.specs.Ir.{IrNode, IrParameter, TypeIr}
 use Rattle.ir.specs.Layout.{nodeTree, parameterTree, listTree, typeIrTree}
 use Rattle.accepted.specs.Accepted.{Accepted, tree, nameAt}
 use Rattle.resolved_parts.specs.declared.TypeHead.{TypeHead}
-use Rattle.resolved_parts.specs.Types.{Named, HeadAt, ownersOf}
+use Rattle.resolved_parts.specs.Types.{HeadAt, ownersOf}
 use Rattle.wire.specs.Poke.{Wrote, opened}
 use Rattle.wire.proofs.Laws.{both, parts, no-parts, closed}
 use Rattle.builder.specs.Registry.{Registry, _>>=_, give, reads, extend-with, into-parameters}
@@ -32,10 +32,6 @@ use Rattle.builder_parameters.specs.Ready.{Ready as ListReady}
 use Rattle.builder_type.specs.declared.TypeTree.{TypeTree}
 use Rattle.builder_type.specs.Built.{Ready, BuildsType}
 use Rattle.builder_type.proofs.Root.{Root}
-
--- a name of a set
-pub short-name : {s n : List ℕ} {p : ℕ} → Named s p → n ≡ nameAt s p → length n ≤ 255
-short-name {s} {p} h e = let l = length-take (le2 s p) (drop (p + 2) s) in let z = h .short in rw e (omega arith)
 
 -- ---- what was answered
 

@@ -1,13 +1,17 @@
--- `builder_type::build_type` meets its contract. Assumes nothing.
+-- `build_type` meets its contract: the type's references enter an empty registry, a block of kind 161 is opened, and behind the
+-- type's name and alignment stand the root and the parameters that the registry has then. A refusal is that of the references or
+-- of the root. A name has 255 bytes at most, which bounds the place of the root.
 use native.Mathlib.Omega.{arith}
 use borrow.Author.Needs.{needs}
 use mathlib.Core.Path.{refl, _∙_}
+use Prim.Native.Nat.{_+_, _≤_}
+use Rattle.builder_calls.proofs.Laws.{short-name}
 use Rattle.builder_type.proofs.Root.{short-type}
-use Rattle.builder_type.proofs.Whole.{short-name, not-entered, no-root, tree-built, root-ready, list-ready}
+use Rattle.builder_type.proofs.Whole.{not-entered, no-root, tree-built, root-ready, list-ready}
 use Rattle.builder_type.proofs.build_type.Statement.{statement}
 use Rattle.builder_type.proofs.build_type.Tie as tie
 
--- The places, each seen from a later one: what was known there.
+-- The places as they are seen from where the references have entered.
 abbrev at-extend-with : tie.Else1 → tie.After-extend-with
 at-extend-with r = r .before .before .before .before
 
@@ -16,6 +20,19 @@ at-type-head r = at-extend-with r .before .before
 
 abbrev at-start : tie.Else1 → tie.Start
 at-start r = at-type-head r .before .before .before .before
+
+-- The places as they are seen from where the root begins.
+abbrev at-put-name : tie.After-put-le → tie.After-put-name
+at-put-name r = r .before .before .before .before
+
+abbrev at-open-block : tie.After-put-le → tie.After-open-block
+at-open-block r = at-put-name r .before .before .before .before
+
+abbrev at-name-at : tie.After-put-le → tie.After-name-at
+at-name-at r = at-open-block r .before .before
+
+abbrev at-else1 : tie.After-put-le → tie.Else1
+at-else1 r = at-name-at r .before
 
 type-head-requires : tie.Need-type-head-requires
 type-head-requires c κs =
@@ -54,15 +71,14 @@ put-name-requires : tie.Need-put-name-requires
 put-name-requires c κs =
     let at-open-block = c .before .before .before in
     let at-name-at = at-open-block .before .before in
-    let at-type-head = at-name-at .before .before .before .before .before .before .before in
-    let at-start = at-type-head .before .before .before .before in
+    let at-else1 = at-name-at .before in
     omega (
       arith,
-      at-start .pre .cursor,
+      at-start at-else1 .pre .cursor,
       at-open-block .open-block .ensures .1,
-      short-name
-          (at-type-head .type-head .ensures (at-start .pre .type-at) .named)
-          (at-name-at .name-at .ensures),
+      short-name _
+          (at-name-at .name-at .ensures)
+          (at-type-head at-else1 .type-head .ensures (at-start at-else1 .pre .type-at) .named),
     )
 
 put-le-requires : tie.Need-put-le-requires
@@ -70,41 +86,37 @@ put-le-requires c κs =
     let at-put-name = c .before .before .before in
     let at-open-block = at-put-name .before .before .before .before in
     let at-name-at = at-open-block .before .before in
-    let at-type-head = at-name-at .before .before .before .before .before .before .before in
-    let at-start = at-type-head .before .before .before .before in
+    let at-else1 = at-name-at .before in
     omega (
       arith,
-      at-start .pre .cursor,
+      at-start at-else1 .pre .cursor,
       at-open-block .open-block .ensures .1,
       at-put-name .put-name .ensures .1,
-      short-name
-          (at-type-head .type-head .ensures (at-start .pre .type-at) .named)
-          (at-name-at .name-at .ensures),
+      short-name _
+          (at-name-at .name-at .ensures)
+          (at-type-head at-else1 .type-head .ensures (at-start at-else1 .pre .type-at) .named),
+    )
+
+-- the root stands behind the header of a block, a name and a number: 271 bytes at most
+root-at : (r : tie.After-put-le) →
+    (at-start (at-else1 r) .args .at + 6 ≤ r .put-le .result) × (r .put-le .result ≤ at-start (at-else1 r) .args .at + 271)
+root-at r =
+    let n = short-name _
+    (at-name-at r .name-at .ensures)
+    (at-type-head (at-else1 r) .type-head .ensures (at-start (at-else1 r) .pre .type-at) .named) in (
+      omega (arith, at-open-block r .open-block .ensures .1, at-put-name r .put-name .ensures .1, r .put-le .ensures .1),
+      omega (arith, at-open-block r .open-block .ensures .1, at-put-name r .put-name .ensures .1, r .put-le .ensures .1),
     )
 
 node-from-resolved-requires : tie.Need-node-from-resolved-requires
 node-from-resolved-requires c κs =
     let at-put-le = c .before .before .before .before in
-    let at-put-name = at-put-le .before .before .before .before in
-    let at-open-block = at-put-name .before .before .before .before in
-    let at-name-at = at-open-block .before .before in
-    let at-extend-with = at-name-at .before .before .before .before .before in
-    let at-type-head = at-extend-with .before .before in
-    let at-start = at-type-head .before .before .before .before in
+    let at-else1 = at-put-le .before .before .before .before .before .before .before .before .before .before .before in
     root-ready
-    (at-start .pre)
-    (at-extend-with .extend-with .kept .1 .0)
-    (at-extend-with .extend-with .ensures .0)
-    (omega (
-      arith,
-      at-start .pre .cursor,
-      at-open-block .open-block .ensures .1,
-      at-put-name .put-name .ensures .1,
-      at-put-le .put-le .ensures .1,
-      short-name
-          (at-type-head .type-head .ensures (at-start .pre .type-at) .named)
-          (at-name-at .name-at .ensures),
-    ))
+    (at-start at-else1 .pre)
+    (at-extend-with at-else1 .extend-with .kept .1 .0)
+    (at-extend-with at-else1 .extend-with .ensures .0)
+    (omega (arith, at-start at-else1 .pre .cursor, root-at at-put-le))
 
 same-length-2 : tie.Need-same-length-2
 same-length-2 c = search needs
@@ -115,13 +127,12 @@ same-length-3 c = search needs
 returns-2 : tie.Need-returns-2
 returns-2 c =
     let at-node-from-resolved = c .before .before .before .before .before .before in
-    let at-else1 = at-node-from-resolved .before .before .before .before .before .before .before
-    .before .before .before .before .before .before .before .before .before in (
+    let at-put-le = at-node-from-resolved .before .before .before .before .before in (
       (omega arith, omega arith),
       no-root
-          (at-type-head at-else1 .type-head .ensures) _
-          (at-extend-with at-else1 .extend-with .ensures .1)
-          (at-else1 .if1 .left)
+          (at-type-head (at-else1 at-put-le) .type-head .ensures) _
+          (at-extend-with (at-else1 at-put-le) .extend-with .ensures .1)
+          (at-else1 at-put-le .if1 .left)
           (at-node-from-resolved .node-from-resolved .ensures .1)
           (c .if2 .taken) refl refl,
     )
@@ -130,56 +141,33 @@ put-parameters-requires : tie.Need-put-parameters-requires
 put-parameters-requires c κs =
     let at-node-from-resolved = c .before .before .before .before .before .before .before .before in
     let at-put-le = at-node-from-resolved .before .before .before .before .before in
-    let at-put-name = at-put-le .before .before .before .before in
-    let at-open-block = at-put-name .before .before .before .before in
-    let at-name-at = at-open-block .before .before in
-    let at-extend-with = at-name-at .before .before .before .before .before in
-    let at-type-head = at-extend-with .before .before in
-    let at-start = at-type-head .before .before .before .before in
     list-ready
-    (at-start .pre)
+    (at-start (at-else1 at-put-le) .pre)
     (at-node-from-resolved .node-from-resolved .kept .1 .0
-    ∙ at-extend-with .extend-with .kept .1 .0)
+    ∙ at-extend-with (at-else1 at-put-le) .extend-with .kept .1 .0)
     (at-node-from-resolved .node-from-resolved .ensures .0 .count)
     (omega (
       arith,
-      at-start .pre .cursor,
-      at-open-block .open-block .ensures .1,
-      at-put-name .put-name .ensures .1,
-      at-put-le .put-le .ensures .1,
+      at-start (at-else1 at-put-le) .pre .cursor,
+      root-at at-put-le,
       at-node-from-resolved .node-from-resolved .ensures .0 .high,
-      short-name
-          (at-type-head .type-head .ensures (at-start .pre .type-at) .named)
-          (at-name-at .name-at .ensures),
     ))
 
 close-block-requires : tie.Need-close-block-requires
 close-block-requires c κs =
     let at-put-parameters = c .before .before .before in
     let at-node-from-resolved = at-put-parameters .before .before .before .before .before .before .before .before .before in
-    let at-put-le = at-node-from-resolved .before .before .before .before .before in
-    let at-put-name = at-put-le .before .before .before .before in
-    let at-open-block = at-put-name .before .before .before .before in
-    let at-name-at = at-open-block .before .before in
-    let at-type-head = at-name-at .before .before .before .before .before .before .before in
-    let at-start = at-type-head .before .before .before .before in
-    let n = short-name
-    (at-type-head .type-head .ensures (at-start .pre .type-at) .named)
-    (at-name-at .name-at .ensures) in (
+    let at-put-le = at-node-from-resolved .before .before .before .before .before in (
       omega (
         arith,
-        at-open-block .open-block .ensures .1,
-        at-put-name .put-name .ensures .1,
-        at-put-le .put-le .ensures .1,
+        root-at at-put-le .0,
         at-node-from-resolved .node-from-resolved .ensures .0 .low,
         at-put-parameters .put-parameters .ensures .1 .0,
       ),
       omega (
         arith,
-        at-start .pre .cursor,
-        at-open-block .open-block .ensures .1,
-        at-put-name .put-name .ensures .1,
-        at-put-le .put-le .ensures .1,
+        at-start (at-else1 at-put-le) .pre .cursor,
+        root-at at-put-le .1,
         at-node-from-resolved .node-from-resolved .ensures .0 .high,
         at-put-parameters .put-parameters .ensures .1 .1,
       ),
@@ -188,10 +176,8 @@ close-block-requires c κs =
 same-length-4 : tie.Need-same-length-4
 same-length-4 c =
     let at-node-from-resolved = c .before .before .before .before .before .before .before .before .before .before .before .before .before .before .before in
-    let at-else1 = at-node-from-resolved .before .before .before .before .before .before .before
-    .before .before .before .before .before .before .before .before .before in
     at-node-from-resolved .node-from-resolved .kept .1 .0
-    ∙ at-extend-with at-else1 .extend-with .kept .1 .0
+    ∙ at-extend-with (at-else1 (at-node-from-resolved .before .before .before .before .before)) .extend-with .kept .1 .0
 
 same-length-5 : tie.Need-same-length-5
 same-length-5 c =
@@ -199,14 +185,12 @@ same-length-5 c =
     let at-put-parameters = at-close-block .before .before .before .before in
     let at-node-from-resolved = at-put-parameters .before .before .before .before .before .before .before .before .before in
     let at-put-le = at-node-from-resolved .before .before .before .before .before in
-    let at-put-name = at-put-le .before .before .before .before in
-    let at-open-block = at-put-name .before .before .before .before in
     at-close-block .close-block .kept .0
     ∙ at-put-parameters .put-parameters .kept .1 .1 .1 .1 .0
     ∙ at-node-from-resolved .node-from-resolved .kept .1 .1 .1 .1 .0
     ∙ at-put-le .put-le .kept .0
-    ∙ at-put-name .put-name .kept .0
-    ∙ at-open-block .open-block .kept .0
+    ∙ at-put-name at-put-le .put-name .kept .0
+    ∙ at-open-block at-put-le .open-block .kept .0
 
 returns-3 : tie.Need-returns-3
 returns-3 c =
@@ -214,44 +198,30 @@ returns-3 c =
     let at-put-parameters = at-close-block .before .before .before .before in
     let at-else2 = at-put-parameters .before .before .before in
     let at-node-from-resolved = at-else2 .before .before .before .before .before .before in
-    let at-put-le = at-node-from-resolved .before .before .before .before .before in
-    let at-put-name = at-put-le .before .before .before .before in
-    let at-open-block = at-put-name .before .before .before .before in
-    let at-name-at = at-open-block .before .before in
-    let at-else1 = at-name-at .before in
-    let at-extend-with = at-else1 .before .before .before .before in
-    let at-type-head = at-extend-with .before .before in
-    let at-start = at-type-head .before .before .before .before in
-    let n = short-name
-    (at-type-head .type-head .ensures (at-start .pre .type-at) .named)
-    (at-name-at .name-at .ensures) in (
+    let at-put-le = at-node-from-resolved .before .before .before .before .before in (
       (
         omega (
           arith,
-          at-open-block .open-block .ensures .1,
-          at-put-name .put-name .ensures .1,
-          at-put-le .put-le .ensures .1,
+          root-at at-put-le .0,
           at-node-from-resolved .node-from-resolved .ensures .0 .low,
           at-put-parameters .put-parameters .ensures .1 .0,
         ),
         omega (
           arith,
-          at-open-block .open-block .ensures .1,
-          at-put-name .put-name .ensures .1,
-          at-put-le .put-le .ensures .1,
+          root-at at-put-le .1,
           at-node-from-resolved .node-from-resolved .ensures .0 .high,
           at-put-parameters .put-parameters .ensures .1 .1,
         ),
       ),
       tree-built
-          (at-type-head .type-head .ensures) _
-          (at-extend-with .extend-with .ensures .1)
-          (at-else1 .if1 .left)
+          (at-type-head (at-else1 at-put-le) .type-head .ensures) _
+          (at-extend-with (at-else1 at-put-le) .extend-with .ensures .1)
+          (at-else1 at-put-le .if1 .left)
           (at-node-from-resolved .node-from-resolved .ensures .1)
           (at-else2 .if2 .left) refl refl
-          (at-name-at .name-at .ensures)
-          (at-open-block .open-block .ensures .0)
-          (at-put-name .put-name .ensures .0)
+          (at-name-at at-put-le .name-at .ensures)
+          (at-open-block at-put-le .open-block .ensures .0)
+          (at-put-name at-put-le .put-name .ensures .0)
           (at-put-le .put-le .ensures .0)
           (at-put-parameters .put-parameters .ensures .0)
           (at-close-block .close-block .ensures .0),

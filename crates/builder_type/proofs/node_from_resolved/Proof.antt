@@ -1,4 +1,5 @@
--- `builder_type::node_from_resolved` meets its contract. Assumes nothing.
+-- `node_from_resolved` meets its contract: a type reference is a call, any other type of constant size a constant, and one of
+-- variable size what the builder of its kind leaves; a primitive type is refused.
 use native.Mathlib.Omega.{arith}
 use borrow.Author.Needs.{needs}
 use mathlib.Core.Path.{refl}
@@ -57,16 +58,19 @@ put-const-requires c κs = search needs
 same-length-3 : tie.Need-same-length-3
 same-length-3 c = search needs
 
--- Its paths stay: with names in their place the check refuses it.
 returns-2 : tie.Need-returns-2
 returns-2 c = (
   search needs,
-  const-built _
-      (c .before .before .before .before .before .before .before .before .read2 .ensures .0)
-      (c .before .before .before .before .before .before .type-head .ensures)
-      (c .before .before .before .before .if2 .taken)
-      (c .before .before .before .before .before .before .before .if1 .left) refl refl
-      (c .before .before .put-const .ensures .0),
+  let at-put-const = c .before .before in
+      let at-then2 = at-put-const .before .before in
+      let at-type-head = at-then2 .before .before in
+      let at-else1 = at-type-head .before in
+      const-built _
+      (at-else1 .before .read2 .ensures .0)
+      (at-type-head .type-head .ensures)
+      (at-then2 .if2 .taken)
+      (at-else1 .if1 .left) refl refl
+      (at-put-const .put-const .ensures .0),
 )
 
 build-variable-struct-requires : tie.Need-build-variable-struct-requires
