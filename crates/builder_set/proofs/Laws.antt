@@ -2,7 +2,7 @@
 use mathlib.Core.Path.{_≡_, refl, sym, _∙_, ap, subst}
 use mathlib.Core.Bool.{Bool, true, false, _&&_}
 use mathlib.Core.List.{List, [], _∷_, _++_, append-assoc, append-nil}
-use Prim.Native.Nat.{ℕ, zero, suc, _+_, _-_, _^_, _≤_, _<_}
+use Prim.Native.Nat.{ℕ, zero, suc, _+_, _-_, _*_, _^_, _≤_, _<_}
 use native.Mathlib.Numerals.{add-one, sub-one}
 use native.Mathlib.Nat.{zero-add}
 use native.Mathlib.Omega.{arith}
@@ -53,14 +53,29 @@ pub record Reached (s xs : List ℕ) (at : ℕ) (ys : List ℕ) (left from place
   pub wrote : Wrote xs at (write (entriesTree typeIrTree built)) ys p
   pub whole : build-types (typesOf t) 0 (typesOf t) ≡ prepend built (build-types (typesOf t) place (entries typeOf (list .got .0)))
 
+-- the same of whatever tree the set has
 pub record Loop (s xs : List ℕ) (at : ℕ) (ys : List ℕ) (left from place p : ℕ) : Type 0 where
   pub on : (t : Tree) → readSet s ≡ done t → Reached s xs at ys left from place p t
 
+-- what the loop keeps: as many types are passed as `place` says, the output is written as far as p, and the words and the output
+-- are as long as they were
+pub record Building (s ws₀ xs₀ : List ℕ) (at : ℕ) (ws xs : List ℕ) (left from place p : ℕ) : Type 0 where
+  pub few : place + left ≤ 256
+  pub low : at ≤ p
+  pub high : p ≤ at + 2 ^ 42 * place
+  pub inside : from ≤ 65536
+  pub ready : Ready s ws
+  pub loop : Loop s xs₀ at xs left from place p
+  pub words : length ws ≡ length ws₀
+  pub out : length xs ≡ length xs₀
+
+-- before the first type nothing was built
 prepend-none : (o : Outcome (List TypeIr)) → o ≡ prepend [] o
 unfolding prepend
 prepend-none (done xs) = refl
 prepend-none (refused r) = refl
 
+-- the loop begins at the first type
 pub begin : {s xs : List ℕ} {at left : ℕ} → left ≡ le2 s 6 → Loop s xs at xs left 8 0 at
 unfolding write entriesTree
 begin {s} {xs} {at} e = subst (λ (k : ℕ). Loop s xs at xs k 8 0 at) (sym e) (record {
@@ -80,6 +95,7 @@ entries-more (t ∷ ts) x = ap (λ (bs : List ℕ). write (typeIrTree t) ++ bs) 
 
 -- the next type builds, or refuses
 module _ (types : List ResolvedType) (i : ℕ) (T : ResolvedType) (rest : List ResolvedType) (pre : List TypeIr) where
+  -- a type that builds is one more of those that were built
   one-built : {x : TypeIr} → build-type types T ≡ done x → prepend pre (build-types types i (T ∷ rest)) ≡ prepend (pre ++ (x ∷ [])) (build-types types (i + 1) rest)
   unfolding build-types _>>=_ atType prepend
   one-built {x} e = rw (e, add-one) (go (build-types types (suc i) rest))
@@ -88,6 +104,7 @@ module _ (types : List ResolvedType) (i : ℕ) (T : ResolvedType) (rest : List R
       go (done ys) = ap done (sym (append-assoc pre (x ∷ []) ys))
       go (refused r) = refl
 
+  -- a type that is refused ends the set, with its place
   one-refused : {k : ℕ} → build-type types T ≡ refused (plain k) → prepend pre (build-types types i (T ∷ rest)) ≡ refused (record { number = k; place = i; offset = 0; value = 0 })
   unfolding build-types _>>=_ atType prepend
   one-refused e = rw e refl
@@ -99,11 +116,13 @@ abbrev pub Makes : (s ys : List ℕ) (from p : ℕ) (zs : List ℕ) (b : TypeTre
 Makes s ys from p zs b = (t : Tree) (a : Accepted s 1 7 from) → readSet s ≡ done t → BuildsType ys p zs b (build-type (typesOf t) (typeOf (tree a)))
 
 module _ {s xs ys : List ℕ} {at left from place p : ℕ} {t : Tree} (q : Reached s xs at ys left from place p t) (e : Enter (q .list)) where
+  -- the types that are left, by the next
   next-is : prepend (q .built) (build-types (typesOf t) place (entries typeOf (q .list .got .0))) ≡
       prepend (q .built) (build-types (typesOf t) place (typeOf (tree (e .child)) ∷ entries typeOf (e .after .rest .got .0)))
   unfolding entries
   next-is = ap (λ (u : Tree). prepend (q .built) (build-types (typesOf t) place (entries typeOf u))) (e .after .tree)
 
+  -- the next type was built: its own tree stands behind the others
   reach-more : {zs : List ℕ} {b : TypeTree} (o : Outcome TypeIr) → build-type (typesOf t) (typeOf (tree (e .child))) ≡ o → BuildsType ys p zs b o → b .number ≡ 0 →
       Reached s xs at zs (left - 1) (from + 4 + le4 s from) (place + 1) (b .at) t
   reach-more _ d (BuildsType.made x n w) z = record {
@@ -114,6 +133,7 @@ module _ {s xs ys : List ℕ} {at left from place p : ℕ} {t : Tree} (q : Reach
   }
   reach-more _ d (BuildsType.not k n h f) z = absurd (omega arith)
 
+  -- the next type was refused: so is the set, with its number and place
   reach-none : {zs : List ℕ} {b : TypeTree} (r : Types) (o : Outcome TypeIr) → build-type (typesOf t) (typeOf (tree (e .child))) ≡ o → BuildsType ys p zs b o →
       (b .number ≡ 0 → ⊥) → r .number ≡ b .number → r .place ≡ place →
       BuildsTypes xs at zs r (build-types (typesOf t) 0 (typesOf t))
@@ -130,11 +150,12 @@ module _ {s xs ys : List ℕ} {at left from place p : ℕ} where
       let o = block-opened (e .child) refl refl in
       (e .child, omega (arith, o .high, e .child .fits))
 
-  -- it is built
-  pub go-on : {zs : List ℕ} {b : TypeTree} {u : ℕ} → 0 < left → Makes s ys from p zs b → b .number ≡ 0 → u ≡ le4 s from → Loop s xs at ys left from place p →
-      Loop s xs at zs (left - 1) (from + 4 + u) (place + 1) (b .at)
-  go-on {zs} {b} h f z g c =
-      subst (λ (k : ℕ). Loop s xs at zs (left - 1) (from + 4 + k) (place + 1) (b .at)) (sym g) (record {
+  -- it is built, and the next one stands behind it
+  pub go-on : {zs : List ℕ} {b : TypeTree} (u : ℕ) → 0 < left → Makes s ys from p zs b → b .number ≡ 0 → u ≡ le4 s from → Loop s xs at ys left from place p →
+      Loop s xs at zs (left - 1) (from + (4 + u)) (place + 1) (b .at)
+  go-on {zs} {b} u h f z g c =
+      let l : from + 4 + le4 s from ≡ from + (4 + u) = omega arith in
+      subst (λ (k : ℕ). Loop s xs at zs (left - 1) k (place + 1) (b .at)) l (record {
         on = λ t r. let e = block-entry (c .on t r .list) h in reach-more (c .on t r) e _ refl (f t (e .child) r) z;
       })
 
@@ -155,9 +176,11 @@ no-more {xs} {ys} {at} {place} {r} h z g c t e =
 
 -- ---- what the calls stand on
 
+-- what building the next type stands on
 pub type-ready : {s ws xs ys : List ℕ} {at left from place p : ℕ} → Ready s ws → 0 < left → Loop s xs at ys left from place p → p + 512 < 2 ^ 55 → TypeReady s ws 0 from (p + 512)
 type-ready r h c k = record { standing = r .standing; set = r .set; type-at = next-type h c (r .set .0) (r .set .1) .0; cursor = k }
 
+-- the words may hold other entries
 pub ready-again : {s ws us : List ℕ} → Ready s ws → length us ≡ length ws → Ready s us
 ready-again r e = record { standing = standing (r .standing) e (omega arith); set = r .set }
 
@@ -165,19 +188,23 @@ ready-again r e = record { standing = standing (r .standing) e (omega arith); se
 pub next-end : {s ws xs ys : List ℕ} {at left from place p : ℕ} → Ready s ws → 0 < left → Loop s xs at ys left from place p → from + 4 + le4 s from ≤ 65536
 next-end {s} {from} r h c = let n = next-type h c (r .set .0) (r .set .1) .1 in omega (arith, n, r .standing .size)
 
+-- the next type stands inside the set
 pub next-inside : {s ws xs ys : List ℕ} {at left from place p : ℕ} → Ready s ws → 0 < left → Loop s xs at ys left from place p → from + 4 + le4 s from ≤ length s
 next-inside r h c = next-type h c (r .set .0) (r .set .1) .1
 
+-- a set has 8 bytes at least, and 256 types at most
 pub count-few : {s ws : List ℕ} → Ready s ws → (8 ≤ length s) × (le2 s 6 ≤ 256)
 count-few r = let l = set-list (r .set .1) in (l .0, l .3)
 
 -- ---- 18
 
 module _ (out : List ℕ) (n : ℕ) where
+  -- the output is too short
   pub holds-out : length out < n → false ≡ holdsAt out n
   unfolding holdsAt
   holds-out h = rw (lt-leb _ _ h) refl
 
+  -- the layout is too long
   pub holds-long : 65536 < n → false ≡ holdsAt out n
   unfolding holdsAt
   holds-long h = rw (lt-leb _ _ h) (go (leb n (length out)))
@@ -187,20 +214,24 @@ module _ (out : List ℕ) (n : ℕ) where
       go false = refl
 
   module _ (m : ℕ) {r : Read} (h : n ≤ length out) (k : n ≤ 65536) (e : r ≡ inputOf m (readLayout (take n out))) where
+    -- what the reader accepts, reading accepts
     read-is : (o : Outcome Tree) → r ≡ inputOf m o → {i : ℕ} → r ≡ Ok i → answered o ≡ true
     unfolding inputOf
     read-is (done t) d f = refl
     read-is (refused q) d f = let z : _≡_ {A = ℕ} 0 1 = cc in absurd (omega arith)
 
+    -- what the reader refuses, reading refuses
     unread-is : (o : Outcome Tree) → r ≡ inputOf m o → {q i : ℕ} → r ≡ Refused q i → answered o ≡ false
     unfolding inputOf
     unread-is (done t) d f = let z : _≡_ {A = ℕ} 0 1 = cc in absurd (omega arith)
     unread-is (refused q) d f = refl
 
+    -- the layout is read: it holds
     pub holds-yes : {i : ℕ} → r ≡ Ok i → true ≡ holdsAt out n
     unfolding holdsAt
     holds-yes f = rw (le-leb _ _ h, le-leb _ _ k, read-is (readLayout (take n out)) e f) refl
 
+    -- it is not read: it does not
     pub holds-no : {q i : ℕ} → r ≡ Refused q i → false ≡ holdsAt out n
     unfolding holdsAt
     holds-no f = rw (le-leb _ _ h, le-leb _ _ k, unread-is (readLayout (take n out)) e f) refl
@@ -216,6 +247,7 @@ built-count types i (t ∷ ts) e =
     let b = bound (build-types types (suc i) ts) _ _ (a .2) in
     ap length (sym (done-one (b .2))) ∙ ap suc (built-count types (suc i) ts (b .1))
 
+-- a list has as many entries as it counts
 listed-count : {s : List ℕ} {A : Type 0} (f : Tree → A) {lo hi : ℕ} (n at : ℕ) (l : Listed s lo hi n at) → length (entries f (l .got .0)) ≡ n
 unfolding entries
 listed-count f zero at l = rw (none-left l (omega arith)) refl
@@ -224,6 +256,7 @@ listed-count {s} f {lo} {hi} (suc n) at l =
     let g : (q : ℕ) (r : Listed s lo hi (suc n - 1) q) → length (entries f (r .got .0)) ≡ n = rw sub-one (listed-count f n) in
     rw (e .after .tree) (ap suc (g (at + 4 + le4 s at) (e .after .rest)))
 
+-- the count that the code writes is that of the layout
 pub set-count : (s : List ℕ) {t : Tree} {xs : List TypeIr} → readSet s ≡ done t → build-types (typesOf t) 0 (typesOf t) ≡ done xs → le2 s 6 ≡ length xs
 set-count s {t} e d =
     let l = set-list e in
@@ -262,14 +295,17 @@ same-holds {xs} {ys} {bs} {u} w = go (leb (length bs) (length xs)) refl
 
 -- ---- in the code's form: r is what the types left, then the length is written
 
+-- where the layout does not hold, 18
 not-held : (out : ℕ) (ts : List TypeIr) → holds out (write (layoutTree ts)) ≡ false → write-layout out ts ≡ refused (plain 18)
 unfolding write-layout _>>=_ ask
 not-held out ts h = rw h refl
 
+-- where it holds, its bytes
 is-held : (out : ℕ) (ts : List TypeIr) → holds out (write (layoutTree ts)) ≡ true → write-layout out ts ≡ done (write (layoutTree ts))
 unfolding write-layout _>>=_ ask
 is-held out ts h = rw h refl
 
+-- the code's answer of 18
 refused-18 : answer.Refused 18 65535 0 0 ≡ answerOf (refused (plain 18))
 unfolding answerOf
 refused-18 = refl
@@ -292,11 +328,13 @@ module _ (s : List ℕ) {xs xs₁ xs₂ xs₃ : List ℕ} {p q : ℕ} {r : Types
 
   -- all are built
   module _ {ys : List ℕ} {v : ℕ} (z : r .number ≡ 0) (d : Wrote xs₃ 0 (bytes 4 (r .at - 0 - 4)) ys v) (t : Tree) (e : readSet s ≡ done t) where
+    -- all types were built: their trees and their bytes
     all-made : (b : Outcome (List TypeIr)) → build-types (typesOf t) 0 (typesOf t) ≡ b → BuildsTypes xs₂ q xs₃ r b →
         (ts : List TypeIr) × (build-types (typesOf t) 0 (typesOf t) ≡ done ts) × Wrote xs 0 (write (layoutTree ts)) ys (r .at)
     all-made _ g (BuildsTypes.made ts m w) = (ts, g, layout-is ts o k w d (c ∙ set-count s e g))
     all-made _ g (BuildsTypes.not m i y h l) = absurd (omega (arith, z, y, h))
 
+    -- the layout holds: its bytes stand at the start of the output
     pub layout-yes : true ≡ holdsAt ys (r .at) → Leaves xs ys (answer.Length (r .at)) (layoutOf (length xs) t)
     layout-yes h =
         let (ts, g, w) = all-made _ refl (f t e) in
@@ -305,6 +343,7 @@ module _ (s : List ℕ) {xs xs₁ xs₂ xs₃ : List ℕ} {p q : ℕ} {r : Types
         subst (Leaves xs ys (answer.Length (r .at))) (sym (decided (length xs) t g ∙ is-held (length xs) ts y))
         (Leaves.built (write (layoutTree ts)) (ap answer.Length (w .end ∙ zero-add _)) (whole-is w l))
 
+    -- it does not: 18
     pub layout-no : false ≡ holdsAt ys (r .at) → Leaves xs ys (answer.Refused 18 65535 0 0) (layoutOf (length xs) t)
     layout-no h =
         let (ts, g, w) = all-made _ refl (f t e) in
@@ -313,11 +352,13 @@ module _ (s : List ℕ) {xs xs₁ xs₂ xs₃ : List ℕ} {p q : ℕ} {r : Types
 
 -- ---- the questions before building
 
+-- a set that was read has a tree
 read-tree : (m : ℕ) {i : ℕ} (o : Outcome Tree) → inputOf m o ≡ Ok i → (t : Tree) × (o ≡ done t)
 unfolding inputOf
 read-tree m (done t) e = (t, refl)
 read-tree m (refused r) e = let z : _≡_ {A = ℕ} 0 1 = cc in absurd (omega arith)
 
+-- a set that was not read is refused with the same number and offset
 unread-leaves : (xs : List ℕ) (m q o : ℕ) {a : Outcome Tree} → Unread a → inputOf m a ≡ Refused q o → (k : Tree → Outcome (List ℕ)) → Leaves xs xs (answer.Refused q 65535 o 0) (a >>= k)
 unfolding inputOf _>>=_ answerOf
 unread-leaves xs m q o (Unread.given t) e k = let z : _≡_ {A = ℕ} 0 1 = cc in absurd (omega arith)
@@ -327,24 +368,29 @@ unread-leaves xs m q o (Unread.at-offset p i) e k =
     Leaves.refuses (unread p i) (rw (g, h) refl)
 
 module _ (n : ℕ) (set xs : List ℕ) where
+  -- too few words: 19
   pub set-19 : n < 8192 → Leaves xs xs (answer.Refused 19 65535 0 0) (build-set n (length xs) set)
   unfolding build-set enough _>>=_ ask answerOf
   set-19 h = rw (lt-leb _ _ h) (Leaves.refuses (plain 19) refl)
 
   module _ (h : 8192 ≤ n) where
+    -- a set that is too long: 1
     pub set-1 : 65536 < length set → Leaves xs xs (answer.Refused 1 65535 0 0) (build-set n (length xs) set)
     unfolding build-set enough small _>>=_ ask answerOf
     set-1 k = rw (le-leb _ _ h, lt-leb _ _ k) (Leaves.refuses (unread 1 0) refl)
 
     module _ (k : length set ≤ 65536) where
+      -- behind 19 and 1 the set is read, and its layout is built
       asked : build-set n (length xs) set ≡ (readSet set >>= layoutOf (length xs))
       unfolding build-set enough small _>>=_ ask layoutOf
       asked = rw (le-leb _ _ h, le-leb _ _ k) refl
 
       module _ {r : Read} (e : r ≡ inputOf (length set) (readSet set)) where
+        -- the set is not read: 2 to 6
         pub set-unread : {q o : ℕ} → r ≡ Refused q o → Leaves xs xs (answer.Refused q 65535 o 0) (build-set n (length xs) set)
         set-unread {q} {o} f = subst (Leaves xs xs (answer.Refused q 65535 o 0)) (sym asked) (unread-leaves xs (length set) q o (input-unread 32 36 set) (sym e ∙ f) (layoutOf (length xs)))
 
+        -- the set is read: what its layout leaves
         pub set-read : {i : ℕ} {ys : List ℕ} {a : Answer} → r ≡ Ok i → ((t : Tree) → readSet set ≡ done t → Leaves xs ys a (layoutOf (length xs) t)) → Leaves xs ys a (build-set n (length xs) set)
         set-read {ys} {a} f g = let (t, d) = read-tree (length set) (readSet set) (sym e ∙ f) in subst (Leaves xs ys a) (sym (asked ∙ bound-done (layoutOf (length xs)) d)) (g t d)
 

@@ -49,7 +49,8 @@ fn build_types(s: &[u8], words: &mut [u64], out: &mut [u8], at: usize) -> Types
             };
         }
         p = b.at;
-        from = from + 4 + wire::read4(s, from);
+        let length = 4 + wire::read4(s, from);
+        from += length;
         place += 1;
         left -= 1;
     }

@@ -57,12 +57,12 @@ builds-refused z (Builds.made x e h w) = absurd (z e)
 builds-refused z (Builds.not k e l) = (ap (λ (n : ℕ). refused (plain n)) (sym e), omega arith)
 
 -- references that entered: what the definition gives
-kept-done : {s us : List ℕ} {r : Held} {x : Outcome (Unit {0} × Registry)} → r .number ≡ 0 → Kept s us r x → x ≡ done (tt, entriesOf s us (r .count))
+pub kept-done : {s us : List ℕ} {r : Held} {x : Outcome (Unit {0} × Registry)} → r .number ≡ 0 → Kept s us r x → x ≡ done (tt, entriesOf s us (r .count))
 kept-done z (Kept.kept g e h) = ap (λ (l : Registry). done (tt, l)) (sym h)
 kept-done z (Kept.not k e l) = absurd (let z : ⊥ = omega arith in z)
 
 -- references that were refused: the definition refuses them with the same number
-kept-refused : {s us : List ℕ} {r : Held} {x : Outcome (Unit {0} × Registry)} → (r .number ≡ 0 → ⊥) → Kept s us r x → (x ≡ refused (plain (r .number))) × (0 < r .number)
+pub kept-refused : {s us : List ℕ} {r : Held} {x : Outcome (Unit {0} × Registry)} → (r .number ≡ 0 → ⊥) → Kept s us r x → (x ≡ refused (plain (r .number))) × (0 < r .number)
 kept-refused z (Kept.kept g e h) = absurd (z e)
 kept-refused z (Kept.not k e l) = (ap (λ (n : ℕ). refused (plain n)) (sym e), omega arith)
 

@@ -8,17 +8,16 @@ use native.Mathlib.Omega.{arith}
 use lib.ListN.{length}
 use Rattle.errors.specs.Refusal.{done}
 use Rattle.blocks.specs.Bytes.{le2, le4}
-use Rattle.blocks.specs.Tree.{Tree, block, view}
+use Rattle.blocks.specs.Tree.{Tree}
 use Rattle.blocks.specs.Read.{readSet}
 use Rattle.blocks.specs.Write.{write}
 use Rattle.blocks.specs.Name.{Name}
 use Rattle.expr.specs.Expr.{ExprKind}
 use Rattle.resolved.specs.Resolved.{Size, Head, ResolvedType, ResolvedTypeKind, Fields, Variants, head, kindOf, targetOf}
-use Rattle.resolved.specs.Set.{typeOf, typesOf, thingOf, makeThing, formOf}
+use Rattle.resolved.specs.Set.{typeOf, typesOf}
 use Rattle.ir.specs.Ir.{IrNode, aligned, unplaced}
 use Rattle.ir.specs.Layout.{nodeTree}
 use Rattle.accepted.specs.Accepted.{Accepted, tree}
-use Rattle.accepted.proofs.Laws.{opened, each}
 use Rattle.resolved_parts.specs.declared.TypeHead.{TypeHead}
 use Rattle.resolved_parts.specs.Types.{HeadAt, sized}
 use Rattle.resolved_parts.proofs.Laws.{inside, long, kind-of, primitive}
@@ -32,15 +31,19 @@ use Rattle.builder_nodes.specs.Built.{Builds, Within}
 use Rattle.builder_calls.specs.Ready.{Ready as CallReady}
 use Rattle.builder_switches.specs.Ready.{Ready as SwitchReady}
 use Rattle.builder_arrays.specs.Ready.{Ready as ArrayReady}
+use Rattle.builder_arrays.proofs.Steps.{not-target}
+use Rattle.builder_expressions.proofs.Laws.{wider}
 use Rattle.builder_parameters.proofs.Tests.{was-true, was-false}
 use Rattle.builder_type.specs.Built.{Ready}
 
 -- ---- what each builder stands on
 
 module _ {s ws : List ℕ} {n k kind at : ℕ} (a : Ready s ws n kind at) (e : k ≡ le2 s (kind + 4)) {u : ℕ} (f : k ≡ u) where
+  -- what a call, or a struct, stands on
   pub call-ready : CallReady s ws n u kind at
   call-ready = record { standing = a .standing; set = a .set; type-at = a .type-at; kind-is = sym e ∙ f; cursor = omega (arith, a .cursor) }
 
+  -- what a switch stands on
   pub switch-ready : SwitchReady s ws n u kind at
   switch-ready = record { standing = a .standing; type-at = a .type-at; kind-is = sym e ∙ f; cursor = omega (arith, a .cursor) }
 
@@ -52,6 +55,7 @@ short-type a =
     let z = a .standing .size in
     (omega arith, omega arith)
 
+-- what an array stands on
 pub array-ready : {s ws : List ℕ} {n k kind at : ℕ} → Ready s ws n kind at → k ≡ le2 s (kind + 4) → k ≡ 5 → ArrayReady s ws n kind at
 array-ready a e f =
     let z = short-type a .1 in
@@ -60,19 +64,19 @@ array-ready a e f =
 
 -- ---- room
 
-pub wide : {at room : ℕ} {r : Built} → room ≤ 2 ^ 41 → Within at room r → Within at (2 ^ 41) r
-wide h w = record { low = w .low; high = omega (arith, w .high); count = w .count }
-
+-- an array is short, as the set is
 pub array-wide : {s ws : List ℕ} {n kind at : ℕ} {r : Built} → Ready s ws n kind at → Within at (1024 * (4 + le4 s kind)) r → Within at (2 ^ 41) r
-array-wide a w = let z = short-type a .1 in wide (omega arith) w
+array-wide a w = let z = short-type a .1 in wider (omega arith) w
 
 -- ---- the definition, by kind
 
 module _ (ts : List ResolvedType) (t : ResolvedType) where
+  -- the root of a type reference is a call
   call-root : {target : Name} → kindOf t ≡ ResolvedTypeKind.TypeRef target → node-from-resolved ts t ≡ build-typeref-node ts (head t) target
   unfolding node-from-resolved
   call-root e = ap (λ (k : ResolvedTypeKind). unlessTarget ts (head t) k (targetOf k)) e
 
+  -- the root of any other type of constant size is a constant
   const-root : {v : ℕ} (g : Registry) → targetOf (kindOf t) ≡ none → head t .size ≡ Size.Const v → node-from-resolved ts t g ≡ done (IrNode.Const unplaced (aligned (head t .alignment)) v, g)
   unfolding node-from-resolved give
   const-root g e f =
@@ -81,29 +85,25 @@ module _ (ts : List ResolvedType) (t : ResolvedType) where
       const-sized : {v : ℕ} (h : Head) (k : ResolvedTypeKind) → h .size ≡ Size.Const v → unlessTarget ts h k none g ≡ done (IrNode.Const unplaced (aligned (h .alignment)) v, g)
       const-sized h k f = rw f refl
 
+  -- the root of one of variable size is by its kind
   variable-root : {k : ResolvedTypeKind} → kindOf t ≡ k → targetOf k ≡ none → head t .size ≡ Size.Variable → node-from-resolved ts t ≡ build-variable ts (head t) k
   unfolding node-from-resolved
   variable-root e f g =
       ap (λ (k : ResolvedTypeKind). unlessTarget ts (head t) k (targetOf k)) e ∙ rw (f, g) refl
 
+-- a type is its head and its kind
 whole-type : (t : ResolvedType) → ResolvedType.resolved (head t) (kindOf t) ≡ t
 whole-type (ResolvedType.resolved h k) = refl
-
--- only kind 7 has a target
-no-target : {s : List ℕ} {kind : ℕ} (a : Accepted s 1 7 kind) → (le2 s (kind + 4) ≡ 7 → ⊥) → targetOf (kindOf (typeOf (tree a))) ≡ none
-unfolding typeOf view thingOf makeThing formOf
-no-target {s} {kind} a f =
-    let o = opened a refl refl in
-    ap (λ (z : Tree). targetOf (kindOf (typeOf z))) (o .tree) ∙
-    each (λ k. targetOf (kindOf (typeOf (block kind k (o .parts .got .0)))) ≡ none) 6 1 (refl, (refl, (refl, (refl, (refl, (refl, tt)))))) (le2 s (kind + 4)) (o .least) (omega (arith, o .most, f))
 
 -- the kind that is left behind the others
 below : {k : ℕ} (m : ℕ) → k ≤ m + 1 → (k ≡ m + 1 → ⊥) → k ≤ m
 below m h n = omega arith
 
+-- the first kind is left
 alone : {k : ℕ} → k ≤ 1 → 1 ≤ k → k ≡ 1
 alone h l = omega arith
 
+-- a kind that the code does not name is that of a primitive type
 pub only-one : {s : List ℕ} {k kind : ℕ} → Accepted s 1 7 kind → k ≡ le2 s (kind + 4) → (k ≡ 7 → ⊥) → (k ≡ 2 → ⊥) → (k ≡ 3 → ⊥) → (k ≡ 4 → ⊥) → (k ≡ 5 → ⊥) → (k ≡ 6 → ⊥) → k ≡ 1
 only-one {k} a e n7 n2 n3 n4 n5 n6 =
     let o : (1 ≤ k) × (k ≤ 7) = rw e (kind-of a) in
@@ -116,6 +116,7 @@ abbrev pub Root : (s : List ℕ) (kind : ℕ) (xs : List ℕ) (at : ℕ) (us ys 
 Root s kind xs at us ys r g = (t : Tree) (a : Accepted s 1 7 kind) → readSet s ≡ done t → Builds s xs at us ys r (node-from-resolved (typesOf t) (typeOf (tree a)) g)
 
 module _ {s : List ℕ} {k kind : ℕ} {xs : List ℕ} {at : ℕ} {us ys : List ℕ} {r : Built} (g : Registry) (e : k ≡ le2 s (kind + 4)) where
+  -- a type reference
   pub call-built : k ≡ 7 →
       ((t : Tree) (a : Accepted s 1 7 kind) (target : Name) → readSet s ≡ done t → kindOf (typeOf (tree a)) ≡ ResolvedTypeKind.TypeRef target →
       Builds s xs at us ys r (build-typeref-node (typesOf t) (head (typeOf (tree a))) target g)) → Root s kind xs at us ys r g
@@ -132,6 +133,7 @@ module _ {s : List ℕ} {k kind : ℕ} {xs : List ℕ} {at : ℕ} {us ys : List 
         subst (Builds s xs at us ys r) (sym (ap (λ (m : Build IrNode). m g) (variable-root (typesOf t) (typeOf (tree a)) i n z))) b
 
     module _ (v : not (h .variable) ≡ false) where
+      -- a struct of variable size
       pub struct-built : k ≡ 2 →
           ((t : Tree) (a : Accepted s 1 7 kind) (fs : Fields) → readSet s ≡ done t → kindOf (typeOf (tree a)) ≡ ResolvedTypeKind.Struct fs →
           Builds s xs at us ys r (build-variable-struct (typesOf t) (head (typeOf (tree a))) fs g)) → Root s kind xs at us ys r g
@@ -141,6 +143,7 @@ module _ {s : List ℕ} {k kind : ℕ} {xs : List ℕ} {at : ℕ} {us ys : List 
           let i = fields-at refl refl (omega arith) (omega arith) a .struct u in
           variable-built t a v i refl (b t a _ d i)
 
+      -- a union of variable size
       pub union-built : k ≡ 3 →
           ((a : Accepted s 1 7 kind) (fs : Fields) → kindOf (typeOf (tree a)) ≡ ResolvedTypeKind.Union fs →
           Builds s xs at us ys r (build-union-node (head (typeOf (tree a))) fs g)) → Root s kind xs at us ys r g
@@ -150,6 +153,7 @@ module _ {s : List ℕ} {k kind : ℕ} {xs : List ℕ} {at : ℕ} {us ys : List 
           let i = fields-at refl refl (omega arith) (omega arith) a .union u in
           variable-built t a v i refl (b a _ i)
 
+      -- an enum of variable size
       pub enum-built : k ≡ 4 →
           ((a : Accepted s 1 7 kind) (x : ExprKind) (vs : Variants) → kindOf (typeOf (tree a)) ≡ ResolvedTypeKind.Enum x vs →
           Builds s xs at us ys r (build-enum-node (head (typeOf (tree a))) x vs g)) → Root s kind xs at us ys r g
@@ -158,6 +162,7 @@ module _ {s : List ℕ} {k kind : ℕ} {xs : List ℕ} {at : ℕ} {us ys : List 
           let i = enum-at (sym e ∙ f) refl refl refl a .is in
           variable-built t a v i refl (b a _ _ i)
 
+      -- an array of variable size
       pub array-built : k ≡ 5 → ((a : Accepted s 1 7 kind) → Builds s xs at us ys r (build-array-node (typeOf (tree a)) g)) → Root s kind xs at us ys r g
       unfolding build-variable
       array-built f b t a d =
@@ -165,6 +170,7 @@ module _ {s : List ℕ} {k kind : ℕ} {xs : List ℕ} {at : ℕ} {us ys : List 
           let j = ap (ResolvedType.resolved (head (typeOf (tree a)))) (sym i) ∙ whole-type (typeOf (tree a)) in
           variable-built t a v i refl (subst (λ (z : ResolvedType). Builds s xs at us ys r (build-array-node z g)) (sym j) (b a))
 
+      -- a size-discriminated union of variable size
       pub sized-built : k ≡ 6 →
           ((a : Accepted s 1 7 kind) (vs : Variants) → kindOf (typeOf (tree a)) ≡ ResolvedTypeKind.SizeDiscriminatedUnion vs →
           Builds s xs at us ys r (build-size-discriminated-union-node (head (typeOf (tree a))) vs g)) → Root s kind xs at us ys r g
@@ -183,5 +189,5 @@ module _ {s : List ℕ} {k kind : ℕ} {xs : List ℕ} {at : ℕ} {us ys : List 
         Wrote xs at (write (nodeTree (IrNode.Const unplaced (aligned (h .alignment)) (h .size)))) ys (r .at) → Root s kind xs at us ys r g
     const-built v f n c o t a d =
         let z : head (typeOf (tree a)) .size ≡ Size.Const (h .size) = w a .size ∙ ap (λ (b : Bool). sized b (h .size)) (was-false (h .variable) v) in
-        let i = const-root (typesOf t) (typeOf (tree a)) g (no-target a (λ u. f (e ∙ u))) z in
+        let i = const-root (typesOf t) (typeOf (tree a)) g (not-target a (λ u. f (e ∙ u))) z in
         subst (Builds s xs at us ys r) (sym (i ∙ ap (λ (l : ℕ). done (IrNode.Const unplaced (aligned l) (h .size), g)) (w a .alignment))) (Builds.made _ n c o)

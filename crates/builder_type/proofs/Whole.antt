@@ -28,56 +28,36 @@ use Rattle.builder_registry.specs.Words.{Kept, entriesOf}
 use Rattle.builder_registry.proofs.Laws.{standing}
 use Rattle.builder_nodes.specs.declared.Built.{Built}
 use Rattle.builder_nodes.specs.Built.{Builds}
+use Rattle.builder_structs.proofs.Field.{builds-done, builds-refused, kept-done, kept-refused}
 use Rattle.builder_parameters.specs.Ready.{Ready as ListReady}
 use Rattle.builder_type.specs.declared.TypeTree.{TypeTree}
 use Rattle.builder_type.specs.Built.{Ready, BuildsType}
 use Rattle.builder_type.proofs.Root.{Root}
 
--- ---- what was answered
-
-module _ {s us : List ℕ} {r : Held} where
-  was-kept : {o : Outcome (Unit × Registry)} → Kept s us r o → r .number ≡ 0 → o ≡ done (tt, entriesOf s us (r .count))
-  was-kept (Kept.kept g e f) z = ap (λ (g : Registry). done (tt, g)) (sym f)
-  was-kept (Kept.not k e h) z = absurd (omega arith)
-
-  not-kept : {o : Outcome (Unit × Registry)} → Kept s us r o → (r .number ≡ 0 → ⊥) → (0 < r .number) × (o ≡ refused (plain (r .number)))
-  not-kept (Kept.kept g e f) z = absurd (z e)
-  not-kept (Kept.not k e h) z = (omega arith, ap (λ (q : ℕ). refused (plain q)) (sym e))
-
--- a node that was built
-record Node (s xs : List ℕ) (at : ℕ) (us ys : List ℕ) (r : Built) (o : Outcome (IrNode × Registry)) : Type 0 where
-  node : IrNode
-  is : o ≡ done (node, entriesOf s us (r .count))
-  wrote : Wrote xs at (write (nodeTree node)) ys (r .at)
-
-module _ {s xs : List ℕ} {at : ℕ} {us ys : List ℕ} {r : Built} where
-  was-built : {o : Outcome (IrNode × Registry)} → Builds s xs at us ys r o → r .number ≡ 0 → Node s xs at us ys r o
-  was-built (Builds.made x e f w) z = record { node = x .0; is = ap (λ (g : Registry). done (x .0, g)) (sym f); wrote = w }
-  was-built (Builds.not k e h) z = absurd (omega arith)
-
-  not-built : {o : Outcome (IrNode × Registry)} → Builds s xs at us ys r o → (r .number ≡ 0 → ⊥) → (0 < r .number) × (o ≡ refused (plain (r .number)))
-  not-built (Builds.made x e f w) z = absurd (z e)
-  not-built (Builds.not k e h) z = (omega arith, ap (λ (q : ℕ). refused (plain q)) (sym e))
-
 -- ---- the definition, step by step
 
+-- a type tree, by its root and the parameters of the registry behind it
 abbrev treeOf : ResolvedType → IrNode → List IrParameter → TypeIr
 treeOf t root ps = record { type-name = head t .name; alignment = head t .alignment; root = root; parameters = filter-jagged-element-parameters t ps }
 
 module _ (ts : List ResolvedType) (t : ResolvedType) where
+  -- the references were refused
   entry-refused : {q : Refusal} → extend-with (head t .dynamic-params) [] ≡ refused q → build-type ts t ≡ refused q
   unfolding build-type build-type-ir _>>=_ _then_
   entry-refused e = rw e
 
   module _ {g : Registry} (e : extend-with (head t .dynamic-params) [] ≡ done (tt, g)) where
+    -- the root was refused
     root-refused : {q : Refusal} → node-from-resolved ts t g ≡ refused q → build-type ts t ≡ refused q
     unfolding build-type build-type-ir _>>=_ _then_
     root-refused f = rw (e, f)
 
+    -- the root was built: the type's tree
     root-done : {n : IrNode} {r : Registry} → node-from-resolved ts t g ≡ done (n, r) → build-type ts t ≡ done (treeOf t n (into-parameters r))
     unfolding build-type build-type-ir _>>=_ _then_ reads give
     root-done f = rw (e, f)
 
+-- an empty registry has no entries, whatever the words are
 none-held : (s ws : List ℕ) → entriesOf s ws 0 ≡ []
 unfolding entriesOf
 none-held s ws = refl
@@ -97,6 +77,7 @@ joined {ys₃} {end} x o n a r l c =
     closed 0 161 (cons (name (x .type-name)) a′)
     (both o (parts (name (x .type-name)) a′ n (parts (num 8 (x .alignment)) r′ a (parts (nodeTree (x .root)) l′ r (parts (listTree parameterTree (x .parameters)) nil l (no-parts ys₃ end)))))) c
 
+-- what `build_type` leaves
 abbrev TreeBuilt : (s : List ℕ) (kind : ℕ) (xs : List ℕ) (at : ℕ) (ys : List ℕ) (r : TypeTree) → Type 0
 TreeBuilt s kind xs at ys r = (t : Tree) (a : Accepted s 1 7 kind) → readSet s ≡ done t → BuildsType xs at ys r (build-type (typesOf t) (typeOf (tree a)))
 
@@ -111,34 +92,39 @@ owned {s} {us} ws {held} a o k =
 module _ {s xs ys : List ℕ} {kind at : ℕ} {r : TypeTree} where
   module _ {h : TypeHead} (w : (a : Accepted s 1 7 kind) → HeadAt a h) {us : List ℕ} (ws : List ℕ) {held : Held}
       (k : (b : Accepted s 32 32 (h .references)) → Kept s us held (extend-with (ownersOf (tree b)) (entriesOf s ws 0))) where
+    -- the references were refused, as the code leaves it
     pub not-entered : (held .number ≡ 0 → ⊥) → r .number ≡ held .number → r .at ≡ at → TreeBuilt s kind xs at ys r
     not-entered z e f t a d =
-        let n = not-kept (owned ws a (w a) k) z in
-        subst (BuildsType xs at ys r) (sym (entry-refused (typesOf t) (typeOf (tree a)) (n .1))) (BuildsType.not _ e (n .0) f)
+        let n = kept-refused z (owned ws a (w a) k) in
+        subst (BuildsType xs at ys r) (sym (entry-refused (typesOf t) (typeOf (tree a)) (n .0))) (BuildsType.not _ e (n .1) f)
 
     module _ (z : held .number ≡ 0) {vs ys₁ ys₂ : List ℕ} {p : ℕ} {root : Built} (b : Root s kind ys₁ p vs ys₂ root (entriesOf s us (held .count))) where
+      -- the root was refused, as the code leaves it
       pub no-root : (root .number ≡ 0 → ⊥) → r .number ≡ root .number → r .at ≡ at → TreeBuilt s kind xs at ys r
       no-root f e g t a d =
-          let n = not-built (b t a d) f in
-          subst (BuildsType xs at ys r) (sym (root-refused (typesOf t) (typeOf (tree a)) (was-kept (owned ws a (w a) k) z) (n .1))) (BuildsType.not _ e (n .0) g)
+          let n = builds-refused f (b t a d) in
+          subst (BuildsType xs at ys r) (sym (root-refused (typesOf t) (typeOf (tree a)) (kept-done z (owned ws a (w a) k)) (n .0))) (BuildsType.not _ e (n .1) g)
 
+      -- the type's tree was written
       pub tree-built : {x₁ x₂ ys₃ n : List ℕ} {p₁ p₂ end q : ℕ} → root .number ≡ 0 → r .number ≡ 0 → r .at ≡ end → n ≡ nameAt s (kind + 6) →
           Wrote xs at (opened 161) x₁ p₁ → Wrote x₁ p₁ (write (name n)) x₂ p₂ → Wrote x₂ p₂ (bytes 8 (h .alignment)) ys₁ p →
           ((a : Accepted s 1 7 kind) → Wrote ys₂ (root .at) (write (listTree parameterTree (filter-jagged-element-parameters (typeOf (tree a)) (into-parameters (entriesOf s vs (root .count)))))) ys₃ end) →
           Wrote ys₃ at (bytes 4 (end - at - 4)) ys q → TreeBuilt s kind xs at ys r
       tree-built {x₁} {x₂} {n} {p₁} {p₂} rz rn re en o nm al ps c t a d =
-          let m = was-built (b t a d) rz in
-          let e = root-done (typesOf t) (typeOf (tree a)) (was-kept (owned ws a (w a) k) z) (m .is) in
+          let m = builds-done rz (b t a d) in
+          let e = root-done (typesOf t) (typeOf (tree a)) (kept-done z (owned ws a (w a) k)) (m .1) in
           let nm′ = subst (λ (l : List ℕ). Wrote x₁ p₁ (write (name l)) x₂ p₂) (en ∙ sym (w a .name)) nm in
           let al′ = subst (λ (v : ℕ). Wrote x₂ p₂ (bytes 8 v) ys₁ p) (sym (w a .alignment)) al in
-          let x = treeOf (typeOf (tree a)) (m .node) (into-parameters (entriesOf s vs (root .count))) in
-          subst (BuildsType xs at ys r) (sym e) (BuildsType.made x rn (subst (Wrote xs at (write (typeIrTree x)) ys) (sym re) (joined x o nm′ al′ (m .wrote) (ps a) c)))
+          let x = treeOf (typeOf (tree a)) (m .0) (into-parameters (entriesOf s vs (root .count))) in
+          subst (BuildsType xs at ys r) (sym e) (BuildsType.made x rn (subst (Wrote xs at (write (typeIrTree x)) ys) (sym re) (joined x o nm′ al′ (m .2) (ps a) c)))
 
 -- ---- what the calls stand on
 
 module _ {s ws us : List ℕ} {n kind at : ℕ} (a : Ready s ws n kind at) (e : length us ≡ length ws) where
+  -- what the root stands on
   pub root-ready : {m p : ℕ} → m ≤ 512 → p < 2 ^ 55 → Ready s us m kind p
   root-ready h l = record { standing = standing (a .standing) e h; set = a .set; type-at = a .type-at; cursor = l }
 
+  -- what listing the parameters stands on
   pub list-ready : {m p : ℕ} → m ≤ 512 → p < 2 ^ 57 → ListReady s us m kind p
   list-ready h l = record { standing = standing (a .standing) e h; type-at = a .type-at; cursor = l }

@@ -1,23 +1,14 @@
 -- `build_types` meets its contract. The invariant: the types that were passed are built, and stand in the output. The measure
 -- is the types that are left.
-use Prim.Native.Nat.{_+_, _*_, _^_, _≤_}
-use mathlib.Core.Path.{_≡_, refl}
+use mathlib.Core.Path.{refl}
 use native.Mathlib.Omega.{arith}
 use borrow.Author.Needs.{needs}
-use lib.ListN.{length}
-use Rattle.builder_set.specs.Sets.{Ready}
-use Rattle.builder_set.proofs.Laws.{Loop, begin, go-on, stopped, no-more, type-ready, ready-again, next-end, next-inside, count-few}
+use Rattle.builder_set.proofs.Laws.{Building, begin, go-on, stopped, no-more, type-ready, ready-again, next-end, next-inside, count-few}
 use Rattle.builder_set.proofs.build_types.Statement.{statement}
 use Rattle.builder_set.proofs.build_types.Tie as tie
 
 abbrev Inv-loop : tie.InvT-loop
-Inv-loop s words₀ out₀ at left₀ from₀ place₀ p₀ words out left from place p =
-    (place + left ≤ 256) ×
-    (at ≤ p) ×
-    (p ≤ at + 2 ^ 42 * place) ×
-    (from ≤ 65536) × Ready s words × Loop s out₀ at out left from place p ×
-    (length words ≡ length words₀) ×
-    (length out ≡ length out₀)
+Inv-loop s words₀ out₀ at left₀ from₀ place₀ p₀ words out left from place p = Building s words₀ out₀ at words out left from place p
 
 abbrev μ-loop : tie.MeasureT-loop
 μ-loop s words₀ out₀ at left₀ from₀ place₀ p₀ words out left from place p = left
@@ -36,16 +27,16 @@ read2-requires c κs =
 
 loop-holds : tie.Need-loop-holds Inv-loop μ-loop
 loop-holds c =
-    let at-start = c .before .before .before .before in (
-      omega (arith, count-few (at-start .pre .0) .1, c .read2 .ensures .0),
-      omega arith,
-      omega arith,
-      omega arith,
-      at-start .pre .0,
-      begin (c .read2 .ensures .0),
-      refl,
-      refl,
-    )
+    let at-start = c .before .before .before .before in record {
+      few = omega (arith, count-few (at-start .pre .0) .1, c .read2 .ensures .0);
+      low = omega arith;
+      high = omega arith;
+      inside = omega arith;
+      ready = at-start .pre .0;
+      loop = begin (c .read2 .ensures .0);
+      words = refl;
+      out = refl;
+    }
 
 build-type-requires : tie.Need-build-type-requires Inv-loop μ-loop
 build-type-requires c κs =
@@ -53,9 +44,9 @@ build-type-requires c κs =
     let at-loop = in-loop .before in
     let at-start = at-loop .before .before .before .before .before in
     type-ready
-    (at-loop .loop .inv .4)
+    (at-loop .loop .inv .ready)
     (in-loop .loop-test .taken)
-    (at-loop .loop .inv .5)
+    (at-loop .loop .inv .loop)
     (omega (arith, at-start .pre .1, at-loop .loop .inv))
 
 same-length : tie.Need-same-length Inv-loop μ-loop
@@ -74,30 +65,36 @@ returns c =
           (in-loop .loop-test .taken)
           (at-build-type .build-type .ensures .1)
           (c .if1 .taken) refl refl
-          (at-loop .loop .inv .5),
+          (at-loop .loop .inv .loop),
     )
-
-add-from : tie.Need-add-from Inv-loop μ-loop
-add-from c = omega (
-  arith,
-  next-end (at-loop c .loop .inv .4) (in-loop c .loop-test .taken) (at-loop c .loop .inv .5),
-)
 
 read4-requires : tie.Need-read4-requires Inv-loop μ-loop
 read4-requires c κs = omega (
   arith,
-  next-inside (at-loop c .loop .inv .4) (in-loop c .loop-test .taken) (at-loop c .loop .inv .5),
+  next-inside (at-loop c .loop .inv .ready) (in-loop c .loop-test .taken) (at-loop c .loop .inv .loop),
 )
 
-add-from-2 : tie.Need-add-from-2 Inv-loop μ-loop
-add-from-2 c =
+add-length : tie.Need-add-length Inv-loop μ-loop
+add-length c =
     let at-else1 = c .before in
     omega (
       arith,
       next-end
-          (at-loop at-else1 .loop .inv .4)
+          (at-loop at-else1 .loop .inv .ready)
           (in-loop at-else1 .loop-test .taken)
-          (at-loop at-else1 .loop .inv .5),
+          (at-loop at-else1 .loop .inv .loop),
+      c .read4 .ensures .0,
+    )
+
+add-from : tie.Need-add-from Inv-loop μ-loop
+add-from c =
+    let at-else1 = c .before in
+    omega (
+      arith,
+      next-end
+          (at-loop at-else1 .loop .inv .ready)
+          (in-loop at-else1 .loop-test .taken)
+          (at-loop at-else1 .loop .inv .loop),
       c .read4 .ensures .0,
     )
 
@@ -114,25 +111,25 @@ loop-again : tie.Need-loop-again Inv-loop μ-loop
 loop-again c =
     let at-build-type = c .before .before .before .before .before .before .before in
     let in-loop = at-build-type .before .before .before in
-    let at-loop = in-loop .before in (
-      omega arith,
-      omega (arith, at-build-type .build-type .ensures .0 .0),
-      omega (arith, at-build-type .build-type .ensures .0 .1),
-      omega (
+    let at-loop = in-loop .before in record {
+      few = omega arith;
+      low = omega (arith, at-build-type .build-type .ensures .0 .0);
+      high = omega (arith, at-build-type .build-type .ensures .0 .1);
+      inside = omega (
         arith,
-        next-end (at-loop .loop .inv .4) (in-loop .loop-test .taken) (at-loop .loop .inv .5),
+        next-end (at-loop .loop .inv .ready) (in-loop .loop-test .taken) (at-loop .loop .inv .loop),
         c .read4 .ensures .0,
-      ),
-      ready-again (at-loop .loop .inv .4) (omega arith),
-      go-on
+      );
+      ready = ready-again (at-loop .loop .inv .ready) (omega arith);
+      loop = go-on _
           (in-loop .loop-test .taken)
           (at-build-type .build-type .ensures .1)
           (c .before .if1 .left)
           (c .read4 .ensures .0)
-          (at-loop .loop .inv .5),
-      omega (arith, at-loop .loop .inv .6),
-      omega (arith, at-loop .loop .inv .7),
-    )
+          (at-loop .loop .inv .loop);
+      words = omega (arith, at-loop .loop .inv .words);
+      out = omega (arith, at-loop .loop .inv .out);
+    }
 
 same-length-3 : tie.Need-same-length-3 Inv-loop μ-loop
 same-length-3 c = search needs
@@ -143,7 +140,7 @@ same-length-4 c = search needs
 returns-2 : tie.Need-returns-2 Inv-loop μ-loop
 returns-2 c = (
   (omega arith, omega arith),
-  no-more (c .loop-test .left) refl refl (c .before .loop .inv .5),
+  no-more (c .loop-test .left) refl refl (c .before .loop .inv .loop),
 )
 
 pub build-types-spec : {M : Type 1} → statement M
@@ -158,9 +155,9 @@ build-types-spec =
     same-length
     same-length-2
     returns
-    add-from
     read4-requires
-    add-from-2
+    add-length
+    add-from
     add-place
     sub-left
     loop-less

@@ -3,7 +3,8 @@
 use native.Mathlib.Omega.{arith}
 use borrow.Author.Needs.{needs}
 use mathlib.Core.Path.{refl}
-use Rattle.builder_type.proofs.Root.{call-ready, switch-ready, array-ready, short-type, wide, array-wide, only-one, call-built, const-built, struct-built, union-built, enum-built, array-built, sized-built, primitive-built}
+use Rattle.builder_expressions.proofs.Laws.{wider}
+use Rattle.builder_type.proofs.Root.{call-ready, switch-ready, array-ready, short-type, array-wide, only-one, call-built, const-built, struct-built, union-built, enum-built, array-built, sized-built, primitive-built}
 use Rattle.builder_type.proofs.node_from_resolved.Statement.{statement}
 use Rattle.builder_type.proofs.node_from_resolved.Tie as tie
 
@@ -42,7 +43,7 @@ returns c =
     let at-build-typeref-node = c .before .before .before .before in
     let at-then1 = at-build-typeref-node .before .before .before in
     let at-read2 = at-then1 .before in (
-      wide (omega arith) (at-build-typeref-node .build-typeref-node .ensures .0),
+      wider (omega arith) (at-build-typeref-node .build-typeref-node .ensures .0),
       call-built _
           (at-read2 .read2 .ensures .0)
           (at-then1 .if1 .taken)
@@ -128,7 +129,7 @@ returns-3 c =
     let at-else2 = at-match-keys1 .before in
     let at-type-head = at-else2 .before .before in
     let at-read2 = at-type-head .before .before in (
-      wide (omega arith) (at-build-variable-struct .build-variable-struct .ensures .0),
+      wider (omega arith) (at-build-variable-struct .build-variable-struct .ensures .0),
       struct-built _
           (at-read2 .read2 .ensures .0)
           (at-type-head .type-head .ensures)
@@ -150,7 +151,7 @@ returns-4 c =
     let at-else2 = at-match-keys2 .before in
     let at-type-head = at-else2 .before .before in
     let at-read2 = at-type-head .before .before in (
-      wide (omega arith) (at-build-union-node .build-union-node .ensures .0),
+      wider (omega arith) (at-build-union-node .build-union-node .ensures .0),
       union-built _
           (at-read2 .read2 .ensures .0)
           (at-type-head .type-head .ensures)
@@ -172,7 +173,7 @@ returns-5 c =
     let at-else2 = at-match-keys3 .before in
     let at-type-head = at-else2 .before .before in
     let at-read2 = at-type-head .before .before in (
-      wide (omega arith) (at-build-enum-node .build-enum-node .ensures .0),
+      wider (omega arith) (at-build-enum-node .build-enum-node .ensures .0),
       enum-built _
           (at-read2 .read2 .ensures .0)
           (at-type-head .type-head .ensures)
@@ -216,7 +217,7 @@ returns-7 c =
     let at-else2 = at-match-keys5 .before in
     let at-type-head = at-else2 .before .before in
     let at-read2 = at-type-head .before .before in (
-      wide
+      wider
           (omega arith)
           (at-build-size-discriminated-union-node .build-size-discriminated-union-node .ensures .0),
       sized-built _
