@@ -1,11 +1,12 @@
--- `built` meets its contract: question by question.
+-- `built` meets its contract: question by question, 1, then those of reading; a set that is read is built.
+use native.Mathlib.Omega.{arith}
 use Rattle.builder_set.proofs.Laws.{set-1, set-unread, set-read, set-ready}
 use borrow.Author.Needs.{needs}
 use Rattle.builder_set.proofs.built.Statement.{statement}
 use Rattle.builder_set.proofs.built.Tie as tie
 
 returns : tie.Need-returns
-returns c = λ n h. set-1 _ _ _ h (c .if1 .taken)
+returns c = λ n h. set-1 _ _ _ h (omega (arith, c .if1 .taken))
 
 read-input-requires : tie.Need-read-input-requires
 read-input-requires c κs = search needs
