@@ -158,7 +158,7 @@ module _ {s : List ℕ} {array at : ℕ} {h : TypeHead} (f : (a : Accepted s 1 7
             build-array-node-with-prefix (owner-under key (nameAt s (array + 6)) os) (prefixOf 0) t es
         renamed t e os = rw (e, k) refl
 
--- ---- the key that a name tells
+-- ---- the key in a name
 
 -- `::` stands inside the name
 pub behind-fits : (nm : Name) {r : Split} {i : ℕ} → Split-parts nm r → r ≡ SplitAt i → i + 2 ≤ length nm

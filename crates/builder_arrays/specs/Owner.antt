@@ -10,6 +10,7 @@ use Rattle.builder.specs.Nodes.{has}
 use Rattle.resolved_parts.specs.Types.{Named}
 use Rattle.builder_arrays.specs.Ready.{Ready}
 
+-- the first owner's name
 abbrev pub first-owner : List Owner → Name
 first-owner [] = []
 first-owner (o ∷ os) = o .name

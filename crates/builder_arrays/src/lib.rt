@@ -36,6 +36,7 @@ pub struct Shape {
     pub references: usize,
 }
 
+// Whether both hold.
 fn both(a: bool, b: bool) -> bool
     ensures { λ r. ⌜ r ≡ (a && b) ⌝ }
 {
@@ -45,6 +46,7 @@ fn both(a: bool, b: bool) -> bool
     false
 }
 
+// The shape of the array at `array`, from its head, its parts and its element's head.
 fn read_shape(s: &[u8], words: &[u64], n: usize, array: usize) -> Shape
     requires { ⌜ Standing (now s) (now words) n × Accepted (now s) 1 7 array × (le2 (now s) (array + 4) ≡ 5) ⌝ }
     ensures { λ r. ⌜ ((a : Accepted (now (s .entry)) 1 7 array) → ShapeAt a r) ⌝ }
@@ -266,7 +268,7 @@ fn build_named(
     }
 }
 
-// The array under this key, where it is an owner, or else as its name tells.
+// The array under this key, where it is an owner, or else as its name says.
 fn build_under(
     s: &[u8],
     words: &mut [u64],

@@ -60,7 +60,7 @@ pub record Loop (s xs : List ℕ) (at : ℕ) (ys : List ℕ) (left from place p 
 -- what the loop keeps: as many types are passed as `place` says, the output is written as far as p, and the words and the output
 -- are as long as they were
 pub record Building (s ws₀ xs₀ : List ℕ) (at : ℕ) (ws xs : List ℕ) (left from place p : ℕ) : Type 0 where
-  pub few : place + left ≤ 256
+  pub types : place + left ≤ 256
   pub low : at ≤ p
   pub high : p ≤ at + 2 ^ 42 * place
   pub inside : from ≤ 65536
@@ -193,8 +193,8 @@ pub next-inside : {s ws xs ys : List ℕ} {at left from place p : ℕ} → Ready
 next-inside r h c = next-type h c (r .set .0) (r .set .1) .1
 
 -- a set has 8 bytes at least, and 256 types at most
-pub count-few : {s ws : List ℕ} → Ready s ws → (8 ≤ length s) × (le2 s 6 ≤ 256)
-count-few r = let l = set-list (r .set .1) in (l .0, l .3)
+pub set-counts : {s ws : List ℕ} → Ready s ws → (8 ≤ length s) × (le2 s 6 ≤ 256)
+set-counts r = let l = set-list (r .set .1) in (l .0, l .3)
 
 -- ---- 18
 
@@ -368,7 +368,7 @@ unread-leaves xs m q o (Unread.at-offset p i) e k =
     Leaves.refuses (unread p i) (rw (g, h) refl)
 
 module _ (n : ℕ) (set xs : List ℕ) where
-  -- too few words: 19
+  -- fewer than 8192 words: 19
   pub set-19 : n < 8192 → Leaves xs xs (answer.Refused 19 65535 0 0) (build-set n (length xs) set)
   unfolding build-set enough _>>=_ ask answerOf
   set-19 h = rw (lt-leb _ _ h) (Leaves.refuses (plain 19) refl)

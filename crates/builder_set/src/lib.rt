@@ -135,7 +135,7 @@ pub fn build_set(set: &[u8], out: &mut [u8], words: &mut [u64]) -> Answer
     }
 }
 
-// The same with working words of its own, of which it needs one for each entry of the registry: none are lent, so that 19 is
+// The same with working words of its own, of which it needs one for each entry of the registry: the caller gives none, so that 19 is
 // never answered and no word has to be cleared.
 pub fn layout_of(set: &[u8], out: &mut [u8]) -> Answer
     ensures { λ r. ⌜ r ≡ answerOf (build-set 8192 (length (now (out .entry))) (now (set .entry))) ⌝ }

@@ -3,7 +3,7 @@ use mathlib.Core.Path.{_≡_, refl, sym, _∙_, ap, subst}
 use mathlib.Core.Bool.{Bool, true, false, not, cond}
 use mathlib.Core.List.{List, _∷_}
 use mathlib.Core.Option.{Option, some, none}
-use Prim.Native.Nat.{ℕ, suc, _+_, _-_, _^_, _≤_, _<_}
+use Prim.Native.Nat.{ℕ, suc, _+_, _-_, _*_, _^_, _≤_, _<_}
 use native.Mathlib.Omega.{arith}
 use lib.Dec.{ltb}
 use lib.ListN.{length}
@@ -40,7 +40,7 @@ use Rattle.builder_structs.specs.declared.Run.{Run}
 use Rattle.builder_structs.specs.Fold.{upTo, combine, summed}
 use Rattle.builder_structs.specs.Next.{fieldsOf, padSize, prefixEnd, endOf, State, stateOf, fieldNode, nextOf, next, nodesOf, countOf}
 use Rattle.builder_structs.specs.Field.{withAlign, ClosesAligned}
-use Rattle.builder_structs.specs.Ready.{Ran}
+use Rattle.builder_structs.specs.Ready.{Ran, Goes}
 use Rattle.builder_structs.proofs.Fold.{sumNode, plus, more, summed-one, summed-at}
 use Rattle.builder_structs.proofs.Next.{struct-is}
 use Rattle.builder_structs.proofs.Field.{builds-done, builds-refused, Opened}
@@ -331,6 +331,10 @@ module _ {s x₁ x₂ us : List ℕ} {k p : ℕ} {a : Run} (nx : State → Outco
         let d = ran-done y g in
         let o = ran-done z (f (d .0)) in
         ran-makes (o .0) (sumNode (d .1) (o .1)) (sum-last (d .1) (d .0) (d .2) (o .2)) z (sum-puts (d .1) (o .1) w (d .3) (o .3) c)
+
+-- where an Add node ends, how many entries there are, and the fields behind it: a sum of k - 1 nodes, then one more
+pub sum-goes : {s : List ℕ} {at p : ℕ} (k : ℕ) {a r : Run} → p ≡ at + 15 → 0 < k → Goes s p (2 ^ 29 * (k - 1)) a → Goes s (a .at) (2 ^ 28) r → Goes s at (2 ^ 29 * k) r
+sum-goes k e h x y = record { low = omega (arith, x .low, y .low); high = omega (arith, x .high, y .high); count = y .count; list = y .list }
 
 -- ---- the count
 

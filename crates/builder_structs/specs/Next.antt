@@ -24,10 +24,11 @@ abbrev pub padSize : ℕ → Option ℕ → ℕ
 padSize prefix-end none = 0
 padSize prefix-end (some o) = o - prefix-end
 
--- the end of the prefix behind a field, unless it is 2^64 or more
+-- an end of the prefix, unless it is 2^64 or more
 abbrev pub constEnd : ℕ → Option ℕ
 constEnd n = cond (ltb n (2 ^ 64)) (some n) none
 
+-- the end of the prefix behind a field: only a constant field with an offset moves it
 unfoldable pub prefixEnd : ℕ → Option ℕ → Size → Option ℕ
 prefixEnd prefix-end none s = some prefix-end
 prefixEnd prefix-end (some o) (Size.Const v) = constEnd (o + v)
@@ -45,6 +46,7 @@ pub record State : Type 0 where
   pub end : ℕ
   pub half : Bool
 
+-- a state, by its parts
 abbrev pub stateOf : Registry → List ResolvedField → ℕ → Bool → State
 stateOf g fs e h = record { registry = g; left = fs; end = e; half = h }
 
@@ -55,6 +57,7 @@ fieldNode types refs f fs e g =
     _andThen_ (build-field types refs (f .name) (head (f .field-type) .size) (head (f .field-type)) (kindOf (f .field-type)) (x .1)) (λ y.
     done (stateOf (y .1) fs (x .0) false, y .0)))
 
+-- the next node and the state behind it: the padding before the first field, or the field; 11 where no field is left
 unfoldable pub nextOf : List ResolvedType → List Owner → List ResolvedField → ℕ → Bool → Registry → Outcome (State × IrNode)
 nextOf types refs [] e h g = refused (plain MissingDynamicRefs)
 nextOf types refs (f ∷ fs) e h g =
@@ -62,6 +65,7 @@ nextOf types refs (f ∷ fs) e h g =
     (done (stateOf g (f ∷ fs) e true, const-or-zero (padSize e (f .offset)) 1))
     (fieldNode types refs f fs e g)
 
+-- the same of a state
 abbrev pub next : List ResolvedType → List Owner → State → Outcome (State × IrNode)
 next types refs s = nextOf types refs (s .left) (s .end) (s .half) (s .registry)
 
@@ -70,6 +74,7 @@ next types refs s = nextOf types refs (s .left) (s .end) (s .half) (s .registry)
 abbrev pub nodesOf : ℕ → Option ℕ → ℕ → ℕ
 nodesOf e o k = cond (ltb 0 (padSize e o)) (suc (suc k)) (suc k)
 
+-- the nodes of a field, and of those behind it
 unfoldable pub countOf : ℕ → List ResolvedField → ℕ
 countOf e [] = 0
 countOf e (f ∷ fs) = nodesOf e (f .offset) (elim (prefixEnd e (f .offset) (head (f .field-type) .size)) [ none ↦ 0 | some n ↦ countOf n fs ])

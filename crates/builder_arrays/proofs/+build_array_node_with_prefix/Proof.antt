@@ -71,11 +71,11 @@ at-start r = r .before .before .before .before .before .before
 
 sum-over-array-requires : (t : ℕ) → lts.Need-sum-over-array-requires (calls t) (within t) reads.Post
 sum-over-array-requires t c κs =
-    let at-read-shape = c .before .before .before in (
-      count-ready
-          (at-start at-read-shape .pre .1)
-          (at-read-shape .read-shape .ensures (at-start at-read-shape .pre .1 .ready .type)),
-      at-read-shape .read-shape .ensures (at-start at-read-shape .pre .1 .ready .type) .element,
+    let at-read-shape = c .before .before .before in
+    let ready = at-start at-read-shape .pre .1 in
+    let shape = at-read-shape .read-shape .ensures (ready .ready .type) in (
+      count-ready ready shape,
+      shape .element,
     )
 
 same-length : (t : ℕ) → lts.Need-same-length (calls t) (within t) reads.Post
@@ -88,10 +88,10 @@ returns : (t : ℕ) → lts.Need-returns (calls t) (within t) reads.Post
 returns t c =
     let at-sum-over-array = c .before .before in
     let at-then1 = at-sum-over-array .before .before .before in
-    let at-read-shape = at-then1 .before in (
-      sum-within
-          (at-start at-read-shape .pre .1)
-          (at-read-shape .read-shape .ensures (at-start at-read-shape .pre .1 .ready .type))
+    let at-read-shape = at-then1 .before in
+    let ready = at-start at-read-shape .pre .1 in
+    let shape = at-read-shape .read-shape .ensures (ready .ready .type) in (
+      sum-within ready shape
           (at-sum-over-array .sum-over-array .ensures .0),
       sums-leave _ _ _
           (at-read-shape .read-shape .ensures)
@@ -101,11 +101,11 @@ returns t c =
 
 build-counted-requires : (t : ℕ) → lts.Need-build-counted-requires (calls t) (within t) reads.Post
 build-counted-requires t c κs =
-    let at-read-shape = c .before .before .before in (
-      count-ready
-          (at-start at-read-shape .pre .1)
-          (at-read-shape .read-shape .ensures (at-start at-read-shape .pre .1 .ready .type)),
-      at-read-shape .read-shape .ensures (at-start at-read-shape .pre .1 .ready .type) .references,
+    let at-read-shape = c .before .before .before in
+    let ready = at-start at-read-shape .pre .1 in
+    let shape = at-read-shape .read-shape .ensures (ready .ready .type) in (
+      count-ready ready shape,
+      shape .references,
     )
 
 same-length-3 : (t : ℕ) → lts.Need-same-length-3 (calls t) (within t) reads.Post
@@ -131,10 +131,12 @@ add-read2 : (t : ℕ) → lts.Need-add-read2 (calls t) (within t) reads.Post
 add-read2 t c =
     let at-read-shape = c .before .before .before .before .before .before .before .before .before .before .before in
     let at-start = at-read-shape .before .before .before .before .before .before in
+    let ready = at-start .pre .1 in
+    let shape = at-read-shape .read-shape .ensures (ready .ready .type) in
     omega (
       arith,
-      header-inside (at-read-shape .read-shape .ensures (at-start .pre .1 .ready .type) .element),
-      at-start .pre .1 .ready .standing .size,
+      header-inside (shape .element),
+      ready .ready .standing .size,
     )
 
 read2-requires : (t : ℕ) → lts.Need-read2-requires (calls t) (within t) reads.Post
@@ -180,15 +182,15 @@ build-array-node-with-prefix-requires t c κs =
     let at-read2 = at-else4 .before in
     let at-build-counted = at-read2 .before .before .before .before .before .before .before .before in
     let at-read-shape = at-build-counted .before .before .before .before in
-    let at-start = at-read-shape .before .before .before .before .before .before in (
+    let at-start = at-read-shape .before .before .before .before .before .before in
+    let ready = at-start .pre .1 in
+    let shape = at-read-shape .read-shape .ensures (ready .ready .type) in (
       omega (
         arith,
         at-start .pre .0,
-        at-read-shape .read-shape .ensures (at-start .pre .1 .ready .type) .room,
+        shape .room,
       ),
-      nested-ready
-          (at-start .pre .1)
-          (at-read-shape .read-shape .ensures (at-start .pre .1 .ready .type))
+      nested-ready ready shape
           (at-build-counted .build-counted .ensures .0)
           (search needs)
           (sym (at-read2 .read2 .ensures .0) ∙ at-else4 .if4 .left),
@@ -199,9 +201,9 @@ finish-requires t c κs =
     let at-build-array-node-with-prefix = c .before .before .before .before .before in
     let at-build-counted = at-build-array-node-with-prefix .before .before .before .before .before .before .before .before .before .before .before .before in
     let at-read-shape = at-build-counted .before .before .before .before in
-    finish-ready
-    (at-start at-read-shape .pre .1)
-    (at-read-shape .read-shape .ensures (at-start at-read-shape .pre .1 .ready .type))
+    let ready = at-start at-read-shape .pre .1 in
+    let shape = at-read-shape .read-shape .ensures (ready .ready .type) in
+    finish-ready ready shape
     (at-build-counted .build-counted .ensures .0)
     (at-build-array-node-with-prefix .build-array-node-with-prefix .ensures .0)
 
@@ -221,10 +223,10 @@ returns-4 t c =
     let at-else2 = at-then3 .before in
     let at-build-counted = at-else2 .before .before .before .before .before .before in
     let at-else1 = at-build-counted .before .before .before in
-    let at-read-shape = at-else1 .before in (
-      finish-within
-          (at-start at-read-shape .pre .1)
-          (at-read-shape .read-shape .ensures (at-start at-read-shape .pre .1 .ready .type))
+    let at-read-shape = at-else1 .before in
+    let ready = at-start at-read-shape .pre .1 in
+    let shape = at-read-shape .read-shape .ensures (ready .ready .type) in (
+      finish-within ready shape
           (at-build-counted .build-counted .ensures .0)
           (at-build-array-node-with-prefix .build-array-node-with-prefix .ensures .0)
           (at-finish .finish .ensures),
@@ -244,10 +246,10 @@ put-const-requires t c κs =
     let at-build-counted = c .before .before .before .before .before .before .before .before in
     let at-read-shape = at-build-counted .before .before .before .before in
     let at-start = at-read-shape .before .before .before .before .before .before in
-    let p = at-start .pre .1 .ready .standing in
-    let e = constant-cursor
-    (at-start .pre .1)
-    (at-read-shape .read-shape .ensures (at-start .pre .1 .ready .type))
+    let ready = at-start .pre .1 in
+    let shape = at-read-shape .read-shape .ensures (ready .ready .type) in
+    let p = ready .ready .standing in
+    let e = constant-cursor ready shape
     (at-build-counted .build-counted .ensures .0) in
     search needs
 
@@ -257,9 +259,9 @@ finish-requires-2 t c κs =
     let at-build-counted = at-put-const .before .before .before .before .before .before .before .before .before in
     let at-read-shape = at-build-counted .before .before .before .before in
     let at-start = at-read-shape .before .before .before .before .before .before in
-    finish-ready
-    (at-start .pre .1)
-    (at-read-shape .read-shape .ensures (at-start .pre .1 .ready .type))
+    let ready = at-start .pre .1 in
+    let shape = at-read-shape .read-shape .ensures (ready .ready .type) in
+    finish-ready ready shape
     (at-build-counted .build-counted .ensures .0)
     (constant-within
     (at-build-counted .build-counted .ensures .0 .count)
@@ -281,10 +283,10 @@ returns-5 t c =
     let at-build-counted = at-else2 .before .before .before .before .before .before in
     let at-else1 = at-build-counted .before .before .before in
     let at-read-shape = at-else1 .before in
-    let at-start = at-read-shape .before .before .before .before .before .before in (
-      finish-within
-          (at-start .pre .1)
-          (at-read-shape .read-shape .ensures (at-start .pre .1 .ready .type))
+    let at-start = at-read-shape .before .before .before .before .before .before in
+    let ready = at-start .pre .1 in
+    let shape = at-read-shape .read-shape .ensures (ready .ready .type) in (
+      finish-within ready shape
           (at-build-counted .build-counted .ensures .0)
           (constant-within
           (at-build-counted .build-counted .ensures .0 .count)

@@ -2,7 +2,7 @@
 use mathlib.Core.Path.{sym, _∙_}
 use native.Mathlib.Omega.{arith}
 use borrow.Author.Needs.{needs}
-use Rattle.builder_set.proofs.Laws.{count-few, types-no, layout-yes, layout-no}
+use Rattle.builder_set.proofs.Laws.{set-counts, types-no, layout-yes, layout-no}
 use Rattle.builder_set.proofs.build_layout.Statement.{statement}
 use Rattle.builder_set.proofs.build_layout.Tie as tie
 
@@ -25,7 +25,7 @@ at-open-block r = at-read2 r .before .before .before .before
 read2-requires : tie.Need-read2-requires
 read2-requires c κs =
     let at-start = c .before .before .before .before .before .before .before .before in
-    omega (arith, count-few (at-start .pre) .0)
+    omega (arith, set-counts (at-start .pre) .0)
 
 put-le-requires : tie.Need-put-le-requires
 put-le-requires c κs = search needs

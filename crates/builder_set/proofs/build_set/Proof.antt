@@ -1,4 +1,4 @@
--- `build_set` meets its contract: the words are cleared first, and those that were lent to the registry once more; the output where
+-- `build_set` meets its contract: the words are cleared first, and those that the registry used once more; the output where
 -- it is a refusal.
 use denote.Ref.{now}
 use mathlib.Core.Path.{_≡_, refl, sym, ap, _∙_}

@@ -3,7 +3,7 @@
 use mathlib.Core.Path.{refl}
 use native.Mathlib.Omega.{arith}
 use borrow.Author.Needs.{needs}
-use Rattle.builder_set.proofs.Laws.{Building, begin, go-on, stopped, no-more, type-ready, ready-again, next-end, next-inside, count-few}
+use Rattle.builder_set.proofs.Laws.{Building, begin, go-on, stopped, no-more, type-ready, ready-again, next-end, next-inside, set-counts}
 use Rattle.builder_set.proofs.build_types.Statement.{statement}
 use Rattle.builder_set.proofs.build_types.Tie as tie
 
@@ -23,12 +23,12 @@ at-loop r = in-loop r .before
 read2-requires : tie.Need-read2-requires Inv-loop μ-loop
 read2-requires c κs =
     let at-start = c .before .before .before in
-    omega (arith, count-few (at-start .pre .0) .0)
+    omega (arith, set-counts (at-start .pre .0) .0)
 
 loop-holds : tie.Need-loop-holds Inv-loop μ-loop
 loop-holds c =
     let at-start = c .before .before .before .before in record {
-      few = omega (arith, count-few (at-start .pre .0) .1, c .read2 .ensures .0);
+      types = omega (arith, set-counts (at-start .pre .0) .1, c .read2 .ensures .0);
       low = omega arith;
       high = omega arith;
       inside = omega arith;
@@ -112,7 +112,7 @@ loop-again c =
     let at-build-type = c .before .before .before .before .before .before .before in
     let in-loop = at-build-type .before .before .before in
     let at-loop = in-loop .before in record {
-      few = omega arith;
+      types = omega arith;
       low = omega (arith, at-build-type .build-type .ensures .0 .0);
       high = omega (arith, at-build-type .build-type .ensures .0 .1);
       inside = omega (

@@ -2,7 +2,7 @@
 -- function makes itself, and the last. The measure is the number of nodes.
 use borrow.Author.Needs.{needs}
 use Rattle.builder_registry.proofs.Laws.{standing}
-use Rattle.builder_structs.proofs.Laws.{sum-one, sum-stops, sum-stops-last, sum-done}
+use Rattle.builder_structs.proofs.Laws.{sum-one, sum-stops, sum-stops-last, sum-done, sum-goes}
 use native.Mathlib.Omega.{arith}
 use Prim.Native.Nat.{ℕ, _<_, _+_, _-_}
 use borrow.Fn.Kinds.{In}
@@ -169,23 +169,11 @@ returns-3 t c =
     let at-open-add = at-sum .before .before .before .before .before in
     let at-else1 = at-open-add .before .before in
     let at-start = at-else1 .before .before .before .before in (
-      record {
-        low = omega (
-          arith,
-          at-child2 .child2 .ensures .0 .low,
-          at-sum .sum .ensures .0 .low,
-          at-open-add .open-add .ensures .1,
-        );
-        high = omega (
-          arith,
-          at-child2 .child2 .ensures .0 .high,
-          at-sum .sum .ensures .0 .high,
-          at-open-add .open-add .ensures .1,
-          at-start .pre .1 .some,
-        );
-        count = at-child2 .child2 .ensures .0 .count;
-        list = at-child2 .child2 .ensures .0 .list;
-      },
+      sum-goes _
+          (at-open-add .open-add .ensures .1)
+          (at-start .pre .1 .some)
+          (at-sum .sum .ensures .0)
+          (at-child2 .child2 .ensures .0),
       λ t b l q. sum-stops-last _ _
           (λ e. let p = at-start .pre .1 .some in omega arith)
           (at-else1 .if1 .left)
@@ -243,23 +231,11 @@ returns-4 t c =
     let at-open-add = at-sum .before .before .before .before .before in
     let at-else1 = at-open-add .before .before in
     let at-start = at-else1 .before .before .before .before in (
-      record {
-        low = omega (
-          arith,
-          at-child2 .child2 .ensures .0 .low,
-          at-sum .sum .ensures .0 .low,
-          at-open-add .open-add .ensures .1,
-        );
-        high = omega (
-          arith,
-          at-child2 .child2 .ensures .0 .high,
-          at-sum .sum .ensures .0 .high,
-          at-open-add .open-add .ensures .1,
-          at-start .pre .1 .some,
-        );
-        count = at-child2 .child2 .ensures .0 .count;
-        list = at-child2 .child2 .ensures .0 .list;
-      },
+      sum-goes _
+          (at-open-add .open-add .ensures .1)
+          (at-start .pre .1 .some)
+          (at-sum .sum .ensures .0)
+          (at-child2 .child2 .ensures .0),
       λ t b l q. sum-done _ _
           (λ e. let p = at-start .pre .1 .some in omega arith)
           (at-else1 .if1 .left)
