@@ -1,10 +1,9 @@
 -- The type tree of a type: its references enter the registry, then its root is built, then its parameters are listed.
-use mathlib.Core.Path.{_≡_, refl, sym, _∙_, ap, subst}
+use mathlib.Core.Path.{_≡_, refl, sym, _∙_, subst}
 use mathlib.Core.List.{List, []}
 use Prim.Native.Nat.{ℕ, _+_, _-_, _^_, _≤_, _<_}
-use native.Mathlib.Omega.{arith}
 use lib.ListN.{length}
-use Rattle.errors.specs.Refusal.{Refusal, Outcome, done, refused, plain}
+use Rattle.errors.specs.Refusal.{Refusal, done, refused}
 use Rattle.errors.specs.Refusal.{_>>=_ as _then_}
 use Rattle.blocks.specs.Bytes.{bytes}
 use Rattle.blocks.specs.Tree.{Tree, name, num, nil, cons}
@@ -27,7 +26,6 @@ use Rattle.builder_registry.specs.declared.Held.{Held}
 use Rattle.builder_registry.specs.Words.{Kept, entriesOf}
 use Rattle.builder_registry.proofs.Laws.{standing}
 use Rattle.builder_nodes.specs.declared.Built.{Built}
-use Rattle.builder_nodes.specs.Built.{Builds}
 use Rattle.builder_structs.proofs.Field.{builds-done, builds-refused, kept-done, kept-refused}
 use Rattle.builder_parameters.specs.Ready.{Ready as ListReady}
 use Rattle.builder_type.specs.declared.TypeTree.{TypeTree}
@@ -108,7 +106,8 @@ module _ {s xs ys : List ℕ} {kind at : ℕ} {r : TypeTree} where
       -- the type's tree was written
       pub tree-built : {x₁ x₂ ys₃ n : List ℕ} {p₁ p₂ end q : ℕ} → root .number ≡ 0 → r .number ≡ 0 → r .at ≡ end → n ≡ nameAt s (kind + 6) →
           Wrote xs at (opened 161) x₁ p₁ → Wrote x₁ p₁ (write (name n)) x₂ p₂ → Wrote x₂ p₂ (bytes 8 (h .alignment)) ys₁ p →
-          ((a : Accepted s 1 7 kind) → Wrote ys₂ (root .at) (write (listTree parameterTree (filter-jagged-element-parameters (typeOf (tree a)) (into-parameters (entriesOf s vs (root .count)))))) ys₃ end) →
+          ((a : Accepted s 1 7 kind) →
+          Wrote ys₂ (root .at) (write (listTree parameterTree (filter-jagged-element-parameters (typeOf (tree a)) (into-parameters (entriesOf s vs (root .count)))))) ys₃ end) →
           Wrote ys₃ at (bytes 4 (end - at - 4)) ys q → TreeBuilt s kind xs at ys r
       tree-built {x₁} {x₂} {n} {p₁} {p₂} rz rn re en o nm al ps c t a d =
           let m = builds-done rz (b t a d) in
