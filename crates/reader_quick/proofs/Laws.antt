@@ -275,6 +275,11 @@ module _ (room : ℕ) (s : List ℕ) (stop : ℕ) where
       → ((e : Earlier) → forget (readBlock room s e 128 144 i stop) ≡ Ok stop) → Body room s row at stop
   row-child at {row} {i} k z y d n = row-go at (λ h. omega arith) z d (row-last i (λ h. omega arith) y (node-part room s (row / 8 % 8) i stop (rw k) (λ e x. n e)) (rw k) refl)
 
+  -- two parts, the first of them a name
+  row-named : (at : ℕ) {row i j : ℕ} → row % 8 ≡ 2 → row / 8 / 8 ≡ 0 → (row / 8 ≡ 0 → ⊥) → 0 < i → ((start : ℕ) → Reads i (readText s start stop at))
+      → 0 < j → Piece room s (row / 8 % 8) i stop j → j ≡ stop → Body room s row at stop
+  row-named at {row} {i} k l n z d y p q = row-go at (λ h. n (rw h)) z (text-part room s (row % 8) at stop k d) (row-last i n y p l q)
+
   -- the rows that are met most
   module _ (at : ℕ) {row j r : ℕ} (c : 0 < r → (r ≡ stop) × (j ≡ stop)) where
     -- the row of a constant
@@ -289,7 +294,7 @@ module _ (room : ℕ) (s : List ℕ) (stop : ℕ) where
       call-row k h f z =
           let q = c z in (
             q .0,
-            row-go at (λ y. omega arith) x (text-part room s (row % 8) at stop (rw k) d) (row-last i (λ y. omega arith) (omega arith) (arguments-part room s (row / 8 % 8) i stop (rw k) h f) (rw k) (q .1)),
+            row-named at (rw k) (rw k) (λ y. omega arith) x d (omega arith) (arguments-part room s (row / 8 % 8) i stop (rw k) h f) (q .1),
           )
 
       -- the row of a field reference
@@ -297,7 +302,7 @@ module _ (room : ℕ) (s : List ℕ) (stop : ℕ) where
       field-row k f z =
           let q = c z in (
             q .0,
-            row-go at (λ y. omega arith) x (text-part room s (row % 8) at stop (rw k) d) (row-last i (λ y. omega arith) (omega arith) (optional-part room s (row / 8 % 8) i stop (rw k) f) (rw k) (q .1)),
+            row-named at (rw k) (rw k) (λ y. omega arith) x d (omega arith) (optional-part room s (row / 8 % 8) i stop (rw k) f) (q .1),
           )
 
 -- ---- nodes

@@ -436,7 +436,8 @@ abbrev node-Inv-loop : node-lts.InvT-loop
 node-Inv-loop s room at end stop i₀ left₀ row₀ i left row =
     (i ≤ stop) ×
     (left < room) ×
-    (Body left s row i stop → (e : Earlier) → forget (readBlock room s e 128 144 at end) ≡ Ok stop)
+    (Body left s row i stop → (e : Earlier) → forget (readBlock room s e 128 144 at end) ≡ Ok stop) ×
+    (stop ≤ end)
 
 abbrev node-μ-loop : node-lts.MeasureT-loop
 node-μ-loop s room at end stop i₀ left₀ row₀ i left row = left
@@ -490,20 +491,21 @@ node-loop-holds t c =
           (omega (arith, at-else2 .if2 .left)) b
           (c .before .read2 .ensures .0)
           (c .node-row .ensures),
+      at-sized .sized .ensures .1,
     )
 
 node-leading-requires : (t : ℕ) → node-lts.Need-leading-requires (node-with t) (node-at t) node.Post node-Inv-loop node-μ-loop
 node-leading-requires t c κs =
-    let at-sized = c .before .before .before .before .before .before .before in
-    (omega (arith, c .before .loop .inv .1), (c .before .loop .inv .0, omega (arith, at-sized .sized .ensures .1)))
+    let inv = c .before .loop .inv in
+    (omega (arith, inv .1), (inv .0, omega (arith, inv .3)))
 
 node-returns-3 : (t : ℕ) → node-lts.Need-returns-3 (node-with t) (node-at t) node.Post node-Inv-loop node-μ-loop
 node-returns-3 t c = (λ e z. absurd (omega arith), omega arith)
 
 node-fills-requires : (t : ℕ) → node-lts.Need-fills-requires (node-with t) (node-at t) node.Post node-Inv-loop node-μ-loop
 node-fills-requires t c κs =
-    let at-sized = c .before .before .before .before .before .before .before .before .before in
-    (c .before .leading .ensures .1, omega (arith, at-sized .sized .ensures .1))
+    let at-loop = c .before .before .before in
+    (c .before .leading .ensures .1, omega (arith, at-loop .loop .inv .3))
 
 node-returns-4 : (t : ℕ) → node-lts.Need-returns-4 (node-with t) (node-at t) node.Post node-Inv-loop node-μ-loop
 node-returns-4 t c = (λ e z. absurd (omega arith), omega arith)
@@ -511,8 +513,9 @@ node-returns-4 t c = (λ e z. absurd (omega arith), omega arith)
 node-begun-requires-2 : (t : ℕ) → node-lts.Need-begun-requires-2 (node-with t) (node-at t) node.Post node-Inv-loop node-μ-loop
 node-begun-requires-2 t c κs =
     let at-leading = c .before .before .before in
-    let at-sized = at-leading .before .before .before .before .before .before .before .before in
-    (at-leading .leading .ensures .1, omega (arith, at-sized .sized .ensures .1))
+    let at-loop = at-leading .before .before in
+    let at-start = at-loop .before .before .before .before .before .before .before .before in
+    (at-leading .leading .ensures .1, omega (arith, at-loop .loop .inv .3, at-start .pre .1 .1))
 
 node-returns-5 : (t : ℕ) → node-lts.Need-returns-5 (node-with t) (node-at t) node.Post node-Inv-loop node-μ-loop
 node-returns-5 t c = (λ e z. absurd (omega arith), omega arith)
@@ -529,9 +532,9 @@ node-add-read2-2 t c =
 
 node-read2-requires-2 : (t : ℕ) → node-lts.Need-read2-requires-2 (node-with t) (node-at t) node.Post node-Inv-loop node-μ-loop
 node-read2-requires-2 t c κs =
-    let at-sized = c .before .before .before .before .before .before .before .before .before .before .before .before .before in
+    let at-loop = c .before .before .before .before .before .before .before in
     let b = c .before .begun2 .ensures .0 (omega (arith, c .if5 .left)) in
-    omega (arith, b .inside, at-sized .sized .ensures .1)
+    omega (arith, b .inside, at-loop .loop .inv .3)
 
 node-node-row-requires-2 : (t : ℕ) → node-lts.Need-node-row-requires-2 (node-with t) (node-at t) node.Post node-Inv-loop node-μ-loop
 node-node-row-requires-2 t c κs =
@@ -571,19 +574,19 @@ node-loop-again t c =
           (at-begun2 .begun2 .ensures .0 (omega (arith, at-else5 .if5 .left)))
           (c .before .read22 .ensures .0)
           (c .node-row2 .ensures) b)),
+      at-loop .loop .inv .3,
     )
 
 node-body-requires : (t : ℕ) → node-lts.Need-body-requires (node-with t) (node-at t) node.Post node-Inv-loop node-μ-loop
 node-body-requires t c κs =
-    let at-sized = c .before .before .before .before .before .before .before in
-    (omega (arith, c .before .loop .inv .1), (c .before .loop .inv .0, omega (arith, at-sized .sized .ensures .1)))
+    let inv = c .before .loop .inv in
+    (omega (arith, inv .1), (inv .0, omega (arith, inv .3)))
 
 node-returns-6 : (t : ℕ) → node-lts.Need-returns-6 (node-with t) (node-at t) node.Post node-Inv-loop node-μ-loop
 node-returns-6 t c =
-    let at-loop = c .before .before in
-    let at-sized = at-loop .before .before .before .before .before .before in (
-      λ e z. let q = c .body .ensures .0 z in rw (q .0) (at-loop .loop .inv .2 (q .1) e),
-      omega (arith, at-sized .sized .ensures .1, c .body .ensures .1),
+    let inv = c .before .before .loop .inv in (
+      λ e z. let q = c .body .ensures .0 z in rw (q .0) (inv .2 (q .1) e),
+      omega (arith, inv .3, c .body .ensures .1),
     )
 
 piece-add-if1 : (t : ℕ) → piece-lts.Need-add-if1 (piece-with t) (piece-at t) piece.Post
