@@ -376,14 +376,14 @@ typeref-none types h target g e = need-none 15 _ g e
 -- a lookup that found a type: the type is accepted, and it is the answer
 found-at : {s : List ℕ} {n : Name} {ts : List ResolvedType} {f : Found} {o : ℕ} → f ≡ At o → TypeFound s n ts f →
     (a : Accepted s 1 7 o) × (get-type-info n ts ≡ some (typeOf (tree a)))
-found-at {s} {n} {ts} {o} e (TypeFound.at {o = p} a g) =
+found-at {s} {n} {ts} {o} e (TypeFound.at {o = p} a g w) =
     let i : p ≡ o = cc in
     subst (λ (k : ℕ). (a : Accepted s 1 7 k) × (get-type-info n ts ≡ some (typeOf (tree a)))) i (a, g)
 found-at e (TypeFound.missing g) = let z : _≡_ {A = ℕ} 0 1 = cc in absurd (omega arith)
 
 -- a lookup that found nothing
 found-none : {s : List ℕ} {n : Name} {ts : List ResolvedType} {f : Found} → f ≡ Missing → TypeFound s n ts f → get-type-info n ts ≡ none
-found-none e (TypeFound.at a g) = let z : _≡_ {A = ℕ} 0 1 = cc in absurd (omega arith)
+found-none e (TypeFound.at a g w) = let z : _≡_ {A = ℕ} 0 1 = cc in absurd (omega arith)
 found-none e (TypeFound.missing g) = g
 
 -- the type that is called is accepted

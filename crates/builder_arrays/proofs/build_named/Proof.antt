@@ -91,7 +91,7 @@ returns c =
       at-build-array-node-with-prefix .build-array-node-with-prefix .ensures .0,
       name-yes _ _
           (at-name-at .name-at .ensures)
-          (at-get .get .ensures)
+          (at-get .get .ensures .0)
           (at-enum-told .enum-told .given .1)
           (at-build-array-node-with-prefix .build-array-node-with-prefix .ensures .1),
     )
@@ -111,7 +111,7 @@ returns-2 c =
       name-no _ _
           (at-start at-enum-told2 .pre .some-owner)
           (at-name-at at-enum-told2 .name-at .ensures)
-          (at-get at-enum-told2 .get .ensures)
+          (at-get at-enum-told2 .get .ensures .0)
           (at-enum-told2 .enum-told2 .given .1)
           (at-name-at2 .name-at2 .ensures)
           (at-build-array-node-with-prefix2 .build-array-node-with-prefix2 .ensures .1),

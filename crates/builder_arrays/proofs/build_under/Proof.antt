@@ -34,7 +34,7 @@ returns c =
     let at-get = at-enum-told .before .before in (
       at-build-array-node-with-prefix .build-array-node-with-prefix .ensures .0,
       key-yes _ _
-          (at-get .get .ensures)
+          (at-get .get .ensures .0)
           (at-enum-told .enum-told .given .1)
           (at-build-array-node-with-prefix .build-array-node-with-prefix .ensures .1),
     )
@@ -52,7 +52,7 @@ returns-2 c =
     let at-get = at-enum-told2 .before .before in (
       at-build-named .build-named .ensures .0,
       key-no _ _
-          (at-get .get .ensures)
+          (at-get .get .ensures .0)
           (at-enum-told2 .enum-told2 .given .1)
           (at-build-named .build-named .ensures .1),
     )

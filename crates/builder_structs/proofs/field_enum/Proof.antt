@@ -30,7 +30,7 @@ has-payload-requires c κs =
     let at-start = at-get .before .before .before .before .before in
     let p = paths-found
     (c .before .paths .given .1)
-    (at-get .get .ensures)
+    (at-get .get .ensures .0)
     (at-start .pre .field .refs) in
     search needs
 
@@ -41,7 +41,7 @@ put-payload-requires c κs =
       field = at-start at-get .pre .field .field;
       list = paths-found
           (at-paths .paths .given .1)
-          (at-get .get .ensures)
+          (at-get .get .ensures .0)
           (at-start at-get .pre .field .refs);
     }
 
@@ -61,7 +61,7 @@ returns c =
       at-put-payload .put-payload .ensures .0,
       enum-payload _ _ _
           (at-name-at at-get .name-at .ensures)
-          (at-get .get .ensures)
+          (at-get .get .ensures .0)
           (at-start at-get .pre .kind-is)
           (at-paths .paths .given .1)
           (at-has-payload .has-payload .ensures)
@@ -102,7 +102,7 @@ returns-2 c =
       at-field-switch .field-switch .ensures .0,
       enum-plain _ _ _
           (at-name-at at-get .name-at .ensures)
-          (at-get .get .ensures)
+          (at-get .get .ensures .0)
           (at-start at-get .pre .kind-is)
           (at-paths .paths .given .1)
           (at-has-payload .has-payload .ensures)
@@ -124,7 +124,7 @@ returns-3 c =
       at-field-switch2 .field-switch2 .ensures .0,
       enum-missing _ _ _
           (at-name-at at-get .name-at .ensures)
-          (at-get .get .ensures)
+          (at-get .get .ensures .0)
           (at-start at-get .pre .kind-is)
           (at-enum-told .enum-told .given .1)
           (at-field-switch2 .field-switch2 .ensures .1),

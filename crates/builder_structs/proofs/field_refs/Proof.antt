@@ -26,7 +26,7 @@ put-sum-requires c κs =
       field = at-start at-slice-known2 .pre .field;
       list = paths-found
           (at-paths .paths .given .1)
-          (at-get .get .ensures)
+          (at-get .get .ensures .0)
           (at-start at-slice-known2 .pre .refs);
     }
 
@@ -48,7 +48,7 @@ returns c =
       at-put-sum .put-sum .ensures .0,
       refs-found _ _ _
           (at-name-at .name-at .ensures)
-          (at-get .get .ensures)
+          (at-get .get .ensures .0)
           (at-paths .paths .given .1)
           (at-put-sum .put-sum .ensures .1),
     )
@@ -64,7 +64,7 @@ returns-2 c =
       },
       refs-missing _ _ _
           (at-name-at .name-at .ensures)
-          (at-get .get .ensures)
+          (at-get .get .ensures .0)
           (c .enum-told .given .1),
     )
 

@@ -39,7 +39,7 @@ returns c =
       stopped (at-start at-e .pre .0 .standing .count),
       ref-long _
           (at-name-at .name-at .ensures ∙ at-name-at .before .chosen-path .ensures .1)
-          (at-lookup-name at-e .lookup-name .ensures)
+          (at-lookup-name at-e .lookup-name .ensures .0)
           (at-e .e .given .1)
           (c .if1 .taken),
     )
@@ -47,13 +47,13 @@ returns c =
 mul-put-size-ref : tie.Need-mul-put-size-ref
 mul-put-size-ref c =
     let at-e = c .before .before in
-    let found = looked-at (at-e .e .given .1) (at-lookup-name at-e .lookup-name .ensures) in
+    let found = looked-at (at-e .e .given .1) (at-lookup-name at-e .lookup-name .ensures .0) in
     omega (arith, found .0, at-start at-e .pre .0 .standing)
 
 shared-slice-read-put-size-ref : tie.Need-shared-slice-read-put-size-ref
 shared-slice-read-put-size-ref c =
     let at-e = c .before .before .before in
-    let found = looked-at (at-e .e .given .1) (at-lookup-name at-e .lookup-name .ensures) in
+    let found = looked-at (at-e .e .given .1) (at-lookup-name at-e .lookup-name .ensures .0) in
     omega (arith, found .0, at-start at-e .pre .0 .standing)
 
 put-size-ref-requires : tie.Need-put-size-ref-requires
@@ -78,7 +78,7 @@ returns-2 c =
       },
       ref-done _
           (at-name-at .name-at .ensures ∙ at-name-at .before .chosen-path .ensures .1)
-          (at-lookup-name at-e .lookup-name .ensures)
+          (at-lookup-name at-e .lookup-name .ensures .0)
           (at-e .e .given .1)
           (at-else1 .if1 .left) refl
           (at-put-size-ref .put-size-ref .ensures .0),
@@ -92,7 +92,7 @@ returns-3 c =
       stopped (at-start .pre .0 .standing .count),
       ref-missing _
           (at-name-at .name-at .ensures ∙ at-name-at .before .chosen-path .ensures .1)
-          (at-lookup-name .lookup-name .ensures)
+          (at-lookup-name .lookup-name .ensures .0)
           (c .enum-told .given .1),
     )
 

@@ -100,7 +100,7 @@ returns-3 c =
           (at-else1 .if1 .left)
           (at-sized-list .sized-list .ensures)
           (at-else2 .if2 .left)
-          (at-add-synthetic .add-synthetic .ensures .1)
+          (at-add-synthetic .add-synthetic .ensures .1 .0)
           (c .if3 .taken) a vs q,
     )
 
@@ -115,7 +115,7 @@ put-switch-requires c κs =
     (at-start at-else1 .pre)
     (at-add-synthetic .add-synthetic .kept .1 .0 ∙ at-extend-with at-else1 .extend-with .kept .1 .0)
     (at-add-synthetic .add-synthetic .ensures .0)
-    (tag-in (at-else3 .if3 .left) (at-add-synthetic .add-synthetic .ensures .1))
+    (tag-in (at-else3 .if3 .left) (at-add-synthetic .add-synthetic .ensures .1 .0))
     (omega arith)
     (omega arith)
     (variants .list)
@@ -142,7 +142,7 @@ returns-4 c =
           (at-else1 .if1 .left)
           (at-sized-list .sized-list .ensures)
           (at-else2 .if2 .left)
-          (at-add-synthetic .add-synthetic .ensures .1)
+          (at-add-synthetic .add-synthetic .ensures .1 .0)
           (at-else3 .if3 .left)
           (at-put-switch .put-switch .ensures .1) a vs q,
     )

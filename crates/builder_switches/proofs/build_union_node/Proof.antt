@@ -74,7 +74,7 @@ returns-2 c =
           (at-type-head at-extend-with .type-head .ensures)
           (at-extend-with .extend-with .ensures .1)
           (at-else1 .if1 .left)
-          (at-add-synthetic .add-synthetic .ensures .1)
+          (at-add-synthetic .add-synthetic .ensures .1 .0)
           (c .if2 .taken) a fs q,
     )
 
@@ -99,7 +99,7 @@ put-switch-requires c κs =
     (at-start at-extend-with .pre)
     (at-add-synthetic .add-synthetic .kept .1 .0 ∙ at-extend-with .extend-with .kept .1 .0)
     (at-add-synthetic .add-synthetic .ensures .0)
-    (tag-in (at-else2 .if2 .left) (at-add-synthetic .add-synthetic .ensures .1))
+    (tag-in (at-else2 .if2 .left) (at-add-synthetic .add-synthetic .ensures .1 .0))
     (omega arith)
     (omega arith)
     (fields .list)
@@ -124,7 +124,7 @@ returns-3 c =
           (at-type-head at-extend-with .type-head .ensures)
           (at-extend-with .extend-with .ensures .1)
           (at-else1 .if1 .left)
-          (at-add-synthetic .add-synthetic .ensures .1)
+          (at-add-synthetic .add-synthetic .ensures .1 .0)
           (at-else2 .if2 .left)
           (at-start at-extend-with .pre .kind-is)
           (at-field-list .field-list .ensures)

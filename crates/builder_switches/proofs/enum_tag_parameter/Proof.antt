@@ -117,7 +117,7 @@ returns-3 c =
           (at-read2 .read2 .ensures .0)
           (at-else1 .if1 .left)
           (at-mark-expression-field-refs .mark-expression-field-refs .ensures)
-          (at-add-synthetic .add-synthetic .ensures .1) a,
+          (at-add-synthetic .add-synthetic .ensures .1 .0) a,
     )
 
 pub enum-tag-parameter-spec : {M : Type 1} → statement M

@@ -41,7 +41,7 @@ sum-refs-requires c κs =
       owned = owned _ (at-start at-get .pre .named) (at-name-at at-get .name-at .ensures);
       list = paths-at _
           (at-name-at at-get .name-at .ensures)
-          (at-get .get .ensures)
+          (at-get .get .ensures .0)
           (at-paths .paths .given .1)
           (at-start at-get .pre .references-at);
       cursor = omega (arith, at-start at-get .pre .cursor, at-open-align .open-align .ensures .1);
@@ -61,7 +61,7 @@ returns c =
           (at-start at-get .args .x)
           (at-then1 at-get .if1 .taken)
           (at-name-at at-get .name-at .ensures)
-          (at-get .get .ensures)
+          (at-get .get .ensures .0)
           (at-paths .paths .given .1)
           (at-open-align .open-align .ensures .0)
           (at-sum-refs .sum-refs .ensures .1)
@@ -104,7 +104,7 @@ returns-2 c =
           (at-start .args .x)
           (at-then1 .if1 .taken)
           (at-name-at .name-at .ensures)
-          (at-get .get .ensures)
+          (at-get .get .ensures .0)
           (at-paths .paths .given .1)
           (at-open-align .open-align .ensures .0)
           (at-sum-refs .sum-refs .ensures .1)
@@ -123,7 +123,7 @@ returns-3 c =
           (at-start at-get .args .x)
           (at-then1 at-get .if1 .taken)
           (at-name-at at-get .name-at .ensures)
-          (at-get .get .ensures)
+          (at-get .get .ensures .0)
           (c .enum-told .given .1) a,
     )
 

@@ -79,7 +79,7 @@ returns-2 c =
     (at-joined-length at-path3 .joined-length .ensures)
     (at-else1 at-path3 .if1 .left) refl
     (at-put-joined at-path3 .put-joined .ensures)
-    (at-lookup-name .lookup-name .ensures)
+    (at-lookup-name .lookup-name .ensures .0)
     (c .before .i .given .1) a path x
 
 returns-3 : tie.Need-returns-3
@@ -91,9 +91,9 @@ returns-3 c =
     (at-joined-length at-path3 .joined-length .ensures)
     (at-else1 at-path3 .if1 .left) refl
     (at-put-joined at-path3 .put-joined .ensures)
-    (at-lookup-name .lookup-name .ensures)
+    (at-lookup-name .lookup-name .ensures .0)
     (at-enum-told .enum-told .given .1)
-    (c .lookup-qualified .ensures) a path x
+    (c .lookup-qualified .ensures .0) a path x
 
 pub tag-lookup-spec : {M : Type 1} → statement M
 tag-lookup-spec =
