@@ -36,8 +36,8 @@ use Rattle.resolved_parts.specs.Types.{Named, PathsAt, OwnerAt, HeadAt, TargetA
 use Rattle.builder_registry.specs.declared.Held.{Held}
 use Rattle.builder_registry.specs.Words.{Kept, held, entriesOf}
 use Rattle.builder_registry.proofs.Laws.{held-name}
-use Rattle.builder_registry.proofs.Names.{held-bound}
-use Rattle.builder_registry.proofs.Extend.{named}
+use Rattle.builder_registry.proofs.Keys.{held-bound}
+use Rattle.resolved_parts.proofs.Laws.{entry-named}
 use Rattle.builder_nodes.specs.declared.Built.{Built}
 use Rattle.builder_nodes.specs.Built.{Builds, Within, nodeStart}
 use Rattle.builder_nodes.proofs.Laws.{node-closed}
@@ -51,7 +51,7 @@ use Rattle.builder_calls.proofs.Collecting.{owners-count, refusal, coll
 
 -- a name of an accepted set has at most 255 bytes
 pub short-name : {s o : List ℕ} (owner : ℕ) → o ≡ nameAt s owner → Named s owner → length o ≤ 255
-short-name {s} owner e n = rw (e, ← held-name n) (held-bound s owner)
+short-name {s} owner e n = rw (e, ← held-name n) (held-bound s owner refl)
 
 -- where an argument ends: the head of its block has 6 bytes, and its name stands there twice, each behind its length
 pub argument-ends : {at b u v m k made n : ℕ} → b ≡ at + 6 → u ≡ b + (2 + k) → v ≡ u + (2 + k) → m ≡ k → m ≤ 255 → made < 512 → n ≤ 512 →
@@ -137,7 +137,7 @@ module _ {s : List ℕ} {left path : ℕ} (z : left ≡ 0 → ⊥) (l : Entries 
 
   -- it is a name inside the set
   pub path-named : Named s path
-  path-named = named l (omega arith)
+  path-named = entry-named l (omega arith)
 
   -- the list behind it, where the code goes on
   pub path-rest : {u : ℕ} → u ≡ le2 s path → Entries s Item.names (left - 1) (path + 2 + u)

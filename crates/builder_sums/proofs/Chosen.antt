@@ -16,7 +16,7 @@ use Rattle.accepted.proofs.Laws.{none-left, name-entry}
 use Rattle.builder.specs.Names.{ends-with}
 use Rattle.builder.specs.Nodes.{payload-paths}
 use Rattle.resolved_parts.specs.Types.{Named, PathsAt, textsOf}
-use Rattle.builder_registry.proofs.Extend.{named}
+use Rattle.resolved_parts.proofs.Laws.{entry-named}
 use Rattle.builder_sums.specs.Ready.{chosen, someName}
 use Rattle.builder_sums.specs.Paths.{namesAt, taken, picks}
 
@@ -62,7 +62,7 @@ next h e l = rw e (name-entry l h .2 .rest)
 
 -- the first of the names that are left lies inside the set
 pub name-in : {s : List ℕ} {left q : ℕ} → 0 < left → Entries s Item.names left q → q + 2 + le2 s q ≤ length s
-name-in h l = named l h .inside
+name-in h l = entry-named l h .inside
 
 -- the weight that the code computes where only payload sizes are chosen
 pub weighs : {only b : Bool} {n m : Name} → only ≡ true → m ≡ n → b ≡ ends-with (ascii ".payload_size") m → (w : ℕ) → w ≡ cond b 1 0 →
@@ -161,7 +161,7 @@ first-chosen false n ns j w e h = absurd (omega arith)
 pub seek-hit : {s : List ℕ} {only : Bool} {paths i left q j w : ℕ} → 0 < left → w ≡ cond (taken only (nameAt s q)) 1 0 → j < w →
     Seeking s only paths i left q j → Named s q × (nameAt s q ≡ getD (picks s only paths) i [])
 seek-hit {s} {only} {left} {q} {j} {w} h e g c = (
-  named (c .here) h,
+  entry-named (c .here) h,
   sym (first-chosen (taken only (nameAt s q)) (nameAt s q) (chosen only (namesAt s (left - 1) (q + 2 + le2 s q))) j w e g)
       ∙ sym (ap (λ (ns : List Name). getD ns j []) (names-more s only left q (le2 s q) h refl))
       ∙ c .is,

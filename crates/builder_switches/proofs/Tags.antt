@@ -27,7 +27,7 @@ use Rattle.builder_registry.specs.declared.Found.the-variants.{At, Missing}
 use Rattle.builder_registry.specs.declared.Tagged.{Tagged}
 use Rattle.builder_registry.specs.Words.{Standing, Looked, Tags, held, madePath, madeParameter, entriesOf}
 use Rattle.builder_registry.proofs.Laws.{held-name, long-lookup, long-qualified}
-use Rattle.builder_registry.proofs.Names.{held-bound}
+use Rattle.builder_registry.proofs.Keys.{held-bound}
 use Rattle.builder_sums.proofs.Sums.{looked-at, looked-none}
 use Rattle.builder_switches.proofs.Marks.{path-is, path-held}
 
@@ -149,4 +149,4 @@ tag-made {s} ws n g o q u b h d z m t a =
 
 -- a name of the set is short
 pub owned : {s : List ℕ} {o : Name} (q : ℕ) → Named s q → o ≡ nameAt s q → length o ≤ 255
-owned {s} q n e = rw (e, ← held-name n) (held-bound s q)
+owned {s} q n e = rw (e, ← held-name n) (held-bound s q refl)

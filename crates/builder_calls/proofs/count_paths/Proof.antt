@@ -2,7 +2,7 @@
 -- that are left (`Count`); an owner has at most 64 paths and a block 64 owners, so the count stays at most 4096.
 use Prim.Native.Nat.{_+_, _*_, _≤_}
 use native.Mathlib.Omega.{arith}
-use Rattle.builder_registry.proofs.Extend.{owners-inside}
+use Rattle.resolved_parts.proofs.Owners.{references-inside}
 use Rattle.builder_calls.proofs.Laws.{Count, count-begin, count-next, count-end, count-here, count-inside, owners-most}
 use Rattle.builder_calls.proofs.count_paths.Statement.{statement}
 use Rattle.builder_calls.proofs.count_paths.Tie as tie
@@ -24,16 +24,16 @@ abbrev at-loop : tie.After-read22 Inv-loop μ-loop → tie.At-loop Inv-loop μ-l
 at-loop r = in-loop r .before
 
 add-read2 : tie.Need-add-read2 Inv-loop μ-loop
-add-read2 c = omega (arith, owners-inside (c .before .pre))
+add-read2 c = omega (arith, references-inside (c .before .pre))
 
 read2-requires : tie.Need-read2-requires Inv-loop μ-loop
-read2-requires c κs = omega (arith, owners-inside (c .before .pre))
+read2-requires c κs = omega (arith, references-inside (c .before .pre))
 
 add-at : tie.Need-add-at Inv-loop μ-loop
-add-at c = omega (arith, owners-inside (c .before .before .pre))
+add-at c = omega (arith, references-inside (c .before .before .pre))
 
 add-at-2 : tie.Need-add-at-2 Inv-loop μ-loop
-add-at-2 c = omega (arith, owners-inside (c .before .before .pre))
+add-at-2 c = omega (arith, references-inside (c .before .before .pre))
 
 loop-holds : tie.Need-loop-holds Inv-loop μ-loop
 loop-holds c =

@@ -3,7 +3,7 @@
 use borrow.Author.Needs.{needs}
 use native.Mathlib.Omega.{arith}
 use Rattle.accepted.specs.Accepted.{Accepted}
-use Rattle.builder_registry.proofs.Extend.{owners-inside}
+use Rattle.resolved_parts.proofs.Owners.{references-inside}
 use Rattle.builder_calls.proofs.Laws.{owners-at, call-ends, call-stop, call-done}
 use Rattle.builder_calls.proofs.put_call.Statement.{statement}
 use Rattle.builder_calls.proofs.put_call.Tie as tie
@@ -35,10 +35,10 @@ count-paths-requires : tie.Need-count-paths-requires
 count-paths-requires c κs = references c
 
 add-read2 : tie.Need-add-read2
-add-read2 c = omega (arith, owners-inside (references (c .before)))
+add-read2 c = omega (arith, references-inside (references (c .before)))
 
 read2-requires : tie.Need-read2-requires
-read2-requires c κs = omega (arith, owners-inside (references (c .before)))
+read2-requires c κs = omega (arith, references-inside (references (c .before)))
 
 open-node-requires : tie.Need-open-node-requires
 open-node-requires c κs = search needs
@@ -63,12 +63,12 @@ put-le-requires c κs =
 add-put-owners : tie.Need-add-put-owners
 add-put-owners c =
     let at-type-head = c .before .before .before .before .before .before .before .before .before .before .before .before .before .before .before in
-    omega (arith, owners-inside (references at-type-head))
+    omega (arith, references-inside (references at-type-head))
 
 add-put-owners-2 : tie.Need-add-put-owners-2
 add-put-owners-2 c =
     let at-type-head = c .before .before .before .before .before .before .before .before .before .before .before .before .before .before .before in
-    omega (arith, owners-inside (references at-type-head))
+    omega (arith, references-inside (references at-type-head))
 
 put-owners-requires : tie.Need-put-owners-requires
 put-owners-requires c κs =

@@ -2,7 +2,7 @@
 -- left (`Counting`); at the end none is left.
 use native.Mathlib.Omega.{arith}
 use borrow.Author.Needs.{needs}
-use Rattle.builder_registry.proofs.Extend.{named}
+use Rattle.resolved_parts.proofs.Laws.{entry-named}
 use Rattle.builder_sums.proofs.Chosen.{Counting, count-begin, count-more, count-end, name-in}
 use Rattle.builder_sums.proofs.chosen_count.Statement.{statement}
 use Rattle.builder_sums.proofs.chosen_count.Tie as tie
@@ -23,7 +23,7 @@ loop-holds : tie.Need-loop-holds Inv-loop μ-loop
 loop-holds c = count-begin _ (c .before .before .pre .list) (c .read2 .ensures .0)
 
 weight-requires : tie.Need-weight-requires Inv-loop μ-loop
-weight-requires c κs = search (needs, named)
+weight-requires c κs = search (needs, entry-named)
 
 add-m : tie.Need-add-m Inv-loop μ-loop
 add-m c = omega (arith, c .before .before .loop .inv .most)

@@ -2,7 +2,7 @@
 -- that are left (`Seeking`), so it is met before the list ends.
 use native.Mathlib.Omega.{arith}
 use borrow.Author.Needs.{needs}
-use Rattle.builder_registry.proofs.Extend.{named}
+use Rattle.resolved_parts.proofs.Laws.{entry-named}
 use Rattle.builder_sums.proofs.Chosen.{Seeking, seek-begin, seek-more, seek-hit, seek-never, name-in}
 use Rattle.builder_sums.proofs.chosen_path.Statement.{statement}
 use Rattle.builder_sums.proofs.chosen_path.Tie as tie
@@ -29,7 +29,7 @@ loop-holds c =
     seek-begin (at-start .pre .0 .list) (at-start .pre .1) (c .read2 .ensures .0)
 
 weight-requires : tie.Need-weight-requires Inv-loop μ-loop
-weight-requires c κs = search (needs, named)
+weight-requires c κs = search (needs, entry-named)
 
 returns : tie.Need-returns Inv-loop μ-loop
 returns c =
