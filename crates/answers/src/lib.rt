@@ -1,0 +1,1 @@
+// Laws only: what code that answers with a number says of the definition's outcome.
