@@ -79,6 +79,12 @@ impl Judge {
         Judge { ir, index }
     }
 
+    /// Values that were decoded already.
+    #[cfg(feature = "bench")]
+    pub fn decoded((ir, index): (LayoutIr, BTreeMap<String, usize>)) -> Judge {
+        Judge { ir, index }
+    }
+
     /// `None` if the asked name is not there: the Rust is given a type.
     pub fn validate(
         &self,
@@ -354,7 +360,7 @@ fn ir_argument(a: &Argument) -> IrArgument {
     }
 }
 
-fn ir_two(kind: u16, left: IrNode, right: IrNode, meta: NodeMetadata) -> IrNode {
+pub fn ir_two(kind: u16, left: IrNode, right: IrNode, meta: NodeMetadata) -> IrNode {
     let node = BinaryOpNode {
         left: Box::new(left),
         right: Box::new(right),

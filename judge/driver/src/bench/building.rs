@@ -92,6 +92,8 @@ fn building_row(words: &mut Words, source: &Source) -> Result<Row, String> {
         size: source.size,
         ours,
         whole,
+        lean: None,
+        checks: None,
         alone: Some(alone),
     })
 }

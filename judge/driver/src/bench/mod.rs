@@ -3,6 +3,7 @@
 
 mod building;
 mod inputs;
+mod lean;
 mod measure;
 mod ours;
 mod table;
@@ -178,15 +179,25 @@ fn reading_row(words: &mut [u64], note: &str, layout: &[u8]) -> Result<Row, Stri
     if answer != accepted(0) {
         return Err(format!("reading {} bytes: ours {answer:?}", layout.len()));
     }
-    let [ours, whole] = medians([
+    if lean::layout(layout).is_none() || !lean::is_layout(layout) {
+        return Err(format!(
+            "reading {} bytes: the lean readers refuse",
+            layout.len()
+        ));
+    }
+    let [ours, whole, lean, checks] = medians([
         work(|| ours::read_layout(words, black_box(layout))),
         work(|| read::layout(black_box(layout))),
+        work(|| lean::layout(black_box(layout))),
+        work(|| lean::is_layout(black_box(layout))),
     ]);
     Ok(Row {
         what: format!("{} bytes, {} types{note}", layout.len(), types.len()),
         size: Some(layout.len()),
         ours,
         whole,
+        lean: Some(lean),
+        checks: Some(checks),
         alone: None,
     })
 }

@@ -2,8 +2,10 @@
 
 use super::Head;
 
-/// Nanoseconds of a call. `whole` is the Rust from bytes to the answer,
-/// `alone` the Rust's own call on values that it has.
+/// Nanoseconds of a call. `whole` is the Rust from bytes to the answer with
+/// the judge's decoder, `lean` with one that decodes straight into the Rust's
+/// values, `checks` a Rust reader that keeps nothing, `alone` the Rust's own
+/// call on values that it has.
 pub struct Row {
     pub what: String,
     /// Bytes, values, calls or types: what the rows of a group differ in. A
@@ -11,6 +13,8 @@ pub struct Row {
     pub size: Option<usize>,
     pub ours: f64,
     pub whole: f64,
+    pub lean: Option<f64>,
+    pub checks: Option<f64>,
     pub alone: Option<f64>,
 }
 
@@ -97,28 +101,36 @@ fn slope(rows: &[Row], i: usize) -> String {
     }
 }
 
+/// The columns beside ours that a group has, each with its ratio.
+fn beside(row: &Row) -> [(&'static str, Option<f64>); 4] {
+    [
+        ("Rust from bytes, µs", Some(row.whole)),
+        ("lean Rust from bytes, µs", row.lean),
+        ("Rust that only checks, µs", row.checks),
+        ("Rust's call alone, µs", row.alone),
+    ]
+}
+
 fn group_lines(group: &Group) -> Vec<Vec<String>> {
-    let head = [
-        group.head.0,
-        "ours, µs",
-        "Rust from bytes, µs",
-        "ratio",
-        "Rust's call alone, µs",
-        "ratio",
-    ];
-    let mut out = vec![head.map(str::to_string).to_vec()];
-    out[0].push(format!("ours, ns per {} more", group.head.1));
+    let mut head = vec![group.head.0.to_string(), "ours, µs".to_string()];
+    // A column that no row of the group has is left out.
+    let had = |i: usize| group.rows.iter().any(|row| beside(row)[i].1.is_some());
+    let columns: Vec<usize> = (0..4).filter(|i| had(*i)).collect();
+    for i in &columns {
+        head.push(beside(&group.rows[0])[*i].0.to_string());
+        head.push("ratio".to_string());
+    }
+    head.push(format!("ours, ns per {} more", group.head.1));
+    let mut out = vec![head];
     for (i, row) in group.rows.iter().enumerate() {
-        let alone = |told: &dyn Fn(f64) -> String| row.alone.map_or("-".to_string(), told);
-        out.push(vec![
-            row.what.clone(),
-            micro(row.ours),
-            micro(row.whole),
-            ratio(row.whole / row.ours),
-            alone(&micro),
-            alone(&|ns| ratio(ns / row.ours)),
-            slope(&group.rows, i),
-        ]);
+        let mut line = vec![row.what.clone(), micro(row.ours)];
+        for column in &columns {
+            let time = beside(row)[*column].1;
+            line.push(time.map_or("-".to_string(), micro));
+            line.push(time.map_or("-".to_string(), |ns| ratio(ns / row.ours)));
+        }
+        line.push(slope(&group.rows, i));
+        out.push(line);
     }
     out
 }

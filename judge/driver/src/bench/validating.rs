@@ -5,7 +5,7 @@ use super::measure::{medians, work};
 use super::ours::Words;
 use super::table::{Group, Parts, Row};
 use super::words::widest;
-use super::{accepted, ours, Head};
+use super::{accepted, lean, ours, Head};
 use crate::data::*;
 use crate::rules::read;
 use crate::{rust, write};
@@ -57,10 +57,13 @@ impl<'a> Question<'a> {
             params: params(&asked.values),
             count: 0,
         };
-        let (alone, whole) = (question.alone(), question.whole());
-        match (alone, whole) {
-            (Some(a), Some(b)) if a == b => question.count = a as u64,
-            _ => return Err(format!("{}: Rust {alone:?} and {whole:?}", asked.name)),
+        let (alone, whole, lean) = (question.alone(), question.whole(), question.lean());
+        match (alone, whole, lean) {
+            (Some(a), Some(b), Some(c)) if a == b && b == c => question.count = a as u64,
+            _ => {
+                let name = &asked.name;
+                return Err(format!("{name}: Rust {alone:?}, {whole:?} and {lean:?}"));
+            }
         }
         Ok(question)
     }
@@ -77,6 +80,13 @@ impl<'a> Question<'a> {
         let values = read::values(black_box(&self.values)).ok()?;
         let judge = rust::Judge::new(&trees);
         judge.count(self.place, self.asked.length, &params(&values))
+    }
+
+    /// The same with the lean decoders.
+    fn lean(&self) -> Option<u128> {
+        let judge = rust::Judge::decoded(lean::layout(black_box(&self.asked.layout))?);
+        let values = lean::values(black_box(&self.values))?;
+        judge.count(self.place, self.asked.length, &values)
     }
 
     /// `validate` alone.
@@ -107,9 +117,10 @@ fn validating_row(
 ) -> Result<Row, String> {
     let question = Question::new(asked).map_err(|e| format!("{what}: {e}"))?;
     question.same(words).map_err(|e| format!("{what}: {e}"))?;
-    let [ours, whole, alone] = medians([
+    let [ours, whole, lean, alone] = medians([
         work(|| question.ours(words)),
         work(|| question.whole()),
+        work(|| question.lean()),
         work(|| question.alone()),
     ]);
     Ok(Row {
@@ -117,6 +128,8 @@ fn validating_row(
         size: Some(size),
         ours,
         whole,
+        lean: Some(lean),
+        checks: None,
         alone: Some(alone),
     })
 }
@@ -128,10 +141,11 @@ pub fn looking(words: &mut [u64], head: Head, asked: &Asked) -> Result<Group, St
     words.fill(0);
     let (wide, any) = widest();
     let mut written = words.to_vec();
-    let [read, write, whole, alone] = medians([
+    let [read, write, whole, lean, alone] = medians([
         work(|| any(black_box(words))),
         work(|| black_box(&mut written).fill(0)),
         work(|| question.whole()),
+        work(|| question.lean()),
         work(|| question.alone()),
     ]);
     let row = |what: String, ours| Row {
@@ -139,6 +153,8 @@ pub fn looking(words: &mut [u64], head: Head, asked: &Asked) -> Result<Group, St
         size: None,
         ours,
         whole,
+        lean: Some(lean),
+        checks: None,
         alone: Some(alone),
     };
     let many = words.len();
@@ -191,6 +207,17 @@ impl<'a> Runs<'a> {
         Some(())
     }
 
+    /// The same with the lean decoders.
+    fn lean(&self, counts: &mut [Option<u128>]) -> Option<()> {
+        let judge = rust::Judge::decoded(lean::layout(black_box(&self.question.asked.layout))?);
+        let runs = black_box(&self.bytes).chunks(self.bytes.len() / self.many);
+        for (run, count) in runs.zip(counts) {
+            let (_, length, values) = lean::run(run)?;
+            *count = judge.count(self.question.place, length, &values);
+        }
+        Some(())
+    }
+
     /// `validate` alone, for each run.
     fn alone(&self, counts: &mut [Option<u128>]) {
         let judge = black_box(&self.question.judge);
@@ -208,10 +235,11 @@ impl<'a> Runs<'a> {
         if given != self.many || other.is_some() {
             return Err(format!("ours {given} runs, {other:?}, Rust {count}"));
         }
-        let (mut whole, mut alone) = (vec![None; self.many], vec![None; self.many]);
+        let [mut whole, mut lean, mut alone] = [(); 3].map(|_| vec![None; self.many]);
         self.whole(&mut whole);
+        self.lean(&mut lean);
         self.alone(&mut alone);
-        let counts = &mut whole.iter().chain(&alone);
+        let counts = &mut whole.iter().chain(&lean).chain(&alone);
         match counts.find(|c| **c != Some(u128::from(count))) {
             None => Ok(()),
             Some(other) => Err(format!("Rust {count} and {other:?}")),
@@ -238,18 +266,21 @@ fn runs_row(words: &mut [u64], what: String, many: usize, asked: &Asked) -> Resu
     let runs = Runs::new(asked, many).map_err(|e| format!("{what}: {e}"))?;
     runs.same(words).map_err(|e| format!("{what}: {e}"))?;
     let mut answers = vec![[0; 4]; many];
-    let (mut whole, mut alone) = (vec![None; many], vec![None; many]);
+    let [mut whole, mut lean, mut alone] = [(); 3].map(|_| vec![None; many]);
     let times = medians([
         work(|| runs.ours(words, black_box(&mut answers))),
         work(|| runs.whole(black_box(&mut whole))),
+        work(|| runs.lean(black_box(&mut lean))),
         work(|| runs.alone(black_box(&mut alone))),
     ]);
-    let [ours, whole, alone] = times.map(|ns| ns / many as f64);
+    let [ours, whole, lean, alone] = times.map(|ns| ns / many as f64);
     Ok(Row {
         what,
         size: None,
         ours,
         whole,
+        lean: Some(lean),
+        checks: None,
         alone: Some(alone),
     })
 }
