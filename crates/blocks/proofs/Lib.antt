@@ -1,3 +1,4 @@
+pub mod Bytes
 pub mod Name
 pub mod Compute
 pub mod Refusals

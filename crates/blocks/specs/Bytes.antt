@@ -3,15 +3,19 @@ use Prim.Native.Nat.{ℕ, zero, suc, _+_, _*_, _/_, _%_}
 use mathlib.Core.List.{List, [], _∷_}
 use lib.ListN.{getD, take, drop}
 
--- the number of 2, 4 or 8 bytes at an offset; a byte behind the end counts as 0
+-- the number of k bytes at an offset, the low byte first; a byte behind the end counts as 0
+unfoldable pub le : ℕ → List ℕ → ℕ → ℕ
+le zero s at = 0
+le (suc k) s at = getD s at 0 + 256 * le k s (at + 1)
+
 abbrev pub le2 : List ℕ → ℕ → ℕ
-le2 s at = getD s at 0 + 256 * getD s (at + 1) 0
+le2 s at = le 2 s at
 
 abbrev pub le4 : List ℕ → ℕ → ℕ
-le4 s at = le2 s at + 65536 * le2 s (at + 2)
+le4 s at = le 4 s at
 
 abbrev pub le8 : List ℕ → ℕ → ℕ
-le8 s at = le4 s at + 4294967296 * le4 s (at + 4)
+le8 s at = le 8 s at
 
 -- n bytes at an offset
 abbrev pub bytesAt : List ℕ → ℕ → ℕ → List ℕ

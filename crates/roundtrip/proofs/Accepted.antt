@@ -11,7 +11,8 @@ use borrow.Author.Tests.{leb-true, eqb-true}
 use Rattle.errors.specs.Refusal.{done, _>>=_}
 use Rattle.errors.proofs.Laws.{done-one, not-done, asked, bound, bound-done}
 use Rattle.blocks.specs.declared.Part.{Part}
-use Rattle.blocks.specs.Bytes.{bytes, le2, le4, le8, bytesAt}
+use Rattle.blocks.specs.Bytes.{bytes, le, le2, le4, le8, bytesAt}
+use Rattle.blocks.proofs.Bytes.{bytes-length, le-one, below, spelt}
 use Rattle.blocks.specs.Name.{isText}
 use Rattle.blocks.specs.Grammar.{partsOf, within}
 use Rattle.blocks.specs.Tree.{Tree, name, num, block, nil, cons, number}
@@ -20,7 +21,7 @@ use Rattle.blocks.specs.Write.{write}
 use Rattle.roundtrip.specs.Placed.{placed}
 use Rattle.roundtrip.specs.Fits.{Limits, Nothing, nothing, Both, both, TextFits, text, KeyFits, NumberFits, held, FlagFits, IfFits, there, absent, OptionalFits, LiteralFits, CountFits, EntriesFits, ListFits, ValueFits, InBlocks, PartFits, PartsFits, Inside, inside, BlockFits}
 use Rattle.roundtrip.proofs.Parts.{each-part}
-use Rattle.roundtrip.proofs.Bytes.{le, le-one, le-two, le-four, le-eight, width, text-length, frame, below, spelt}
+use Rattle.roundtrip.proofs.Bytes.{text-length, frame}
 
 -- What was read from `at` on: a tree within limits, whose bytes stand there, with its offsets; and the offset behind it.
 pub record Got (s : List ℕ) (P : Limits) (at end : ℕ) (x : Tree × ℕ) : Type 0 where
@@ -79,7 +80,7 @@ module _ (s : List ℕ) (small : (i : ℕ) → getD s i 0 < 256) (end : ℕ) (fi
   width-got : (w at v : ℕ) → at + w ≤ end → le w s at ≡ v → Got s (NumberFits w) at end (num w v, at + w)
   unfolding write placed
   width-got w at v h e = record {
-    stop = ap (λ (n : ℕ). at + n) (sym (width w v));
+    stop = ap (λ (n : ℕ). at + n) (sym (bytes-length w v));
     high = h;
     same = rw (← e) (spelt s small w at (omega arith));
     offsets = refl;
@@ -97,7 +98,7 @@ module _ (s : List ℕ) (small : (i : ℕ) → getD s i 0 < 256) (end : ℕ) (fi
       let q3 = asked (isText t) _ _ _ (q2 .1) in
       let h2 : at + 2 + n ≤ end = leb-true _ _ (q2 .0) in
       let l : length t ≡ n = length-take-le n (drop (at + 2) s) (rw length-drop (omega arith)) in
-      let w = width-got 2 at (length t) (omega arith) (le-two s at ∙ sym l) in
+      let w = width-got 2 at (length t) (omega arith) (sym l) in
       let d : drop (at + 2) s ≡ t ++ drop (at + 2 + n) s = sym (take-append-drop n (drop (at + 2) s)) ∙ ap (λ (r : List ℕ). t ++ r) (drop-drop n (at + 2) s) in
       moved {x = (name t, at + 2 + n)} (record {
         stop = omega (arith, l, text-length t);
@@ -121,7 +122,7 @@ module _ (s : List ℕ) (small : (i : ℕ) → getD s i 0 < 256) (end : ℕ) (fi
   unfolding readNumber
   number-got start at x e =
       let q = asked (leb (at + 8) end) _ _ _ e in
-      moved (width-got 8 at (le8 s at) (leb-true _ _ (q .0)) (le-eight s at)) (q .1)
+      moved (width-got 8 at (le8 s at) (leb-true _ _ (q .0)) refl) (q .1)
 
   -- of a flag
   flag-got : (start at : ℕ) (x : Tree × ℕ) → readFlag s start end at ≡ done x → Got s FlagFits at end x
@@ -168,7 +169,7 @@ module _ (s : List ℕ) (small : (i : ℕ) → getD s i 0 < 256) (end : ℕ) (fi
   count-got limit start at x e =
       let q1 = asked (leb (at + 2) end) _ _ _ e in
       let q2 = asked (leb (le2 s at) limit) _ _ _ (q1 .1) in
-      let h = width-got 2 at (le2 s at) (leb-true _ _ (q1 .0)) (le-two s at) in
+      let h = width-got 2 at (le2 s at) (leb-true _ _ (q1 .0)) refl in
       moved (more h (h .fits, leb-true _ _ (q2 .0))) (q2 .1)
 
   -- of a list's entries
@@ -268,7 +269,7 @@ module _ (s : List ℕ) (small : (i : ℕ) → getD s i 0 < 256) where
       let q = asked (eqb (b .0 .1) (at + 4 + n)) _ _ _ (b .2) in
       let f : at + 4 + n ≤ length s = omega (arith, h .high) in
       let g = parts-got s small (at + 4 + n) f (readBlock room s) (block-got room (at + 4 + n) f) (partsOf k) e at (at + 6) (b .0) (omega (arith, h .long)) (b .1) in
-      moved (framed {x = b .0} fits (h .high) (h .long) (le-four s at) (le-two s (at + 4)) (h .known) (eqb-true (b .0 .1) (at + 4 + n) (q .0)) g) (q .1)
+      moved (framed {x = b .0} fits (h .high) (h .long) refl refl (h .known) (eqb-true (b .0 .1) (at + 4 + n) (q .0)) g) (q .1)
 
 -- What is accepted is the writing of the tree that is given; that tree is within the limits, and its blocks have their
 -- offsets.

@@ -11,7 +11,8 @@ use Rattle.errors.specs.Refusal.{done, _>>=_}
 use Rattle.errors.proofs.Laws.{done-one, not-done, asked, bound, bound-done}
 use Rattle.blocks.specs.declared.Part.{Part}
 use Rattle.blocks.specs.declared.Part.the-variants.{Text, Key, Number, Flag, Size, OptNumber, OptText, Literal, Block, OptBlock, Blocks, Ascending, Distinct, Names, Paths, Values}
-use Rattle.blocks.specs.Bytes.{bytes, le2, le4, le8, bytesAt}
+use Rattle.blocks.specs.Bytes.{bytes, le, le2, le4, le8, bytesAt}
+use Rattle.blocks.proofs.Bytes.{bytes-length, le-one, after, behind, back}
 use Rattle.blocks.specs.Name.{isText}
 use Rattle.blocks.specs.Grammar.{partsOf}
 use Rattle.blocks.specs.Tree.{Tree, name, num, block, nil, cons, number}
@@ -19,14 +20,14 @@ use Rattle.blocks.specs.Read.{Step, Earlier, pathsBefore, inOrder, nameOf, met,
 use Rattle.blocks.specs.Write.{write}
 use Rattle.roundtrip.specs.Placed.{placed}
 use Rattle.roundtrip.specs.Shape.{Form, formOf, formsOf, times, Shaped, BlockShaped, cut}
-use Rattle.roundtrip.proofs.Bytes.{le, le-one, le-two, le-eight, width, text-length, frame, after, behind, back, text-back, block-back}
+use Rattle.roundtrip.proofs.Bytes.{text-length, frame, text-back, block-back}
 use Rattle.roundtrip.proofs.Accepted.{header-got}
 
 -- numbers keep their widths
 cut-length : (t : Tree) → length (write (cut t)) ≡ length (write t)
 unfolding cut write
 cut-length (name n) = refl
-cut-length (num w v) = width w (v % 256 ^ w) ∙ sym (width w v)
+cut-length (num w v) = bytes-length w (v % 256 ^ w) ∙ sym (bytes-length w v)
 cut-length (block at k t) = frame (2 + length (write (cut t))) k (write (cut t)) ∙ ap (λ (n : ℕ). 6 + n) (cut-length t) ∙ sym (frame (2 + length (write t)) k (write t))
 cut-length nil = refl
 cut-length (cons a b) = length-append (write (cut a)) (write (cut b)) ∙ ap₂ _+_ (cut-length a) (cut-length b) ∙ sym (length-append (write a) (write b))
@@ -69,7 +70,7 @@ none-finds s t Shaped.nothing at r h l x e = sym (done-one e) ∙ pair refl (ome
 -- a code and a number
 literal-put : (v u c at : ℕ) (y x : Tree × ℕ) → c ≡ v % 256 → y ≡ put (at + 1) (num 8 u) → (cons (num 1 c) (y .0), y .1) ≡ x → x ≡ put at (cons (num 1 v) (num 8 u))
 unfolding write placed cut
-literal-put v u c at y x e d f = sym f ∙ rw (e, d) (pair refl (omega (arith, length-append (bytes 1 v) (bytes 8 u), width 1 v)))
+literal-put v u c at y x e d f = sym f ∙ rw (e, d) (pair refl (omega (arith, length-append (bytes 1 v) (bytes 8 u), bytes-length 1 v)))
 
 -- an entry has two bytes or more
 text-wide : (t : Tree) → Shaped Form.text t → 2 ≤ length (write t)
@@ -90,7 +91,7 @@ module _ (s : List ℕ) (end start : ℕ) where
   -- a number of w bytes, read as v
   width-finds : (w v u at : ℕ) (r : List ℕ) → drop at s ≡ bytes w v ++ r → le w s at ≡ u → _≡_ {A = Tree × ℕ} (num w u, at + w) (put at (num w v))
   unfolding write placed cut
-  width-finds w v u at r h e = pair (ap (num w) (sym e ∙ back s w at v r h)) (ap (λ (n : ℕ). at + n) (sym (width w v)))
+  width-finds w v u at r h e = pair (ap (num w) (sym e ∙ back s w at v r h)) (ap (λ (n : ℕ). at + n) (sym (bytes-length w v)))
 
   -- each reader finds what was written: that of a text
   text-finds : FindsAll s (readText s start end) Form.text
@@ -116,7 +117,7 @@ module _ (s : List ℕ) (end start : ℕ) where
   unfolding readNumber write
   number-finds t (Shaped.number {v}) at r h l x e =
       let q = asked (leb (at + 8) end) _ _ _ e in
-      sym (done-one (q .1)) ∙ width-finds 8 v (le8 s at) at r h (le-eight s at)
+      sym (done-one (q .1)) ∙ width-finds 8 v (le8 s at) at r h refl
 
   -- of a flag
   flag-finds : FindsAll s (readFlag s start end) (Form.number 1)
@@ -132,7 +133,7 @@ module _ (s : List ℕ) (end start : ℕ) where
   count-finds limit t (Shaped.number {v}) at r h l x e =
       let q1 = asked (leb (at + 2) end) _ _ _ e in
       let q2 = asked (leb (le2 s at) limit) _ _ _ (q1 .1) in
-      sym (done-one (q2 .1)) ∙ width-finds 2 v (le2 s at) at r h (le-two s at)
+      sym (done-one (q2 .1)) ∙ width-finds 2 v (le2 s at) at r h refl
 
   -- of what a flag announces
   if-finds : {f : ℕ → Step} {F : Form} → FindsAll s f F → (b : Bool) → FindsAll s (readIf b f) (cond b F Form.nothing)
@@ -159,7 +160,7 @@ module _ (s : List ℕ) (end start : ℕ) where
       let q2 = asked (leb (getD s at 0) 7) _ _ _ (q1 .1) in
       let b = bound (readNumber s start end (at + 1)) _ _ (q2 .1) in
       let q3 = asked (inType (getD s at 0) (number (b .0 .0))) _ _ _ (b .2) in
-      let d = number-finds (num 8 u) Shaped.number (at + 1) r h2 (omega (arith, width 8 u)) (b .0) (b .1) in
+      let d = number-finds (num 8 u) Shaped.number (at + 1) r h2 (omega (arith, bytes-length 8 u)) (b .0) (b .1) in
       literal-put v u (getD s at 0) at (b .0) x c d (done-one (q3 .1))
 
   -- entries have bytes, so a count below 65,536 is that of the list

@@ -12,6 +12,7 @@ use Rattle.errors.specs.Refusal.{done, _>>=_}
 use Rattle.errors.proofs.Laws.{asked-yes, bound-done}
 use Rattle.blocks.specs.declared.Part.{Part}
 use Rattle.blocks.specs.Bytes.{bytes, le2, le4}
+use Rattle.blocks.proofs.Bytes.{bytes-length, le-one, after, behind, back-below}
 use Rattle.blocks.specs.Name.{isText, printable}
 use Rattle.blocks.specs.Grammar.{partsOf, within}
 use Rattle.blocks.specs.Tree.{Tree, name, num, block, nil, cons, number, first, part}
@@ -20,7 +21,7 @@ use Rattle.blocks.specs.Write.{write}
 use Rattle.roundtrip.specs.Placed.{placed}
 use Rattle.roundtrip.specs.Fits.{Limits, Nothing, nothing, Both, both, TextFits, text, KeyFits, NumberFits, held, FlagFits, IfFits, there, absent, OptionalFits, LiteralFits, CountFits, EntriesFits, ListFits, ValueFits, InBlocks, PartFits, PartsFits, inside, BlockFits}
 use Rattle.roundtrip.proofs.Parts.{each-part}
-use Rattle.roundtrip.proofs.Bytes.{le-one, le-two, le-eight, width, text-length, frame, after, behind, back-below, text-back, block-back}
+use Rattle.roundtrip.proofs.Bytes.{text-length, frame, text-back, block-back}
 use Rattle.roundtrip.proofs.Accepted.{accepted}
 
 -- ---- what the offsets don't change
@@ -129,14 +130,14 @@ module _ (s : List ℕ) (end : ℕ) where
   number-read : (start : ℕ) → Reads s end (readNumber s start end) (NumberFits 8)
   unfolding readNumber write placed
   number-read start t (held {v} f) at r h e =
-      asked-yes _ _ (le-leb (at + 8) end (omega (arith, width 8 v))) ∙ given (ap (num 8) (sym (le-eight s at) ∙ back-below s 8 at v r f h)) (ap (λ (n : ℕ). at + n) (sym (width 8 v)))
+      asked-yes _ _ (le-leb (at + 8) end (omega (arith, bytes-length 8 v))) ∙ given (ap (num 8) (back-below s 8 at v r f h)) (ap (λ (n : ℕ). at + n) (sym (bytes-length 8 v)))
 
   -- of a flag
   flag-read : (start : ℕ) → Reads s end (readFlag s start end) FlagFits
   unfolding readFlag write placed
   flag-read start t (held {v} f, q) at r h e =
       let k : getD s at 0 ≡ v = sym (le-one s at) ∙ back-below s 1 at v r f h in
-      asked-yes _ _ (le-leb (at + 1) end (omega (arith, width 1 v))) ∙ asked-yes _ _ (le-leb (getD s at 0) 1 (omega arith)) ∙ given (ap (num 1) k) (ap (λ (n : ℕ). at + n) (sym (width 1 v)))
+      asked-yes _ _ (le-leb (at + 1) end (omega (arith, bytes-length 1 v))) ∙ asked-yes _ _ (le-leb (getD s at 0) 1 (omega arith)) ∙ given (ap (num 1) k) (ap (λ (n : ℕ). at + n) (sym (bytes-length 1 v)))
 
   -- of what a flag announces
   if-read : {f : ℕ → Step} {P : Limits} → Reads s end f P → (b : Bool) → Reads s end (readIf b f) (IfFits P b)
@@ -155,20 +156,20 @@ module _ (s : List ℕ) (end : ℕ) where
   literal-read : (start : ℕ) → Reads s end (readLiteral s start end) LiteralFits
   unfolding readLiteral write placed
   literal-read start t (both (held {v} f, q) (held {v = u} g, i)) at r h e =
-      let l : length (bytes 1 v ++ bytes 8 u) ≡ 9 = length-append (bytes 1 v) (bytes 8 u) ∙ ap₂ _+_ (width 1 v) (width 8 u) in
+      let l : length (bytes 1 v ++ bytes 8 u) ≡ 9 = length-append (bytes 1 v) (bytes 8 u) ∙ ap₂ _+_ (bytes-length 1 v) (bytes-length 8 u) in
       let h1 : drop at s ≡ bytes 1 v ++ (bytes 8 u ++ r) = h ∙ append-assoc (bytes 1 v) (bytes 8 u) r in
       let h2 : drop (at + 1) s ≡ bytes 8 u ++ r = behind s 1 v (bytes 8 u ++ r) at h1 in
       let c : getD s at 0 ≡ v = sym (le-one s at) ∙ back-below s 1 at v (bytes 8 u ++ r) f h1 in
-      let n = number-read start (num 8 u) (held g) (at + 1) r h2 (omega (arith, width 8 u)) in
+      let n = number-read start (num 8 u) (held g) (at + 1) r h2 (omega (arith, bytes-length 8 u)) in
       asked-yes _ _ (le-leb (at + 1) end (omega arith)) ∙ asked-yes _ _ (le-leb (getD s at 0) 7 (omega arith)) ∙ bound-done _ n
-      ∙ asked-yes _ _ (ap (λ (d : ℕ). inType d u) c ∙ i) ∙ given (ap (λ (d : ℕ). cons (num 1 d) (num 8 u)) c) (omega (arith, width 8 u))
+      ∙ asked-yes _ _ (ap (λ (d : ℕ). inType d u) c ∙ i) ∙ given (ap (λ (d : ℕ). cons (num 1 d) (num 8 u)) c) (omega (arith, bytes-length 8 u))
 
   -- of a list's count
   count-read : (limit start : ℕ) → Reads s end (readCount limit s start end) (CountFits limit)
   unfolding readCount write placed
   count-read limit start t (held {v} f, q) at r h e =
-      let k : le2 s at ≡ v = sym (le-two s at) ∙ back-below s 2 at v r f h in
-      asked-yes _ _ (le-leb (at + 2) end (omega (arith, width 2 v))) ∙ asked-yes _ _ (le-leb (le2 s at) limit (omega arith)) ∙ given (ap (num 2) k) (ap (λ (n : ℕ). at + n) (sym (width 2 v)))
+      let k : le2 s at ≡ v = back-below s 2 at v r f h in
+      asked-yes _ _ (le-leb (at + 2) end (omega (arith, bytes-length 2 v))) ∙ asked-yes _ _ (le-leb (le2 s at) limit (omega arith)) ∙ given (ap (num 2) k) (ap (λ (n : ℕ). at + n) (sym (bytes-length 2 v)))
 
   -- of n entries
   entries-read : {f : Earlier → ℕ → Step} {P : Earlier → Limits} → ((e : Earlier) → Reads s end (f e) (P e)) → (n : ℕ) (e : Earlier) → Reads s end (readEntries f e n) (EntriesFits P e n)

@@ -16,6 +16,7 @@ use lib.Seq.{sets-eq, length-sets, set-comm, set-set, set-out, drop-cons, getD-d
 use Rattle.blocks.specs.Bytes.{bytes}
 use Rattle.blocks.specs.Tree.{Tree, name, num, block, nil, cons}
 use Rattle.blocks.specs.Write.{write}
+pub use Rattle.blocks.proofs.Bytes.{bytes-length}
 use Rattle.wire.specs.Poke.{poke, Wrote, opened}
 
 -- writing keeps the length of the slice
@@ -49,12 +50,6 @@ poke-patch xs at (x ∷ z) [] body h = absurd (let z : ⊥ = omega arith in z)
 poke-patch xs at (x ∷ z) (y ∷ n) body h =
     rw (set-poke (set xs at x) at (suc at) y (z ++ body) (omega arith), set-set xs at x y)
     (poke-patch (set xs at y) (suc at) z n body (omega arith))
-
--- a number of k bytes is k long
-pub bytes-length : (k v : ℕ) → length (bytes k v) ≡ k
-unfolding bytes
-bytes-length zero v = refl
-bytes-length (suc k) v = ap suc (bytes-length k (v / 256))
 
 -- ---- writes, one behind another
 
