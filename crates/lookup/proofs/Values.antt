@@ -89,18 +89,18 @@ module _ {s : List ℕ} (b : ℕ) {left at : ℕ} {n : Name} (h : 0 < left) wher
   pub next-one : Search s b n left at → at + 2 + le2 s at + 8 ≤ length s
   next-one c = let a = value-entry (c .on .here) h .2 in omega (arith, a .inside, c .on .here .fits)
 
-  module _ {r : Bool} {u : ℕ} (e : r ≡ same n (nameAt s at)) (g : u ≡ le2 s at) where
+  module _ {r : Bool} {u : ℕ} (e : r ≡ same n (nameAt s at)) (g : u ≡ at + 2 + le2 s at) where
     -- it has another name: the loop goes on behind it
-    pub go-on : r ≡ false → Search s b n left at → Search s b n (left - 1) (at + 2 + u + 8)
+    pub go-on : r ≡ false → Search s b n left at → Search s b n (left - 1) (u + 8)
     go-on f c =
-        subst (λ (k : ℕ). Search s b n (left - 1) (at + 2 + k + 8)) (sym g) (record {
+        subst (λ (k : ℕ). Search s b n (left - 1) (k + 8)) (sym g) (record {
           on = steps (λ l. entryAt s at) (λ l. value-entry l h .2) (λ l w t q. record { is = q .is ∙ tested n s at t (sym e ∙ f) }) (c .on);
           first = c .first ∙ value-behind s n at left h (sym e ∙ f);
         })
 
     -- it has the name: it is the answer
-    pub hit : r ≡ true → Search s b n left at → Answers s b n (At (at + 2 + u))
-    hit f c = subst (λ (j : ℕ). Answers s b n (At (at + 2 + j))) (sym g) (sym (c .first ∙ value-here s n at left h (sym e ∙ f)), is)
+    pub hit : r ≡ true → Search s b n left at → Answers s b n (At u)
+    hit f c = subst (λ (k : ℕ). Answers s b n (At k)) (sym g) (sym (c .first ∙ value-here s n at left h (sym e ∙ f)), is)
       where
         is : (a : Accepted s 192 192 b) → ValueFound s n (valuesOf (tree a)) (At (at + 2 + le2 s at))
         is a =

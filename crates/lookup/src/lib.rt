@@ -37,10 +37,7 @@ pub fn is_named(s: &[u8], at: usize, name: &[u8]) -> bool
     requires { ⌜ at + 2 + le2 (now s) at ≤ length (now s) ⌝ }
     ensures { λ r. ⌜ r ≡ same (now (name .entry)) (nameAt (now (s .entry)) at) ⌝ }
 {
-    let n = wire::read2(s, at);
-    let from = at + 2;
-    let to = from + n;
-    wire::same_name(name, &s[from..to])
+    wire::same_name(name, wire::name_at(s, at))
 }
 
 // The first block of a name in the list with which an outermost block begins.
@@ -121,7 +118,7 @@ pub fn value_in(s: &[u8], block: usize, name: &[u8]) -> Value
     let mut left = wire::read2(s, block + 6);
     let mut at = block + 6 + 2;
     while 0 < left {
-        let next = at + 2 + wire::read2(s, at);
+        let next = wire::behind_name(s, at);
         if is_named(s, at, name) {
             return Value::At(next);
         }

@@ -14,6 +14,7 @@ use Rattle.blocks.specs.Bytes.{le2, le4, bytesAt}
 use Rattle.blocks.specs.Name.{Name, isText, same, less, among}
 use Rattle.blocks.specs.Tree.{Tree, name, num, cons}
 use Rattle.blocks.specs.Read.{Step, Earlier, pathsBefore, inOrder, nameOf, signedIn, inType, readText, readKey, readFlag, readIf, readOptional}
+pub use Rattle.wire.proofs.Names.{name-part}
 use types.Run.{OneOf, miss}
 use denote.Enum.Declared.{tagOf}
 use Rattle.blocks.specs.declared.Part.{Part}
@@ -49,12 +50,6 @@ pub goes : (o : Step) (k : ℕ → Step) {m : ℕ} → forget o ≡ Ok m → for
 unfolding forget _>>=_
 goes (done x) k {m} e = let h : x .1 ≡ m = cc in then (x .0) (k (x .1)) ∙ ap (λ (i : ℕ). forget (k i)) h
 goes (refused r) k e = let z : _≡_ {A = ℕ} 0 1 = cc in absurd (omega arith)
-
--- the part of the input that is a name
-pub name-part : (s : List ℕ) (at n : ℕ) → n ≡ le2 s at → take (at + 2 + n - (at + 2)) (drop (at + 2) s) ≡ nameAt s at
-name-part s at n h =
-    let d : at + 2 + n - (at + 2) ≡ n = omega arith in
-    rw (d, ← h)
 
 module _ (s : List ℕ) (start end at : ℕ) where
   -- ---- a text

@@ -199,14 +199,12 @@ fn compared(s: &[u8], one: usize, two: usize, order: bool) -> bool
     requires { ⌜ (NameIn (now s) one) × (NameIn (now s) two) ⌝ }
     ensures { λ r. ⌜ r ≡ comparison order (nameAt (now (s .entry)) one) (nameAt (now (s .entry)) two) ⌝ }
 {
-    let a = one + 2;
-    let b = one + 2 + wire::read2(s, one);
-    let c = two + 2;
-    let d = two + 2 + wire::read2(s, two);
+    let a = wire::name_at(s, one);
+    let b = wire::name_at(s, two);
     if order {
-        return wire::less_name(&s[a..b], &s[c..d]);
+        return wire::less_name(a, b);
     }
-    wire::same_name(&s[a..b], &s[c..d])
+    wire::same_name(a, b)
 }
 
 // Whether the name at `at` ascends from the one at `last`, if there is one.
@@ -380,8 +378,7 @@ pub fn grown(s: &[u8], seen: Seen, at: usize) -> Seen
         Seen::Nothing => Seen::Nothing,
         Seen::Owners(first, count, _, paths) => {
             let name = at + 6;
-            let n = wire::read2(s, name);
-            let m = wire::read2(s, name + 2 + n);
+            let m = wire::read2(s, wire::behind_name(s, name));
             let more = count + 1;
             let all = paths + m;
             Seen::Owners(first, more, name, all)

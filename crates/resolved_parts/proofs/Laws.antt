@@ -2,9 +2,9 @@
 use mathlib.Core.Path.{_≡_, refl, ap}
 use mathlib.Core.Bool.{true}
 use mathlib.Core.List.{List}
-use Prim.Native.Nat.{ℕ, _+_, _-_, _≤_, _<_}
+use Prim.Native.Nat.{ℕ, _+_, _≤_, _<_}
 use native.Mathlib.Omega.{arith}
-use lib.ListN.{length, take, drop, length-drop}
+use lib.ListN.{length, drop, length-drop}
 use lib.Seq.{length-take-le}
 use borrow.Author.Tests.{leb-true}
 use Rattle.blocks.specs.Bytes.{le2, le4}
@@ -50,9 +50,3 @@ named {s} {at} h t =
 -- a name of an accepted list of names
 pub entry-named : {s : List ℕ} {n at : ℕ} → Entries s Item.names n at → 0 < n → Named s at
 entry-named l h = let e = name-entry l h in named (omega (arith, e .2 .inside, l .fits)) (e .0)
-
--- the part of the bytes that is the name
-pub whole : (s : List ℕ) (at : ℕ) {u : ℕ} → u ≡ le2 s at → take (at + 2 + u - (at + 2)) (drop (at + 2) s) ≡ nameAt s at
-whole s at {u} e =
-    let f : at + 2 + u - (at + 2) ≡ le2 s at = omega arith in
-    ap (λ (k : ℕ). take k (drop (at + 2) s)) f

@@ -60,10 +60,7 @@ pub fn name_at<'a>(s: &'a [u8], at: usize) -> &'a [u8]
     requires { ⌜ Named (now s) at ⌝ }
     ensures { λ r. ⌜ now r ≡ nameAt (now (s .entry)) at ⌝ }
 {
-    let n = wire::read2(s, at);
-    let from = at + 2;
-    let to = from + n;
-    &s[from..to]
+    wire::name_at(s, at)
 }
 
 // The offset behind a name: where the next begins, in a list of names.
@@ -71,7 +68,7 @@ pub fn next_name(s: &[u8], at: usize) -> usize
     requires { ⌜ at + 2 + le2 (now s) at ≤ length (now s) ⌝ }
     ensures { λ r. ⌜ r ≡ at + 2 + le2 (now (s .entry)) at ⌝ }
 {
-    at + 2 + wire::read2(s, at)
+    wire::behind_name(s, at)
 }
 
 // The offset behind the name that a block begins with.
@@ -79,7 +76,7 @@ fn behind_name(s: &[u8], at: usize) -> usize
     requires { ⌜ nameEnd (now s) at ≤ length (now s) ⌝ }
     ensures { λ r. ⌜ r ≡ nameEnd (now (s .entry)) at ⌝ }
 {
-    next_name(s, at + 6)
+    wire::behind_name(s, at + 6)
 }
 
 // The offset of a type's alignment, behind its size.

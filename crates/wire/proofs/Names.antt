@@ -1,4 +1,5 @@
--- Names, a byte at a time: the same from a place on, or what stands from a place on decides which is less. Assumes nothing.
+-- Names: the part of the bytes that is one; two of them a byte at a time, the same from a place on, or what stands from a
+-- place on decides which is less. Assumes nothing.
 use mathlib.Core.Path.{_≡_, refl, sym, ap}
 use mathlib.Core.Bool.{Bool, true, false, _&&_, _||_}
 use mathlib.Core.List.{List, []}
@@ -7,11 +8,20 @@ use native.Mathlib.Numerals.{add-one}
 use native.Mathlib.Nat.{le-antisymm, le-of-lt}
 use native.Mathlib.Omega.{arith}
 use lib.Dec.{ltb, eqb}
-use lib.ListN.{length, drop, getD, drop-of-length-le}
+use lib.ListN.{length, take, drop, getD, drop-of-length-le}
 use lib.Seq.{drop-cons}
 use borrow.Author.Tests.{lt-ltb, le-ltb, eq-eqb, ne-eqb, ltb-true, ltb-false}
+use Rattle.blocks.specs.Bytes.{le2, nameAt}
 use Rattle.blocks.specs.Name.{same, less}
 use Rattle.blocks.proofs.Name.{same-eq, same-refl}
+
+-- ---- name_at
+
+-- as many bytes behind a name's length as the length says are the name
+pub name-part : (s : List ℕ) (at n : ℕ) → n ≡ le2 s at → take (at + 2 + n - (at + 2)) (drop (at + 2) s) ≡ nameAt s at
+name-part s at n e =
+    let f : at + 2 + n - (at + 2) ≡ le2 s at = omega arith in
+    ap (λ (k : ℕ). take k (drop (at + 2) s)) f
 
 -- ---- same_name
 

@@ -4,7 +4,7 @@ ghost use mathlib.Core.Bool.{cond};
 ghost use mathlib.Core.List.{[], _∷_};
 ghost use Prim.Native.Nat.{_+_, _*_, _^_, _≤_, _<_, _-_};
 ghost use lib.ListN.{length, drop, replicate};
-ghost use Rattle.blocks.specs.Bytes.{le2, le4, le8, bytes};
+ghost use Rattle.blocks.specs.Bytes.{le2, le4, le8, nameAt, bytes};
 ghost use Rattle.blocks.specs.Name.{printable, isText, same, less};
 ghost use Rattle.blocks.specs.Tree.{name, num};
 ghost use Rattle.blocks.specs.Write.{write};
@@ -38,6 +38,25 @@ pub fn read8(s: &[u8], at: usize) -> usize
     ensures { λ r. ⌜ r ≡ le8 (now (s .entry)) at ⌝ }
 {
     read4(s, at) + 4294967296 * read4(s, at + 4)
+}
+
+// The name or text at an offset: "a 2-byte length and its bytes".
+pub fn name_at<'a>(s: &'a [u8], at: usize) -> &'a [u8]
+    requires { ⌜ at + 2 + le2 (now s) at ≤ length (now s) ⌝ }
+    ensures { λ r. ⌜ now r ≡ nameAt (now (s .entry)) at ⌝ }
+{
+    let n = read2(s, at);
+    let from = at + 2;
+    let to = from + n;
+    &s[from..to]
+}
+
+// The offset behind it.
+pub fn behind_name(s: &[u8], at: usize) -> usize
+    requires { ⌜ at + 2 + le2 (now s) at ≤ length (now s) ⌝ }
+    ensures { λ r. ⌜ r ≡ at + 2 + le2 (now (s .entry)) at ⌝ }
+{
+    at + 2 + read2(s, at)
 }
 
 // Whether the byte at `at`, and the 2, 4 or 8 from there on, may stand in a text. No byte ends the question early, so that

@@ -30,16 +30,10 @@ add-at-2 c = omega (arith, inside (at-start c .pre))
 loop-holds : tie.Need-loop-holds Inv-loop μ-loop
 loop-holds c = begin (at-start c .pre) (c .read2 .ensures .0)
 
-add-next : tie.Need-add-next Inv-loop μ-loop
-add-next c = omega (arith, next-one _ (c .loop-test .taken) (c .before .loop .inv))
-
-read2-requires-2 : tie.Need-read2-requires-2 Inv-loop μ-loop
-read2-requires-2 c κs = omega (arith, next-one _ (c .loop-test .taken) (c .before .loop .inv))
-
-add-next-2 : tie.Need-add-next-2 Inv-loop μ-loop
-add-next-2 c = omega (
+behind-name-requires : tie.Need-behind-name-requires Inv-loop μ-loop
+behind-name-requires c κs = omega (
   arith,
-  next-one _ (c .before .loop-test .taken) (c .before .before .loop .inv),
+  next-one _ (c .loop-test .taken) (c .before .loop .inv),
 )
 
 is-named-requires : tie.Need-is-named-requires Inv-loop μ-loop
@@ -50,24 +44,24 @@ is-named-requires c κs = omega (
 
 returns : tie.Need-returns Inv-loop μ-loop
 returns c =
-    let at-read22 = c .before .before in
-    let in-loop = at-read22 .before in
+    let at-behind = c .before .before in
+    let in-loop = at-behind .before in
     let at-loop = in-loop .before in
     hit _
     (in-loop .loop-test .taken)
     (c .before .is-named .ensures)
-    (at-read22 .read22 .ensures .0)
+    (at-behind .behind-name .ensures)
     (c .if1 .taken)
     (at-loop .loop .inv)
 
 add-at-3 : tie.Need-add-at-3 Inv-loop μ-loop
 add-at-3 c =
-    let at-read22 = c .before .before in
-    let in-loop = at-read22 .before in
+    let at-behind = c .before .before in
+    let in-loop = at-behind .before in
     let at-loop = in-loop .before in
     omega (
       arith,
-      at-read22 .read22 .ensures .0,
+      at-behind .behind-name .ensures,
       next-one _ (in-loop .loop-test .taken) (at-loop .loop .inv),
     )
 
@@ -79,13 +73,13 @@ loop-less c = omega arith
 
 loop-again : tie.Need-loop-again Inv-loop μ-loop
 loop-again c =
-    let at-read22 = c .before .before in
-    let in-loop = at-read22 .before in
+    let at-behind = c .before .before in
+    let in-loop = at-behind .before in
     let at-loop = in-loop .before in
     go-on _
     (in-loop .loop-test .taken)
     (c .before .is-named .ensures)
-    (at-read22 .read22 .ensures .0)
+    (at-behind .behind-name .ensures)
     (c .if1 .left)
     (at-loop .loop .inv)
 
@@ -103,9 +97,7 @@ value-in-spec =
     add-at
     add-at-2
     loop-holds
-    add-next
-    read2-requires-2
-    add-next-2
+    behind-name-requires
     is-named-requires
     returns
     add-at-3

@@ -18,32 +18,16 @@ add-name c =
     let g = rw (c .before .seen .given .1) at (at-start .pre) in
     omega arith
 
-read2-requires : tie.Need-read2-requires
+behind-name-requires : tie.Need-behind-name-requires
 unfolding Grows
-read2-requires c κs =
+behind-name-requires c κs =
     let at-start = c .before .before .before .before in
     let g = rw (c .before .seen .given .1) at (at-start .pre) in
     omega arith
 
-add-read2 : tie.Need-add-read2
+read2-requires : tie.Need-read2-requires
 unfolding Grows
-add-read2 c =
-    let at-seen = c .before .before in
-    let at-start = at-seen .before .before .before in
-    let g = rw (at-seen .seen .given .1) at (at-start .pre) in
-    omega arith
-
-add-read2-2 : tie.Need-add-read2-2
-unfolding Grows
-add-read2-2 c =
-    let at-seen = c .before .before in
-    let at-start = at-seen .before .before .before in
-    let g = rw (at-seen .seen .given .1) at (at-start .pre) in
-    omega arith
-
-read2-requires-2 : tie.Need-read2-requires-2
-unfolding Grows
-read2-requires-2 c κs =
+read2-requires c κs =
     let at-seen = c .before .before in
     let at-start = at-seen .before .before .before in
     let g = rw (at-seen .seen .given .1) at (at-start .pre) in
@@ -86,7 +70,7 @@ returns-2 : tie.Need-returns-2
 unfolding grownOf
 returns-2 c =
     let at-seen = c .before .before .before in
-    rw (at-seen .seen .given .1, ← c .before .read2 .ensures .0, ← c .read22 .ensures .0)
+    rw (at-seen .seen .given .1, ← c .before .behind-name .ensures, ← c .read2 .ensures .0)
 
 returns-3 : tie.Need-returns-3
 unfolding grownOf
@@ -103,10 +87,8 @@ grown-spec =
     enum-told
     enum-known-seen
     add-name
+    behind-name-requires
     read2-requires
-    add-read2
-    add-read2-2
-    read2-requires-2
     add-more
     add-all
     enum-known-seen-2
