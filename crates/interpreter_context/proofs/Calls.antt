@@ -13,8 +13,8 @@ use Rattle.ir.specs.Ir.{IrArgument, IrParameter}
 use Rattle.accepted.specs.Accepted.{Accepted, tree, nameAt}
 use Rattle.interpreter.specs.Eval.{ParamMap, find}
 use Rattle.interpreter.specs.Validate.{with-buffer-size, valuesOf}
-use Rattle.lookup.specs.declared.Value.{Value as InBlock}
-use Rattle.lookup.specs.declared.Value.the-variants.{At as BlockAt, Missing as BlockNone}
+use Rattle.lookup.specs.declared.Found.{Found as InBlock}
+use Rattle.lookup.specs.declared.Found.the-variants.{At as BlockAt, Missing as BlockNone}
 use Rattle.lookup.specs.Found.{ValueFound}
 use Rattle.interpreter_context.specs.declared.Found.{Found}
 use Rattle.interpreter_context.specs.declared.Found.the-variants.{At, Missing}

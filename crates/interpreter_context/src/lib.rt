@@ -1,5 +1,5 @@
 // Where the parts of an accepted node stand, and a value by its name, found through the open calls.
-use lookup::Value as InBlock;
+use lookup::Found as InBlock;
 ghost use mathlib.Core.Path.{_≡_};
 ghost use mathlib.Core.List.{List, _∷_};
 ghost use mathlib.Core.Bool.{true, false};

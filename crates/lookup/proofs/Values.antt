@@ -16,8 +16,8 @@ use Rattle.accepted.proofs.Laws.{Sole, sole, value-entry}
 use Rattle.accepted.proofs.Lists.{Left, starts, steps, ended}
 use Rattle.interpreter.specs.Eval.{find}
 use Rattle.interpreter.specs.Validate.{bindingOf, valuesOf}
-use Rattle.lookup.specs.declared.Value.{Value}
-use Rattle.lookup.specs.declared.Value.the-variants.{At, Missing}
+use Rattle.lookup.specs.declared.Found.{Found}
+use Rattle.lookup.specs.declared.Found.the-variants.{At, Missing}
 use Rattle.lookup.specs.Found.{ValueFound, firstValue}
 
 -- the first of a name is the first of it among those that are left
@@ -81,7 +81,7 @@ pub begin : {s : List ℕ} {b left : ℕ} {n : Name} → Accepted s 192 192 b �
 begin {s} {b} {n} a e = subst (λ (k : ℕ). Search s b n k (b + 6 + 2)) (sym e) (record { on = starts (λ t. record { is = refl }) (listed a .list); first = refl })
 
 -- the value that the loop answers with is the block's first of the name, and the one that the context has
-abbrev Answers : List ℕ → ℕ → Name → Value → Type 0
+abbrev Answers : List ℕ → ℕ → Name → Found → Type 0
 Answers s b n r = (r ≡ firstValue s n (le2 s (b + 6)) (b + 6 + 2)) × ((a : Accepted s 192 192 b) → ValueFound s n (valuesOf (tree a)) r)
 
 module _ {s : List ℕ} (b : ℕ) {left at : ℕ} {n : Name} (h : 0 < left) where

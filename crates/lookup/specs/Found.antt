@@ -18,8 +18,6 @@ use Rattle.lookup.specs.declared.Found.{Found}
 use Rattle.lookup.specs.declared.Found.the-variants.{At as FoundAt, Missing as FoundNone}
 use Rattle.lookup.specs.declared.Place.{Place}
 use Rattle.lookup.specs.declared.Place.the-variants.{At as PlaceAt, Missing as PlaceNone}
-use Rattle.lookup.specs.declared.Value.{Value}
-use Rattle.lookup.specs.declared.Value.the-variants.{At as ValueAt, Missing as ValueNone}
 use Rattle.lookup.specs.Named.{blockAt, Placed}
 
 -- how many types stand before the first of a name
@@ -38,11 +36,11 @@ pub data TreeFound (s : List ℕ) (n : Name) (ts : List TypeIr) : Place → Type
   missing : lookup-type 0 n ts ≡ refused (plain UnknownType) → TreeFound s n ts PlaceNone
 
 -- the offset of the number of the first entry of a name, among so many from an offset on: an entry is a name and the 8 bytes of its number
-unfoldable pub firstValue : List ℕ → Name → ℕ → ℕ → Value
-firstValue s n zero o = ValueNone
-firstValue s n (suc k) o = cond (same n (nameAt s o)) (ValueAt (o + 2 + le2 s o)) (firstValue s n k (o + 2 + le2 s o + 8))
+unfoldable pub firstValue : List ℕ → Name → ℕ → ℕ → Found
+firstValue s n zero o = FoundNone
+firstValue s n (suc k) o = cond (same n (nameAt s o)) (FoundAt (o + 2 + le2 s o)) (firstValue s n k (o + 2 + le2 s o + 8))
 
 -- a value: the number at the offset is the one that the context has
-pub data ValueFound (s : List ℕ) (n : Name) (γ : ParamMap) : Value → Type 0 where
-  at : {o : ℕ} → o + 8 ≤ length s → find n γ ≡ some (le8 s o) → ValueFound s n γ (ValueAt o)
-  missing : find n γ ≡ none → ValueFound s n γ ValueNone
+pub data ValueFound (s : List ℕ) (n : Name) (γ : ParamMap) : Found → Type 0 where
+  at : {o : ℕ} → o + 8 ≤ length s → find n γ ≡ some (le8 s o) → ValueFound s n γ (FoundAt o)
+  missing : find n γ ≡ none → ValueFound s n γ FoundNone

@@ -14,7 +14,7 @@ ghost use Rattle.accepted.specs.Accepted.{Accepted, tree, nameAt};
 ghost use Rattle.lookup.specs.Named.{Keyed, Entry, blockAt, Placed, Among};
 ghost use Rattle.lookup.specs.Found.{TypeFound, TreeFound, ValueFound, firstValue};
 
-// The offset of a type's block.
+// The offset of a type's block, or of a value's number.
 pub enum Found {
     At(usize),
     Missing,
@@ -23,12 +23,6 @@ pub enum Found {
 // A type's place in the layout, and the offset of its block.
 pub enum Place {
     At(usize, usize),
-    Missing,
-}
-
-// The offset of a value's number.
-pub enum Value {
-    At(usize),
     Missing,
 }
 
@@ -110,7 +104,7 @@ pub fn lookup_near(layout: &[u8], name: &[u8], place: usize, at: usize) -> Place
 }
 
 // The first value of a name in an accepted block of values at an offset, as in a run.
-pub fn value_in(s: &[u8], block: usize, name: &[u8]) -> Value
+pub fn value_in(s: &[u8], block: usize, name: &[u8]) -> Found
     requires { ⌜ Accepted (now s) 192 192 block ⌝ }
     ensures { λ r. ⌜ r ≡ firstValue (now (s .entry)) (now (name .entry)) (le2 (now (s .entry)) (block + 6)) (block + 6 + 2) ⌝ }
     ensures { λ r. ⌜ ((a : Accepted (now (s .entry)) 192 192 block) → ValueFound (now (s .entry)) (now (name .entry)) (valuesOf (tree a)) r) ⌝ }
@@ -120,10 +114,10 @@ pub fn value_in(s: &[u8], block: usize, name: &[u8]) -> Value
     while 0 < left {
         let next = wire::behind_name(s, at);
         if is_named(s, at, name) {
-            return Value::At(next);
+            return Found::At(next);
         }
         at = next + 8;
         left -= 1;
     }
-    Value::Missing
+    Found::Missing
 }
