@@ -1,3 +1,4 @@
 pub mod Read
 pub mod Laws
 pub mod Lists
+pub mod Named

@@ -1,4 +1,5 @@
 pub mod Bytes
+pub mod Blocks
 pub mod Name
 pub mod Compute
 pub mod Refusals

@@ -4,3 +4,4 @@ pub mod Grammar
 pub mod Tree
 pub mod Read
 pub mod Write
+pub mod Blocks

@@ -11,16 +11,17 @@ use Rattle.errors.proofs.Laws.{done-one}
 use Rattle.blocks.specs.declared.Part.the-variants.{Distinct}
 use Rattle.blocks.specs.Bytes.{le2, le4}
 use Rattle.blocks.specs.Name.{Name, same, among}
+use Rattle.blocks.specs.Blocks.{blockAt}
 use Rattle.blocks.specs.Grammar.{partsOf, findRow, grammar, nodeTable}
 use Rattle.blocks.specs.Tree.{Tree, nil, cons, body, part, rest, entries}
 use Rattle.blocks.specs.Read.{Earlier, inOrder, nameOf, readEntries, readBlock, readLayout}
 use Rattle.blocks.proofs.Name.{false-true, same-eq}
+use Rattle.blocks.proofs.Blocks.{behind-first}
 use Rattle.accepted.specs.Accepted.{Accepted, tree, Item, nameAt, Counted}
 use Rattle.accepted.proofs.Read.{both}
 use Rattle.accepted.proofs.Laws.{Opened, opened, key-part, Enlisted, list-part, input}
+use Rattle.accepted.proofs.Named.{headed, firstNamed, other, met}
 use Rattle.ir.specs.Layout.{typeIrOf, layoutOf}
-use Rattle.lookup.specs.Named.{firstNamed, blockAt}
-use Rattle.lookup.proofs.Search.{headed, passed, met}
 use Rattle.lookup.proofs.Types.{tree-keyed}
 
 -- ---- the list
@@ -85,20 +86,7 @@ whole {s} e =
 
 -- ---- the block of a place
 
--- the blocks behind the first are counted from where the second begins
-behind-first : (s : List ℕ) (at k : ℕ) → blockAt s at (suc k) ≡ blockAt s (at + 4 + le4 s at) k
-unfolding blockAt
-behind-first s at zero = refl
-behind-first s at (suc k) = ap (λ (q : ℕ). q + 4 + le4 s q) (behind-first s at k)
-
--- it is a type tree
-pub stands-at : {s : List ℕ} {ms : List Name} {n at : ℕ} {u : Tree} → Trees s ms n at u → (k o : ℕ) → o ≡ blockAt s at k → k < n → Accepted s 161 161 o
-unfolding blockAt
-stands-at Trees.no-more k o e h = absurd (omega arith)
-stands-at {s} (Trees.more a q r) zero o e h = subst (Accepted s 161 161) (sym e) a
-stands-at {s} {at} (Trees.more a q r) (suc k) o e h = stands-at r k o (e ∙ behind-first s at k) (omega arith)
-
--- if it has the name, it is the first of it
+-- the block of place i, where it has the name: it is the first of it
 pub record Sole (s : List ℕ) (m : Name) (ms : List Name) (i j o : ℕ) (u : Tree) : Type 0 where
   pub new : among m ms ≡ false
   pub child : Accepted s 161 161 o
@@ -127,12 +115,12 @@ only {s} {ms} {at} m (Trees.more {u} a q r) j zero i o z e h f = subst (λ (p : 
 only {s} {ms} {at} m (Trees.more {u} a q r) j (suc k) i o z e h f =
     let c = only m r (j + 1) k i o (omega (arith, z)) (e ∙ behind-first s at k) (omega arith) f in
     let d = not-either (c .new) in
-    record { new = d .1; child = c .child; first = passed m (nameAt s (at + 6)) j (tree a) u (headed a tree-keyed .named) (d .0) ∙ c .first }
+    record { new = d .1; child = c .child; first = other m (nameAt s (at + 6)) j (tree a) u (headed a tree-keyed .named) (d .0) ∙ c .first }
 
 -- if no block has the name, none is found
 pub absent : {s : List ℕ} {ms : List Name} {n at : ℕ} {u : Tree} (m : Name) → Trees s ms n at u → (j : ℕ) → ((k : ℕ) → k < n → same m (nameAt s (blockAt s at k + 6)) ≡ false) → firstNamed m j u ≡ none
 unfolding blockAt firstNamed
 absent m Trees.no-more j h = refl
 absent {s} {at} m (Trees.more {u} a q r) j h =
-    passed m (nameAt s (at + 6)) j (tree a) u (headed a tree-keyed .named) (h 0 (omega arith))
+    other m (nameAt s (at + 6)) j (tree a) u (headed a tree-keyed .named) (h 0 (omega arith))
     ∙ absent m r (j + 1) (λ k l. ap (λ (o : ℕ). same m (nameAt s (o + 6))) (sym (behind-first s at k)) ∙ h (suc k) (omega arith))

@@ -1,5 +1,4 @@
 pub mod Slices
-pub mod Search
 pub mod Types
 pub mod Values
 pub mod Distinct

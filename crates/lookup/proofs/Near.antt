@@ -1,83 +1,56 @@
--- The search for a name among some of an accepted layout's type trees, and what two of them say together.
+-- The search for a name among an accepted layout's type trees from a place on, and then from the first on.
 use mathlib.Core.Path.{_≡_, refl, sym, _∙_, ap, subst}
 use mathlib.Core.Bool.{Bool, true, false}
 use mathlib.Core.List.{List}
 use Prim.Native.Nat.{ℕ, _+_, _-_, _≤_, _<_}
 use native.Mathlib.Omega.{arith}
-use lib.Dec.{eqb, ltb}
-use borrow.Author.Tests.{eqb-true, eqb-false, ltb-true, ltb-false}
+use lib.Dec.{ltb}
+use borrow.Author.Tests.{ltb-true, ltb-false}
 use Rattle.errors.specs.Refusal.{done}
-use Rattle.blocks.specs.Bytes.{le2, le4}
+use Rattle.blocks.specs.Bytes.{le2, nameAt}
 use Rattle.blocks.specs.Name.{Name, same}
+use Rattle.blocks.specs.Blocks.{blockAt, Stand}
 use Rattle.blocks.specs.Tree.{Tree}
 use Rattle.blocks.specs.Read.{readLayout}
-use Rattle.accepted.specs.Accepted.{Accepted, nameAt}
+use Rattle.blocks.proofs.Blocks.{passed-at, passed-not, block-behind, stand-part}
+use Rattle.wire.specs.declared.Block.{Block}
+use Rattle.wire.specs.declared.Block.the-variants.{At as BlockAt, Missing as BlockNone}
+use Rattle.wire.specs.Named.{BlockNamed}
 use Rattle.ir.specs.Ir.{TypeIr}
 use Rattle.ir.specs.Layout.{layoutOf}
 use Rattle.lookup.specs.declared.Place.{Place}
 use Rattle.lookup.specs.declared.Place.the-variants.{At, Missing}
-use Rattle.lookup.specs.Named.{blockAt, Among}
+use Rattle.lookup.specs.Named.{Placed, placeOf}
 use Rattle.lookup.specs.Found.{TreeFound}
-use Rattle.lookup.proofs.Search.{Headed, headed, next-at}
-use Rattle.lookup.proofs.Types.{tree-keyed, looked, trees-same}
-use Rattle.lookup.proofs.Distinct.{whole, stands-at, only, absent}
-
--- ---- the loop
+use Rattle.lookup.proofs.Types.{layout-stands, looked, trees-same}
+use Rattle.lookup.proofs.Distinct.{whole, only, absent}
 
 -- the block of a place has another name
 abbrev Other : List ℕ → Name → ℕ → Type 0
 Other s n k = same n (nameAt s (blockAt s 8 k + 6)) ≡ false
 
--- Of the blocks of the places from `first` on, those before i have another name; `left` are left, from `at` on.
-pub record Search (s : List ℕ) (n : Name) (first count left at i : ℕ) : Type 0 where
-  pub layout : (t : Tree) × (readLayout s ≡ done t)
-  pub within : first + count ≤ le2 s 6
-  pub sum : i + left ≡ first + count
-  pub least : first ≤ i
-  pub stands : at ≡ blockAt s 8 i
-  pub others : (k : ℕ) → first ≤ k → k < i → Other s n k
+-- the blocks from a place on are those of the places behind it
+shifted : (s : List ℕ) (place from k : ℕ) → from ≡ blockAt s 8 place → blockAt s from k ≡ blockAt s 8 (place + k)
+shifted s place from k e = ap (λ (o : ℕ). blockAt s o k) e ∙ block-behind s 8 place k
 
--- the loop begins with none passed
-pub begin : {s : List ℕ} {n : Name} {first count from : ℕ} → (t : Tree) × (readLayout s ≡ done t) → from ≡ blockAt s 8 first → first + count ≤ le2 s 6 → Search s n first count count from first
-begin l e h = record { layout = l; within = h; sum = refl; least = omega arith; stands = e; others = λ k a b. absurd (omega arith) }
+module _ (s : List ℕ) (place from : ℕ) {t : Tree} (e : readLayout s ≡ done t) (h : Placed s place from) where
+  -- the names of the type trees from the place on lie inside
+  pub stands-behind : (u : ℕ) → u ≡ le2 s 6 → Stand s from (u - place)
+  stands-behind u g = stand-part s 8 place (le2 s 6) (u - place) from (layout-stands s (le2 s 6) e refl) (h .1) (omega (arith, h .0))
 
-module _ {s : List ℕ} {n : Name} {first count left at i : ℕ} where
-  -- the place and what is left stay small: a layout has at most 256 type trees
-  pub small : Search s n first count left at i → i + left ≤ 256
-  small c = omega (arith, c .within, c .sum, whole (c .layout .1) .few)
-
-  module _ (h : 0 < left) where
-    -- the next block
-    pub next-one : Search s n first count left at i → (a : Accepted s 161 161 at) × Headed a
-    next-one c = let a = stands-at (whole (c .layout .1) .trees) i at (c .stands) (omega (arith, h, c .within, c .sum)) in (a, headed a tree-keyed)
-
-    module _ {r : Bool} (e : r ≡ same n (nameAt s (at + 6))) where
-      -- it has another name
-      pub go-on : {u : ℕ} → r ≡ false → u ≡ le4 s at → Search s n first count left at i → Search s n first count (left - 1) (at + 4 + u) (i + 1)
-      go-on f g c = record {
-        layout = c .layout;
-        within = c .within;
-        sum = omega (arith, h, c .sum);
-        least = omega (arith, c .least);
-        stands = ap (λ (k : ℕ). at + 4 + k) g ∙ next-at s 8 i at (c .stands);
-        others = λ k a b. go k a b (eqb k i) refl;
-      }
-        where
-          go : (k : ℕ) → first ≤ k → k < i + 1 → (b : Bool) → eqb k i ≡ b → Other s n k
-          go k a l true q = rw (eqb-true k i q, ← c .stands) (sym e ∙ f)
-          go k a l false q = let z = eqb-false k i q in c .others k a (omega arith)
-
-      -- it has the name
-      pub hit : r ≡ true → Search s n first count left at i → Among s n first count (At i at)
-      hit f c = Among.at {i = i} {o = at} (c .stands) (c .least) (omega (arith, h, c .sum)) (sym e ∙ f)
-
-  -- none is left
-  pub no-more : left ≤ 0 → Search s n first count left at i → Among s n first count Missing
-  no-more h c = Among.missing (λ k a b. c .others k a (omega (arith, h, b, c .sum)))
-
--- ---- both searches
+  -- and so do those before it
+  pub stands-before : Stand s 8 place
+  unfolding blockAt
+  stands-before = stand-part s 8 0 (le2 s 6) place 8 (layout-stands s (le2 s 6) e refl) refl (omega (arith, h .0))
 
 module _ {s : List ℕ} {n : Name} where
+  -- a block that was found is one of those that were searched
+  pub found-below : {from m i o : ℕ} {r : Block} → BlockNamed s n from m r → r ≡ BlockAt i o → i < m
+  found-below {from} {m} {i} {o} a g = go (subst (BlockNamed s n from m) g a)
+    where
+      go : BlockNamed s n from m (BlockAt i o) → i < m
+      go (BlockNamed.at l p f) = l
+
   -- a block of the name
   there : {i o : ℕ} → o ≡ blockAt s 8 i → i < le2 s 6 → same n (nameAt s (o + 6)) ≡ true → (t : Tree) → readLayout s ≡ done t → TreeFound s n (layoutOf t) (At i o)
   there {i} {o} e h f t d =
@@ -91,25 +64,27 @@ module _ {s : List ℕ} {n : Name} where
       let w = whole d in
       subst (λ (ts : List TypeIr). TreeFound s n ts Missing) (sym (w .is)) (TreeFound.missing (trees-same n 0 (w .list) ∙ ap looked (absent n (w .trees) 0 h)))
 
-  module _ {place u : ℕ} (e : u ≡ le2 s 6) (h : place < le2 s 6) where
-    -- from the place on
-    pub found-behind : {i o : ℕ} {r : Place} → Among s n place (u - place) r → r ≡ At i o → (t : Tree) → readLayout s ≡ done t → TreeFound s n (layoutOf t) (At i o)
-    found-behind {i} {o} a g = go (subst (Among s n place (u - place)) g a)
+  module _ {place u from : ℕ} (e : u ≡ le2 s 6) (h : Placed s place from) where
+    -- the search from the place on has found a block
+    pub found-behind : {i o : ℕ} {r : Block} → BlockNamed s n from (u - place) r → r ≡ BlockAt i o → (t : Tree) → readLayout s ≡ done t → TreeFound s n (layoutOf t) (At (place + i) o)
+    found-behind {i} {o} a g = go (subst (BlockNamed s n from (u - place)) g a)
       where
-        go : Among s n place (u - place) (At i o) → (t : Tree) → readLayout s ≡ done t → TreeFound s n (layoutOf t) (At i o)
-        go (Among.at p a b f) = there p (omega arith) f
+        go : BlockNamed s n from (u - place) (BlockAt i o) → (t : Tree) → readLayout s ≡ done t → TreeFound s n (layoutOf t) (At (place + i) o)
+        go (BlockNamed.at l p f) = there (passed-at p ∙ shifted s place from i (h .1)) (omega (arith, h .0)) f
 
-    -- from the first on
-    pub found-before : {r q : Place} → Among s n place (u - place) r → r ≡ Missing → Among s n 0 place q → (t : Tree) → readLayout s ≡ done t → TreeFound s n (layoutOf t) q
-    found-before {q} a g b = go (behind (subst (Among s n place (u - place)) g a)) b
+    -- it has found none: the search from the first on decides
+    pub found-before : {r q : Block} {x : Place} → BlockNamed s n from (u - place) r → r ≡ BlockNone → BlockNamed s n 8 place q → x ≡ placeOf q → (t : Tree) → readLayout s ≡ done t → TreeFound s n (layoutOf t) x
+    found-before {q} a g b d t w = subst (TreeFound s n (layoutOf t)) (sym d) (go (behind (subst (BlockNamed s n from (u - place)) g a)) b t w)
       where
-        behind : Among s n place (u - place) Missing → (k : ℕ) → place ≤ k → k < le2 s 6 → Other s n k
-        behind (Among.missing m) k l x = m k l (omega arith)
+        behind : BlockNamed s n from (u - place) BlockNone → (k : ℕ) → place ≤ k → k < le2 s 6 → Other s n k
+        behind (BlockNamed.missing p) k l x =
+            let z : place + (k - place) ≡ k = omega arith in
+            rw z at (ap (λ (o : ℕ). same n (nameAt s (o + 6))) (sym (shifted s place from (k - place) (h .1))) ∙ passed-not p (k - place) (omega arith))
 
-        go : {q : Place} → ((k : ℕ) → place ≤ k → k < le2 s 6 → Other s n k) → Among s n 0 place q → (t : Tree) → readLayout s ≡ done t → TreeFound s n (layoutOf t) q
-        go m (Among.at p a b f) = there p (omega arith) f
-        go m (Among.missing l) = nowhere (λ k x. either k x (ltb k place) refl)
+        go : {q : Block} → ((k : ℕ) → place ≤ k → k < le2 s 6 → Other s n k) → BlockNamed s n 8 place q → (t : Tree) → readLayout s ≡ done t → TreeFound s n (layoutOf t) (placeOf q)
+        go m (BlockNamed.at l p f) = there (passed-at p) (omega (arith, h .0)) f
+        go m (BlockNamed.missing p) = nowhere (λ k x. either k x (ltb k place) refl)
           where
             either : (k : ℕ) → k < le2 s 6 → (b : Bool) → ltb k place ≡ b → Other s n k
-            either k x true q = let y = ltb-true k place q in l k (omega arith) (omega arith)
+            either k x true q = passed-not p k (ltb-true k place q)
             either k x false q = m k (ltb-false k place q) x

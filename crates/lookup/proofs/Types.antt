@@ -12,11 +12,17 @@ use Rattle.blocks.specs.declared.Part.{Part}
 use Rattle.blocks.specs.declared.Part.the-variants.{Key}
 use Rattle.blocks.specs.Bytes.{le2}
 use Rattle.blocks.specs.Name.{Name, same}
+use Rattle.blocks.specs.Blocks.{blockAt, Stand}
+use Rattle.blocks.proofs.Blocks.{passed-at}
 use Rattle.blocks.specs.Grammar.{partsOf, findRow, grammar, nodeTable}
 use Rattle.blocks.specs.Tree.{Tree, name, num, block, nil, cons, body, part, text, rest, entries, view}
 use Rattle.blocks.specs.Read.{readSet, readLayout}
-use Rattle.accepted.specs.Accepted.{Accepted, tree, Listed, Counted}
+use Rattle.accepted.specs.Accepted.{Accepted, Listed, Counted}
 use Rattle.accepted.proofs.Laws.{opened, each, All, all-entries, sole, input}
+use Rattle.accepted.proofs.Named.{Keys, firstNamed, stand, named-first, named-none}
+use Rattle.wire.specs.declared.Block.{Block}
+use Rattle.wire.specs.declared.Block.the-variants.{At, Missing}
+use Rattle.wire.specs.Named.{BlockNamed}
 use Rattle.resolved.specs.Resolved.{ResolvedType, head, get-type-info}
 use Rattle.resolved.specs.Set.{typeOf, typesOf, thingOf, makeThing, formOf}
 use Rattle.ir.specs.Ir.{TypeIr}
@@ -25,14 +31,13 @@ use Rattle.interpreter.specs.Eval.{lookup-type}
 use Rattle.lookup.specs.declared.Found.{Found}
 use Rattle.lookup.specs.declared.Found.the-variants.{At as FoundAt, Missing as FoundNone}
 use Rattle.lookup.specs.declared.Place.{Place}
-use Rattle.lookup.specs.declared.Place.the-variants.{At, Missing}
-use Rattle.lookup.specs.Named.{firstNamed, blockAt, Keyed, Entry}
+use Rattle.lookup.specs.Named.{placeOf}
 use Rattle.lookup.specs.Found.{typesBefore, TypeFound, TreeFound}
 
 -- ---- the kinds of types and of type trees begin with a name
 
 -- the kinds of types do
-type-keyed : (k : ℕ) → 1 ≤ k → k ≤ 7 → (ps : List Part) × (partsOf k ≡ Key ∷ ps)
+type-keyed : Keys 1 7
 unfolding partsOf findRow grammar nodeTable
 type-keyed k a b = each (λ k. (ps : List Part) × (partsOf k ≡ Key ∷ ps)) 7 1 ((_, refl), ((_, refl), ((_, refl), ((_, refl), ((_, refl), ((_, refl), ((_, refl), tt))))))) k a (omega arith)
 
@@ -42,15 +47,11 @@ unfolding typeOf view thingOf makeThing formOf
 type-named at t k a b = each (λ k. head (typeOf (block at k t)) .name ≡ text (part 0 t)) 7 1 (refl, (refl, (refl, (refl, (refl, (refl, (refl, tt))))))) k a (omega arith)
 
 -- and so does the kind of type trees
-pub tree-keyed : (k : ℕ) → 161 ≤ k → k ≤ 161 → (ps : List Part) × (partsOf k ≡ Key ∷ ps)
+pub tree-keyed : Keys 161 161
 unfolding partsOf findRow grammar nodeTable
 tree-keyed k a b = each (λ k. (ps : List Part) × (partsOf k ≡ Key ∷ ps)) 1 161 ((_, refl), tt) k a (omega arith)
 
 -- ---- lists
-
--- an outermost block whose only part is a list of such blocks
-abbrev keyed : {s : List ℕ} (lo hi : ℕ) → 8 ≤ length s → Listed s lo hi (le2 s 6) 8 → ((k : ℕ) → lo ≤ k → k ≤ hi → (ps : List Part) × (partsOf k ≡ Key ∷ ps)) → Keyed s (le2 s 6) 8
-keyed lo hi h l k = record { lo = lo; hi = hi; inside = h; list = l; keyed = k }
 
 -- the types of a set, as a list of accepted blocks
 pub set-list : {s : List ℕ} {t : Tree} → readSet s ≡ done t → (8 ≤ length s) × (l : Listed s 1 7 (le2 s 6) 8) × (typesOf t ≡ entries typeOf (l .got .0)) × (le2 s 6 ≤ 256)
@@ -128,49 +129,52 @@ trees-same n i (cons a b) = go (same n (text (part 0 (body a)))) (rw add-one at 
     go true e = refl
     go false e = rw add-one e
 
--- ---- in the code's form: r is what the search answered
+-- ---- in the code's form: u is the count that was read, r what the search among so many blocks answered
 
 -- the offset alone
-abbrev found : Place → Found
-found (At i o) = FoundAt o
-found Missing = FoundNone
+abbrev offsetOf : Block → Found
+offsetOf (At i o) = FoundAt o
+offsetOf Missing = FoundNone
 
--- the search may be made in an accepted set
-pub set-keyed : {s : List ℕ} {t : Tree} → readSet s ≡ done t → Keyed s (le2 s 6) 8
-set-keyed e = let l = set-list e in keyed 1 7 (l .0) (l .1) type-keyed
+-- the names of a set's types lie inside the bytes
+pub set-stands : (s : List ℕ) {t : Tree} (u : ℕ) → readSet s ≡ done t → u ≡ le2 s 6 → Stand s 8 u
+set-stands s u e g = let l = set-list e in subst (Stand s 8) (sym g) (stand type-keyed (l .1))
 
--- and in an accepted layout
-pub layout-keyed : {s : List ℕ} {t : Tree} → readLayout s ≡ done t → Keyed s (le2 s 6) 8
-layout-keyed e = let l = layout-list e in keyed 161 161 (l .0) (l .1) tree-keyed
+-- and those of a layout's type trees
+pub layout-stands : (s : List ℕ) {t : Tree} (u : ℕ) → readLayout s ≡ done t → u ≡ le2 s 6 → Stand s 8 u
+layout-stands s u e g = let l = layout-list e in subst (Stand s 8) (sym g) (stand tree-keyed (l .1))
 
-module _ {s : List ℕ} {n : Name} {r : Place} (f : (l : Keyed s (le2 s 6) 8) → Entry n l r) where
+module _ {s : List ℕ} {n : Name} {u : ℕ} {r : Block} (g : u ≡ le2 s 6) (f : BlockNamed s n 8 u r) where
   -- what it answers in a set
-  set-found : (t : Tree) → readSet s ≡ done t → TypeFound s n (typesOf t) (found r)
+  set-found : (t : Tree) → readSet s ≡ done t → TypeFound s n (typesOf t) (offsetOf r)
   set-found t e =
       let l = set-list e in
-      subst (λ (ts : List ResolvedType). TypeFound s n ts (found r)) (sym (l .2)) (go (l .0) (l .1) (f (keyed 1 7 (l .0) (l .1) type-keyed)))
+      subst (λ (ts : List ResolvedType). TypeFound s n ts (offsetOf r)) (sym (l .2)) (go (l .1) (subst (λ (m : ℕ). BlockNamed s n 8 m r) g f))
     where
-      go : {r : Place} (h : 8 ≤ length s) (l : Listed s 1 7 (le2 s 6) 8) → Entry n (keyed 1 7 h l type-keyed) r → TypeFound s n (entries typeOf (l .got .0)) (found r)
-      go h l (Entry.at {i} a p e) =
+      go : {r : Block} (l : Listed s 1 7 (le2 s 6) 8) → BlockNamed s n 8 (le2 s 6) r → TypeFound s n (entries typeOf (l .got .0)) (offsetOf r)
+      go l (BlockNamed.at {i} h p e) =
+          let w = named-first type-keyed p h e l in
           let t = all-entries Titled titled l in
-          let q : i ≡ typesBefore n (entries typeOf (l .got .0)) = omega (arith, first-place n 0 i t e) in
-          TypeFound.at a (types-same n 0 t ∙ ap typed e) (p .1 ∙ ap (blockAt s 8) q)
-      go h l (Entry.missing e) = TypeFound.missing (types-same n 0 (all-entries Titled titled l) ∙ ap typed e)
+          let q : i ≡ typesBefore n (entries typeOf (l .got .0)) = omega (arith, first-place n 0 i t (w .1)) in
+          TypeFound.at (w .0) (types-same n 0 t ∙ ap typed (w .1)) (passed-at p ∙ ap (blockAt s 8) q)
+      go l (BlockNamed.missing p) = TypeFound.missing (types-same n 0 (all-entries Titled titled l) ∙ ap typed (named-none type-keyed p l))
 
-  -- it answered with a place and an offset
+  -- it answered with a block
   pub type-there : {i o : ℕ} → r ≡ At i o → (t : Tree) → readSet s ≡ done t → TypeFound s n (typesOf t) (FoundAt o)
-  type-there h t e = subst (λ (q : Place). TypeFound s n (typesOf t) (found q)) h (set-found t e)
+  type-there h t e = subst (λ (q : Block). TypeFound s n (typesOf t) (offsetOf q)) h (set-found t e)
 
   -- it answered that there is none
   pub type-missing : r ≡ Missing → (t : Tree) → readSet s ≡ done t → TypeFound s n (typesOf t) FoundNone
-  type-missing h t e = subst (λ (q : Place). TypeFound s n (typesOf t) (found q)) h (set-found t e)
+  type-missing h t e = subst (λ (q : Block). TypeFound s n (typesOf t) (offsetOf q)) h (set-found t e)
 
   -- what it answers in a layout
-  pub tree-found : (t : Tree) → readLayout s ≡ done t → TreeFound s n (layoutOf t) r
-  tree-found t e =
+  pub tree-found : {p : Place} → p ≡ placeOf r → (t : Tree) → readLayout s ≡ done t → TreeFound s n (layoutOf t) p
+  tree-found {p} d t e =
       let l = layout-list e in
-      subst (λ (ts : List TypeIr). TreeFound s n ts r) (sym (l .2)) (go (l .0) (l .1) (f (keyed 161 161 (l .0) (l .1) tree-keyed)))
+      subst (λ (ts : List TypeIr). TreeFound s n ts p) (sym (l .2)) (subst (TreeFound s n (entries typeIrOf (l .1 .got .0))) (sym d) (go (l .1) (subst (λ (m : ℕ). BlockNamed s n 8 m r) g f)))
     where
-      go : {r : Place} (h : 8 ≤ length s) (l : Listed s 161 161 (le2 s 6) 8) → Entry n (keyed 161 161 h l tree-keyed) r → TreeFound s n (entries typeIrOf (l .got .0)) r
-      go h l (Entry.at a p e) = TreeFound.at a p (trees-same n 0 (l .got .0) ∙ ap looked e)
-      go h l (Entry.missing e) = TreeFound.missing (trees-same n 0 (l .got .0) ∙ ap looked e)
+      go : {r : Block} (l : Listed s 161 161 (le2 s 6) 8) → BlockNamed s n 8 (le2 s 6) r → TreeFound s n (entries typeIrOf (l .got .0)) (placeOf r)
+      go l (BlockNamed.at h p e) =
+          let w = named-first tree-keyed p h e l in
+          TreeFound.at (w .0) (h, passed-at p) (trees-same n 0 (l .got .0) ∙ ap looked (w .1))
+      go l (BlockNamed.missing p) = TreeFound.missing (trees-same n 0 (l .got .0) ∙ ap looked (named-none tree-keyed p l))

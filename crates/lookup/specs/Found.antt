@@ -8,6 +8,7 @@ use lib.ListN.{length}
 use Rattle.errors.specs.Refusal.{done, refused, plain, UnknownType}
 use Rattle.blocks.specs.Bytes.{le2, le8}
 use Rattle.blocks.specs.Name.{Name, same}
+use Rattle.blocks.specs.Blocks.{blockAt}
 use Rattle.accepted.specs.Accepted.{Accepted, tree, nameAt}
 use Rattle.resolved.specs.Resolved.{ResolvedType, head, get-type-info}
 use Rattle.resolved.specs.Set.{typeOf}
@@ -18,7 +19,7 @@ use Rattle.lookup.specs.declared.Found.{Found}
 use Rattle.lookup.specs.declared.Found.the-variants.{At as FoundAt, Missing as FoundNone}
 use Rattle.lookup.specs.declared.Place.{Place}
 use Rattle.lookup.specs.declared.Place.the-variants.{At as PlaceAt, Missing as PlaceNone}
-use Rattle.lookup.specs.Named.{blockAt, Placed}
+use Rattle.lookup.specs.Named.{Placed}
 
 -- how many types stand before the first of a name
 unfoldable pub typesBefore : Name → List ResolvedType → ℕ

@@ -1,4 +1,5 @@
 // Lookups by name in accepted bytes.
+use wire::Block;
 ghost use mathlib.Core.Path.{_≡_};
 ghost use Prim.Native.Nat.{_+_, _≤_};
 ghost use lib.ListN.{length};
@@ -11,7 +12,7 @@ ghost use Rattle.resolved.specs.Set.{typesOf};
 ghost use Rattle.ir.specs.Layout.{layoutOf};
 ghost use Rattle.interpreter.specs.Validate.{valuesOf};
 ghost use Rattle.accepted.specs.Accepted.{Accepted, tree, nameAt};
-ghost use Rattle.lookup.specs.Named.{Keyed, Entry, blockAt, Placed, Among};
+ghost use Rattle.lookup.specs.Named.{Placed, placeOf};
 ghost use Rattle.lookup.specs.Found.{TypeFound, TreeFound, ValueFound, firstValue};
 
 // The offset of a type's block, or of a value's number.
@@ -34,23 +35,14 @@ pub fn is_named(s: &[u8], at: usize, name: &[u8]) -> bool
     wire::same_name(name, wire::name_at(s, at))
 }
 
-// The first block of a name in the list with which an outermost block begins.
-fn entry(s: &[u8], name: &[u8]) -> Place
-    requires { ⌜ Keyed (now s) (le2 (now s) 6) 8 ⌝ }
-    ensures { λ r. ⌜ ((l : Keyed (now (s .entry)) (le2 (now (s .entry)) 6) 8) → Entry (now (name .entry)) l r) ⌝ }
+// A block's place and offset, where the search began with the first block.
+fn placed(b: Block) -> Place
+    ensures { λ r. ⌜ r ≡ placeOf b ⌝ }
 {
-    let mut left = wire::read2(s, 6);
-    let mut at = 8;
-    let mut i = 0;
-    while 0 < left {
-        if is_named(s, at + 6, name) {
-            return Place::At(i, at);
-        }
-        at = at + 4 + wire::read4(s, at);
-        i += 1;
-        left -= 1;
+    match b {
+        Block::At(i, at) => Place::At(i, at),
+        Block::Missing => Place::Missing,
     }
-    Place::Missing
 }
 
 // The type of a name in an accepted set.
@@ -58,9 +50,9 @@ pub fn get_type_info(set: &[u8], name: &[u8]) -> Found
     requires { ⌜ ((t : Tree) × (readSet (now set) ≡ done t)) ⌝ }
     ensures { λ r. ⌜ ((t : Tree) → readSet (now (set .entry)) ≡ done t → TypeFound (now (set .entry)) (now (name .entry)) (typesOf t) r) ⌝ }
 {
-    match entry(set, name) {
-        Place::At(_, at) => Found::At(at),
-        Place::Missing => Found::Missing,
+    match wire::block_named(set, 8, wire::read2(set, 6), name) {
+        Block::At(_, at) => Found::At(at),
+        Block::Missing => Found::Missing,
     }
 }
 
@@ -69,26 +61,7 @@ pub fn lookup_type(layout: &[u8], name: &[u8]) -> Place
     requires { ⌜ ((t : Tree) × (readLayout (now layout) ≡ done t)) ⌝ }
     ensures { λ r. ⌜ ((t : Tree) → readLayout (now (layout .entry)) ≡ done t → TreeFound (now (layout .entry)) (now (name .entry)) (layoutOf t) r) ⌝ }
 {
-    entry(layout, name)
-}
-
-// Among so many blocks of the list, from an offset on, the first of a name; `first` is the place of the block there.
-fn entry_from(s: &[u8], name: &[u8], first: usize, from: usize, count: usize) -> Place
-    requires { ⌜ ((t : Tree) × (readLayout (now s) ≡ done t)) × (from ≡ blockAt (now s) 8 first) × (first + count ≤ le2 (now s) 6) ⌝ }
-    ensures { λ r. ⌜ Among (now (s .entry)) (now (name .entry)) first count r ⌝ }
-{
-    let mut left = count;
-    let mut at = from;
-    let mut i = first;
-    while 0 < left {
-        if is_named(s, at + 6, name) {
-            return Place::At(i, at);
-        }
-        at = at + 4 + wire::read4(s, at);
-        i += 1;
-        left -= 1;
-    }
-    Place::Missing
+    placed(wire::block_named(layout, 8, wire::read2(layout, 6), name))
 }
 
 // The same as `lookup_type`; the search begins at the type tree of a place and goes on from the first, because a type is mostly
@@ -97,9 +70,9 @@ pub fn lookup_near(layout: &[u8], name: &[u8], place: usize, at: usize) -> Place
     requires { ⌜ ((t : Tree) × (readLayout (now layout) ≡ done t)) × Placed (now layout) place at ⌝ }
     ensures { λ r. ⌜ ((t : Tree) → readLayout (now (layout .entry)) ≡ done t → TreeFound (now (layout .entry)) (now (name .entry)) (layoutOf t) r) ⌝ }
 {
-    match entry_from(layout, name, place, at, wire::read2(layout, 6) - place) {
-        Place::At(i, o) => Place::At(i, o),
-        Place::Missing => entry_from(layout, name, 0, 8, place),
+    match wire::block_named(layout, at, wire::read2(layout, 6) - place, name) {
+        Block::At(i, o) => Place::At(place + i, o),
+        Block::Missing => placed(wire::block_named(layout, 8, place, name)),
     }
 }
 

@@ -1,20 +1,23 @@
 -- Each part of a block that holds no block, as the code sees it: the tree is forgotten.
 use mathlib.Core.Path.{_≡_, refl, sym, _∙_, ap}
-use mathlib.Core.Bool.{Bool, true, false, _||_}
+use mathlib.Core.Bool.{Bool, true, false, not, _||_}
 use mathlib.Core.List.{List, [], _∷_}
 use Prim.Native.Nat.{ℕ, zero, suc, _+_, _-_, _^_, _<_, _≤_}
 use native.Mathlib.Omega.{arith}
 use lib.Dec.{leb, ltb, eqb}
 use lib.ListN.{getD, take, drop, List·getD-eq-default}
-use native.Mathlib.Numerals.{add-one}
-use borrow.Author.Tests.{le-leb, eq-eqb, ne-eqb, leb-true, leb-false}
+use borrow.Author.Tests.{le-leb, eq-eqb, ne-eqb, ltb-true, ltb-false}
 use Rattle.errors.specs.Refusal.{done, refused, _>>=_, ask, unread}
 use Rattle.errors.proofs.Laws.{asked}
-use Rattle.blocks.specs.Bytes.{le2, le4, bytesAt}
+use Rattle.blocks.specs.Bytes.{le2, bytesAt}
 use Rattle.blocks.specs.Name.{Name, isText, same, less, among}
 use Rattle.blocks.specs.Tree.{Tree, name, num, cons}
 use Rattle.blocks.specs.Read.{Step, Earlier, pathsBefore, inOrder, nameOf, signedIn, inType, readText, readKey, readFlag, readIf, readOptional}
 pub use Rattle.wire.proofs.Names.{name-part}
+use Rattle.wire.specs.declared.Block.{Block as Searched}
+use Rattle.wire.specs.declared.Block.the-variants.{At, Missing}
+use Rattle.wire.specs.Named.{BlockNamed}
+use Rattle.blocks.proofs.Blocks.{passed-at, passed-not}
 use types.Run.{OneOf, miss}
 use denote.Enum.Declared.{tagOf}
 use Rattle.blocks.specs.declared.Part.{Part}
@@ -25,7 +28,12 @@ use Rattle.reader_leaf.specs.declared.Seen.the-variants.{Nothing, Owners
 use Rattle.reader_leaf.specs.declared.Read.{Read}
 use Rattle.reader_leaf.specs.declared.Read.the-variants.{Ok, Refused}
 use Rattle.reader_leaf.specs.Answer.{forget, Inside, TextIn, EntryIn, WideIn}
-use Rattle.reader_leaf.specs.Seen.{nameAt, NameIn, LastIn, behind, namesBefore, lastOf, lastName, Stand, earlierOf, seenPaths, Plain}
+use Rattle.reader_leaf.specs.Seen.{nameAt, LastIn, behind, namesBefore, lastOf, lastName, Stand, earlierOf, seenPaths, Plain}
+
+-- whether a search has found a block
+abbrev pub isFound : Searched → Bool
+isFound (At i o) = true
+isFound Missing = false
 
 -- what was read, where the code says that something was
 pub taken : (o : Step) {n : ℕ} → forget o ≡ Ok n → (x : Tree × ℕ) × (o ≡ done x) × (x .1 ≡ n)
@@ -197,36 +205,33 @@ module _ (s : List ℕ) where
   owners-last first zero h l = absurd (omega arith)
   owners-last first (suc k) h l = h k (omega arith)
 
-  -- a name found among the first k is among more of them
-  pub among-later : (n : Name) (first k m : ℕ) → k ≤ m → among n (namesBefore s first k) ≡ true → among n (namesBefore s first m) ≡ true
-  unfolding among namesBefore
-  among-later n first k zero h e = let z : k ≡ 0 = omega arith in rw z at e
-  among-later n first k (suc m) h e = go (λ l. among-later n first k m l e) (leb k m) refl
-    where
-      go : (k ≤ m → among n (namesBefore s first m) ≡ true) → (b : Bool) → leb k m ≡ b → (same n (nameAt s (behind s first m + 6)) || among n (namesBefore s first m)) ≡ true
-      go ih true l = or-right (same n (nameAt s (behind s first m + 6))) (ih (leb-true k m l))
-      go ih false l = let z : k ≡ suc m = omega (arith, leb-false k m l) in rw z at e
-
-  module _ (first count i k : ℕ) (e : i ≡ behind s first k) where
-    -- a name that is not the next one either is not among one more
-    pub among-not : (n : Name) {b : Bool} → b ≡ same n (nameAt s (i + 6)) → b ≡ false → among n (namesBefore s first k) ≡ false → among n (namesBefore s first (k + 1)) ≡ false
+  module _ (n : Name) (first : ℕ) where
+    -- a name that one of the blocks begins with is among theirs
+    among-one : (m k : ℕ) → k < m → same n (nameAt s (behind s first k + 6)) ≡ true → among n (namesBefore s first m) ≡ true
     unfolding among namesBefore
-    among-not n h g d = rw (add-one, ← e, ← h, g) d
+    among-one zero k h e = absurd (omega arith)
+    among-one (suc m) k h e = go (λ l. among-one m k l e) (ltb k m) refl
+      where
+        go : (k < m → among n (namesBefore s first m) ≡ true) → (b : Bool) → ltb k m ≡ b → (same n (nameAt s (behind s first m + 6)) || among n (namesBefore s first m)) ≡ true
+        go ih true l = or-right (same n (nameAt s (behind s first m + 6))) (ih (ltb-true k m l))
+        go ih false l = let z : k ≡ m = omega (arith, ltb-false k m l) in rw (← z, e)
 
-    -- a name that is the next one is among them all
-    pub among-here : (n : Name) {b : Bool} → b ≡ same n (nameAt s (i + 6)) → b ≡ true → k < count → among n (namesBefore s first count) ≡ true
+    -- a name that none of them begins with is not
+    among-none : (m : ℕ) → ((k : ℕ) → k < m → same n (nameAt s (behind s first k + 6)) ≡ false) → among n (namesBefore s first m) ≡ false
     unfolding among namesBefore
-    among-here n h g l = among-later n first (k + 1) count (omega arith) (rw (add-one, ← e, ← h, g))
+    among-none zero h = refl
+    among-none (suc m) h = rw (h m (omega arith)) (among-none m (λ k l. h k (omega arith)))
 
-    -- the name of the next block lies inside
-    pub stands : Stand s first count → k < count → NameIn s (i + 6)
-    unfolding Stand
-    stands h l = rw e (h k l)
+    -- what the search among these blocks says of that
+    among-found : {count : ℕ} {r : Searched} → BlockNamed s n first count r → among n (namesBefore s first count) ≡ isFound r
+    among-found (BlockNamed.at h p e) = among-one _ _ h (rw (passed-at p) at e)
+    among-found (BlockNamed.missing p) = among-none _ (passed-not p)
 
-    -- where the block behind the next one begins
-    pub behind-next : (n : ℕ) → n ≡ le4 s i → i + 4 + n ≡ behind s first (k + 1)
-    unfolding behind
-    behind-next n h = rw (add-one, ← e, ← h)
+  -- so does the code, of the name at an offset
+  pub differs-is : {m n : Name} {first count : ℕ} {r q : Searched} → BlockNamed s m first count r → m ≡ n → r ≡ q → not (isFound q) ≡ not (among n (namesBefore s first count))
+  differs-is {m} {n} {first} {count} f e d =
+      let z : among m (namesBefore s first count) ≡ _ = among-found m first f in
+      ap not (sym (ap (λ (l : Name). among l (namesBefore s first count)) (sym e) ∙ z ∙ ap isFound d))
 
 -- ---- parts without a block
 

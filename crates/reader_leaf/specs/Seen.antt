@@ -1,31 +1,20 @@
 -- What the code keeps of a list's entries before the one that it reads, and what of the definition that stands for.
 use Prim.Native.Nat.{ℕ, zero, suc, _+_, _≤_, _<_}
 use mathlib.Core.Path.{_≡_}
-use mathlib.Core.Bool.{Bool, true, false, cond}
+use mathlib.Core.Bool.{cond}
 use mathlib.Core.List.{List, [], _∷_}
 use lib.Dec.{eqb}
 use lib.ListN.{length}
-use Rattle.blocks.specs.Bytes.{le2, le4}
+use Rattle.blocks.specs.Bytes.{le2}
 pub use Rattle.blocks.specs.Bytes.{nameAt}
-use Rattle.blocks.specs.Name.{Name, less, same}
+pub use Rattle.blocks.specs.Blocks.{NameIn}
+unfoldable pub use Rattle.blocks.specs.Blocks.{blockAt as behind, Stand}
+use Rattle.blocks.specs.Name.{Name}
 use Rattle.blocks.specs.Read.{Earlier}
 use Rattle.blocks.specs.declared.Part.{Part}
 use Rattle.blocks.specs.declared.Part.the-variants.{Text, Key, Number, Flag, Size, OptNumber, OptText, Literal, Block, OptBlock, Blocks, Ascending, Distinct, Names, Paths, Values}
 use Rattle.reader_leaf.specs.declared.Seen.{Seen}
 use Rattle.reader_leaf.specs.declared.Seen.the-variants.{Nothing, Owners, Types, After}
-
--- the two ways in which names are compared
-abbrev pub comparison : Bool → Name → Name → Bool
-comparison true = less
-comparison false = same
-
-abbrev pub NameIn : List ℕ → ℕ → Type 0
-NameIn s at = at + 2 + le2 s at ≤ length s
-
--- the offset behind n blocks
-unfoldable pub behind : List ℕ → ℕ → ℕ → ℕ
-behind s first zero = first
-behind s first (suc n) = behind s first n + 4 + le4 s (behind s first n)
 
 -- the names with which n blocks begin, the last first
 unfoldable pub namesBefore : List ℕ → ℕ → ℕ → List Name
@@ -56,10 +45,6 @@ seenPaths Nothing = 0
 seenPaths (Owners first count last paths) = paths
 seenPaths (Types first count) = 0
 seenPaths (After last) = 0
-
--- the names with which n blocks begin lie inside the input
-unfoldable pub Stand : List ℕ → ℕ → ℕ → Type 0
-Stand s first n = (k : ℕ) → k < n → NameIn s (behind s first k + 6)
 
 -- what is kept is so
 unfoldable pub Valid : List ℕ → Seen → Type 0

@@ -1,5 +1,6 @@
 // The parts of a block that hold no block, and a block's first six bytes.
 use blocks::Part;
+use wire::Block;
 ghost use mathlib.Core.Path.{_≡_};
 ghost use mathlib.Core.Bool.{not, _||_};
 ghost use mathlib.Core.List.{[]};
@@ -9,7 +10,7 @@ ghost use lib.ListN.{length};
 ghost use Rattle.blocks.specs.Name.{among};
 ghost use Rattle.blocks.specs.Read.{Earlier, inOrder, inType, readText, readKey, readNumber, readFlag, readOptional, readLiteral, readCount, readList, readHeader, Reader, readPart};
 ghost use Rattle.reader_leaf.specs.Answer.{forget, headOf, countOf, announced, readEntry, Inside, TextIn, EntryIn, WideIn, HeadIn, CountIn};
-ghost use Rattle.reader_leaf.specs.Seen.{nameAt, NameIn, comparison, LastIn, lastName, namesBefore, Stand, Valid, earlierOf, seenPaths, Plain, grownOf, Grows};
+ghost use Rattle.reader_leaf.specs.Seen.{nameAt, NameIn, LastIn, lastName, namesBefore, Stand, Valid, earlierOf, seenPaths, Plain, grownOf, Grows};
 
 // The offset behind what was read, or number and offset of a refusal.
 pub enum Read {
@@ -194,19 +195,6 @@ pub fn heading(s: &[u8], lo: usize, hi: usize, at: usize, end: usize) -> Head
     Head::Found(k, at + 4 + n)
 }
 
-// Compares the names at `one` and `two`: whether the first stands before the second, or whether they are the same.
-fn compared(s: &[u8], one: usize, two: usize, order: bool) -> bool
-    requires { ⌜ (NameIn (now s) one) × (NameIn (now s) two) ⌝ }
-    ensures { λ r. ⌜ r ≡ comparison order (nameAt (now (s .entry)) one) (nameAt (now (s .entry)) two) ⌝ }
-{
-    let a = wire::name_at(s, one);
-    let b = wire::name_at(s, two);
-    if order {
-        return wire::less_name(a, b);
-    }
-    wire::same_name(a, b)
-}
-
 // Whether the name at `at` ascends from the one at `last`, if there is one.
 fn ascends(s: &[u8], last: usize, at: usize) -> bool
     requires { ⌜ (LastIn (now s) last) × (NameIn (now s) at) ⌝ }
@@ -215,7 +203,7 @@ fn ascends(s: &[u8], last: usize, at: usize) -> bool
     if last == 0 {
         return true;
     }
-    compared(s, last, at, true)
+    wire::less_name(wire::name_at(s, last), wire::name_at(s, at))
 }
 
 // Whether the name at `at` is not among those with which these blocks begin.
@@ -223,16 +211,10 @@ pub fn differs(s: &[u8], first: usize, count: usize, at: usize) -> bool
     requires { ⌜ (Stand (now s) first count) × (NameIn (now s) at) ⌝ }
     ensures { λ r. ⌜ r ≡ not (among (nameAt (now (s .entry)) at) (namesBefore (now (s .entry)) first count)) ⌝ }
 {
-    let mut i = first;
-    let mut k = 0;
-    while k < count {
-        if compared(s, at, i + 6, false) {
-            return false;
-        }
-        i = i + 4 + wire::read4(s, i);
-        k += 1;
+    match wire::block_named(s, first, count, wire::name_at(s, at)) {
+        Block::At(_, _) => false,
+        Block::Missing => true,
     }
-    true
 }
 
 // Question 6 on the name at `at`.

@@ -1,45 +1,38 @@
 -- The first owner of a name in a references block.
 use mathlib.Core.Path.{_≡_, refl, sym, _∙_, ap, subst}
 use mathlib.Core.Bool.{Bool, true, false, cond}
-use mathlib.Core.List.{List}
-use mathlib.Core.Option.{some}
-use Prim.Native.Nat.{ℕ, zero, suc, _+_, _-_, _≤_, _<_}
+use mathlib.Core.List.{List, _∷_}
+use mathlib.Core.Option.{Option, some, none}
+use Prim.Native.Nat.{ℕ, zero, suc, _+_, _≤_, _<_}
 use native.Mathlib.Omega.{arith}
 use lib.ListN.{length}
-use Rattle.blocks.specs.Bytes.{le2, le4}
+use Rattle.blocks.specs.declared.Part.{Part}
+use Rattle.blocks.specs.declared.Part.the-variants.{Key}
+use Rattle.blocks.specs.Bytes.{le2, nameAt}
 use Rattle.blocks.specs.Name.{Name, same}
+use Rattle.blocks.specs.Blocks.{Stand, Passed}
 use Rattle.blocks.specs.Grammar.{partsOf, findRow, grammar, nodeTable}
-use Rattle.blocks.specs.Tree.{Tree, cons, entries}
+use Rattle.blocks.specs.Tree.{Tree, body, part, text, entries}
+use Rattle.wire.specs.declared.Block.{Block}
+use Rattle.wire.specs.declared.Block.the-variants.{At as BlockAt, Missing as BlockNone}
+use Rattle.wire.specs.Named.{BlockNamed}
 use Rattle.resolved.specs.Resolved.{Owner, get}
 use Rattle.resolved.specs.Set.{ownerOf}
-use Rattle.accepted.specs.Accepted.{Accepted, tree, Item, nameAt, Counted}
-use Rattle.accepted.proofs.Laws.{Sole, sole, block-entry}
-use Rattle.accepted.proofs.Lists.{Left, starts, steps, ended}
+use Rattle.accepted.specs.Accepted.{Accepted, tree, Item, Counted}
+use Rattle.accepted.proofs.Laws.{Sole, sole, each, All, all-entries}
+use Rattle.accepted.proofs.Named.{Keys, headed, firstNamed, stand, named-first, named-none}
+use Rattle.resolved_parts.specs.declared.Paths.{Paths}
 use Rattle.resolved_parts.specs.declared.Paths.the-variants.{At, Missing}
 use Rattle.resolved_parts.specs.Places.{nameEnd}
-use Rattle.resolved_parts.specs.Types.{Named, OwnerAt, PathsFound, pathsFrom, pathsIn, ownersOf}
-use Rattle.resolved_parts.proofs.Fields.{owner-named, owner-at}
+use Rattle.resolved_parts.specs.Types.{OwnerAt, PathsFound, pathsFrom, pathsIn, ownersOf}
+use Rattle.resolved_parts.proofs.Fields.{owner-at}
 
 -- ---- the owners of a references block
 
--- the paths of a name are those that the owners left have for it
-pub record Unmet (n : Name) (w u : Tree) : Type 0 where
-  pub is : get n (entries ownerOf w) ≡ get n (entries ownerOf u)
-
--- whether the first owner has the name decides what is found in the tree
-tested : {s : List ℕ} {at : ℕ} (n : Name) (a : Accepted s 37 37 at) (u : Tree) {t : Bool} → same n (nameAt s (at + 6)) ≡ t →
-    get n (entries ownerOf (cons (tree a) u)) ≡ cond t (some (ownerOf (tree a) .paths)) (get n (entries ownerOf u))
-unfolding get entries
-tested n a u h =
-    let e = ap (λ (o : Owner). same n (o .name)) (owner-at refl a .is) ∙ h in
-    ap (λ (t : Bool). cond t (some (ownerOf (tree a) .paths)) (get n (entries ownerOf u))) e
-
--- and where it is found in the bytes
-placed : (s : List ℕ) (n : Name) (left at : ℕ) {t : Bool} → 0 < left → same n (nameAt s (at + 6)) ≡ t →
-    pathsFrom s n left at ≡ cond t (At (nameEnd s at)) (pathsFrom s n (left - 1) (at + 4 + le4 s at))
-unfolding pathsFrom
-placed s n zero at h e = absurd (let z : ⊥ = omega arith in z)
-placed s n (suc left) at h e = let z : suc left - 1 ≡ left = omega arith in rw (e, z)
+-- an owner begins with its name
+owner-keyed : Keys 37 37
+unfolding partsOf findRow grammar nodeTable
+owner-keyed k a b = each (λ k. (ps : List Part) × (partsOf k ≡ Key ∷ ps)) 1 37 ((_, refl), tt) k a (omega arith)
 
 -- a references block is a list of owners
 pub listed : {s : List ℕ} {b : ℕ} (a : Accepted s 32 32 b) → Sole a (Item.blocks 37 37) 64
@@ -54,60 +47,90 @@ owners-are a = ap (entries ownerOf) (listed a .tree)
 pub references-inside : {s : List ℕ} {b : ℕ} → Accepted s 32 32 b → b + 6 + 2 ≤ length s
 references-inside a = listed a .inside
 
--- the test of the names, of which the code has the result
-compared : (n m : Name) {o : Name} {r t : Bool} → o ≡ m → r ≡ same n o → r ≡ t → same n m ≡ t
-compared n m eo e f = ap (same n) (sym eo) ∙ sym e ∙ f
+-- and so do their names; u is the count that was read
+pub owners-stand : {s : List ℕ} {b : ℕ} (u : ℕ) → Accepted s 32 32 b → u ≡ le2 s (b + 6) → Stand s (b + 6 + 2) u
+owners-stand {s} {b} u a g = subst (Stand s (b + 6 + 2)) (sym g) (stand owner-keyed (listed a .list))
 
--- ---- the loop of `get`
+-- ---- the paths of the first block of a name are those of the first owner of it
 
--- Of the owners of the block at b, `left` are left, from `at` on, and none of those before has the name.
-abbrev pub Search : List ℕ → ℕ → Name → ℕ → ℕ → Type 0
-Search s b n left at =
-    Left (Unmet n) s (Item.blocks 37 37) (le2 s (b + 6)) (b + 6 + 2) left at × (pathsIn s n b ≡ pathsFrom s n left at)
+-- the owner that a block stands for has the block's name
+abbrev Titled : Tree → Type 0
+Titled u = ownerOf u .name ≡ text (part 0 (body u))
 
--- at its start all are left
-pub begin : {s : List ℕ} {b left : ℕ} {n : Name} → Accepted s 32 32 b → left ≡ le2 s (b + 6) → Search s b n left (b + 6 + 2)
-begin {s} {b} {n} a e =
-    subst (λ (k : ℕ). Search s b n k (b + 6 + 2)) (sym e) (starts (λ t. record { is = refl }) (listed a .list), refl)
+-- which holds of every accepted owner
+titled : {s : List ℕ} (at : ℕ) (a : Accepted s 37 37 at) → Titled (a .got .0)
+titled at a = ap (λ (o : Owner). o .name) (owner-at refl a .is) ∙ sym (headed a owner-keyed .named)
 
-module _ {s : List ℕ} (b : ℕ) {left at : ℕ} {n : Name} (h : 0 < left) where
-  -- the next owner is an accepted block
-  pub next-one : Search s b n left at → Accepted s 37 37 at
-  next-one c = block-entry (c .0 .here) h .child
+-- the paths of the block that was found
+abbrev pathsOf : Option (ℕ × Tree) → Option (List Name)
+pathsOf none = none
+pathsOf (some x) = some (ownerOf (x .1) .paths)
 
-  -- its name lies inside the bytes
-  pub next-name : Search s b n left at → Named s (at + 6)
-  next-name c = owner-named (next-one c)
+-- the first owner of a name is the one of the first block of it
+owners-same : (n : Name) (i : ℕ) {u : Tree} → All Titled u → get n (entries ownerOf u) ≡ pathsOf (firstNamed n i u)
+unfolding get firstNamed entries
+owners-same n i All.none = refl
+owners-same n i (All.more {a} {b} h g) = rw h (go (same n (text (part 0 (body a)))) (owners-same n (i + 1) g))
+  where
+    go : (t : Bool) → get n (entries ownerOf b) ≡ pathsOf (firstNamed n (i + 1) b) →
+        cond t (some (ownerOf a .paths)) (get n (entries ownerOf b)) ≡ pathsOf (cond t (some (i, a)) (firstNamed n (i + 1) b))
+    go true e = refl
+    go false e = e
 
-  module _ {o : Name} {r : Bool} (eo : o ≡ nameAt s (at + 6)) (e : r ≡ same n o) where
-    -- it has another name: the search goes on behind it
-    pub go-on : {u : ℕ} → r ≡ false → u ≡ le4 s at → Search s b n left at → Search s b n (left - 1) (at + 4 + u)
-    go-on f g c =
-        subst (λ (k : ℕ). Search s b n (left - 1) (at + 4 + k)) (sym g) (
-          steps (λ l. block-entry l h .child .got .0) (λ l. block-entry l h .after)
-              (λ l w t q. record { is = q .is ∙ tested n (block-entry l h .child) t (compared n (nameAt s (at + 6)) eo e f) }) (c .0),
-          c .1 ∙ placed s n left at h (compared n (nameAt s (at + 6)) eo e f),
-        )
+module _ {s : List ℕ} {n : Name} where
+  -- where they stand: behind the name of the block behind those of another name
+  paths-at : {at k q : ℕ} (m : ℕ) → Passed s n at k q → k < m → same n (nameAt s (q + 6)) ≡ true → pathsFrom s n m at ≡ At (nameEnd s q)
+  unfolding pathsFrom
+  paths-at zero p h t = absurd (omega arith)
+  paths-at (suc m) Passed.none h t = rw t
+  paths-at (suc m) (Passed.one e p) h t = rw e (paths-at m p (omega arith) t)
 
-    -- it has the name: its paths are the answer, and they stand where the answer says
-    pub hit : {q : ℕ} → r ≡ true → ((a : Accepted s 37 37 at) → OwnerAt a q) → Search s b n left at →
-        ((a : Accepted s 32 32 b) → PathsFound s n (ownersOf (tree a)) (At q)) × (At q ≡ pathsIn s n b)
-    hit {q} f p c = (λ a. found a, ap At (p (next-one c) .paths-at) ∙ sym (c .1 ∙ placed s n left at h (compared n (nameAt s (at + 6)) eo e f)))
-      where
-        found : (a : Accepted s 32 32 b) → PathsFound s n (ownersOf (tree a)) (At q)
-        found a =
-            let w = c .0 .whole (listed a .list) in
-            let k = block-entry (w .0) h in
-            let o = p (k .child) in
-            PathsFound.at (o .paths)
-            (ap (get n) (owners-are a) ∙ w .1 .is ∙ ap (λ (z : Tree). get n (entries ownerOf z)) (k .after .tree) ∙
-            tested n (k .child) (k .after .rest .got .0) (compared n (nameAt s (at + 6)) eo e f) ∙ ap (λ (z : Owner). some (z .paths)) (o .is))
+  -- or nowhere
+  paths-none : {at m q : ℕ} → Passed s n at m q → pathsFrom s n m at ≡ Missing
+  unfolding pathsFrom
+  paths-none Passed.none = refl
+  paths-none (Passed.one e p) = rw e (paths-none p)
 
--- none is left: there is no owner of the name
-pub no-more : {s : List ℕ} (b : ℕ) {left at : ℕ} {n : Name} → left ≤ 0 → Search s b n left at →
-    ((a : Accepted s 32 32 b) → PathsFound s n (ownersOf (tree a)) Missing) × (Missing ≡ pathsIn s n b)
-unfolding get entries pathsFrom
-no-more {s} b {left} {at} {n} h c = (
-  λ a. PathsFound.missing (ap (get n) (owners-are a) ∙ ended h (c .0) (listed a .list) .0 .is),
-  let z : left ≡ 0 = omega arith in sym (c .1 ∙ ap (λ (k : ℕ). pathsFrom s n k at) z),
-)
+-- ---- in the code's form: u is the count that was read, r what the search among so many owners answered
+
+-- what `get` promises of its answer
+abbrev Answers : List ℕ → ℕ → Name → Paths → Type 0
+Answers s b n r = ((a : Accepted s 32 32 b) → PathsFound s n (ownersOf (tree a)) r) × (r ≡ pathsIn s n b)
+
+module _ {s : List ℕ} (b : ℕ) {n : Name} {u : ℕ} {r : Block} (g : u ≡ le2 s (b + 6)) (f : BlockNamed s n (b + 6 + 2) u r) where
+  -- among all that there are
+  all : BlockNamed s n (b + 6 + 2) (le2 s (b + 6)) r
+  all = subst (λ (m : ℕ). BlockNamed s n (b + 6 + 2) m r) g f
+
+  -- it answered with a block: an owner
+  pub owner-there : {i o : ℕ} → r ≡ BlockAt i o → Accepted s 32 32 b → Accepted s 37 37 o
+  owner-there {i} {o} e a = go (subst (BlockNamed s n (b + 6 + 2) (le2 s (b + 6))) e all)
+    where
+      go : BlockNamed s n (b + 6 + 2) (le2 s (b + 6)) (BlockAt i o) → Accepted s 37 37 o
+      go (BlockNamed.at h p t) = named-first owner-keyed p h t (listed a .list) .0
+
+  -- and its paths stand at q
+  pub paths-there : {i o q : ℕ} → r ≡ BlockAt i o → ((a : Accepted s 37 37 o) → OwnerAt a q) → Accepted s 32 32 b → Answers s b n (At q)
+  paths-there {i} {o} {q} e w d = go (subst (BlockNamed s n (b + 6 + 2) (le2 s (b + 6))) e all)
+    where
+      go : BlockNamed s n (b + 6 + 2) (le2 s (b + 6)) (BlockAt i o) → Answers s b n (At q)
+      go (BlockNamed.at h p t) = (found, ap At (w (named-first owner-keyed p h t (listed d .list) .0) .paths-at) ∙ sym (paths-at _ p h t))
+        where
+          found : (a : Accepted s 32 32 b) → PathsFound s n (ownersOf (tree a)) (At q)
+          found a =
+              let l = listed a .list in
+              let x = named-first owner-keyed p h t l in
+              let y = w (x .0) in
+              PathsFound.at (y .paths)
+              (ap (get n) (owners-are a) ∙ owners-same n 0 (all-entries Titled titled l) ∙ ap pathsOf (x .1) ∙ ap (λ (z : Owner). some (z .paths)) (y .is))
+
+  -- it answered that there is none
+  pub paths-missing : r ≡ BlockNone → Answers s b n Missing
+  paths-missing e = go (subst (BlockNamed s n (b + 6 + 2) (le2 s (b + 6))) e all)
+    where
+      go : BlockNamed s n (b + 6 + 2) (le2 s (b + 6)) BlockNone → Answers s b n Missing
+      go (BlockNamed.missing p) = (
+        λ a. let l = listed a .list in
+            PathsFound.missing (ap (get n) (owners-are a) ∙ owners-same n 0 (all-entries Titled titled l) ∙ ap pathsOf (named-none owner-keyed p l)),
+        sym (paths-none p),
+      )

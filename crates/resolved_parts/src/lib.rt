@@ -1,4 +1,5 @@
 // The parts of the accepted types of a set.
+use wire::Block;
 ghost use mathlib.Core.Path.{_≡_};
 ghost use Prim.Native.Nat.{_+_, _≤_};
 ghost use lib.ListN.{length};
@@ -233,15 +234,9 @@ pub fn get(s: &[u8], references: usize, name: &[u8]) -> Paths
     ensures { λ r. ⌜ ((a : Accepted (now (s .entry)) 32 32 references) → PathsFound (now (s .entry)) (now (name .entry)) (ownersOf (tree a)) r) ⌝ }
     ensures { λ r. ⌜ r ≡ pathsIn (now (s .entry)) (now (name .entry)) references ⌝ }
 {
-    let mut left = wire::read2(s, references + 6);
-    let mut at = references + 6 + 2;
-    while 0 < left {
-        let owner = name_at(s, at + 6);
-        if wire::same_name(name, owner) {
-            return Paths::At(owner_paths(s, at));
-        }
-        at = at + 4 + wire::read4(s, at);
-        left -= 1;
+    let count = wire::read2(s, references + 6);
+    match wire::block_named(s, references + 6 + 2, count, name) {
+        Block::At(_, at) => Paths::At(owner_paths(s, at)),
+        Block::Missing => Paths::Missing,
     }
-    Paths::Missing
 }

@@ -1,3 +1,4 @@
 pub mod Names
+mod Search
 mod Texts
 pub mod Laws

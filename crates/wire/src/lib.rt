@@ -6,10 +6,18 @@ ghost use Prim.Native.Nat.{_+_, _*_, _^_, _≤_, _<_, _-_};
 ghost use lib.ListN.{length, drop, replicate};
 ghost use Rattle.blocks.specs.Bytes.{le2, le4, le8, nameAt, bytes};
 ghost use Rattle.blocks.specs.Name.{printable, isText, same, less};
+ghost use Rattle.blocks.specs.Blocks.{Stand};
 ghost use Rattle.blocks.specs.Tree.{name, num};
 ghost use Rattle.blocks.specs.Write.{write};
 ghost use Rattle.wire.specs.Clear.{clear1, clear2, clear4, clear8};
+ghost use Rattle.wire.specs.Named.{BlockNamed};
 ghost use Rattle.wire.specs.Poke.{Wrote, opened};
+
+// Among blocks that stand one behind the other: how many stand before this one, and its offset.
+pub enum Block {
+    At(usize, usize),
+    Missing,
+}
 
 // A byte as a length or an offset.
 pub fn wide(x: u8) -> usize
@@ -166,6 +174,23 @@ pub fn less_name(a: &[u8], b: &[u8]) -> bool
         i += 1;
     }
     a.len() < b.len()
+}
+
+// Of so many blocks, one behind the other from an offset on, the first that begins with this name.
+pub fn block_named(s: &[u8], from: usize, count: usize, name: &[u8]) -> Block
+    requires { ⌜ Stand (now s) from count ⌝ }
+    ensures { λ r. ⌜ BlockNamed (now (s .entry)) (now (name .entry)) from count r ⌝ }
+{
+    let mut at = from;
+    let mut i = 0;
+    while i < count {
+        if same_name(name, name_at(s, at + 6)) {
+            return Block::At(i, at);
+        }
+        at = at + 4 + read4(s, at);
+        i += 1;
+    }
+    Block::Missing
 }
 
 // Bytes written into a slice of the caller, at a cursor that goes on counting where the slice is full.

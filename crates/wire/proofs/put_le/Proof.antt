@@ -1,6 +1,6 @@
 -- `wire::put_le` meets its contract. The loop's invariant: whatever writes the bytes that are left makes the whole write. Assumes nothing.
 use borrow.Author.Needs.{needs}
-use Prim.Native.Nat.{ℕ, _+_, _-_}
+use Prim.Native.Nat.{ℕ, _+_}
 use mathlib.Core.Path.{_≡_}
 use mathlib.Core.List.{List}
 use native.Mathlib.Omega.{arith}
