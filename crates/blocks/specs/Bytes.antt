@@ -8,6 +8,7 @@ unfoldable pub le : ℕ → List ℕ → ℕ → ℕ
 le zero s at = 0
 le (suc k) s at = getD s at 0 + 256 * le k s (at + 1)
 
+-- of 2, 4 and 8 bytes
 abbrev pub le2 : List ℕ → ℕ → ℕ
 le2 s at = le 2 s at
 

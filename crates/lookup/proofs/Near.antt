@@ -43,6 +43,10 @@ module _ (s : List ℕ) (place from : ℕ) {t : Tree} (e : readLayout s ≡ done
   unfolding blockAt
   stands-before = stand-part s 8 0 (le2 s 6) place 8 (layout-stands s (le2 s 6) e refl) refl (omega (arith, h .0))
 
+-- what is promised of an answer
+abbrev Answers : List ℕ → Name → Place → Type 0
+Answers s n r = (t : Tree) → readLayout s ≡ done t → TreeFound s n (layoutOf t) r
+
 module _ {s : List ℕ} {n : Name} where
   -- a block that was found is one of those that were searched
   pub found-below : {from m i o : ℕ} {r : Block} → BlockNamed s n from m r → r ≡ BlockAt i o → i < m
@@ -52,28 +56,28 @@ module _ {s : List ℕ} {n : Name} where
       go (BlockNamed.at l p f) = l
 
   -- a block of the name
-  there : {i o : ℕ} → o ≡ blockAt s 8 i → i < le2 s 6 → same n (nameAt s (o + 6)) ≡ true → (t : Tree) → readLayout s ≡ done t → TreeFound s n (layoutOf t) (At i o)
+  there : {i o : ℕ} → o ≡ blockAt s 8 i → i < le2 s 6 → same n (nameAt s (o + 6)) ≡ true → Answers s n (At i o)
   there {i} {o} e h f t d =
       let w = whole d in
       let c = only n (w .trees) 0 i i o (omega arith) e h f in
       subst (λ (ts : List TypeIr). TreeFound s n ts (At i o)) (sym (w .is)) (TreeFound.at {i = i} {o = o} (c .child) (h, e) (trees-same n 0 (w .list) ∙ ap looked (c .first)))
 
   -- no block of the name
-  nowhere : ((k : ℕ) → k < le2 s 6 → Other s n k) → (t : Tree) → readLayout s ≡ done t → TreeFound s n (layoutOf t) Missing
+  nowhere : ((k : ℕ) → k < le2 s 6 → Other s n k) → Answers s n Missing
   nowhere h t d =
       let w = whole d in
       subst (λ (ts : List TypeIr). TreeFound s n ts Missing) (sym (w .is)) (TreeFound.missing (trees-same n 0 (w .list) ∙ ap looked (absent n (w .trees) 0 h)))
 
   module _ {place u from : ℕ} (e : u ≡ le2 s 6) (h : Placed s place from) where
     -- the search from the place on has found a block
-    pub found-behind : {i o : ℕ} {r : Block} → BlockNamed s n from (u - place) r → r ≡ BlockAt i o → (t : Tree) → readLayout s ≡ done t → TreeFound s n (layoutOf t) (At (place + i) o)
+    pub found-behind : {i o : ℕ} {r : Block} → BlockNamed s n from (u - place) r → r ≡ BlockAt i o → Answers s n (At (place + i) o)
     found-behind {i} {o} a g = go (subst (BlockNamed s n from (u - place)) g a)
       where
-        go : BlockNamed s n from (u - place) (BlockAt i o) → (t : Tree) → readLayout s ≡ done t → TreeFound s n (layoutOf t) (At (place + i) o)
+        go : BlockNamed s n from (u - place) (BlockAt i o) → Answers s n (At (place + i) o)
         go (BlockNamed.at l p f) = there (passed-at p ∙ shifted s place from i (h .1)) (omega (arith, h .0)) f
 
     -- it has found none: the search from the first on decides
-    pub found-before : {r q : Block} {x : Place} → BlockNamed s n from (u - place) r → r ≡ BlockNone → BlockNamed s n 8 place q → x ≡ placeOf q → (t : Tree) → readLayout s ≡ done t → TreeFound s n (layoutOf t) x
+    pub found-before : {r q : Block} {x : Place} → BlockNamed s n from (u - place) r → r ≡ BlockNone → BlockNamed s n 8 place q → x ≡ placeOf q → Answers s n x
     found-before {q} a g b d t w = subst (TreeFound s n (layoutOf t)) (sym d) (go (behind (subst (BlockNamed s n from (u - place)) g a)) b t w)
       where
         behind : BlockNamed s n from (u - place) BlockNone → (k : ℕ) → place ≤ k → k < le2 s 6 → Other s n k
@@ -81,7 +85,7 @@ module _ {s : List ℕ} {n : Name} where
             let z : place + (k - place) ≡ k = omega arith in
             rw z at (ap (λ (o : ℕ). same n (nameAt s (o + 6))) (sym (shifted s place from (k - place) (h .1))) ∙ passed-not p (k - place) (omega arith))
 
-        go : {q : Block} → ((k : ℕ) → place ≤ k → k < le2 s 6 → Other s n k) → BlockNamed s n 8 place q → (t : Tree) → readLayout s ≡ done t → TreeFound s n (layoutOf t) (placeOf q)
+        go : {q : Block} → ((k : ℕ) → place ≤ k → k < le2 s 6 → Other s n k) → BlockNamed s n 8 place q → Answers s n (placeOf q)
         go m (BlockNamed.at l p f) = there (passed-at p) (omega (arith, h .0)) f
         go m (BlockNamed.missing p) = nowhere (λ k x. either k x (ltb k place) refl)
           where
