@@ -1,42 +1,71 @@
--- A part as a number, for the constant tables: its place among the parts, then lo, hi and the limit.
-use Prim.Native.Nat.{ℕ, _+_, _*_}
-use mathlib.Core.List.{map}
+-- A part as a digit of base 32, and the parts of a kind as one number, for the constant tables: the grammar has 26 parts.
+use Prim.Native.Nat.{ℕ, suc, _+_, _-_, _*_}
+use mathlib.Core.Path.{_≡_}
+use mathlib.Core.Bool.{cond}
+use mathlib.Core.List.{List, [], _∷_, map}
+use lib.Dec.{eqb}
 use lib.ListN.{getD}
 use Rattle.blocks.specs.declared.Part.{Part}
 use Rattle.blocks.specs.declared.Part.the-variants.{Text, Key, Number, Flag, Size, OptNumber, OptText, Literal, Block, OptBlock, Blocks, Ascending, Distinct, Names, Paths, Values}
-use Rattle.blocks.specs.Grammar.{partsOf}
+use Rattle.blocks.specs.Grammar.{type, expression, node, partsOf}
 
--- the place counts from 1; lo, hi and the limit are 0 where the part has none
-pub record Fields : Type 0 where
-  pub tag : ℕ
-  pub lo : ℕ
-  pub hi : ℕ
-  pub limit : ℕ
+-- how many of these stand before the first that is k
+abbrev pub place : ℕ → List ℕ → ℕ
+place k [] = 0
+place k (j ∷ js) = cond (eqb k j) 0 (suc (place k js))
 
-abbrev fields : ℕ → ℕ → ℕ → ℕ → Fields
-fields tag lo hi limit = record { tag = tag; lo = lo; hi = hi; limit = limit }
-
-abbrev pub fieldsOf : Part → Fields
-fieldsOf Text = fields 1 0 0 0
-fieldsOf Key = fields 2 0 0 0
-fieldsOf Number = fields 3 0 0 0
-fieldsOf Flag = fields 4 0 0 0
-fieldsOf Size = fields 5 0 0 0
-fieldsOf OptNumber = fields 6 0 0 0
-fieldsOf OptText = fields 7 0 0 0
-fieldsOf Literal = fields 8 0 0 0
-fieldsOf (Block lo hi) = fields 9 lo hi 0
-fieldsOf (OptBlock lo hi) = fields 10 lo hi 0
-fieldsOf (Blocks lo hi limit) = fields 11 lo hi limit
-fieldsOf (Ascending lo hi limit) = fields 12 lo hi limit
-fieldsOf (Distinct lo hi limit) = fields 13 lo hi limit
-fieldsOf (Names limit) = fields 14 0 0 limit
-fieldsOf (Paths limit) = fields 15 0 0 limit
-fieldsOf (Values limit) = fields 16 0 0 limit
-
+-- the digit of a part; those that differ in their kinds only stand behind each other
 abbrev pub codeOf : Part → ℕ
-codeOf p = fieldsOf p .tag + 32 * fieldsOf p .lo + 8192 * fieldsOf p .hi + 2097152 * fieldsOf p .limit
+codeOf Text = 1
+codeOf Key = 2
+codeOf Number = 3
+codeOf Flag = 4
+codeOf Size = 5
+codeOf OptNumber = 6
+codeOf OptText = 7
+codeOf Literal = 8
+-- a type, references, an expression, a node, values
+codeOf (Block lo hi) = 9 + place lo (1 ∷ 32 ∷ 64 ∷ 128 ∷ 192 ∷ [])
+codeOf (OptBlock lo hi) = 14
+-- fields, variants, sized variants, parameters, cases, arguments
+codeOf (Blocks lo hi limit) = 15 + place lo (33 ∷ 34 ∷ 35 ∷ 162 ∷ 163 ∷ 164 ∷ [])
+codeOf (Ascending lo hi limit) = 21
+-- types, type trees
+codeOf (Distinct lo hi limit) = 22 + place lo (1 ∷ 161 ∷ [])
+codeOf (Names limit) = 24
+codeOf (Paths limit) = 25
+codeOf (Values limit) = 26
 
--- the code of the part with this number of a kind, counted from 0; 0 behind the last
+-- the parts of the grammar, in the order of their digits
+abbrev pub parts : List Part
+parts =
+    Text ∷ Key ∷ Number ∷ Flag ∷ Size ∷ OptNumber ∷ OptText ∷ Literal ∷
+    type ∷ Block 32 32 ∷ expression ∷ node ∷ Block 192 192 ∷
+    OptBlock 128 144 ∷
+    Blocks 33 33 64 ∷ Blocks 34 34 64 ∷ Blocks 35 35 64 ∷ Blocks 162 162 512 ∷ Blocks 163 163 64 ∷ Blocks 164 164 512 ∷
+    Ascending 37 37 64 ∷
+    Distinct 1 7 256 ∷ Distinct 161 161 256 ∷
+    Names 64 ∷ Paths 64 ∷ Values 512 ∷
+    []
+
+-- the part of a digit
+unfoldable pub partOf : ℕ → Part
+partOf d = getD parts (d - 1) Text
+
+-- the part that a part's digit stands for: of the grammar's parts, that part
+abbrev pub again : Part → Part
+again p = partOf (codeOf p)
+
+-- parts as one number: a digit for each, the first lowest, and 0 behind the last
+unfoldable pub rowOf : List Part → ℕ
+rowOf [] = 0
+rowOf (p ∷ ps) = codeOf p + 32 * rowOf ps
+
+-- the digit of the part with this number of a kind, counted from 0; 0 behind the last
 unfoldable pub codeAt : ℕ → ℕ → ℕ
 codeAt k i = getD (map codeOf (partsOf k)) i 0
+
+-- the digits of a number are these parts
+pub record Digits (c : ℕ) (ps : List Part) : Type 0 where
+  pub row : c ≡ rowOf ps
+  pub known : map again ps ≡ ps

@@ -1,12 +1,9 @@
 // The code of ir.rs: the metadata of a node, and the parts of the seventeen node kinds.
 ghost use mathlib.Core.Path.{_≡_};
-ghost use mathlib.Core.List.{List, _++_};
 ghost use Prim.Native.Nat.{_≤_, _<_};
-ghost use Rattle.blocks.specs.declared.Part.{Part};
-ghost use Rattle.blocks.specs.Grammar.{partsOf, metadata};
+ghost use Rattle.blocks.specs.Grammar.{partsOf};
 ghost use Rattle.ir.specs.Ir.{default-alignment};
-ghost use Rattle.ir_nodes.specs.Codes.{codeAt};
-ghost use Rattle.ir_nodes.specs.Rows.{Row, digitCode};
+ghost use Rattle.ir_nodes.specs.Codes.{codeAt, rowOf};
 
 // What a node begins with. The size text is no field: where a node has one, it is written from its parts, straight into
 // the output.
@@ -30,105 +27,78 @@ impl NodeMetadata {
     }
 }
 
-// The codes of the parts that nodes have: the part's place in `Part`, from 1, then lo, hi and the limit of a count.
+// The codes of the parts that nodes have, each a digit of base 32.
 pub const TEXT: u32 = 1;
 
 pub const NUMBER: u32 = 3;
 
 pub const OPT_TEXT: u32 = 7;
 
-pub const NODE: u32 = 9 + 32 * 128 + 8192 * 144;
+pub const NODE: u32 = 12;
 
-const DEFAULT: u32 = 10 + 32 * 128 + 8192 * 144;
+pub const OPT_NODE: u32 = 14;
 
-const CASES: u32 = 11 + 32 * 163 + 8192 * 163 + 2097152 * 64;
+pub const CASES: u32 = 19;
 
-const ARGUMENTS: u32 = 11 + 32 * 164 + 8192 * 164 + 2097152 * 512;
+pub const ARGUMENTS: u32 = 20;
 
-// The parts behind the metadata, as digits.
-const VALUE: u16 = 1;
+// The parts of a kind are its row: a digit for each, the first lowest. Every node begins with its metadata.
+const METADATA: u64 = (NUMBER + 32 * OPT_TEXT) as u64;
 
-const NAME: u16 = 2;
+// What stands behind it in the rows of three kinds that a layout has many of, and of the ten binary kinds.
+pub const CONST_ROW: u64 = NUMBER as u64;
 
-const OPT_NAME: u16 = 3;
+pub const FIELD_ROW: u64 = (TEXT + 32 * OPT_TEXT) as u64;
 
-const CHILD: u16 = 4;
+pub const CALL_ROW: u64 = (TEXT + 32 * ARGUMENTS) as u64;
 
-const SWITCHED: u16 = 5;
+const BINARY: u16 = (NODE + 32 * NODE) as u16;
 
-const PASSED: u16 = 6;
-
-const OPT_CHILD: u16 = 7;
-
-// The rows of three kinds that a layout has many of.
-pub const CONST_ROW: u16 = VALUE;
-
-pub const FIELD_ROW: u16 = NAME + 8 * OPT_NAME;
-
-pub const CALL_ROW: u16 = NAME + 8 * PASSED;
-
-// The parts of the node of kind 128 plus the place, behind the metadata, front to back: a digit of base 8 each, the first
-// lowest. The entries are small because the compiled code makes the whole table anew wherever it is indexed.
+// The parts of the node of kind 128 plus the place, behind the metadata. The entries are small because the compiled code makes
+// the whole table anew wherever it is indexed.
 const NODE_TABLE: [u16; 17] = [
     // ZeroSize
     0,
     // Const: value
-    CONST_ROW,
+    CONST_ROW as u16,
     // FieldRef: path, parameter
-    FIELD_ROW,
+    FIELD_ROW as u16,
     // AlignUp: alignment, node
-    VALUE + 8 * CHILD,
+    (NUMBER + 32 * NODE) as u16,
     // Switch: tag, cases, default
-    NAME + 8 * SWITCHED + 64 * OPT_CHILD,
+    (TEXT + 32 * CASES + 1024 * OPT_NODE) as u16,
     // CallNested: type_name, arguments
-    CALL_ROW,
+    CALL_ROW as u16,
     // AddChecked: left, right
-    CHILD + 8 * CHILD,
+    BINARY,
     // SubChecked
-    CHILD + 8 * CHILD,
+    BINARY,
     // MulChecked
-    CHILD + 8 * CHILD,
+    BINARY,
     // DivChecked
-    CHILD + 8 * CHILD,
+    BINARY,
     // ModChecked
-    CHILD + 8 * CHILD,
+    BINARY,
     // BitAnd
-    CHILD + 8 * CHILD,
+    BINARY,
     // BitOr
-    CHILD + 8 * CHILD,
+    BINARY,
     // BitXor
-    CHILD + 8 * CHILD,
+    BINARY,
     // LeftShift
-    CHILD + 8 * CHILD,
+    BINARY,
     // RightShift
-    CHILD + 8 * CHILD,
+    BINARY,
     // SumOverArray: count, element_type_name, field_name
-    CHILD + 8 * NAME + 64 * NAME,
+    (NODE + 32 * TEXT + 1024 * TEXT) as u16,
 ];
 
-// The parts of a node kind behind its metadata, as digits.
-pub fn node_row(kind: usize) -> u16
+// The row of a node kind, metadata included.
+pub fn node_row(kind: usize) -> u64
     requires { ⌜ (128 ≤ kind) × (kind ≤ 144) ⌝ }
-    ensures { λ r. ⌜ ((ps : List Part) × (partsOf kind ≡ metadata ++ ps) × Row r ps) ⌝ }
+    ensures { λ r. ⌜ r ≡ rowOf (partsOf kind) ⌝ }
 {
-    NODE_TABLE[kind - 128]
-}
-
-// The code of the part that a digit stands for; 0 for 0.
-fn digit_code(digit: u16) -> u32
-    requires { ⌜ digit < 8 ⌝ }
-    ensures { λ r. ⌜ r ≡ digitCode digit ⌝ }
-{
-    match digit {
-        0 => 0,
-        1 => NUMBER,
-        2 => TEXT,
-        3 => OPT_TEXT,
-        4 => NODE,
-        5 => CASES,
-        6 => ARGUMENTS,
-        _ => DEFAULT,
-    }
+    METADATA + 1024 * (NODE_TABLE[kind - 128] as u64)
 }
 
 // The code of part i of a node kind, counted from 0; 0 behind the last.
@@ -136,18 +106,5 @@ pub fn node_part(kind: usize, i: usize) -> u32
     requires { ⌜ (128 ≤ kind) × (kind ≤ 144) × (i < 5) ⌝ }
     ensures { λ r. ⌜ r ≡ codeAt kind i ⌝ }
 {
-    if i == 0 {
-        return NUMBER;
-    }
-    if i == 1 {
-        return OPT_TEXT;
-    }
-    let row = node_row(kind);
-    if i == 2 {
-        return digit_code(row % 8);
-    }
-    if i == 3 {
-        return digit_code(row / 8 % 8);
-    }
-    digit_code(row / 8 / 8 % 8)
+    ((node_row(kind) >> (5 * i)) % 32) as u32
 }

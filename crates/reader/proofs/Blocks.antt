@@ -1,8 +1,7 @@
 -- The parts of a block, and a block, one step at a time, as the code sees them.
 use mathlib.Core.Path.{_≡_, refl, _∙_, ap₂}
 use mathlib.Core.List.{List, [], _∷_}
-use Prim.Native.Nat.{ℕ, zero, suc, _+_, _-_, _<_}
-use lib.ListN.{drop}
+use Prim.Native.Nat.{ℕ, zero, suc, _+_, _-_, _/_, _%_}
 use native.Mathlib.Omega.{arith}
 use native.Mathlib.Numerals.{sub-one}
 use lib.Dec.{eqb}
@@ -16,9 +15,8 @@ use Rattle.reader_leaf.specs.declared.Read.the-variants.{Ok, Refused}
 use Rattle.reader_leaf.specs.declared.Head.the-variants.{Found, No}
 use Rattle.reader_leaf.specs.Answer.{forget, headOf}
 use Rattle.reader_leaf.proofs.Laws.{stopped, goes}
-use Rattle.ir_nodes.specs.Codes.{codeOf, codeAt}
-use Rattle.reader_grammar.specs.Parts.{Coded, Keyed}
-use Rattle.reader_grammar.proofs.Laws.{column}
+use Rattle.ir_nodes.specs.Codes.{partOf, rowOf, Digits}
+use Rattle.ir_nodes.proofs.Rows.{begins, digit, no-digit}
 
 module _ (rb : Reader) (s : List ℕ) (e : Earlier) (start end : ℕ) where
   -- no part is left: the body ends here
@@ -105,17 +103,31 @@ module _ (s : List ℕ) (e : Earlier) (lo hi at end : ℕ) where
       pub block-rest : {n : ℕ} → forget (inner (room - 1)) ≡ Ok n → (n ≡ stop → ⊥) → forget (readBlock room s e lo hi at end) ≡ Refused 2 at
       block-rest g x = opened room h ∙ last-rest at k stop (inner (room - 1)) g x
 
--- ---- the parts of a kind, from its table
+-- ---- the parts of a kind, from its row
 
--- the part in a column of the table
-pub record Decoded (kind i : ℕ) (p : Part) : Type 0 where
-  pub keyed : Keyed p
-  pub rest : drop i (partsOf kind) ≡ p ∷ drop (i + 1) (partsOf kind)
-  pub below : i < 7
+-- All parts of a block read as those of the digits that are left, from here on.
+pub record Left (rb : Reader) (s : List ℕ) (e : Earlier) (start end kind at row here : ℕ) : Type 0 where
+  pub parts : List Part
+  pub digits : Digits row parts
+  pub same : forget (readParts rb s e start end (partsOf kind) at) ≡ forget (readParts rb s e start end parts here)
 
--- the code found a part's code there: the part it makes is the kind's next one
-pub decoded : (kind i code : ℕ) (r : Part) → code ≡ codeAt kind i → (code ≡ 0 → ⊥) → ((p : Part) → Coded p → code ≡ codeOf p → r ≡ p) → Decoded kind i r
-decoded kind i code r e h g =
-    let c = column kind i (λ z. h (e ∙ z)) in
-    let f : r ≡ c .part = g (c .part) (c .coded) (e ∙ c .code) in
-    rw f (record { keyed = c .keyed; rest = c .rest; below = c .below })
+module _ (rb : Reader) (s : List ℕ) (e : Earlier) (start end kind at : ℕ) where
+  -- at first all digits of the kind's row are left
+  pub all-left : {row : ℕ} → row ≡ rowOf (partsOf kind) → Left rb s e start end kind at row at
+  all-left h = record { parts = partsOf kind; digits = begins kind h; same = refl }
+
+  module _ {row here : ℕ} (l : Left rb s e start end kind at row here) where
+    -- none is left: the block ends here
+    pub none-left : row ≡ 0 → forget (readParts rb s e start end (partsOf kind) at) ≡ Ok here
+    none-left h = l .same ∙ parts-none rb s e start end here (no-digit row (l .parts) (l .digits) h)
+
+    module _ (h : row ≡ 0 → ⊥) where
+      -- the part of the first is refused, and so is the block
+      pub left-stop : {q o : ℕ} → forget (readPart rb s e start end (partOf (row % 32)) here) ≡ Refused q o → forget (readParts rb s e start end (partsOf kind) at) ≡ Refused q o
+      left-stop d = let w = digit row (l .parts) (l .digits) h in l .same ∙ parts-stop rb s e start end (w .1) here d
+
+      -- it is read: the others are left
+      pub left-go : {m : ℕ} → forget (readPart rb s e start end (partOf (row % 32)) here) ≡ Ok m → Left rb s e start end kind at (row / 32) m
+      left-go d =
+          let w = digit row (l .parts) (l .digits) h in
+          record { parts = w .0; digits = w .2; same = l .same ∙ parts-go rb s e start end (w .1) here d }

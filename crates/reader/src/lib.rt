@@ -9,7 +9,7 @@ ghost use Prim.Native.Nat.{_+_, _≤_};
 ghost use lib.ListN.{length};
 ghost use Rattle.blocks.specs.Grammar.{partsOf};
 ghost use Rattle.blocks.specs.Read.{readList, readPart, readParts, readBlock, readInput};
-ghost use Rattle.reader_grammar.specs.Parts.{Keyed};
+ghost use Rattle.ir_nodes.specs.Codes.{partOf};
 ghost use Rattle.reader_leaf.specs.Answer.{forget, Inside};
 ghost use Rattle.reader_leaf.specs.Seen.{Valid, earlierOf};
 ghost use Rattle.reader.specs.Before.{Before};
@@ -53,11 +53,12 @@ fn list(
     }
 }
 
-// One part of a block.
-fn piece(s: &[u8], room: usize, seen: Seen, p: Part, start: usize, at: usize, end: usize) -> Read
-    requires { ⌜ (at ≤ end) × (end ≤ length (now s)) × (Valid (now s) seen) × (Keyed p) ⌝ }
-    ensures { λ r. ⌜ (r ≡ forget (readPart (readBlock room (now (s .entry))) (now (s .entry)) (earlierOf (now (s .entry)) seen) start end p at)) × (Inside r end) ⌝ }
+// The part of a block that a digit of its row stands for.
+fn piece(s: &[u8], room: usize, seen: Seen, digit: u64, start: usize, at: usize, end: usize) -> Read
+    requires { ⌜ (at ≤ end) × (end ≤ length (now s)) × (Valid (now s) seen) ⌝ }
+    ensures { λ r. ⌜ (r ≡ forget (readPart (readBlock room (now (s .entry))) (now (s .entry)) (earlierOf (now (s .entry)) seen) start end (partOf digit) at)) × (Inside r end) ⌝ }
 {
+    let p = reader_grammar::part_of(digit);
     match p {
         Part::Block(lo, hi) => block(s, room, Seen::Nothing, lo, hi, at, end),
         Part::OptBlock(lo, hi) => match reader_leaf::flag(s, start, at, end) {
@@ -99,22 +100,10 @@ fn parts(
     requires { ⌜ (at ≤ end) × (end ≤ length (now s)) × (Valid (now s) seen) ⌝ }
     ensures { λ r. ⌜ (r ≡ forget (readParts (readBlock room (now (s .entry))) (now (s .entry)) (earlierOf (now (s .entry)) seen) start end (partsOf kind) at)) × (Inside r end) ⌝ }
 {
-    let mut i = 0;
     let mut here = at;
-    loop {
-        let code = reader_grammar::code_at(kind, i);
-        if code == 0 {
-            return Read::Ok(here);
-        }
-        match piece(
-            s,
-            room,
-            seen,
-            reader_grammar::part_of(code),
-            start,
-            here,
-            end,
-        ) {
+    let mut row = reader_grammar::row(kind);
+    while row != 0 {
+        match piece(s, room, seen, row % 32, start, here, end) {
             Read::Ok(next) => {
                 here = next;
             }
@@ -122,8 +111,9 @@ fn parts(
                 return Read::Refused(q, o);
             }
         }
-        i += 1;
+        row = row / 32;
     }
+    Read::Ok(here)
 }
 
 // A block of a kind from lo to hi, with room for so many open blocks.

@@ -1,221 +1,223 @@
-// The parts of every kind of block, as codes, and back from a code to the part.
+// The parts of every kind of block as digits of its row, and back from a digit to the part.
 use blocks::Part;
-use ir_nodes::NODE;
-use ir_nodes::NUMBER;
-use ir_nodes::OPT_TEXT;
-use ir_nodes::TEXT;
 ghost use mathlib.Core.Path.{_≡_};
-ghost use mathlib.Core.List.{[], _∷_, _++_, map};
 ghost use Prim.Native.Nat.{_≤_, _<_};
-ghost use lib.ListN.{getD};
-ghost use Rattle.blocks.specs.Grammar.{head, grammar, findRow};
-ghost use Rattle.ir_nodes.specs.Codes.{codeOf, codeAt};
-ghost use Rattle.reader_grammar.specs.Parts.{Coded, made, decoded};
+ghost use Rattle.blocks.specs.Grammar.{grammar, findRow, partsOf};
+ghost use Rattle.ir_nodes.specs.Codes.{partOf, rowOf};
 
-// The codes of the parts that nodes do not have: the part's place in `Part`, from 1, then lo, hi and the limit of a count.
-const KEY: u32 = 2;
+// The digits of the parts, of base 32.
+const TEXT: u64 = ir_nodes::TEXT as u64;
 
-const FLAG: u32 = 4;
+const KEY: u64 = 2;
 
-const SIZE: u32 = 5;
+const NUMBER: u64 = ir_nodes::NUMBER as u64;
 
-const OPT_NUMBER: u32 = 6;
+const FLAG: u64 = 4;
 
-const LITERAL: u32 = 8;
+const SIZE: u64 = 5;
 
-const TYPE: u32 = 9 + 32 * 1 + 8192 * 7;
+const OPT_NUMBER: u64 = 6;
 
-const REFERENCES: u32 = 9 + 32 * 32 + 8192 * 32;
+const OPT_TEXT: u64 = ir_nodes::OPT_TEXT as u64;
 
-const EXPRESSION: u32 = 9 + 32 * 64 + 8192 * 91;
+const LITERAL: u64 = 8;
 
-const RUN_VALUES: u32 = 9 + 32 * 192 + 8192 * 192;
+const TYPE: u64 = 9;
 
-const FIELDS: u32 = 11 + 32 * 33 + 8192 * 33 + 2097152 * 64;
+const REFERENCES: u64 = 10;
 
-const VARIANTS: u32 = 11 + 32 * 34 + 8192 * 34 + 2097152 * 64;
+const EXPRESSION: u64 = 11;
 
-const SIZED_VARIANTS: u32 = 11 + 32 * 35 + 8192 * 35 + 2097152 * 64;
+const NODE: u64 = ir_nodes::NODE as u64;
 
-const PARAMETERS: u32 = 11 + 32 * 162 + 8192 * 162 + 2097152 * 512;
+const RUN_VALUES: u64 = 13;
 
-const OWNERS: u32 = 12 + 32 * 37 + 8192 * 37 + 2097152 * 64;
+const OPT_NODE: u64 = ir_nodes::OPT_NODE as u64;
 
-const TYPES: u32 = 13 + 32 * 1 + 8192 * 7 + 2097152 * 256;
+const FIELDS: u64 = 15;
 
-const TREES: u32 = 13 + 32 * 161 + 8192 * 161 + 2097152 * 256;
+const VARIANTS: u64 = 16;
 
-const SEGMENTS: u32 = 14 + 2097152 * 64;
+const SIZED_VARIANTS: u64 = 17;
 
-const PATHS: u32 = 15 + 2097152 * 64;
+const PARAMETERS: u64 = 18;
 
-const VALUES: u32 = 16 + 2097152 * 512;
+const CASES: u64 = ir_nodes::CASES as u64;
 
-// The code with number i of these, counted from 0; 0 behind the last.
-fn row_of(i: usize, a: u32, b: u32, c: u32, d: u32) -> u32
-    ensures { λ r. ⌜ r ≡ getD (a ∷ b ∷ c ∷ d ∷ []) i 0 ⌝ }
-{
-    match i {
-        0 => a,
-        1 => b,
-        2 => c,
-        3 => d,
-        _ => 0,
-    }
-}
+const ARGUMENTS: u64 = ir_nodes::ARGUMENTS as u64;
 
-// The code with number i of a type's: behind what every type begins with stand these.
-fn typed(i: usize, a: u32, b: u32, c: u32) -> u32
-    ensures { λ r. ⌜ r ≡ getD (map codeOf head ++ (a ∷ b ∷ c ∷ [])) i 0 ⌝ }
-{
-    match i {
-        0 => KEY,
-        1 => SIZE,
-        2 => NUMBER,
-        3 => REFERENCES,
-        4 => a,
-        5 => b,
-        6 => c,
-        _ => 0,
-    }
-}
+const OWNERS: u64 = 21;
+
+const TYPES: u64 = 22;
+
+const TREES: u64 = 23;
+
+const SEGMENTS: u64 = 24;
+
+const PATHS: u64 = 25;
+
+const VALUES: u64 = 26;
+
+// A row has a digit for each part, the first lowest. What every type begins with, and the place of the digit behind it.
+const HEAD: u64 = KEY + 32 * SIZE + 1024 * NUMBER + 32768 * REFERENCES;
+
+const BEHIND: u64 = 1048576;
+
+const FIELDED: u64 = HEAD + BEHIND * FIELDS;
+
+const ENUM: u64 = HEAD + BEHIND * (EXPRESSION + 32 * VARIANTS);
+
+const ARRAY: u64 = HEAD + BEHIND * (FLAG + 32 * TYPE + 1024 * EXPRESSION);
+
+const SIZED_UNION: u64 = HEAD + BEHIND * SIZED_VARIANTS;
+
+const TYPE_REF: u64 = HEAD + BEHIND * TEXT;
+
+const FIELD: u64 = TEXT + 32 * OPT_NUMBER + 1024 * TYPE;
+
+const VARIANT: u64 = TEXT + 32 * NUMBER + 1024 * TYPE;
+
+const OWNER: u64 = KEY + 32 * PATHS;
+
+const BINARY: u64 = EXPRESSION + 32 * EXPRESSION;
+
+const TREE: u64 = KEY + 32 * NUMBER + 1024 * NODE + 32768 * PARAMETERS;
+
+const PARAMETER: u64 = TEXT + 32 * OPT_TEXT + 1024 * FLAG;
+
+const CASE: u64 = NUMBER + 32 * NODE + 1024 * PARAMETERS;
+
+const ARGUMENT: u64 = TEXT + 32 * TEXT;
+
+const RUN: u64 = TEXT + 32 * NUMBER + 1024 * RUN_VALUES;
 
 // The tables are matches, not arrays: the compiled code makes an array anew wherever it is indexed.
 
 // Types, and what they hold.
-fn type_code(kind: usize, i: usize) -> u32
+fn type_row(kind: usize) -> u64
     requires { ⌜ kind < 64 ⌝ }
-    ensures { λ r. ⌜ r ≡ getD (map codeOf (findRow kind grammar)) i 0 ⌝ }
+    ensures { λ r. ⌜ r ≡ rowOf (findRow kind grammar) ⌝ }
 {
     match kind {
         // primitive
-        1 => typed(i, 0, 0, 0),
-        // struct
-        2 => typed(i, FIELDS, 0, 0),
-        // union
-        3 => typed(i, FIELDS, 0, 0),
+        1 => HEAD,
+        // struct, union
+        2 => FIELDED,
+        3 => FIELDED,
         // enum
-        4 => typed(i, EXPRESSION, VARIANTS, 0),
+        4 => ENUM,
         // array
-        5 => typed(i, FLAG, TYPE, EXPRESSION),
+        5 => ARRAY,
         // size-discriminated union
-        6 => typed(i, SIZED_VARIANTS, 0, 0),
+        6 => SIZED_UNION,
         // type reference
-        7 => typed(i, TEXT, 0, 0),
+        7 => TYPE_REF,
         // references
-        32 => row_of(i, OWNERS, 0, 0, 0),
+        32 => OWNERS,
         // field
-        33 => row_of(i, TEXT, OPT_NUMBER, TYPE, 0),
-        // enum variant
-        34 => row_of(i, TEXT, NUMBER, TYPE, 0),
-        // sized variant
-        35 => row_of(i, TEXT, NUMBER, TYPE, 0),
+        33 => FIELD,
+        // enum variant, sized variant
+        34 => VARIANT,
+        35 => VARIANT,
         // type set
-        36 => row_of(i, TYPES, 0, 0, 0),
+        36 => TYPES,
         // owner
-        37 => row_of(i, KEY, PATHS, 0, 0),
+        37 => OWNER,
         _ => 0,
     }
 }
 
 // Expressions.
-fn expression_code(kind: usize, i: usize) -> u32
+fn expression_row(kind: usize) -> u64
     requires { ⌜ (64 ≤ kind) × (kind < 128) ⌝ }
-    ensures { λ r. ⌜ r ≡ getD (map codeOf (findRow kind grammar)) i 0 ⌝ }
+    ensures { λ r. ⌜ r ≡ rowOf (findRow kind grammar) ⌝ }
 {
     match kind {
         // literal
-        64 => row_of(i, LITERAL, 0, 0, 0),
+        64 => LITERAL,
         // field reference
-        65 => row_of(i, SEGMENTS, 0, 0, 0),
+        65 => SEGMENTS,
         // a name
-        66 => row_of(i, TEXT, 0, 0, 0),
-        67 => row_of(i, TEXT, 0, 0, 0),
+        66 => TEXT,
+        67 => TEXT,
         // two expressions, or one
-        68..=78 => row_of(i, EXPRESSION, EXPRESSION, 0, 0),
-        79..=82 => row_of(i, EXPRESSION, 0, 0, 0),
-        83..=91 => row_of(i, EXPRESSION, EXPRESSION, 0, 0),
+        68..=78 => BINARY,
+        79..=82 => EXPRESSION,
+        83..=91 => BINARY,
         _ => 0,
     }
 }
 
 // Layouts without their nodes, values and runs.
-fn layout_code(kind: usize, i: usize) -> u32
+fn layout_row(kind: usize) -> u64
     requires { ⌜ 144 < kind ⌝ }
-    ensures { λ r. ⌜ r ≡ getD (map codeOf (findRow kind grammar)) i 0 ⌝ }
+    ensures { λ r. ⌜ r ≡ rowOf (findRow kind grammar) ⌝ }
 {
     match kind {
         // layout
-        160 => row_of(i, TREES, 0, 0, 0),
+        160 => TREES,
         // type tree
-        161 => row_of(i, KEY, NUMBER, NODE, PARAMETERS),
+        161 => TREE,
         // parameter
-        162 => row_of(i, TEXT, OPT_TEXT, FLAG, 0),
+        162 => PARAMETER,
         // case
-        163 => row_of(i, NUMBER, NODE, PARAMETERS, 0),
+        163 => CASE,
         // argument
-        164 => row_of(i, TEXT, TEXT, 0, 0),
+        164 => ARGUMENT,
         // values
-        192 => row_of(i, VALUES, 0, 0, 0),
+        192 => VALUES,
         // run
-        193 => row_of(i, TEXT, NUMBER, RUN_VALUES, 0),
+        193 => RUN,
         _ => 0,
     }
 }
 
-// The code of part i of a kind, counted from 0; 0 behind the last, and where there is no such kind.
-pub fn code_at(kind: usize, i: usize) -> u32
-    requires { ⌜ i < 8 ⌝ }
-    ensures { λ r. ⌜ r ≡ codeAt kind i ⌝ }
+// The row of a kind; 0 where there is no such kind.
+pub fn row(kind: usize) -> u64
+    ensures { λ r. ⌜ r ≡ rowOf (partsOf kind) ⌝ }
 {
     if kind < 64 {
-        return type_code(kind, i);
+        return type_row(kind);
     }
     if kind < 128 {
-        return expression_code(kind, i);
+        return expression_row(kind);
     }
     if 144 < kind {
-        return layout_code(kind, i);
+        return layout_row(kind);
     }
-    if i < 5 {
-        return ir_nodes::node_part(kind, i);
-    }
-    0
+    ir_nodes::node_row(kind)
 }
 
-// The part with this place in `Part`, from 1.
-fn made_part(tag: u32, lo: u64, hi: u64, limit: u64) -> Part
-    ensures { λ r. ⌜ r ≡ made tag lo hi limit ⌝ }
+// The part of a digit.
+pub fn part_of(digit: u64) -> Part
+    ensures { λ r. ⌜ r ≡ partOf digit ⌝ }
 {
-    match tag {
-        2 => Part::Key,
-        3 => Part::Number,
-        4 => Part::Flag,
-        5 => Part::Size,
-        6 => Part::OptNumber,
-        7 => Part::OptText,
-        8 => Part::Literal,
-        9 => Part::Block(lo, hi),
-        10 => Part::OptBlock(lo, hi),
-        11 => Part::Blocks(lo, hi, limit),
-        12 => Part::Ascending(lo, hi, limit),
-        13 => Part::Distinct(lo, hi, limit),
-        14 => Part::Names(limit),
-        15 => Part::Paths(limit),
-        16 => Part::Values(limit),
+    match digit {
+        KEY => Part::Key,
+        NUMBER => Part::Number,
+        FLAG => Part::Flag,
+        SIZE => Part::Size,
+        OPT_NUMBER => Part::OptNumber,
+        OPT_TEXT => Part::OptText,
+        LITERAL => Part::Literal,
+        TYPE => Part::Block(1, 7),
+        REFERENCES => Part::Block(32, 32),
+        EXPRESSION => Part::Block(64, 91),
+        NODE => Part::Block(128, 144),
+        RUN_VALUES => Part::Block(192, 192),
+        OPT_NODE => Part::OptBlock(128, 144),
+        FIELDS => Part::Blocks(33, 33, 64),
+        VARIANTS => Part::Blocks(34, 34, 64),
+        SIZED_VARIANTS => Part::Blocks(35, 35, 64),
+        PARAMETERS => Part::Blocks(162, 162, 512),
+        CASES => Part::Blocks(163, 163, 64),
+        ARGUMENTS => Part::Blocks(164, 164, 512),
+        OWNERS => Part::Ascending(37, 37, 64),
+        TYPES => Part::Distinct(1, 7, 256),
+        TREES => Part::Distinct(161, 161, 256),
+        SEGMENTS => Part::Names(64),
+        PATHS => Part::Paths(64),
+        VALUES => Part::Values(512),
         _ => Part::Text,
     }
-}
-
-// The part that a code stands for; of a number that is no part's code, the part of its fields.
-pub fn part_of(code: u32) -> Part
-    ensures { λ r. ⌜ ((p : Part) → Coded p → code ≡ codeOf p → r ≡ p) ⌝ }
-    ensures { λ r. ⌜ r ≡ decoded code ⌝ }
-{
-    made_part(
-        code % 32,
-        (code / 32 % 256) as u64,
-        (code / 8192 % 256) as u64,
-        (code / 2097152) as u64,
-    )
 }

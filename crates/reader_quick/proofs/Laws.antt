@@ -1,7 +1,7 @@
 -- What the quick reader finds, as the definition reads it. Assumes nothing.
 use mathlib.Core.Path.{_≡_, refl, sym, _∙_, ap}
 use mathlib.Core.Bool.{Bool, true}
-use mathlib.Core.List.{List, [], _∷_, _++_}
+use mathlib.Core.List.{List, [], _∷_}
 use Prim.Native.Nat.{ℕ, _+_, _-_, _/_, _%_, _<_, _≤_}
 use native.Mathlib.Omega.{arith}
 use lib.ListN.{getD, take, drop}
@@ -11,7 +11,7 @@ use Rattle.blocks.specs.declared.Part.{Part}
 use Rattle.blocks.specs.declared.Part.the-variants.{Text, Number, Flag, OptText, Block, Blocks, Values}
 use Rattle.blocks.specs.Bytes.{le2, le4}
 use Rattle.blocks.specs.Name.{isText}
-use Rattle.blocks.specs.Grammar.{partsOf, findRow, grammar, node, metadata}
+use Rattle.blocks.specs.Grammar.{partsOf, findRow, grammar, node}
 use Rattle.blocks.specs.Read.{Step, Earlier, Reader, readText, readNumber, readFlag, readOptional, readCount, readEntries, readList, readPart, readParts, readHeader, readBlock}
 use Rattle.reader_leaf.specs.declared.Read.{Read}
 use Rattle.reader_leaf.specs.declared.Read.the-variants.{Ok}
@@ -21,7 +21,8 @@ use Rattle.reader_leaf.specs.Answer.{forget, readEntry, headOf, countOf}
 use Rattle.reader_leaf.proofs.Laws.{text-is, optional-on, optional-off}
 use Rattle.reader_leaf.proofs.Lists.{list-of}
 use Rattle.reader.proofs.Blocks.{parts-none, parts-go, block-ok}
-use Rattle.ir_nodes.specs.Rows.{partOf, Row}
+use Rattle.ir_nodes.specs.Codes.{partOf, rowOf}
+use Rattle.ir_nodes.proofs.Rows.{digit as first-digit, no-digit, behind}
 use Rattle.reader_quick.specs.Quick.{Reads, Sized, Begun, Body}
 
 -- ---- parts
@@ -203,117 +204,108 @@ module _ (room : ℕ) (s : List ℕ) (digit at end : ℕ) where
   abbrev Piece : ℕ → Type 0
   Piece r = (e : Earlier) (start : ℕ) → Reads r (readPart (readBlock room s) s e start end (partOf digit) at)
 
-  -- digit 1: a number
-  pub number-part : digit ≡ 1 → at + 8 ≤ end → Piece (at + 8)
-  unfolding readPart
+  -- digit 3: a number
+  pub number-part : digit ≡ 3 → at + 8 ≤ end → Piece (at + 8)
+  unfolding readPart partOf
   number-part k h e start z = rw k (number-yes s end at h start z)
 
-  -- digit 2: a name
-  pub text-part : digit ≡ 2 → {r : ℕ} → ((start : ℕ) → Reads r (readText s start end at)) → Piece r
-  unfolding readPart
+  -- digit 1: a name
+  pub text-part : digit ≡ 1 → {r : ℕ} → ((start : ℕ) → Reads r (readText s start end at)) → Piece r
+  unfolding readPart partOf
   text-part k d e start z = rw k (d start z)
 
-  -- digit 3: an optional name
-  pub optional-part : digit ≡ 3 → {r : ℕ} → ((start : ℕ) → Reads r (readOptional (readText s start end) 1 s start end at)) → Piece r
-  unfolding readPart
+  -- digit 7: an optional name
+  pub optional-part : digit ≡ 7 → {r : ℕ} → ((start : ℕ) → Reads r (readOptional (readText s start end) 1 s start end at)) → Piece r
+  unfolding readPart partOf
   optional-part k d e start z = rw k (d start z)
 
-  -- digit 4: a node
-  pub node-part : digit ≡ 4 → {r : ℕ} → ((e : Earlier) → Reads r (readBlock room s e 128 144 at end)) → Piece r
-  unfolding readPart
+  -- digit 12: a node
+  pub node-part : digit ≡ 12 → {r : ℕ} → ((e : Earlier) → Reads r (readBlock room s e 128 144 at end)) → Piece r
+  unfolding readPart partOf
   node-part k d e start z = rw k (d Earlier.any z)
 
-  -- digit 5: cases
-  pub cases-part : digit ≡ 5 → {r : ℕ} → ((start : ℕ) → Reads r (readList (λ f a. readBlock room s f 163 163 a end) Earlier.any 64 s start end at)) → Piece r
-  unfolding readPart
+  -- digit 19: cases
+  pub cases-part : digit ≡ 19 → {r : ℕ} → ((start : ℕ) → Reads r (readList (λ f a. readBlock room s f 163 163 a end) Earlier.any 64 s start end at)) → Piece r
+  unfolding readPart partOf
   cases-part k d e start z = rw k (d start z)
 
-  -- digit 6: arguments
-  pub arguments-part : digit ≡ 6 → 0 < room → {r : ℕ} → ((most start : ℕ) → 0 < most → Reads r (readList (λ f a. readBlock most s f 164 164 a end) Earlier.any 512 s start end at)) → Piece r
-  unfolding readPart
+  -- digit 20: arguments
+  pub arguments-part : digit ≡ 20 → 0 < room → {r : ℕ} → ((most start : ℕ) → 0 < most → Reads r (readList (λ f a. readBlock most s f 164 164 a end) Earlier.any 512 s start end at)) → Piece r
+  unfolding readPart partOf
   arguments-part k h d e start z = rw k (d room start h z)
 
-  module _ (k : digit ≡ 7) {i : ℕ} (q : (i ≡ at + 1) × (getD s at 0 ≤ 1)) (h : i ≤ end) where
-    -- digit 7: a default node that is not there
+  module _ (k : digit ≡ 14) {i : ℕ} (q : (i ≡ at + 1) × (getD s at 0 ≤ 1)) (h : i ≤ end) where
+    -- digit 14: a default node that is not there
     pub default-off : getD s at 0 ≡ 0 → Piece i
-    unfolding readPart
+    unfolding readPart partOf
     default-off g e start z = rw (k, q .0) (off-yes s end at (λ t a. readBlock room s Earlier.any 128 144 a end) (omega arith) g start (omega arith))
 
-    -- digit 7: one that is
+    -- digit 14: one that is
     pub default-on : (getD s at 0 ≡ 0 → ⊥) → {r : ℕ} → ((e : Earlier) → Reads r (readBlock room s e 128 144 i end)) → Piece r
-    unfolding readPart
+    unfolding readPart partOf
     default-on g {r} d e start z = rw k (on-yes s end at (λ t a. readBlock room s Earlier.any 128 144 a end) (omega arith) g (q .1) r (λ t y. rw (q .0) at (d Earlier.any y)) start z)
 
 -- ---- rows
 
--- a row that is not 0 has a first digit
-step : (row : ℕ) (qs : List Part) → Row row qs → (row ≡ 0 → ⊥) → (ps : List Part) × (qs ≡ partOf (row % 8) ∷ ps) × Row (row / 8) ps
-step row qs Row.none h = absurd (h refl)
-step row qs (Row.more c ps l r) h = (ps, refl, r)
-
--- the row 0 has no part
-last : (row : ℕ) (qs : List Part) → Row row qs → row ≡ 0 → qs ≡ []
-last row qs Row.none h = refl
-last row qs (Row.more c ps l r) h = let z : row % 8 ≡ 0 = rw h in absurd (omega (arith, l, z))
-
 module _ (room : ℕ) (s : List ℕ) (stop : ℕ) where
   -- no part is left: the body ends here
   pub row-none : {row at : ℕ} → row ≡ 0 → at ≡ stop → Body room s row at stop
-  row-none {row} {at} h q ps r e start = parts-none (readBlock room s) s e start stop at (last row ps r h) ∙ ap Ok q
+  row-none {row} {at} h q ps r e start = parts-none (readBlock room s) s e start stop at (no-digit row ps r h) ∙ ap Ok q
 
-  module _ (at : ℕ) {row i : ℕ} (h : row ≡ 0 → ⊥) (z : 0 < i) (d : Piece room s (row % 8) at stop i) where
+  module _ (at : ℕ) {row i : ℕ} (h : row ≡ 0 → ⊥) (z : 0 < i) (d : Piece room s (row % 32) at stop i) where
     -- a part that was read, and those of the digits behind it
-    pub row-go : Body room s (row / 8) i stop → Body room s row at stop
-    row-go b ps r e start = let w = step row ps r h in parts-go (readBlock room s) s e start stop (w .1) at (d e start z) ∙ b (w .0) (w .2) e start
+    pub row-go : Body room s (row / 32) i stop → Body room s row at stop
+    row-go b ps r e start = let w = first-digit row ps r h in parts-go (readBlock room s) s e start stop (w .1) at (d e start z) ∙ b (w .0) (w .2) e start
 
     -- the last part, where it ends the body
-    row-last : row / 8 ≡ 0 → i ≡ stop → Body room s row at stop
+    row-last : row / 32 ≡ 0 → i ≡ stop → Body room s row at stop
     row-last k q = row-go (row-none k q)
 
   -- two parts, the last of them a node
-  pub row-child : (at : ℕ) {row i : ℕ} → row / 8 ≡ 4 → 0 < i → 0 < stop → Piece room s (row % 8) at stop i
+  pub row-child : (at : ℕ) {row i : ℕ} → row / 32 ≡ 12 → 0 < i → 0 < stop → Piece room s (row % 32) at stop i
       → ((e : Earlier) → forget (readBlock room s e 128 144 i stop) ≡ Ok stop) → Body room s row at stop
-  row-child at {row} {i} k z y d n = row-go at (λ h. omega arith) z d (row-last i (λ h. omega arith) y (node-part room s (row / 8 % 8) i stop (rw k) (λ e x. n e)) (rw k) refl)
+  row-child at {row} {i} k z y d n = row-go at (λ h. omega arith) z d (row-last i (λ h. omega arith) y (node-part room s (row / 32 % 32) i stop (rw k) (λ e x. n e)) (rw k) refl)
 
   -- two parts, the first of them a name
-  row-named : (at : ℕ) {row i j : ℕ} → row % 8 ≡ 2 → row / 8 / 8 ≡ 0 → (row / 8 ≡ 0 → ⊥) → 0 < i → ((start : ℕ) → Reads i (readText s start stop at))
-      → 0 < j → Piece room s (row / 8 % 8) i stop j → j ≡ stop → Body room s row at stop
-  row-named at {row} {i} k l n z d y p q = row-go at (λ h. n (rw h)) z (text-part room s (row % 8) at stop k d) (row-last i n y p l q)
+  row-named : (at : ℕ) {row i j : ℕ} → row % 32 ≡ 1 → row / 32 / 32 ≡ 0 → (row / 32 ≡ 0 → ⊥) → 0 < i → ((start : ℕ) → Reads i (readText s start stop at))
+      → 0 < j → Piece room s (row / 32 % 32) i stop j → j ≡ stop → Body room s row at stop
+  row-named at {row} {i} k l n z d y p q = row-go at (λ h. n (rw h)) z (text-part room s (row % 32) at stop k d) (row-last i n y p l q)
 
   -- the rows that are met most
   module _ (at : ℕ) {row j r : ℕ} (c : 0 < r → (r ≡ stop) × (j ≡ stop)) where
     -- the row of a constant
-    pub const-row : row ≡ 1 → j ≡ at + 8 → 0 < r → (r ≡ stop) × Body room s row at stop
-    const-row k h z = let q = c z in (q .0, row-last at (λ y. omega arith) (omega arith) (number-part room s (row % 8) at stop (rw k) (omega arith)) (rw k) (sym h ∙ q .1))
+    pub const-row : row ≡ 3 → j ≡ at + 8 → 0 < r → (r ≡ stop) × Body room s row at stop
+    const-row k h z = let q = c z in (q .0, row-last at (λ y. omega arith) (omega arith) (number-part room s (row % 32) at stop (rw k) (omega arith)) (rw k) (sym h ∙ q .1))
 
     module _ {i : ℕ} (x : 0 < i) (d : (start : ℕ) → Reads i (readText s start stop at)) where
       -- the row of a call
-      pub call-row : row ≡ 50 → 0 < room
+      pub call-row : row ≡ 641 → 0 < room
           → ((most start : ℕ) → 0 < most → Reads j (readList (λ f a. readBlock most s f 164 164 a stop) Earlier.any 512 s start stop i)) → 0 < r
           → (r ≡ stop) × Body room s row at stop
       call-row k h f z =
           let q = c z in (
             q .0,
-            row-named at (rw k) (rw k) (λ y. omega arith) x d (omega arith) (arguments-part room s (row / 8 % 8) i stop (rw k) h f) (q .1),
+            row-named at (rw k) (rw k) (λ y. omega arith) x d (omega arith) (arguments-part room s (row / 32 % 32) i stop (rw k) h f) (q .1),
           )
 
       -- the row of a field reference
-      pub field-row : row ≡ 26 → ((start : ℕ) → Reads j (readOptional (readText s start stop) 1 s start stop i)) → 0 < r → (r ≡ stop) × Body room s row at stop
+      pub field-row : row ≡ 225 → ((start : ℕ) → Reads j (readOptional (readText s start stop) 1 s start stop i)) → 0 < r → (r ≡ stop) × Body room s row at stop
       field-row k f z =
           let q = c z in (
             q .0,
-            row-named at (rw k) (rw k) (λ y. omega arith) x d (omega arith) (optional-part room s (row / 8 % 8) i stop (rw k) f) (q .1),
+            row-named at (rw k) (rw k) (λ y. omega arith) x d (omega arith) (optional-part room s (row / 32 % 32) i stop (rw k) f) (q .1),
           )
 
 -- ---- nodes
 
 module _ (s : List ℕ) (at end stop : ℕ) (y : 0 < stop) (g : Sized s at end stop) where
   -- a node is read: its head and metadata, then its row
-  pub node-yes : {room k row i : ℕ} → 0 < i → Begun s room at stop i → k ≡ le2 s (at + 4) → ((ps : List Part) × (partsOf k ≡ metadata ++ ps) × Row row ps) → Body (room - 1) s row i stop
+  pub node-yes : {room k c i : ℕ} → 0 < i → Begun s room at stop i → k ≡ le2 s (at + 4) → c ≡ rowOf (partsOf k) → Body (room - 1) s (c / 1024) i stop
       → (e : Earlier) → forget (readBlock room s e 128 144 at end) ≡ Ok stop
   unfolding readPart
-  node-yes {room} {k} z h q w b e =
+  node-yes {room} {k} z h q r b e =
+      let w = behind (omega (arith, q, h .least)) (omega (arith, q, h .most)) r in
       let rb = readBlock (room - 1) s in
-      let behind = part-then rb s e at stop OptText (w .0) (at + 14) (h .read at z) (b (w .0) (w .2) e at) in
-      let all = part-then rb s e at stop Number (OptText ∷ w .0) (at + 6) (number-first s at stop at (h .inside)) behind in
+      let rest = part-then rb s e at stop OptText (w .0) (at + 14) (h .read at z) (b (w .0) (w .2) e at) in
+      let all = part-then rb s e at stop Number (OptText ∷ w .0) (at + 6) (number-first s at stop at (h .inside)) rest in
       block-yes s at end stop y g room e 128 144 k q (omega (arith, h .least)) (omega (arith, h .most)) (h .allowed) (rw (w .1) all) refl

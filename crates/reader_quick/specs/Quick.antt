@@ -9,7 +9,7 @@ use Rattle.blocks.specs.Bytes.{le2, le4, le8, nameAt}
 use Rattle.blocks.specs.Name.{Name}
 use Rattle.blocks.specs.declared.Part.{Part}
 use Rattle.blocks.specs.Read.{Step, Earlier, readText, readOptional, readParts, readBlock}
-use Rattle.ir_nodes.specs.Rows.{Row}
+use Rattle.ir_nodes.specs.Codes.{Digits}
 use Rattle.reader_leaf.specs.declared.Read.the-variants.{Ok}
 use Rattle.reader_leaf.specs.Answer.{forget}
 use Rattle.reader_leaf.specs.Seen.{behind}
@@ -30,9 +30,9 @@ pub record Begun (s : List ℕ) (room at stop r : ℕ) : Type 0 where
   pub allowed : 0 < room
   pub read : (start : ℕ) → Reads r (readOptional (readText s start stop) 1 s start stop (at + 14))
 
--- the parts of a row from an offset on, up to the end of their node
+-- the parts of a row's digits from an offset on, up to the end of their node
 abbrev pub Body : ℕ → List ℕ → ℕ → ℕ → ℕ → Type 0
-Body room s row at stop = (ps : List Part) → Row row ps → (e : Earlier) (start : ℕ) → forget (readParts (readBlock room s) s e start stop ps at) ≡ Ok stop
+Body room s row at stop = (ps : List Part) → Digits row ps → (e : Earlier) (start : ℕ) → forget (readParts (readBlock room s) s e start stop ps at) ≡ Ok stop
 
 -- a count at an offset, at most that of type trees, and room for it before the end of a block
 abbrev pub Counted : List ℕ → ℕ → ℕ → ℕ → Type 0

@@ -13,9 +13,24 @@ ghost use Rattle.blocks.specs.Read.{Earlier, Reader, inOrder, readText, readFla
 ghost use Rattle.reader_leaf.specs.declared.Read.the-variants.{Ok};
 ghost use Rattle.reader_leaf.specs.Answer.{forget};
 ghost use Rattle.reader_leaf.specs.Seen.{nameAt, NameIn, namesBefore, Stand};
-ghost use Rattle.ir_nodes.specs.Rows.{partOf};
+ghost use Rattle.ir_nodes.specs.Codes.{partOf};
 ghost use Rattle.reader.specs.Input.{inputOf};
 ghost use Rattle.reader_quick.specs.Quick.{Reads, Sized, Begun, Body, Counted, placeOf, Marked};
+
+// The digits of the parts that nodes have.
+const TEXT: u64 = ir_nodes::TEXT as u64;
+
+const NUMBER: u64 = ir_nodes::NUMBER as u64;
+
+const OPT_TEXT: u64 = ir_nodes::OPT_TEXT as u64;
+
+const NODE: u64 = ir_nodes::NODE as u64;
+
+const OPT_NODE: u64 = ir_nodes::OPT_NODE as u64;
+
+const CASES: u64 = ir_nodes::CASES as u64;
+
+const ARGUMENTS: u64 = ir_nodes::ARGUMENTS as u64;
 
 // A name or a text.
 fn text(s: &[u8], at: usize, end: usize) -> usize
@@ -220,28 +235,28 @@ fn cases(s: &[u8], room: usize, at: usize, end: usize) -> usize
 }
 
 // The part of a node that a digit of its row stands for.
-fn piece(s: &[u8], room: usize, digit: u16, at: usize, end: usize) -> usize
+fn piece(s: &[u8], room: usize, digit: u64, at: usize, end: usize) -> usize
     requires { ⌜ (at ≤ end) × (end ≤ length (now s)) ⌝ }
     ensures { λ r. ⌜ ((e : Earlier) (start : ℕ) → Reads r (readPart (readBlock room (now (s .entry))) (now (s .entry)) e start end (partOf digit) at)) × (r ≤ end) ⌝ }
 {
     match digit {
-        1 => {
+        NUMBER => {
             if end < at + 8 {
                 return 0;
             }
             at + 8
         }
-        2 => text(s, at, end),
-        3 => optional(s, at, end),
-        4 => node(s, room, at, end),
-        5 => cases(s, room, at, end),
-        6 => {
+        TEXT => text(s, at, end),
+        OPT_TEXT => optional(s, at, end),
+        NODE => node(s, room, at, end),
+        CASES => cases(s, room, at, end),
+        ARGUMENTS => {
             if room == 0 {
                 return 0;
             }
             entries(s, 164, at, end)
         }
-        7 => {
+        OPT_NODE => {
             let i = flag(s, at, end);
             if i == 0 {
                 return 0;
@@ -288,41 +303,41 @@ fn fills(s: &[u8], at: usize, stop: usize) -> bool
 }
 
 // The part of a digit before a node's last part: mostly it is a number or a node.
-fn leading(s: &[u8], room: usize, digit: u16, at: usize, end: usize) -> usize
+fn leading(s: &[u8], room: usize, digit: u64, at: usize, end: usize) -> usize
     requires { ⌜ (at ≤ end) × (end ≤ length (now s)) ⌝ }
     ensures { λ r. ⌜ ((e : Earlier) (start : ℕ) → Reads r (readPart (readBlock room (now (s .entry))) (now (s .entry)) e start end (partOf digit) at)) × (r ≤ end) ⌝ }
 {
-    if digit == 1 {
+    if digit == NUMBER {
         if end < at + 8 {
             return 0;
         }
         return at + 8;
     }
-    if digit == 4 {
+    if digit == NODE {
         return node(s, room, at, end);
     }
     piece(s, room, digit, at, end)
 }
 
 // The parts of a row, up to the end of their node.
-fn pieces(s: &[u8], room: usize, row: u16, at: usize, stop: usize) -> usize
+fn pieces(s: &[u8], room: usize, row: u64, at: usize, stop: usize) -> usize
     requires { ⌜ (at ≤ stop) × (stop ≤ length (now s)) ⌝ }
     ensures { λ r. ⌜ (0 < r → (r ≡ stop) × Body room (now (s .entry)) row at stop) × (r ≤ stop) ⌝ }
 {
     let mut i = at;
     let mut digits = row;
     while digits != 0 {
-        i = piece(s, room, digits % 8, i, stop);
+        i = piece(s, room, digits % 32, i, stop);
         if i == 0 {
             return 0;
         }
-        digits = digits / 8;
+        digits = digits / 32;
     }
     closed(i, stop)
 }
 
 // The same; the rows that are met most are not taken apart.
-fn body(s: &[u8], room: usize, row: u16, at: usize, stop: usize) -> usize
+fn body(s: &[u8], room: usize, row: u64, at: usize, stop: usize) -> usize
     requires { ⌜ (at ≤ stop) × (stop ≤ length (now s)) ⌝ }
     ensures { λ r. ⌜ (0 < r → (r ≡ stop) × Body room (now (s .entry)) row at stop) × (r ≤ stop) ⌝ }
 {
@@ -349,7 +364,7 @@ fn body(s: &[u8], room: usize, row: u16, at: usize, stop: usize) -> usize
     pieces(s, room, row, at, stop)
 }
 
-// A node: its metadata, and the parts of its row. A node that is the last of two parts ends where this one does: the loop goes
+// A node: its metadata, and the parts behind it in its row. A node that is the last of two parts ends where this one does: the loop goes
 // on with it, so that only what stands before it is a call deeper.
 fn node(s: &[u8], room: usize, at: usize, end: usize) -> usize
     requires { ⌜ (at ≤ end) × (end ≤ length (now s)) ⌝ }
@@ -364,9 +379,9 @@ fn node(s: &[u8], room: usize, at: usize, end: usize) -> usize
         return 0;
     }
     let mut left = room - 1;
-    let mut row = ir_nodes::node_row(wire::read2(s, at + 4));
-    while row / 8 == 4 {
-        let q = leading(s, left, row % 8, i, stop);
+    let mut row = ir_nodes::node_row(wire::read2(s, at + 4)) / 1024;
+    while row / 32 == NODE {
+        let q = leading(s, left, row % 32, i, stop);
         if q == 0 {
             return 0;
         }
@@ -378,7 +393,7 @@ fn node(s: &[u8], room: usize, at: usize, end: usize) -> usize
             return 0;
         }
         left -= 1;
-        row = ir_nodes::node_row(wire::read2(s, q + 4));
+        row = ir_nodes::node_row(wire::read2(s, q + 4)) / 1024;
     }
     body(s, left, row, i, stop)
 }

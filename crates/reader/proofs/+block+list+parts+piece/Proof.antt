@@ -1,18 +1,16 @@
 -- The members of the cycle meet their contracts. The measure is four times the room, and a member's rank. A list's invariant:
 -- the whole reads as what is left of it, behind what the code keeps of the blocks before; that of the parts: all parts read
--- as those from column i on.
-use mathlib.Core.Path.{_≡_, refl, sym, _∙_}
-use Prim.Native.Nat.{_≤_, ℕ, _<_, _+_, _*_, _-_}
+-- as those of the digits that are left of the row.
+use mathlib.Core.Path.{_≡_, sym, _∙_}
+use Prim.Native.Nat.{_≤_, ℕ, _<_, _+_, _*_}
 use native.Mathlib.Omega.{arith}
-use lib.ListN.{drop}
 use borrow.Author.Needs.{needs}
 use borrow.Fn.Kinds.{In}
 use borrow.Fn.PlainCycle.{Measures, is, falls, and}
-use Rattle.blocks.specs.Read.{readPart, readParts, readBlock, readList, readEntries}
-use Rattle.blocks.specs.Grammar.{partsOf}
-use Rattle.reader_grammar.proofs.Laws.{ended}
-use Rattle.reader_grammar.proofs.code_at.Reads as code-at-reads
+use Rattle.blocks.specs.Read.{readPart, readBlock, readList, readEntries}
+use Rattle.reader_grammar.proofs.Laws.{owners, types}
 use Rattle.reader_grammar.proofs.part_of.Reads as part-of-reads
+use Rattle.reader_grammar.proofs.row.Reads as row-reads
 use Rattle.reader_leaf.proofs.Lists.{list-of, list-bad, entries-none, entries-stop}
 use Rattle.reader_leaf.proofs.Laws.{optional-stop, optional-on, optional-off}
 use Rattle.reader_leaf.specs.Seen.{earlierOf, namesBefore}
@@ -24,7 +22,7 @@ use Rattle.reader_leaf.proofs.heading.Reads as heading-reads
 use Rattle.reader_leaf.proofs.plain.Reads as plain-reads
 use Rattle.reader.specs.Before.{Before}
 use Rattle.reader.proofs.Lists.{list-grows, list-go, nothing-before, nothing-valid, owners-before, types-before, plain}
-use Rattle.reader.proofs.Blocks.{parts-none, parts-stop, parts-go, block-no, block-full, block-stop, block-ok, block-rest, decoded}
+use Rattle.reader.proofs.Blocks.{block-no, block-full, block-stop, block-ok, block-rest, Left, all-left, none-left, left-stop, left-go}
 use Rattle.reader.proofs.block.Reads as block
 use Rattle.reader.proofs.block.Kinds as block-kinds
 use Rattle.reader.proofs.+block+list+parts+piece.Lts-block as block-lts
@@ -91,16 +89,16 @@ list-with t = (
 
 abbrev parts-with : ℕ → parts-lts.Claims
 parts-with t = (
-  code-at-reads.Asked,
-  code-at-reads.Learnt,
-  part-of-reads.Asked,
-  part-of-reads.Learnt,
+  row-reads.Asked,
+  row-reads.Learnt,
   piece-below t,
   piece.Post,
 )
 
 abbrev piece-with : ℕ → piece-lts.Claims
 piece-with t = (
+  part-of-reads.Asked,
+  part-of-reads.Learnt,
   block-below t,
   block.Post,
   flag-reads.Asked,
@@ -309,50 +307,23 @@ list-returns-3 t c = (
 )
 
 abbrev parts-Inv-loop : parts-lts.InvT-loop
-parts-Inv-loop s room seen kind start at end i₀ here₀ i here =
-    (i ≤ 7) ×
-    (here ≤ end) ×
-    (forget
-    (readParts (readBlock room s) s (earlierOf s seen) start end (partsOf kind) at) ≡ forget
-    (readParts (readBlock room s) s (earlierOf s seen) start end (drop i (partsOf kind)) here))
+parts-Inv-loop s room seen kind start at end here₀ row₀ here row =
+    (here ≤ end) × Left (readBlock room s) s (earlierOf s seen) start end kind at row here
 
 abbrev parts-μ-loop : parts-lts.MeasureT-loop
-parts-μ-loop s room seen kind start at end i₀ here₀ i here = 8 - i
+parts-μ-loop s room seen kind start at end here₀ row₀ here row = row
+
+parts-row-requires : (t : ℕ) → parts-lts.Need-row-requires (parts-with t) (parts-at t) parts.Post parts-Inv-loop parts-μ-loop
+parts-row-requires t c κs = search needs
 
 parts-loop-holds : (t : ℕ) → parts-lts.Need-loop-holds (parts-with t) (parts-at t) parts.Post parts-Inv-loop parts-μ-loop
-parts-loop-holds t c = (omega arith, omega arith, refl)
-
-parts-code-at-requires : (t : ℕ) → parts-lts.Need-code-at-requires (parts-with t) (parts-at t) parts.Post parts-Inv-loop parts-μ-loop
-parts-code-at-requires t c κs = omega arith
-
-parts-returns : (t : ℕ) → parts-lts.Need-returns (parts-with t) (parts-at t) parts.Post parts-Inv-loop parts-μ-loop
-parts-returns t c =
-    let at-loop = c .before .before in (
-      sym
-          (at-loop .loop .inv .2
-          ∙ parts-none _ _ _ _ _ _ (ended _ _ (sym (c .before .code-at .ensures) ∙ c .if1 .taken))),
-      at-loop .loop .inv .1,
-    )
-
-parts-part-of-requires : (t : ℕ) → parts-lts.Need-part-of-requires (parts-with t) (parts-at t) parts.Post parts-Inv-loop parts-μ-loop
-parts-part-of-requires t c κs = search needs
+parts-loop-holds t c = (omega arith, all-left _ _ _ _ _ _ _ (c .row .ensures))
 
 parts-piece-requires : (t : ℕ) → parts-lts.Need-piece-requires (parts-with t) (parts-at t) parts.Post parts-Inv-loop parts-μ-loop
 parts-piece-requires t c κs =
-    let at-code-at = c .before .before in
-    let at-loop = at-code-at .before in
-    let at-start = at-loop .before .before in (
-      omega arith,
-      (
-        at-loop .loop .inv .1,
-        omega arith,
-        at-start .pre .1 .2,
-        decoded _ _ _ _
-            (at-code-at .code-at .ensures)
-            (c .before .if1 .left)
-            (c .part-of .ensures .0) .keyed,
-      ),
-    )
+    let at-loop = c .before in
+    let at-start = at-loop .before .before .before in
+    (omega arith, (at-loop .loop .inv .0, omega arith, at-start .pre .1 .2))
 
 parts-enum-known-next : (t : ℕ) → parts-lts.Need-enum-known-next (parts-with t) (parts-at t) parts.Post parts-Inv-loop parts-μ-loop
 parts-enum-known-next t c = search needs
@@ -360,26 +331,18 @@ parts-enum-known-next t c = search needs
 parts-enum-known-q : (t : ℕ) → parts-lts.Need-enum-known-q (parts-with t) (parts-at t) parts.Post parts-Inv-loop parts-μ-loop
 parts-enum-known-q t c = search needs
 
-parts-returns-2 : (t : ℕ) → parts-lts.Need-returns-2 (parts-with t) (parts-at t) parts.Post parts-Inv-loop parts-μ-loop
-parts-returns-2 t c =
+parts-returns : (t : ℕ) → parts-lts.Need-returns (parts-with t) (parts-at t) parts.Post parts-Inv-loop parts-μ-loop
+parts-returns t c =
     let at-piece = c .before .before .before in
-    let at-part-of = at-piece .before in
-    let at-else1 = at-part-of .before in
-    let at-code-at = at-else1 .before in
-    let at-loop = at-code-at .before in (
+    let in-loop = at-piece .before in
+    let at-loop = in-loop .before in (
       sym
-          (at-loop .loop .inv .2
-          ∙ parts-stop _ _ _ _ _
-          (decoded _ _ _ _
-          (at-code-at .code-at .ensures)
-          (at-else1 .if1 .left)
-          (at-part-of .part-of .ensures .0) .rest) _
+          (left-stop _ _ _ _ _ _ _
+          (at-loop .loop .inv .1)
+          (in-loop .loop-test .taken)
           (sym (at-piece .piece .ensures .0) ∙ c .before .q .given .1)),
       tt,
     )
-
-parts-add-i : (t : ℕ) → parts-lts.Need-add-i (parts-with t) (parts-at t) parts.Post parts-Inv-loop parts-μ-loop
-parts-add-i t c = omega arith
 
 parts-loop-less : (t : ℕ) → parts-lts.Need-loop-less (parts-with t) (parts-at t) parts.Post parts-Inv-loop parts-μ-loop
 parts-loop-less t c = omega arith
@@ -387,21 +350,23 @@ parts-loop-less t c = omega arith
 parts-loop-again : (t : ℕ) → parts-lts.Need-loop-again (parts-with t) (parts-at t) parts.Post parts-Inv-loop parts-μ-loop
 parts-loop-again t c =
     let at-piece = c .before .before .before in
-    let at-part-of = at-piece .before in
-    let at-else1 = at-part-of .before in
-    let at-code-at = at-else1 .before in
-    let at-loop = at-code-at .before in
-    let p = decoded _ _ _ _
-    (at-code-at .code-at .ensures)
-    (at-else1 .if1 .left)
-    (at-part-of .part-of .ensures .0) in (
-      omega (arith, p .below),
+    let in-loop = at-piece .before in
+    let at-loop = in-loop .before in (
       rw (c .before .next .given .1) at (at-piece .piece .ensures .1),
-      at-loop .loop .inv .2
-          ∙ parts-go _ _ _ _ _
-          (p .rest) _
+      left-go _ _ _ _ _ _ _
+          (at-loop .loop .inv .1)
+          (in-loop .loop-test .taken)
           (sym (at-piece .piece .ensures .0) ∙ c .before .next .given .1),
     )
+
+parts-returns-2 : (t : ℕ) → parts-lts.Need-returns-2 (parts-with t) (parts-at t) parts.Post parts-Inv-loop parts-μ-loop
+parts-returns-2 t c = (
+  sym (none-left _ _ _ _ _ _ _ (c .before .loop .inv .1) (c .loop-test .left)),
+  c .before .loop .inv .0,
+)
+
+piece-part-of-requires : (t : ℕ) → piece-lts.Need-part-of-requires (piece-with t) (piece-at t) piece.Post
+piece-part-of-requires t c κs = search needs
 
 piece-enum-known-p : (t : ℕ) → piece-lts.Need-enum-known-p (piece-with t) (piece-at t) piece.Post
 piece-enum-known-p t c = search needs
@@ -449,12 +414,12 @@ piece-add-first t c = omega arith
 
 piece-list-requires-2 : (t : ℕ) → piece-lts.Need-list-requires-2 (piece-with t) (piece-at t) piece.Post
 piece-list-requires-2 t c κs =
-    let at-start = c .before .before .before .before in (
+    let at-part-of = c .before .before .before in (
       omega arith,
       (
         omega arith,
         omega arith,
-        owners-before _ _ _ _ (at-start .pre .1 .3 .ascending _ _ _ (c .before .p4 .given .1)),
+        owners-before _ _ _ _ (owners _ _ _ _ (sym (at-part-of .part-of .ensures) ∙ c .before .p4 .given .1)),
       ),
     )
 
@@ -466,12 +431,12 @@ piece-add-first-2 t c = omega arith
 
 piece-list-requires-3 : (t : ℕ) → piece-lts.Need-list-requires-3 (piece-with t) (piece-at t) piece.Post
 piece-list-requires-3 t c κs =
-    let at-start = c .before .before .before .before in (
+    let at-part-of = c .before .before .before in (
       omega arith,
       (
         omega arith,
         omega arith,
-        types-before _ _ _ _ (at-start .pre .1 .3 .distinct _ _ _ (c .before .p5 .given .1)),
+        types-before _ _ _ _ (types _ _ _ _ (sym (at-part-of .part-of .ensures) ∙ c .before .p5 .given .1)),
       ),
     )
 
@@ -479,24 +444,24 @@ piece-plain-requires : (t : ℕ) → piece-lts.Need-plain-requires (piece-with t
 piece-plain-requires t c κs = (
   omega arith,
   omega arith,
-  c .before .before .pre .1 .2,
+  c .before .before .before .pre .1 .2,
   plain _ (c .match .keys6),
 )
 
 piece-returns : (t : ℕ) → piece-lts.Need-returns (piece-with t) (piece-at t) piece.Post
 unfolding readPart earlierOf
-piece-returns t c = (
-  rw (c .before .before .p .given .1) (c .block .ensures .0),
-  c .block .ensures .1,
-)
+piece-returns t c =
+    let at-p = c .before .before in
+    let e = sym (at-p .before .before .part-of .ensures) ∙ at-p .p .given .1 in
+    (rw e (c .block .ensures .0), c .block .ensures .1)
 
 piece-returns-2 : (t : ℕ) → piece-lts.Need-returns-2 (piece-with t) (piece-at t) piece.Post
 unfolding readPart
 piece-returns-2 t c =
     let at-flag = c .before .before .before in
-    let at-p2 = at-flag .before .before in (
-      rw
-          (at-p2 .p2 .given .1)
+    let at-p2 = at-flag .before .before in
+    let e = sym (at-p2 .before .before .part-of .ensures) ∙ at-p2 .p2 .given .1 in (
+      rw e
           (sym
           (optional-stop _ _ _ _ _ _ (sym (at-flag .flag .ensures .0) ∙ c .before .q .given .1))),
       tt,
@@ -507,9 +472,9 @@ unfolding readPart earlierOf
 piece-returns-3 t c =
     let at-next = c .before .before .before .before in
     let at-flag = at-next .before .before in
-    let at-p2 = at-flag .before .before in (
-      rw
-          (at-p2 .p2 .given .1)
+    let at-p2 = at-flag .before .before in
+    let e = sym (at-p2 .before .before .part-of .ensures) ∙ at-p2 .p2 .given .1 in (
+      rw e
           (c .block2 .ensures .0
           ∙ sym
           (optional-on _ _ _ _ _ _
@@ -523,9 +488,9 @@ unfolding readPart
 piece-returns-4 t c =
     let at-next = c .before .before .before in
     let at-flag = at-next .before .before in
-    let at-p2 = at-flag .before .before in (
-      rw
-          (at-p2 .p2 .given .1)
+    let at-p2 = at-flag .before .before in
+    let e = sym (at-p2 .before .before .part-of .ensures) ∙ at-p2 .p2 .given .1 in (
+      rw e
           (sym
           (optional-off _ _ _ _ _ _
           (sym (at-flag .flag .ensures .0) ∙ at-next .next .given .1)
@@ -535,27 +500,29 @@ piece-returns-4 t c =
 
 piece-returns-5 : (t : ℕ) → piece-lts.Need-returns-5 (piece-with t) (piece-at t) piece.Post
 unfolding readPart earlierOf
-piece-returns-5 t c = (
-  rw (c .before .before .p3 .given .1) (c .list .ensures .0),
-  c .list .ensures .1,
-)
+piece-returns-5 t c =
+    let at-p3 = c .before .before in
+    let e = sym (at-p3 .before .before .part-of .ensures) ∙ at-p3 .p3 .given .1 in
+    (rw e (c .list .ensures .0), c .list .ensures .1)
 
 piece-returns-6 : (t : ℕ) → piece-lts.Need-returns-6 (piece-with t) (piece-at t) piece.Post
 unfolding readPart earlierOf namesBefore
-piece-returns-6 t c = (
-  rw (c .before .before .p4 .given .1) (c .list2 .ensures .0),
-  c .list2 .ensures .1,
-)
+piece-returns-6 t c =
+    let at-p4 = c .before .before in
+    let e = sym (at-p4 .before .before .part-of .ensures) ∙ at-p4 .p4 .given .1 in
+    (rw e (c .list2 .ensures .0), c .list2 .ensures .1)
 
 piece-returns-7 : (t : ℕ) → piece-lts.Need-returns-7 (piece-with t) (piece-at t) piece.Post
 unfolding readPart earlierOf namesBefore
-piece-returns-7 t c = (
-  rw (c .before .before .p5 .given .1) (c .list3 .ensures .0),
-  c .list3 .ensures .1,
-)
+piece-returns-7 t c =
+    let at-p5 = c .before .before in
+    let e = sym (at-p5 .before .before .part-of .ensures) ∙ at-p5 .p5 .given .1 in
+    (rw e (c .list3 .ensures .0), c .list3 .ensures .1)
 
 piece-returns-8 : (t : ℕ) → piece-lts.Need-returns-8 (piece-with t) (piece-at t) piece.Post
-piece-returns-8 t c = (c .plain .ensures .0 _, c .plain .ensures .1)
+piece-returns-8 t c =
+    let at-part-of = c .before .before in
+    (rw (sym (at-part-of .part-of .ensures)) (c .plain .ensures .0 _), c .plain .ensures .1)
 
 pub +block+list+parts+piece-spec : {M : Type 1} → statement M
 +block+list+parts+piece-spec =
@@ -570,10 +537,9 @@ pub +block+list+parts+piece-spec : {M : Type 1} → statement M
     (list-enum-known-q-2 t) (list-returns t) (list-sub-left t) (list-loop-less t)
     (list-loop-again t) (list-returns-2 t) (list-returns-3 t))
     (λ t. parts-lts.spec (parts-with t) (parts-at t) parts.Post parts-Inv-loop parts-μ-loop
-    (parts-loop-holds t) (parts-code-at-requires t) (parts-returns t) (parts-part-of-requires t)
-    (parts-piece-requires t) (parts-enum-known-next t) (parts-enum-known-q t) (parts-returns-2 t)
-    (parts-add-i t) (parts-loop-less t) (parts-loop-again t))
-    (λ t. piece-lts.spec (piece-with t) (piece-at t) piece.Post (piece-enum-known-p t)
+    (parts-row-requires t) (parts-loop-holds t) (parts-piece-requires t) (parts-enum-known-next t)
+    (parts-enum-known-q t) (parts-returns t) (parts-loop-less t) (parts-loop-again t) (parts-returns-2 t))
+    (λ t. piece-lts.spec (piece-with t) (piece-at t) piece.Post (piece-part-of-requires t) (piece-enum-known-p t)
     (piece-block-requires t) (piece-enum-known-p-2 t) (piece-flag-requires t) (piece-enum-known-q t)
     (piece-enum-known-next t) (piece-shared-slice-read-if1 t) (piece-block-requires-2 t)
     (piece-enum-known-p-3 t) (piece-list-requires t) (piece-enum-known-p-4 t) (piece-add-first t)
