@@ -5,14 +5,14 @@ use mathlib.Core.List.{List, [], _∷_, _++_, map}
 use Prim.Native.Nat.{ℕ, zero, suc, _+_, _-_, _*_, _^_, _/_, _%_, _≤_, _<_}
 use native.Mathlib.Nat.{div-one, div-div-eq-div-mul}
 use native.Mathlib.Omega.{arith}
-use lib.Dec.{eqb, ltb}
+use lib.Dec.{eqb}
 use lib.ListN.{length, getD, drop, List·getD-map}
-use borrow.Author.Tests.{le-leb, ltb-true}
+use borrow.Author.Tests.{le-leb}
 use Rattle.blocks.specs.declared.Part.{Part}
 use Rattle.blocks.specs.declared.Part.the-variants.{Text, Key, Number, Flag, Size, OptNumber, OptText, Literal, Block, OptBlock, Blocks, Ascending, Distinct, Names, Paths, Values}
 use Rattle.blocks.specs.Grammar.{within, Row, row, grammar, findRow, partsOf, metadata, nodeTable}
 use Rattle.ir_nodes.specs.Codes.{place, codeOf, partOf, again, rowOf, codeAt, Digits}
-use Rattle.ir_nodes.proofs.Table.{entry, passed}
+use Rattle.ir_nodes.proofs.Table.{entry}
 
 -- ---- a digit
 
@@ -137,10 +137,6 @@ module _ (c : ℕ) where
 -- the table, as the code has it
 abbrev table : List ℕ
 table = 0 ∷ 3 ∷ 225 ∷ 387 ∷ 14945 ∷ 641 ∷ 396 ∷ 396 ∷ 396 ∷ 396 ∷ 396 ∷ 396 ∷ 396 ∷ 396 ∷ 396 ∷ 396 ∷ 1068 ∷ []
-
--- an entry has 15 bits, so a row is far below 2 ^ 64
-pub table-short : (n : ℕ) → getD table n 0 < 32768
-table-short n = ltb-true _ _ (passed (λ c. ltb c 32768) table n 0 refl refl)
 
 -- the row of a node kind: its metadata, and its entry
 pub node-row : (k : ℕ) → 128 ≤ k → k ≤ 144 → 227 + 1024 * getD table (k - 128) 0 ≡ rowOf (partsOf k)

@@ -1,6 +1,6 @@
 // The code of ir.rs: the metadata of a node, and the parts of the seventeen node kinds.
 ghost use mathlib.Core.Path.{_≡_};
-ghost use Prim.Native.Nat.{_≤_, _<_};
+ghost use Prim.Native.Nat.{_+_, _*_, _≤_, _<_};
 ghost use Rattle.blocks.specs.Grammar.{partsOf};
 ghost use Rattle.ir.specs.Ir.{default-alignment};
 ghost use Rattle.ir_nodes.specs.Codes.{codeAt, rowOf};
@@ -93,12 +93,20 @@ const NODE_TABLE: [u16; 17] = [
     (NODE + 32 * TEXT + 1024 * TEXT) as u16,
 ];
 
+// The parts of a node kind behind its metadata, as digits.
+fn behind_metadata(kind: usize) -> u16
+    requires { ⌜ (128 ≤ kind) × (kind ≤ 144) ⌝ }
+    ensures { λ r. ⌜ 227 + 1024 * r ≡ rowOf (partsOf kind) ⌝ }
+{
+    NODE_TABLE[kind - 128]
+}
+
 // The row of a node kind, metadata included.
 pub fn node_row(kind: usize) -> u64
     requires { ⌜ (128 ≤ kind) × (kind ≤ 144) ⌝ }
     ensures { λ r. ⌜ r ≡ rowOf (partsOf kind) ⌝ }
 {
-    METADATA + 1024 * (NODE_TABLE[kind - 128] as u64)
+    METADATA + 1024 * (behind_metadata(kind) as u64)
 }
 
 // The code of part i of a node kind, counted from 0; 0 behind the last.
