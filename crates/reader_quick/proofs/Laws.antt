@@ -19,7 +19,7 @@ use Rattle.reader_leaf.specs.declared.Head.the-variants.{Found}
 use Rattle.reader_leaf.specs.declared.Count.the-variants.{Of}
 use Rattle.reader_leaf.specs.Answer.{forget, readEntry, headOf, countOf}
 use Rattle.reader_leaf.proofs.Laws.{text-is, optional-on, optional-off}
-use Rattle.reader_leaf.proofs.Lists.{list-of}
+use Rattle.reader_leaf.proofs.Lists.{list-of, entries-none, any-go}
 use Rattle.reader.proofs.Blocks.{parts-none, parts-go, block-ok}
 use Rattle.ir_nodes.specs.Codes.{partOf, rowOf}
 use Rattle.ir_nodes.proofs.Rows.{digit as first-digit, no-digit, behind}
@@ -99,6 +99,28 @@ module _ (s : List ℕ) (limit at end : ℕ) where
   -- so the list reads as its entries
   pub list-yes : (F : Earlier → ℕ → Step) (e : Earlier) (start n : ℕ) → at + 2 ≤ end → n ≡ le2 s at → n ≤ limit → forget (readList F e limit s start end at) ≡ forget (readEntries F e n (at + 2))
   list-yes F e start n h q l = list-of limit s start end at F e (count-yes start n h q l)
+
+module _ (room : ℕ) (s : List ℕ) (kind limit end at : ℕ) where
+  -- a list of blocks of one kind, of which nothing is asked together
+  abbrev blocks : ℕ → Step
+  blocks start = readList (λ f a. readBlock room s f kind kind a end) Earlier.any limit s start end at
+
+  -- it reads as those that are left, from i on
+  pub record Rest (left i : ℕ) : Type 0 where
+    pub same : (start : ℕ) → forget (blocks start) ≡ forget (readEntries (λ f a. readBlock room s f kind kind a end) Earlier.any left i)
+
+  -- at first all are left, behind their count
+  pub rest-all : {n : ℕ} → at + 2 ≤ end → n ≡ le2 s at → n ≤ limit → Rest n (at + 2)
+  rest-all {n} h q l = record { same = λ start. list-yes s limit at end (λ f a. readBlock room s f kind kind a end) Earlier.any start n h q l }
+
+  module _ {left i : ℕ} (r : Rest left i) where
+    -- one is read: the others are left
+    pub rest-next : {next : ℕ} → 0 < left → forget (readBlock room s Earlier.any kind kind i end) ≡ Ok next → Rest (left - 1) next
+    rest-next h d = record { same = λ start. r .same start ∙ any-go (λ f a. readBlock room s f kind kind a end) left i h d }
+
+    -- none is left: the list ends here
+    pub rest-none : left ≤ 0 → (start : ℕ) → forget (blocks start) ≡ Ok i
+    rest-none h start = r .same start ∙ entries-none (λ f a. readBlock room s f kind kind a end) Earlier.any left i h
 
 -- ---- parameters and arguments
 

@@ -4,14 +4,13 @@
 use borrow.Author.Needs.{needs}
 use native.Mathlib.Omega.{arith}
 use Prim.Native.Nat.{ℕ, _<_, _≤_, _+_, _*_}
-use mathlib.Core.Path.{_≡_, refl, _∙_}
-use Rattle.blocks.specs.Read.{Earlier, readList, readEntries, readBlock}
+use mathlib.Core.Path.{_≡_, refl}
+use Rattle.blocks.specs.Read.{Earlier, readBlock}
 use Rattle.reader_leaf.specs.declared.Read.the-variants.{Ok}
 use Rattle.reader_leaf.specs.Answer.{forget}
-use Rattle.reader_leaf.proofs.Lists.{entries-none, any-go}
 use Rattle.reader_quick.specs.Quick.{Body}
 use Rattle.reader_quick.proofs.Listed.{not-not}
-use Rattle.reader_quick.proofs.Laws.{ends, list-yes, case-yes, node-yes, row-none, row-go, row-child, const-row, call-row, field-row, number-part, text-part, optional-part, node-part, cases-part, arguments-part, default-off, default-on}
+use Rattle.reader_quick.proofs.Laws.{ends, Rest, rest-all, rest-next, rest-none, case-yes, node-yes, row-none, row-go, row-child, const-row, call-row, field-row, number-part, text-part, optional-part, node-part, cases-part, arguments-part, default-off, default-on}
 use borrow.Fn.Kinds.{In}
 use borrow.Fn.PlainCycle.{Measures, is, falls, and}
 use Rattle.reader_quick.proofs.body.Reads as body
@@ -340,10 +339,7 @@ case-returns-5 t c =
 
 abbrev cases-Inv-loop : cases-lts.InvT-loop
 cases-Inv-loop s room at end n i₀ left₀ i left =
-    (i ≤ end) ×
-    ((start : ℕ) → forget
-    (readList (λ f a. readBlock room s f 163 163 a end) Earlier.any 64 s start end at) ≡ forget
-    (readEntries (λ f a. readBlock room s f 163 163 a end) Earlier.any left i))
+    (i ≤ end) × Rest room s 163 64 end at left i
 
 abbrev cases-μ-loop : cases-lts.MeasureT-loop
 cases-μ-loop s room at end n i₀ left₀ i left = left
@@ -366,7 +362,7 @@ cases-add-i t c = search needs
 cases-loop-holds : (t : ℕ) → cases-lts.Need-loop-holds (cases-with t) (cases-at t) cases.Post cases-Inv-loop cases-μ-loop
 cases-loop-holds t c = (
   omega arith,
-  λ start. list-yes _ _ _ _ _ _ start _
+  rest-all _ _ _ _ _ _
       (c .before .before .if1 .left)
       (c .before .read2 .ensures .0)
       (c .if2 .left),
@@ -389,15 +385,15 @@ cases-loop-again t c =
     let in-loop = c .before .before in
     let at-loop = in-loop .before in (
       c .before .case .ensures .1,
-      λ start. at-loop .loop .inv .1 start
-          ∙ any-go _ _ _
+      rest-next _ _ _ _ _ _
+          (at-loop .loop .inv .1)
           (in-loop .loop-test .taken)
           (c .before .case .ensures .0 Earlier.any (omega (arith, c .if3 .left))),
     )
 
 cases-returns-4 : (t : ℕ) → cases-lts.Need-returns-4 (cases-with t) (cases-at t) cases.Post cases-Inv-loop cases-μ-loop
 cases-returns-4 t c = (
-  λ start z. c .before .loop .inv .1 start ∙ entries-none _ _ _ _ (c .loop-test .left),
+  λ start z. rest-none _ _ _ _ _ _ (c .before .loop .inv .1) (c .loop-test .left) start,
   c .before .loop .inv .0,
 )
 

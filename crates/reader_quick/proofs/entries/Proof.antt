@@ -1,20 +1,14 @@
 -- `reader_quick::entries` meets its contract. The loop's invariant: the whole list reads as what is left of it. Assumes nothing.
-use mathlib.Core.Path.{_≡_, _∙_}
 use Prim.Native.Nat.{ℕ, _<_, _≤_}
 use native.Mathlib.Omega.{arith}
-use Rattle.blocks.specs.Read.{Earlier, readList, readEntries, readBlock}
-use Rattle.reader_leaf.specs.Answer.{forget}
-use Rattle.reader_leaf.proofs.Lists.{entries-none, any-go}
-use Rattle.reader_quick.proofs.Laws.{list-yes}
+use Rattle.blocks.specs.Read.{Earlier}
+use Rattle.reader_quick.proofs.Laws.{Rest, rest-all, rest-next, rest-none}
 use Rattle.reader_quick.proofs.entries.Statement.{statement}
 use Rattle.reader_quick.proofs.entries.Tie as tie
 
 abbrev Inv-loop : tie.InvT-loop
 Inv-loop s kind at end n i₀ left₀ i left =
-    (i ≤ end) ×
-    ((room start : ℕ) → 0 < room → forget
-    (readList (λ f a. readBlock room s f kind kind a end) Earlier.any 512 s start end at) ≡ forget
-    (readEntries (λ f a. readBlock room s f kind kind a end) Earlier.any left i))
+    (i ≤ end) × ((room : ℕ) → 0 < room → Rest room s kind 512 end at left i)
 
 abbrev μ-loop : tie.MeasureT-loop
 μ-loop s kind at end n i₀ left₀ i left = left
@@ -34,11 +28,12 @@ add-result c = omega arith
 returns-2 : tie.Need-returns-2 Inv-loop μ-loop
 returns-2 c =
     let at-else1 = c .before .before in (
-      λ room start h z. list-yes _ _ _ _ _ _ start _
+      λ room start h z. rest-none _ _ _ _ _ _
+          (rest-all room _ _ _ _ _
           (at-else1 .if1 .left)
           (c .before .read2 .ensures .0)
-          (omega (arith, c .if2 .taken))
-          ∙ entries-none _ _ _ _ (omega (arith, c .if2 .taken)),
+          (omega (arith, c .if2 .taken)))
+          (omega (arith, c .if2 .taken)) start,
       at-else1 .if1 .left,
     )
 
@@ -53,7 +48,7 @@ loop-holds c =
     let at-read2 = c .before .before in
     let at-else1 = at-read2 .before in (
       omega arith,
-      λ room start h. list-yes _ _ _ _ _ _ start _
+      λ room h. rest-all room _ _ _ _ _
           (at-else1 .if1 .left)
           (at-read2 .read2 .ensures .0)
           (c .if3 .left),
@@ -76,16 +71,15 @@ loop-again c =
     let in-loop = c .before .before in
     let at-loop = in-loop .before in (
       c .before .entry .ensures .1,
-      λ room start h. at-loop .loop .inv .1 room start h
-          ∙ any-go _ _ _
+      λ room h. rest-next _ _ _ _ _ _
+          (at-loop .loop .inv .1 room h)
           (in-loop .loop-test .taken)
           (c .before .entry .ensures .0 room Earlier.any h (omega (arith, c .if4 .left))),
     )
 
 returns-5 : tie.Need-returns-5 Inv-loop μ-loop
 returns-5 c = (
-  λ room start h z. c .before .loop .inv .1 room start h
-      ∙ entries-none _ _ _ _ (c .loop-test .left),
+  λ room start h z. rest-none _ _ _ _ _ _ (c .before .loop .inv .1 room h) (c .loop-test .left) start,
   c .before .loop .inv .0,
 )
 
