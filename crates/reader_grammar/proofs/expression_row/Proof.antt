@@ -10,6 +10,7 @@ use Rattle.reader_grammar.proofs.Laws.{ranged, missing}
 use Rattle.reader_grammar.proofs.expression_row.Statement.{statement}
 use Rattle.reader_grammar.proofs.expression_row.Tie as tie
 
+-- 68 to 78: two expressions
 returns-5 : tie.Need-returns-5
 unfolding findRow grammar rowOf
 returns-5 c =
@@ -26,17 +27,21 @@ returns-5 c =
     ) in
     ranged 363 68 11 refl l (c .if2 .taken)
 
+-- 79 to 82: one
 returns-6 : tie.Need-returns-6
 unfolding findRow grammar rowOf
 returns-6 c = ranged 11 79 4 refl (c .before .if2 .left) (c .if3 .taken)
 
+-- 83 to 91: two
 returns-7 : tie.Need-returns-7
 unfolding findRow grammar rowOf
 returns-7 c = ranged 363 83 9 refl (c .before .if3 .left) (c .if4 .taken)
 
+-- every kind below 68 is named
 returns-8 : tie.Need-returns-8
 returns-8 c = absurd (omega arith)
 
+-- behind them no kind has a row
 returns-9 : tie.Need-returns-9
 unfolding findRow grammar rowOf
 returns-9 c = missing [] 92 36 refl tt (c .if4 .left) (omega arith)
