@@ -12,6 +12,7 @@ use lib.Seq.{take-suc-set, take-set-lt, set-getD, getD-set-same}
 use borrow.Author.Tests.{eq-eqb, ne-eqb, lt-ltb, le-ltb, le-leb, lt-leb}
 use Rattle.errors.specs.Refusal.{Outcome, done, refused, plain}
 use Rattle.errors.specs.Refusal.{_>>=_ as _andThen_}
+use Rattle.answers.specs.Answers.{AnswersIn}
 use Rattle.blocks.specs.Name.{Name}
 use Rattle.ir.specs.Ir.{IrParameter}
 use Rattle.builder.specs.Names.{normalize-path}
@@ -80,12 +81,12 @@ pushed s ws n w h = rw (add-one, take-suc-set ws n w h, map-last (entryOf s) (ta
 module _ (s ws : List ℕ) (n w l : ℕ) (fit : n ≤ length ws) (e : l ≡ length (entryName s w)) where
   -- the answer of `enter` for a long name
   pub entered-long : (us : List ℕ) → 255 < l → Kept s us (record { count = n; number = 17 }) (enter (entryOf s w) (entriesOf s ws n))
-  entered-long us h = rw (enter-long (entryOf s w) (entriesOf s ws n) (omega arith)) (Kept.not 17 refl (omega arith))
+  entered-long us h = rw (enter-long (entryOf s w) (entriesOf s ws n) (omega arith)) (AnswersIn.not 17 refl (omega arith))
 
   -- its answer where there is no room
   pub entered-full : (us : List ℕ) → l ≤ 255 → 512 ≤ n → Kept s us (record { count = n; number = 17 }) (enter (entryOf s w) (entriesOf s ws n))
   entered-full us h k =
-      rw (enter-full (entryOf s w) (entriesOf s ws n) (omega arith) (omega (arith, entries-length s ws n fit))) (Kept.not 17 refl (omega arith))
+      rw (enter-full (entryOf s w) (entriesOf s ws n) (omega arith) (omega (arith, entries-length s ws n fit))) (AnswersIn.not 17 refl (omega arith))
 
   -- its answer else, and where the new word stands
   pub entered : l ≤ 255 → n < 512 → n < length ws →
@@ -95,7 +96,7 @@ module _ (s ws : List ℕ) (n w l : ℕ) (fit : n ≤ length ws) (e : l ≡ leng
         number = 0;
       }) (enter (entryOf s w) (entriesOf s ws n)) × (_≡_ {A = ℕ} 0 0 → (n + 1 ≡ n + 1) × (getD (set ws n w) n 0 ≡ w))
   entered h k g = (
-    rw (enter-room (entryOf s w) (entriesOf s ws n) (omega arith) (omega (arith, entries-length s ws n fit))) (Kept.kept _ refl (pushed s ws n w g)),
+    rw (enter-room (entryOf s w) (entriesOf s ws n) (omega arith) (omega (arith, entries-length s ws n fit))) (AnswersIn.made _ refl (record { entries = pushed s ws n w g })),
     λ z. (refl, getD-set-same ws n w 0 g),
   )
 
@@ -115,7 +116,7 @@ module _ (s ws : List ℕ) (n owner path : ℕ) (fit : n ≤ length ws) (o p : N
     (i : ℕ) (e : i ≡ placeOf o (some p) (entriesOf s ws n)) where
   -- the answer of `ensure` where the key is there
   pub ensure-has : i < n → Kept s ws (record { count = n; number = 0 }) (ensure (held s owner) (held s path) (entriesOf s ws n))
-  ensure-has h = rw (← f, ← g, ensure-found o p (entriesOf s ws n) _ (found-at s ws n fit o i p e h)) (Kept.kept _ refl refl)
+  ensure-has h = rw (← f, ← g, ensure-found o p (entriesOf s ws n) _ (found-at s ws n fit o i p e h)) (AnswersIn.made _ refl (record { entries = refl }))
 
   -- it is not: its word is entered
   pub ensure-more : {us : List ℕ} {r : Held} {w : ℕ} → w ≡ wordOf owner path 0 → n ≤ i → owner < 65536 → path < 65536 →
@@ -159,7 +160,7 @@ module _ (s ws : List ℕ) (n owner made : ℕ) (fit : n ≤ length ws) (o p : N
       (add-synthetic (held s owner) (madePath made) (madeParameter made (held s owner)) (entriesOf s ws n)) ×
       (i ≡ placeOf (held s owner) (some (madePath made)) (entriesOf s ws n))
   synthetic-has h = (
-    rw (← f, ← g, synthetic-found o p (entriesOf s ws n) (madeParameter made o) _ (found-at s ws n fit o i p e h)) (Tags.tags _ refl refl h),
+    rw (← f, ← g, synthetic-found o p (entriesOf s ws n) (madeParameter made o) _ (found-at s ws n fit o i p e h)) (AnswersIn.made _ refl (record { named = refl; entries = refl; within = h })),
     place-is,
   )
 
@@ -168,8 +169,8 @@ module _ (s ws : List ℕ) (n owner made : ℕ) (fit : n ≤ length ws) (o p : N
       (r .number ≡ 0 → m ≡ entryName s (getD us n 0)) → (r .number ≡ 0 → r .count ≡ n + 1) →
       Tags s us (record { at = n; count = r .count; number = r .number }) (_andThen_ x (λ y. done (m, y .1)))
   unfolding _andThen_
-  tagged m (Kept.kept g z q) k l = rw (k z) (Tags.tags g z q (omega (arith, l z)))
-  tagged m (Kept.not j z q) k l = Tags.not j z q
+  tagged m (AnswersIn.made x z q) k l = AnswersIn.made _ z (record { named = k z; entries = q .entries; within = omega (arith, l z) })
+  tagged m (AnswersIn.not j z q) k l = AnswersIn.not j z q
 
   -- its answer where the word is entered: the new entry, behind the others
   pub synthetic-more : {us : List ℕ} {r : Held} (w : ℕ) → n ≤ i → i ≤ n → ((t : List ℕ) → entryOf t w ≡ madeEntry made (held t owner)) →

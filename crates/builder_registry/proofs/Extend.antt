@@ -6,6 +6,8 @@ use mathlib.Core.List.{List, [], _∷_}
 use lib.ListN.{length}
 use Rattle.errors.specs.Refusal.{Outcome, done, refused, plain}
 use Rattle.errors.specs.Refusal.{_>>=_ as _andThen_}
+use Rattle.answers.specs.Answers.{AnswersIn}
+use Rattle.answers.proofs.Laws.{unanswered, refuses}
 use Rattle.blocks.specs.Bytes.{le2, le4, nameAt}
 use Rattle.blocks.specs.Name.{Name}
 use Rattle.blocks.specs.Tree.{Tree, name, text, entries}
@@ -20,7 +22,7 @@ use Rattle.resolved_parts.proofs.Owners.{listed}
 use Rattle.resolved_parts.specs.Types.{ownersOf, textsOf, PathsAt, OwnerAt}
 use Rattle.builder_registry.specs.declared.Held.{Held}
 use Rattle.builder_registry.specs.Words.{held, entriesOf, Kept}
-use Rattle.builder_registry.proofs.Laws.{held-name, kept-done, kept-not}
+use Rattle.builder_registry.proofs.Laws.{held-name, kept-done}
 
 -- ---- any such list
 
@@ -46,7 +48,7 @@ module _ {A : Type 0} (all : List A → Build Unit) (one : A → Build Unit) (ea
     unfolding entries _andThen_
     go-on t a k z l =
         steps t a
-        (λ m w u x. record { is = x .is ∙ (each .more (make (t m)) (entries make u) h ∙ ap (λ (o : Outcome (Unit × Registry)). _andThen_ o (λ y. all (entries make u) (y .1))) (kept-done (k m) z)) }) l
+        (λ m w u x. record { is = x .is ∙ (each .more (make (t m)) (entries make u) h ∙ ap (λ (o : Outcome (Unit × Registry)). _andThen_ o (λ y. all (entries make u) (y .1))) (kept-done z (k m))) }) l
 
     -- an entry that is refused
     pub stop : {p : ℕ} (t : Entries s i left q → Tree) → ((l : Entries s i left q) → After l (t l) p) →
@@ -55,19 +57,19 @@ module _ {A : Type 0} (all : List A → Build Unit) (one : A → Build Unit) (ea
     unfolding entries _andThen_
     stop t a k z l w =
         let m = l .whole w in
-        let b = kept-not (k (m .0)) z in
+        let b = unanswered z (k (m .0)) in
         let e : all (entries make (w .got .0)) g ≡ refused (plain (r .number)) =
         m .1 .is ∙
         (ap (λ (x : Tree). all (entries make x) h) (a (m .0) .tree) ∙
         (each .more (make (t (m .0))) (entries make (a (m .0) .rest .got .0)) h ∙
         ap (λ (o : Outcome (Unit × Registry)). _andThen_ o (λ y. all (entries make (a (m .0) .rest .got .0)) (y .1))) (b .0))) in
-        rw e (Kept.not (r .number) refl (b .1))
+        refuses (b .1) e
 
   -- no entry is left
   pub end : {s us : List ℕ} {i : Item} {n at left q : ℕ} {g : Registry} (count : ℕ) → left ≤ 0 → Left (Met all make g (entriesOf s us count)) s i n at left q →
       (w : Entries s i n at) → Kept s us (record { count = count; number = 0 }) (all (entries make (w .got .0)) g)
   unfolding entries
-  end {s} {us} count h l w = rw (ended h l w .0 .is, each .none (entriesOf s us count)) (Kept.kept _ refl refl)
+  end {s} {us} count h l w = rw (ended h l w .0 .is, each .none (entriesOf s us count)) (AnswersIn.made _ refl (record { entries = refl }))
 
 -- ---- the paths of an owner
 

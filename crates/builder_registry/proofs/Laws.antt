@@ -1,12 +1,13 @@
 -- What callers of the registry use.
-use mathlib.Core.Path.{_≡_, refl}
+use mathlib.Core.Path.{_≡_, refl, sym, ap, ap₂, _∙_}
 use mathlib.Core.List.{List, _++_}
 use mathlib.Core.Option.{Option, some, none}
 use Prim.Native.Nat.{ℕ, _+_, _≤_, _<_}
 use native.Mathlib.Omega.{arith}
 use lib.ListN.{length, getD, length-append}
 use borrow.Author.Tests.{le-leb}
-use Rattle.errors.specs.Refusal.{Outcome, done, refused, plain}
+use Rattle.errors.specs.Refusal.{Outcome, done}
+use Rattle.answers.proofs.Laws.{answered}
 use Rattle.blocks.specs.Bytes.{le2, nameAt}
 use Rattle.blocks.specs.Name.{Name, ascii}
 use Rattle.builder.specs.Names.{normalize-path, rsplit-once, qualified, qualify-parent-path}
@@ -14,9 +15,10 @@ use Rattle.builder.specs.Registry.{Registry, lookup-name, mark-derived}
 use Rattle.builder.specs.Nodes.{lookupQualified}
 use Rattle.resolved_parts.specs.Types.{Named}
 use Rattle.builder_registry.specs.declared.Held.{Held}
+use Rattle.builder_registry.specs.declared.Tagged.{Tagged}
 use Rattle.builder_registry.specs.declared.Found.{Found}
 use Rattle.builder_registry.specs.declared.Found.the-variants.{At, Missing}
-use Rattle.builder_registry.specs.Words.{held, entriesOf, entryName, Standing, Kept, Looked}
+use Rattle.builder_registry.specs.Words.{held, entriesOf, entryName, Standing, Kept, Tags, Looked}
 use Rattle.builder_registry.proofs.Long.{find-long, mark-long, normal-long}
 
 -- a name of an accepted set is held whole
@@ -31,15 +33,15 @@ standing a e h = record { size = a .size; words = rw e (a .words); count = h }
 -- ---- what an answer says, by its number or its variant
 
 -- a change that was not refused gives the registry that the words hold
-pub kept-done : {s us : List ℕ} {r : Held} {x : Outcome (Unit × Registry)} → Kept s us r x → r .number ≡ 0 → x ≡ done (tt, entriesOf s us (r .count))
-kept-done (Kept.kept g z e) h = rw e refl
-kept-done (Kept.not k z e) h = absurd (let y : ⊥ = omega arith in y)
+pub kept-done : {s us : List ℕ} {r : Held} {o : Outcome (Unit × Registry)} → r .number ≡ 0 → Kept s us r o → o ≡ done (tt, entriesOf s us (r .count))
+kept-done z k = let a = answered z k in a .1 ∙ ap (λ (g : Registry). done (tt, g)) (sym (a .2 .entries))
 
--- one that was refused gives the refusal of its number
-pub kept-not : {s us : List ℕ} {r : Held} {x : Outcome (Unit × Registry)} → Kept s us r x → (r .number ≡ 0 → ⊥) →
-    (x ≡ refused (plain (r .number))) × (0 < r .number)
-kept-not (Kept.kept g z e) h = absurd (h z)
-kept-not (Kept.not k z e) h = (rw z refl, omega arith)
+-- with a name: that of the entry at the place
+pub tags-done : {s us : List ℕ} {r : Tagged} {o : Outcome (Name × Registry)} → r .number ≡ 0 → Tags s us r o →
+    (r .at < r .count) × (o ≡ done (entryName s (getD us (r .at) 0), entriesOf s us (r .count)))
+tags-done z t =
+    let a = answered z t in
+    (a .2 .within, a .1 ∙ ap₂ (λ (n : Name) (g : Registry). done (n, g)) (a .2 .named) (sym (a .2 .entries)))
 
 -- a name that was found is that of the entry at the place
 pub looked-entry : {s ws : List ℕ} {n i : ℕ} {f : Found} {o : Option Name} → f ≡ At i → Looked s ws n f o → (i < n) × (o ≡ some (entryName s (getD ws i 0)))

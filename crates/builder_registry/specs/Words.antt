@@ -6,7 +6,8 @@ use mathlib.Core.List.{List, [], _∷_, _++_, map}
 use mathlib.Core.Option.{Option, some, none}
 use lib.Dec.{leb, eqb}
 use lib.ListN.{length, take, getD}
-use Rattle.errors.specs.Refusal.{Outcome, done, refused, plain}
+use Rattle.errors.specs.Refusal.{Outcome}
+use Rattle.answers.specs.Answers.{Answers}
 use Rattle.blocks.specs.Bytes.{le2, nameAt}
 use Rattle.blocks.specs.Name.{Name, ascii}
 use Rattle.ir.specs.Ir.{IrParameter}
@@ -71,14 +72,20 @@ pub record Standing (s ws : List ℕ) (n : ℕ) : Type 0 where
 
 -- What a change of the registry leaves: the entries in the words us, or the refusal, of which nothing is said but its number.
 -- Nothing is said of the words behind the entries.
-pub data Kept (s us : List ℕ) (r : Held) : Outcome (Unit × Registry) → Type 0 where
-  kept : (g : Registry) → r .number ≡ 0 → entriesOf s us (r .count) ≡ g → Kept s us r (done (tt, g))
-  not : (k : ℕ) → r .number ≡ k → 0 < k → Kept s us r (refused (plain k))
+pub record KeptIn (s us : List ℕ) (r : Held) (x : Unit {0} × Registry) : Type 0 where
+  pub entries : entriesOf s us (r .count) ≡ x .1
 
--- the same where a name is answered: that of the entry at r .at
-pub data Tags (s us : List ℕ) (r : Tagged) : Outcome (Name × Registry) → Type 0 where
-  tags : (g : Registry) → r .number ≡ 0 → entriesOf s us (r .count) ≡ g → r .at < r .count → Tags s us r (done (entryName s (getD us (r .at) 0), g))
-  not : (k : ℕ) → r .number ≡ k → 0 < k → Tags s us r (refused (plain k))
+abbrev pub Kept : (s us : List ℕ) (r : Held) → Outcome (Unit × Registry) → Type 0
+Kept s us r = Answers (r .number) (KeptIn s us r)
+
+-- the same where a name is answered: that of the entry at r .at, which is one of them
+pub record TagIn (s us : List ℕ) (r : Tagged) (x : Name × Registry) : Type 0 where
+  pub named : x .0 ≡ entryName s (getD us (r .at) 0)
+  pub entries : entriesOf s us (r .count) ≡ x .1
+  pub within : r .at < r .count
+
+abbrev pub Tags : (s us : List ℕ) (r : Tagged) → Outcome (Name × Registry) → Type 0
+Tags s us r = Answers (r .number) (TagIn s us r)
 
 -- a name found in the registry: that of the entry at i
 pub data Looked (s ws : List ℕ) (n : ℕ) : Found → Option Name → Type 0 where
