@@ -10,11 +10,11 @@ use mathlib.Core.Option.{Option, some, none}
 use lib.Dec.{eqb}
 use lib.ListN.{length, take, drop, getD, length-drop, drop-of-length-le}
 use lib.Seq.{drop-length, length-take-le, drop-cons, drop-drop}
-use borrow.Author.Tests.{eq-eqb, ne-eqb, eqb-true, eqb-false}
+use borrow.Author.Tests.{eq-eqb, ne-eqb, eqb-true, eqb-false, le-leb, lt-leb}
 use Rattle.blocks.specs.Name.{Name, ascii, same}
 use Rattle.blocks.proofs.Name.{false-true}
 use Rattle.builder.specs.Names.{isEmpty, isSome, strip-prefix, rsplit-once, behind, aliasUnless, alternate-owner-aliases}
-use Rattle.builder_names.specs.Views.{colons, place, Parts, first, aliasOf}
+use Rattle.builder_names.specs.Views.{colons, colonsBefore, place, Parts, first, aliasOf}
 use Rattle.builder_names.specs.declared.Split.{Split}
 use Rattle.builder_names.specs.declared.Split.the-variants.{At, Missing}
 use Rattle.builder_names.proofs.Strip.{none-some, prefix-is, prefix-some, rest-part}
@@ -39,6 +39,31 @@ module _ (s : Name) (i : ℕ) where
   -- the first byte is a colon: the second decides
   pub colon : i + 1 < length s → getD s i 0 ≡ 0x3A → eqb (getD s (i + 1) 0) 0x3A ≡ colons (drop i s)
   colon h f = rw (two s i (omega arith), eq-eqb (getD s i 0) 0x3A f) refl
+
+module _ (s : Name) (h r : ℕ) where
+  -- `colons_before`: the rest alone is longer than the name
+  pub before-rest : length s < r → false ≡ colonsBefore (h + r) s
+  unfolding colonsBefore
+  before-rest l = rw (lt-leb (h + r + 2) (length s) (omega arith)) refl
+
+  module _ (a : ℕ) (e : a ≡ length s - r) (k : r ≤ length s) where
+    -- the head and the rest are
+    pub before-head : a < h → false ≡ colonsBefore (h + r) s
+    unfolding colonsBefore
+    before-head l = rw (lt-leb (h + r + 2) (length s) (omega arith)) refl
+
+    module _ (b : ℕ) (f : b ≡ a - h) (m : h ≤ a) where
+      -- there is no room for `::` before them
+      pub before-none : b < 2 → false ≡ colonsBefore (h + r) s
+      unfolding colonsBefore
+      before-none l = rw (lt-leb (h + r + 2) (length s) (omega arith)) refl
+
+      -- the test at that place decides
+      pub before-at : (t : Bool) → 2 ≤ b → t ≡ colons (drop (b - 2) s) → t ≡ colonsBefore (h + r) s
+      unfolding colonsBefore
+      before-at t l g = let q : b - 2 ≡ length s - (h + r + 2) = omega arith in rw (le-leb (h + r + 2) (length s) (omega arith), ← q) g
+
+pub ruleset befores = (before-rest, before-head, before-none, before-at)
 
 -- a byte compared from either side
 eqb-comm : (a b : ℕ) → eqb a b ≡ eqb b a

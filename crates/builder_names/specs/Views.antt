@@ -1,15 +1,17 @@
 -- What the code answers, said of the definitions of names.
-use Prim.Native.Nat.{_+_, _≤_}
+use Prim.Native.Nat.{ℕ, _+_, _-_, _≤_}
 use mathlib.Core.Path.{_≡_}
 use mathlib.Core.Bool.{Bool, false, _&&_, _||_}
 use mathlib.Core.List.{List, [], _∷_, _++_}
 use mathlib.Core.Option.{Option, some, none}
-use lib.Dec.{eqb}
+use lib.Dec.{eqb, leb}
 use lib.ListN.{length, take, drop}
 use Rattle.blocks.specs.Name.{Name, ascii, same}
-use Rattle.builder.specs.Names.{isEmpty, normalize-path, rsplit-once, alternate-owner-aliases}
+use Rattle.builder.specs.Names.{isEmpty, normalize-path, rsplit-once, qualify-parent-path, alternate-owner-aliases}
 use Rattle.builder_names.specs.declared.Split.{Split}
 use Rattle.builder_names.specs.declared.Split.the-variants.{At, Missing}
+use Rattle.builder_names.specs.declared.Key.{Key}
+use Rattle.builder_names.specs.declared.Key.the-variants.{Joined, NoParent}
 
 -- whether the canonical name is the owner itself
 abbrev pub alone : Name → Name → Bool
@@ -24,6 +26,10 @@ abbrev pub colons : Name → Bool
 colons [] = false
 colons (x ∷ []) = false
 colons (x ∷ (y ∷ ys)) = eqb x 0x3A && eqb y 0x3A
+
+-- whether `::` stands before the last n bytes of a name
+unfoldable pub colonsBefore : ℕ → Name → Bool
+colonsBefore n s = leb (n + 2) (length s) && colons (drop (length s - (n + 2)) s)
 
 -- the place of the last `::` in what `rsplit-once` gives
 abbrev pub place : Option (Name × Name) → Split
@@ -43,7 +49,12 @@ first (n ∷ ns) = n
 unfoldable pub aliasOf : Name → Name → Name
 aliasOf path normal = first (alternate-owner-aliases path normal)
 
--- whether a qualified path, if there is one, has the key in the registry of the owner
-abbrev pub isKey : Name → Option Name → Name → Bool
-isKey owner none key = false
-isKey owner (some q) key = same (normalize-path owner q) key
+-- the key of a path, if there is one, in the registry of the owner
+abbrev pub keyOf : Name → Option Name → Option Name
+keyOf owner none = none
+keyOf owner (some path) = some (normalize-path owner path)
+
+-- what the two parts of a key say: the key of the path qualified by the owner's parent
+abbrev pub KeyIs : Name → Name → Key → Type 0
+KeyIs owner path (Joined a b) = (a ≤ length owner) × (b ≤ length path) × (keyOf owner (qualify-parent-path owner path) ≡ some (take a owner ++ drop b path))
+KeyIs owner path NoParent = qualify-parent-path owner path ≡ none

@@ -8,13 +8,19 @@ ghost use Rattle.blocks.specs.Name.{same};
 ghost use Rattle.blocks.specs.Tree.{name};
 ghost use Rattle.blocks.specs.Write.{write};
 ghost use Rattle.wire.specs.Poke.{Wrote};
-ghost use Rattle.builder.specs.Names.{isSome, strip-owner, normalize-path, canonical-name, rsplit-once, qualify-parent-path, ends-with};
-ghost use Rattle.builder_names.specs.Views.{alone, colons, place, Parts, aliasOf, isKey};
+ghost use Rattle.builder.specs.Names.{isSome, strip-owner, normalize-path, canonical-name, rsplit-once, ends-with};
+ghost use Rattle.builder_names.specs.Views.{alone, colons, colonsBefore, place, Parts, aliasOf, KeyIs};
 
 // The place of a `::`, if there is one.
 pub enum Split {
     At(usize),
     Missing,
+}
+
+// The key of a qualified path: so many bytes of its owner, and the path from a place on; none where the owner has no parent.
+pub enum Key {
+    Joined(usize, usize),
+    NoParent,
 }
 
 // Whether the path is the owner, a dot and a rest.
@@ -122,6 +128,24 @@ pub fn last_colons(name: &[u8]) -> Split
     Split::Missing
 }
 
+// Whether `::` stands in the path before an end as long as the head and the rest: if not, they are not its alias.
+pub fn colons_before(path: &[u8], head: &[u8], rest: &[u8]) -> bool
+    ensures { λ r. ⌜ r ≡ colonsBefore (length (now (head .entry)) + length (now (rest .entry))) (now (path .entry)) ⌝ }
+{
+    if path.len() < rest.len() {
+        return false;
+    }
+    let a = path.len() - rest.len();
+    if a < head.len() {
+        return false;
+    }
+    let b = a - head.len();
+    if b < 2 {
+        return false;
+    }
+    colons_at(path, b - 2)
+}
+
 // Where the alias begins in the path; the path's end where there is none.
 fn alias_start(path: &[u8], normal: &[u8]) -> usize
     ensures { λ r. ⌜ r ≤ length (now (path .entry)) ⌝ }
@@ -159,7 +183,7 @@ pub fn ends_with(name: &[u8], end: &[u8]) -> bool
 }
 
 // Whether the head and the path are the name.
-fn same_behind(head: &[u8], path: &[u8], name: &[u8]) -> bool
+pub fn same_behind(head: &[u8], path: &[u8], name: &[u8]) -> bool
     ensures { λ r. ⌜ r ≡ same (now (head .entry) ++ now (path .entry)) (now (name .entry)) ⌝ }
 {
     let n = head.len();
@@ -172,28 +196,22 @@ fn same_behind(head: &[u8], path: &[u8], name: &[u8]) -> bool
     false
 }
 
-// Whether the path behind the head has the key, where the owner is the rest behind the head.
-fn same_key(head: &[u8], rest: &[u8], path: &[u8], key: &[u8]) -> bool
-    ensures { λ r. ⌜ r ≡ same (normalize-path (now (head .entry) ++ now (rest .entry)) (now (head .entry) ++ now (path .entry))) (now (key .entry)) ⌝ }
-{
-    if wire::same_name(path, rest) {
-        return key.len() == 0;
-    }
-    if begins_with_owner(rest, path) {
-        return wire::same_name(normalize_path(rest, path), key);
-    }
-    same_behind(head, path, key)
-}
-
-// Whether the path, qualified by the owner's parent, has the key.
-pub fn qualified_has_key(owner: &[u8], path: &[u8], key: &[u8]) -> bool
-    ensures { λ r. ⌜ r ≡ isKey (now (owner .entry)) (qualify-parent-path (now (owner .entry)) (now (path .entry))) (now (key .entry)) ⌝ }
+// The key of the path qualified by the owner's parent, in two parts: so many bytes of the owner, and the path from a place on.
+pub fn qualified_key(owner: &[u8], path: &[u8]) -> Key
+    ensures { λ r. ⌜ KeyIs (now (owner .entry)) (now (path .entry)) r ⌝ }
 {
     match last_colons(owner) {
         Split::At(i) => {
             let a = i + 2;
-            same_key(&owner[..a], &owner[a..], path, key)
+            let rest = &owner[a..];
+            if wire::same_name(path, rest) {
+                return Key::Joined(0, path.len());
+            }
+            if begins_with_owner(rest, path) {
+                return Key::Joined(0, rest.len() + 1);
+            }
+            Key::Joined(a, 0)
         }
-        Split::Missing => false,
+        Split::Missing => Key::NoParent,
     }
 }

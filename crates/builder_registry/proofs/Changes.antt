@@ -113,16 +113,16 @@ packed s a b h k =
     rw (word-owner a b 0 h k (omega arith), word-path a b 0 h k (omega arith), word-made a b 0 h k (omega arith), word-plain a b 0 h k (omega arith))
 
 module _ (s ws : List ℕ) (n owner path : ℕ) (fit : n ≤ length ws) (o p : Name) (f : o ≡ held s owner) (g : p ≡ held s path)
-    (i : ℕ) (e : i ≡ placeOf o (some p) (entriesOf s ws n)) where
+    (i : ℕ) (e : i ≡ placeOf o (normalize-path o p) (entriesOf s ws n)) where
   -- the answer of `ensure` where the key is there
   pub ensure-has : i < n → Kept s ws (record { count = n; number = 0 }) (ensure (held s owner) (held s path) (entriesOf s ws n))
-  ensure-has h = rw (← f, ← g, ensure-found o p (entriesOf s ws n) _ (found-at s ws n fit o i p e h)) (AnswersIn.made _ refl (record { entries = refl }))
+  ensure-has h = rw (← f, ← g, ensure-found o p (entriesOf s ws n) _ (found-at s ws n fit o (normalize-path o p) i e h)) (AnswersIn.made _ refl (record { entries = refl }))
 
   -- it is not: its word is entered
   pub ensure-more : {us : List ℕ} {r : Held} {w : ℕ} → w ≡ wordOf owner path 0 → n ≤ i → owner < 65536 → path < 65536 →
       Kept s us r (enter (entryOf s w) (entriesOf s ws n)) → Kept s us r (ensure (held s owner) (held s path) (entriesOf s ws n))
   ensure-more ew h a b k =
-      rw (← f, ← g, ensure-new o p (entriesOf s ws n) (found-none s ws n fit o i p e h), f, g, ← packed s owner path a b, ← ew) k
+      rw (← f, ← g, ensure-new o p (entriesOf s ws n) (found-none s ws n fit o (normalize-path o p) i e h), f, g, ← packed s owner path a b, ← ew) k
 
 -- ---- a made parameter
 
@@ -149,18 +149,18 @@ module _ (s : List ℕ) (a m : ℕ) (h : a < 65536) (l : 1 ≤ m) (u : m ≤ 3) 
       (word-plain a 0 m h (omega arith) u ∙ sym (ne-eqb m 1 k)))
 
 module _ (s ws : List ℕ) (n owner made : ℕ) (fit : n ≤ length ws) (o p : Name) (f : o ≡ held s owner) (g : p ≡ madePath made)
-    (i : ℕ) (e : i ≡ placeOf o (some p) (entriesOf s ws n)) where
+    (i : ℕ) (e : i ≡ placeOf o (normalize-path o p) (entriesOf s ws n)) where
   -- the place, of the names as the contract has them
-  place-is : i ≡ placeOf (held s owner) (some (madePath made)) (entriesOf s ws n)
+  place-is : i ≡ placeOf (held s owner) (normalize-path (held s owner) (madePath made)) (entriesOf s ws n)
   place-is = rw (← f, ← g) e
 
   -- the answer of `add_synthetic` where the key is there: the first entry that has it
   pub synthetic-has : i < n →
       Tags s ws (record { at = i; count = n; number = 0 })
       (add-synthetic (held s owner) (madePath made) (madeParameter made (held s owner)) (entriesOf s ws n)) ×
-      (i ≡ placeOf (held s owner) (some (madePath made)) (entriesOf s ws n))
+      (i ≡ placeOf (held s owner) (normalize-path (held s owner) (madePath made)) (entriesOf s ws n))
   synthetic-has h = (
-    rw (← f, ← g, synthetic-found o p (entriesOf s ws n) (madeParameter made o) _ (found-at s ws n fit o i p e h)) (AnswersIn.made _ refl (record { named = refl; entries = refl; within = h })),
+    rw (← f, ← g, synthetic-found o p (entriesOf s ws n) (madeParameter made o) _ (found-at s ws n fit o (normalize-path o p) i e h)) (AnswersIn.made _ refl (record { named = refl; entries = refl; within = h })),
     place-is,
   )
 
@@ -177,7 +177,7 @@ module _ (s ws : List ℕ) (n owner made : ℕ) (fit : n ≤ length ws) (o p : N
       Kept s us r (enter (entryOf s w) (entriesOf s ws n)) → (r .number ≡ 0 → (r .count ≡ n + 1) × (getD us n 0 ≡ w)) →
       Tags s us (record { at = n; count = r .count; number = r .number })
       (add-synthetic (held s owner) (madePath made) (madeParameter made (held s owner)) (entriesOf s ws n)) ×
-      (n ≡ placeOf (held s owner) (some (madePath made)) (entriesOf s ws n))
+      (n ≡ placeOf (held s owner) (normalize-path (held s owner) (madePath made)) (entriesOf s ws n))
   unfolding madeEntry
   synthetic-more {us} {r} w h j m k l = (
     rw (synthetic-new (held s owner) (madePath made) (entriesOf s ws n) (madeParameter made (held s owner)) none-found)
@@ -187,7 +187,7 @@ module _ (s ws : List ℕ) (n owner made : ℕ) (fit : n ≤ length ws) (o p : N
   )
     where
       none-found : findKey (held s owner) (normalize-path (held s owner) (madePath made)) (entriesOf s ws n) ≡ none
-      none-found = rw (← f, ← g) (found-none s ws n fit o i p e h)
+      none-found = rw (← f, ← g) (found-none s ws n fit o (normalize-path o p) i e h)
 
 -- ---- a mark
 
@@ -213,18 +213,18 @@ changed : (s ws : List ℕ) (n i w : ℕ) → i < n → entriesOf s (set ws i w)
 unfolding entriesOf
 changed s ws n i w h = rw (take-set-lt n ws i w h) (map-set (entryOf s) (take n ws) i w)
 
-module _ (s ws : List ℕ) (n : ℕ) (fit : n ≤ length ws) (o p : Name) (i : ℕ) (e : i ≡ placeOf o (some p) (entriesOf s ws n)) where
+module _ (s ws : List ℕ) (n : ℕ) (fit : n ≤ length ws) (o p : Name) (i : ℕ) (e : i ≡ placeOf o (normalize-path o p) (entriesOf s ws n)) where
   -- no entry has the key: nothing is marked
   pub mark-nothing : n ≤ i → entriesOf s ws n ≡ mark-derived o p (entriesOf s ws n)
   unfolding mark-derived
-  mark-nothing h = sym (marked-none s ws n fit o i p e h)
+  mark-nothing h = sym (marked-none s ws n fit o (normalize-path o p) i e h)
 
   module _ (h : i < n) (b : Bool) (f : b ≡ derivedOf (getD ws i 0)) where
     -- the entry is derived already
     pub mark-again : b ≡ true → entriesOf s ws n ≡ mark-derived o p (entriesOf s ws n)
     unfolding mark-derived
     mark-again d =
-        sym (marked-at s ws n fit o i p e h ∙
+        sym (marked-at s ws n fit o (normalize-path o p) i e h ∙
         (ap (set (entriesOf s ws n) i) (marked-word s (getD ws i 0) (sym f ∙ d) ∙ sym (entry-at s ws n fit i h)) ∙
         set-getD (entriesOf s ws n) i (entryOf s 0)))
 
@@ -233,4 +233,4 @@ module _ (s ws : List ℕ) (n : ℕ) (fit : n ≤ length ws) (o p : Name) (i : �
     unfolding mark-derived
     mark-first {r} er d =
         changed s ws n i r h ∙
-        (ap (set (entriesOf s ws n) i) (ap (entryOf s) er ∙ mark-word s (getD ws i 0) (sym f ∙ d)) ∙ sym (marked-at s ws n fit o i p e h))
+        (ap (set (entriesOf s ws n) i) (ap (entryOf s) er ∙ mark-word s (getD ws i 0) (sym f ∙ d)) ∙ sym (marked-at s ws n fit o (normalize-path o p) i e h))

@@ -2,22 +2,21 @@
 use Prim.Native.Nat.{ℕ, _+_, _-_, _≤_, _<_}
 use native.Mathlib.Omega.{arith}
 use mathlib.Core.Path.{_≡_, refl, sym, ap, ap₂, _∙_}
-use mathlib.Core.Bool.{Bool, true, false, _&&_, _||_, cond}
-use mathlib.Core.List.{List, [], _∷_}
-use mathlib.Core.Option.{Option}
+use mathlib.Core.Bool.{Bool, true, false, not, _&&_, _||_, cond}
+use mathlib.Core.List.{List, [], _∷_, _++_}
 use lib.Dec.{eqb, leb}
-use lib.ListN.{length, drop, length-take}
-use borrow.Author.Tests.{le-leb, lt-leb, leb-true, eq-eqb, ne-eqb}
+use lib.ListN.{length, take, drop, length-take}
+use borrow.Author.Tests.{le-leb, lt-leb, leb-true, eq-eqb, ne-eqb, not-true}
 use Rattle.blocks.specs.Bytes.{le2, nameAt}
-use Rattle.blocks.specs.Name.{Name, ascii, same}
+use Rattle.blocks.specs.Name.{Name, ascii, same, among}
 use Rattle.blocks.proofs.Name.{same-eq}
 use Rattle.builder.specs.Names.{isEmpty, normalize-path}
-use Rattle.builder.specs.Registry.{Entry, entryOf as pathEntry}
-use Rattle.builder_names.specs.Views.{isKey, aliasOf}
+use Rattle.builder.specs.Registry.{Entry, keyedBy, entryOf as pathEntry}
+use Rattle.builder_names.specs.Views.{aliasOf, colonsBefore}
 use Rattle.builder_names.proofs.Colons.{aliases-are}
+use Rattle.builder_names.proofs.Qualified.{or-false, not-alias}
 use Rattle.builder_registry.specs.Word.{ownerAt, pathAt, madeOf, derivedOf}
 use Rattle.builder_registry.specs.Words.{held, flagged, madePath, madeEntry, entryOf}
-use Rattle.builder_registry.specs.Place.{wanted, anyKey, hasKey}
 
 -- ---- the name at an offset
 
@@ -49,18 +48,19 @@ module _ (s : List ℕ) (at : ℕ) where
     held-long h k = rw (← e, le-leb (at + 2 + n) (length s) h, lt-leb n 255 k)
 
     -- it lies inside and is short: the name
-    pub held-in : {r : Name} → at + 2 + n ≤ length s → n ≤ 255 → r ≡ nameAt s at → (r ≡ held s at) × (length r ≤ 255)
+    pub held-in : at + 2 + n ≤ length s → n ≤ 255 → take (at + 2 + n - (at + 2)) (drop (at + 2) s) ≡ held s at
     unfolding held
-    held-in {r} h k f = (is, held-bound is)
-      where
-        is : r ≡ held s at
-        is = f ∙ rw (← e, le-leb (at + 2 + n) (length s) h, le-leb n 255 k)
+    held-in h k = let q : at + 2 + n - (at + 2) ≡ n = omega arith in rw (← e, le-leb (at + 2 + n) (length s) h, le-leb n 255 k, q)
+
+  -- which is then no longer than 255 bytes
+  pub held-short : (n : ℕ) → n ≤ 255 → length (take (at + 2 + n - (at + 2)) (drop (at + 2) s)) ≤ 255
+  held-short n h = omega (arith, length-take (at + 2 + n - (at + 2)) (drop (at + 2) s))
 
 -- the name at an offset that is known by another term
 pub held-of : (s : List ℕ) {r : Name} {a b : ℕ} → r ≡ held s a → a ≡ b → r ≡ held s b
 held-of s f e = f ∙ ap (held s) e
 
-pub ruleset helds = (held-none, held-out, held-long)
+pub ruleset helds = (held-none, held-out, held-long, held-in, held-short)
 
 -- ---- the text of a made parameter
 
@@ -79,59 +79,49 @@ module _ {A : Type 0} (made : ℕ) (a b c : A) where
 
 pub ruleset picks = (pick-first, pick-second, pick-third)
 
--- ---- the key of a path
-
-module _ (qualified : Bool) (o p k : Name) (b : Bool) where
-  -- the answer of `is_key` for the qualified path
-  pub key-qualified : qualified ≡ true → b ≡ isKey o (wanted true o p) k → b ≡ isKey o (wanted qualified o p) k
-  key-qualified h e = rw h e
-
-  -- for the path as it is
-  pub key-plain : (n : Name) → qualified ≡ false → n ≡ normalize-path o p → b ≡ same n k → b ≡ isKey o (wanted qualified o p) k
-  key-plain n h e f = f ∙ rw (h, e)
-
-pub ruleset path-keys = (key-qualified, key-plain)
-
 -- ---- the keys of an entered path
 
--- a test alone
-or-false : (b : Bool) → (b || false) ≡ b
-or-false true = refl
-or-false false = refl
-
-module _ (o : Name) (w : Option Name) (p n : Name) (e : n ≡ normalize-path o p) (b : Bool) (f : b ≡ isKey o w n) where
+module _ (o p h r n : Name) (e : n ≡ normalize-path o p) (b : Bool) (f : b ≡ same (h ++ r) n) where
   -- the answer of `path_has` where the normal path is the key
-  pub keys-normal : b ≡ true → true ≡ anyKey o w (pathEntry o p .keys)
-  unfolding anyKey
-  keys-normal h = let q : isKey o w (normalize-path o p) ≡ true = ap (isKey o w) (sym e) ∙ (sym f ∙ h) in rw q
+  pub keys-normal : b ≡ true → true ≡ among (h ++ r) (pathEntry o p .keys)
+  unfolding among
+  keys-normal g = let q : same (h ++ r) (normalize-path o p) ≡ true = ap (same (h ++ r)) (sym e) ∙ (sym f ∙ g) in rw q
 
-  module _ (h : b ≡ false) (a : Name) (g : a ≡ aliasOf p n) where
+  module _ (g : b ≡ false) where
     -- else the alias decides, if there is one
-    keys-rest : anyKey o w (pathEntry o p .keys) ≡ anyKey o w (cond (isEmpty a) [] (a ∷ []))
-    unfolding anyKey
+    keys-rest : among (h ++ r) (pathEntry o p .keys) ≡ among (h ++ r) (cond (isEmpty (aliasOf p n)) [] (aliasOf p n ∷ []))
+    unfolding among
     keys-rest =
-        let q : isKey o w (normalize-path o p) ≡ false = ap (isKey o w) (sym e) ∙ (sym f ∙ h) in
-        rw q (ap (anyKey o w) (aliases-are p (normalize-path o p) ∙ ap (λ (x : Name). cond (isEmpty x) [] (x ∷ [])) (sym (g ∙ ap (aliasOf p) e))))
+        let q : same (h ++ r) (normalize-path o p) ≡ false = ap (same (h ++ r)) (sym e) ∙ (sym f ∙ g) in
+        rw q (ap (among (h ++ r)) (aliases-are p (normalize-path o p) ∙ ap (λ (x : Name). cond (isEmpty (aliasOf p x)) [] (aliasOf p x ∷ [])) (sym e)))
 
-    -- there is none
-    pub keys-none : length a ≡ 0 → false ≡ anyKey o w (pathEntry o p .keys)
-    unfolding anyKey
-    keys-none l = sym (keys-rest ∙ go a l)
-      where
-        go : (a : Name) → length a ≡ 0 → anyKey o w (cond (isEmpty a) [] (a ∷ [])) ≡ false
-        go [] l = refl
-        go (x ∷ xs) l = absurd (let z : ⊥ = omega arith in z)
+    -- no `::` stands where it would before the key: the key is not the alias
+    pub keys-other : (t : Bool) → t ≡ colonsBefore (length h + length r) p → not t ≡ true → false ≡ among (h ++ r) (pathEntry o p .keys)
+    unfolding among
+    keys-other t i j =
+        let q : same (h ++ r) (normalize-path o p) ≡ false = ap (same (h ++ r)) (sym e) ∙ (sym f ∙ g) in
+        rw q (sym (not-alias h r p (normalize-path o p) (sym i ∙ not-true t j)))
 
-    -- there is one
-    pub keys-alias : (t : Bool) → (length a ≡ 0 → ⊥) → t ≡ isKey o w a → t ≡ anyKey o w (pathEntry o p .keys)
-    unfolding anyKey
-    keys-alias t l i = i ∙ sym (keys-rest ∙ go a l)
-      where
-        go : (a : Name) → (length a ≡ 0 → ⊥) → anyKey o w (cond (isEmpty a) [] (a ∷ [])) ≡ isKey o w a
-        go [] l = absurd (l refl)
-        go (x ∷ xs) l = or-false (isKey o w (x ∷ xs))
+    module _ (a : Name) (i : a ≡ aliasOf p n) where
+      -- there is no alias
+      pub keys-none : length a ≡ 0 → false ≡ among (h ++ r) (pathEntry o p .keys)
+      unfolding among
+      keys-none l = sym (keys-rest ∙ (ap (λ (x : Name). among (h ++ r) (cond (isEmpty x) [] (x ∷ []))) (sym i) ∙ go a l))
+        where
+          go : (a : Name) → length a ≡ 0 → among (h ++ r) (cond (isEmpty a) [] (a ∷ [])) ≡ false
+          go [] l = refl
+          go (x ∷ xs) l = absurd (let z : ⊥ = omega arith in z)
 
-pub ruleset entered-keys = (keys-normal, keys-none, keys-alias)
+      -- there is one
+      pub keys-alias : (t : Bool) → (length a ≡ 0 → ⊥) → t ≡ same (h ++ r) a → t ≡ among (h ++ r) (pathEntry o p .keys)
+      unfolding among
+      keys-alias t l j = j ∙ sym (keys-rest ∙ (ap (λ (x : Name). among (h ++ r) (cond (isEmpty x) [] (x ∷ []))) (sym i) ∙ go a l))
+        where
+          go : (a : Name) → (length a ≡ 0 → ⊥) → among (h ++ r) (cond (isEmpty a) [] (a ∷ [])) ≡ same (h ++ r) a
+          go [] l = absurd (l refl)
+          go (x ∷ xs) l = or-false (same (h ++ r) (x ∷ xs))
+
+pub ruleset entered-keys = (keys-normal, keys-other, keys-none, keys-alias)
 
 -- ---- the key of a made parameter
 
@@ -143,9 +133,9 @@ unfolding madePath
 made-text made t e = e
 
 -- the answer of `made_has`: the normal path of its path is its one key
-pub made-key : (o : Name) (w : Option Name) (made : ℕ) (t n : Name) (b : Bool) → t ≡ madePath made → n ≡ normalize-path o t →
-    b ≡ isKey o w n → b ≡ isKey o w (normalize-path o (madePath made))
-made-key o w made t n b e f g = g ∙ ap (isKey o w) (f ∙ ap (normalize-path o) e)
+pub made-key : (o k : Name) (made : ℕ) (t n : Name) (b : Bool) → t ≡ madePath made → n ≡ normalize-path o t → b ≡ same k n →
+    b ≡ same k (normalize-path o (madePath made))
+made-key o k made t n b e f g = g ∙ ap (same k) (f ∙ ap (normalize-path o) e)
 
 -- ---- what a word holds
 
@@ -173,34 +163,51 @@ module _ (s : List ℕ) (w : ℕ) where
   pub owner-test : (o n : Name) (b : Bool) → n ≡ held s (ownerAt w) → b ≡ same o n → b ≡ same o (entryOf s w .owner)
   owner-test o n b e f = f ∙ ap (same o) (e ∙ sym owner-is)
 
-  module _ (o : Name) (x : Option Name) (t : Bool) (e : t ≡ same o (entryOf s w .owner)) where
+  module _ (o k : Name) (t : Bool) (e : t ≡ same o (held s (ownerAt w))) where
     -- the answer of `has_key` for another owner
-    pub word-other : t ≡ false → false ≡ hasKey o x (entryOf s w)
-    word-other h = let q : same o (entryOf s w .owner) ≡ false = sym e ∙ h in rw q
+    pub word-other : t ≡ false → false ≡ keyedBy o k (entryOf s w)
+    word-other h = let q : same o (entryOf s w .owner) ≡ false = ap (same o) owner-is ∙ (sym e ∙ h) in rw q
 
     module _ (h : t ≡ true) where
       -- of the same owner, the keys decide
-      keys-of : hasKey o x (entryOf s w) ≡ anyKey o x (entryOf s w .keys)
-      keys-of = let q : same o (entryOf s w .owner) ≡ true = sym e ∙ h in rw q
+      keys-of : keyedBy o k (entryOf s w) ≡ among k (entryOf s w .keys)
+      keys-of = let q : same o (entryOf s w .owner) ≡ true = ap (same o) owner-is ∙ (sym e ∙ h) in rw q
 
       -- and the owner that is looked for is that of the word
       owner-same : held s (ownerAt w) ≡ o
-      owner-same = sym (same-eq o (entryOf s w .owner) (sym e ∙ h) ∙ owner-is)
+      owner-same = sym (same-eq o (held s (ownerAt w)) (sym e ∙ h))
 
       -- the answer of `has_key` for a path, where m is the word's made parameter
       pub word-path : (m : ℕ) (p : Name) (b : Bool) → m ≡ madeOf w → m ≡ 0 → p ≡ held s (pathAt w) →
-          b ≡ anyKey o x (pathEntry o p .keys) → b ≡ hasKey o x (entryOf s w)
+          b ≡ among k (pathEntry o p .keys) → b ≡ keyedBy o k (entryOf s w)
       word-path m p b em z f g =
           g ∙
-          sym (keys-of ∙ (ap (λ (y : Entry). anyKey o x (y .keys)) (entry-path (sym em ∙ z)) ∙ ap₂ (λ (y z : Name). anyKey o x (pathEntry y z .keys)) owner-same (sym f)))
+          sym (keys-of ∙ (ap (λ (y : Entry). among k (y .keys)) (entry-path (sym em ∙ z)) ∙ ap₂ (λ (y z : Name). among k (pathEntry y z .keys)) owner-same (sym f)))
 
       -- its answer for a made parameter
-      pub word-made : (m : ℕ) (b : Bool) → m ≡ madeOf w → (m ≡ 0 → ⊥) → b ≡ isKey o x (normalize-path o (madePath m)) → b ≡ hasKey o x (entryOf s w)
-      unfolding anyKey madeEntry
+      pub word-made : (m : ℕ) (b : Bool) → m ≡ madeOf w → (m ≡ 0 → ⊥) → b ≡ same k (normalize-path o (madePath m)) → b ≡ keyedBy o k (entryOf s w)
+      unfolding among madeEntry
       word-made m b em z g =
-          g ∙ ap (λ (k : ℕ). isKey o x (normalize-path o (madePath k))) em ∙
-          sym (keys-of ∙ (ap (λ (y : Entry). anyKey o x (y .keys)) (entry-made (λ y. z (em ∙ y))) ∙
-          (or-false (isKey o x (normalize-path (held s (ownerAt w)) (madePath (madeOf w)))) ∙
-          ap (λ (y : Name). isKey o x (normalize-path y (madePath (madeOf w)))) owner-same)))
+          g ∙ ap (λ (i : ℕ). same k (normalize-path o (madePath i))) em ∙
+          sym (keys-of ∙ (ap (λ (y : Entry). among k (y .keys)) (entry-made (λ y. z (em ∙ y))) ∙
+          (or-false (same k (normalize-path (held s (ownerAt w)) (madePath (madeOf w)))) ∙
+          ap (λ (y : Name). same k (normalize-path y (madePath (madeOf w)))) owner-same)))
 
 pub ruleset word-keys = (word-other, word-path, word-made)
+
+-- ---- an owner that is known
+
+module _ (s : List ℕ) (o : Name) (at : ℕ) (b : Bool) where
+  -- at the same offset stands the same name
+  pub owner-known : (known : ℕ) → (known < 65536 → b ≡ same o (held s known)) → at < 65536 → at ≡ known → b ≡ same o (held s at)
+  owner-known known e l f = e (omega arith) ∙ ap (λ (i : ℕ). same o (held s i)) (sym f)
+
+  -- at another it is compared
+  pub owner-compared : (n : Name) → n ≡ held s at → b ≡ same o n → b ≡ same o (held s at)
+  owner-compared n e f = f ∙ ap (same o) e
+
+  -- and the offset is that of a word
+  pub owner-word : (w : ℕ) → b ≡ same o (held s at) → at ≡ ownerAt w → b ≡ same o (held s (ownerAt w))
+  owner-word w e f = e ∙ ap (λ (i : ℕ). same o (held s i)) f
+
+pub ruleset owners = (owner-known, owner-compared)

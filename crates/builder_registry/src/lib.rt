@@ -1,12 +1,13 @@
 // builder.rs, `ParameterRegistry`, in working words.
+use builder_names::Key;
 ghost use mathlib.Core.Path.{_≡_};
 ghost use mathlib.Core.Bool.{false, cond};
-ghost use mathlib.Core.List.{List};
+ghost use mathlib.Core.List.{List, _++_};
 ghost use mathlib.Core.Option.{some};
 ghost use Prim.Native.Nat.{ℕ, _+_, _*_, _^_, _≤_, _<_};
 ghost use lib.Dec.{eqb};
 ghost use lib.ListN.{length, getD};
-ghost use Rattle.blocks.specs.Name.{same};
+ghost use Rattle.blocks.specs.Name.{same, among};
 ghost use Rattle.blocks.specs.Tree.{name};
 ghost use Rattle.blocks.specs.Write.{write};
 ghost use Rattle.accepted.specs.Accepted.{Accepted, tree};
@@ -14,13 +15,12 @@ ghost use Rattle.resolved_parts.specs.Types.{ownersOf, textsOf, PathsAt};
 ghost use Rattle.ir.specs.Layout.{parameterTree, listTree, entriesTree, optionalTree};
 ghost use Rattle.wire.specs.Poke.{Wrote};
 ghost use Rattle.builder.specs.Names.{qualify-parent-path, normalize-path};
-ghost use Rattle.builder.specs.Registry.{enter, ensure, ensure-all, extend-with, lookup-name, owner-parameters, add-synthetic, mark-derived, entryOf as pathEntry};
+ghost use Rattle.builder.specs.Registry.{enter, ensure, ensure-all, extend-with, lookup-name, owner-parameters, add-synthetic, mark-derived, keyedBy, entryOf as pathEntry};
 ghost use Rattle.builder.specs.Nodes.{lookupQualified};
-ghost use Rattle.builder_names.specs.Views.{isKey};
 ghost use Rattle.builder_registry.specs.Word.{ownerAt, pathAt, madeOf, derivedOf, wordOf, derivedWord};
 ghost use Rattle.builder_registry.specs.Words.{Standing, Kept, Tags, Looked, held, madePath, madeParameter, madeEntry, entryOf, entriesOf, entryName};
 ghost use Rattle.builder_registry.specs.Texts.{describing};
-ghost use Rattle.builder_registry.specs.Place.{wanted, anyKey, hasKey, placeOf, foundIn, owned};
+ghost use Rattle.builder_registry.specs.Place.{placeOf, foundIn, owned};
 
 // How many entries the registry has, and the number of a refusal or 0. Of a refusal, a count of at most 512.
 pub struct Held {
@@ -47,17 +47,19 @@ fn held_at<'a>(s: &'a [u8], at: usize) -> &'a [u8]
     ensures { λ r. ⌜ now r ≡ held (now (s .entry)) at ⌝ }
     ensures { λ r. ⌜ length (now r) ≤ 255 ⌝ }
 {
-    if s.len() < at + 2 {
+    let from = at + 2;
+    if s.len() < from {
         return &s[..0];
     }
     let n = wire::read2(s, at);
-    if s.len() < at + 2 + n {
+    let to = from + n;
+    if s.len() < to {
         return &s[..0];
     }
     if 255 < n {
         return &s[..0];
     }
-    resolved_parts::name_at(s, at)
+    &s[from..to]
 }
 
 // The fields of a word. No other function knows where a field stands in it.
@@ -137,42 +139,33 @@ fn pick<'a>(made: u64, a: &'a [u8], b: &'a [u8], c: &'a [u8]) -> &'a [u8]
     c
 }
 
-// Whether a path has the key.
-fn is_key(qualified: bool, owner: &[u8], path: &[u8], key: &[u8]) -> bool
-    ensures { λ r. ⌜ r ≡ isKey (now (owner .entry)) (wanted qualified (now (owner .entry)) (now (path .entry))) (now (key .entry)) ⌝ }
-{
-    if qualified {
-        return builder_names::qualified_has_key(owner, path, key);
-    }
-    wire::same_name(builder_names::normalize_path(owner, path), key)
-}
+// A key is given in two parts, one behind the other; the first is empty but where a path is qualified by the owner's parent.
 
-// Whether a path has a key of an entered one.
-fn path_has(qualified: bool, owner: &[u8], path: &[u8], entered: &[u8]) -> bool
-    ensures { λ r. ⌜ r ≡ anyKey (now (owner .entry)) (wanted qualified (now (owner .entry)) (now (path .entry))) (pathEntry (now (owner .entry)) (now (entered .entry)) .keys) ⌝ }
+// Whether a key is one of an entered path's: its normal path, or its alias. An alias stands behind `::`, so a path that has none
+// before an end of the key's length is not searched for one.
+fn path_has(owner: &[u8], entered: &[u8], head: &[u8], rest: &[u8]) -> bool
+    ensures { λ r. ⌜ r ≡ among (now (head .entry) ++ now (rest .entry)) (pathEntry (now (owner .entry)) (now (entered .entry)) .keys) ⌝ }
 {
     let normal = builder_names::normalize_path(owner, entered);
-    if is_key(qualified, owner, path, normal) {
+    if builder_names::same_behind(head, rest, normal) {
         return true;
+    }
+    if !builder_names::colons_before(entered, head, rest) {
+        return false;
     }
     let a = builder_names::alias(entered, normal);
     if a.len() == 0 {
         return false;
     }
-    is_key(qualified, owner, path, a)
+    builder_names::same_behind(head, rest, a)
 }
 
-// Whether a path has the key of a made parameter.
-fn made_has(qualified: bool, owner: &[u8], path: &[u8], made: u64) -> bool
-    ensures { λ r. ⌜ r ≡ isKey (now (owner .entry)) (wanted qualified (now (owner .entry)) (now (path .entry))) (normalize-path (now (owner .entry)) (madePath made)) ⌝ }
+// Whether it is that of a made parameter.
+fn made_has(owner: &[u8], made: u64, head: &[u8], rest: &[u8]) -> bool
+    ensures { λ r. ⌜ r ≡ same (now (head .entry) ++ now (rest .entry)) (normalize-path (now (owner .entry)) (madePath made)) ⌝ }
 {
     let text = pick(made, b"__computed_tag", b"__variant", b"__payload_size");
-    is_key(
-        qualified,
-        owner,
-        path,
-        builder_names::normalize_path(owner, text),
-    )
+    builder_names::same_behind(head, rest, builder_names::normalize_path(owner, text))
 }
 
 // Whether an entry is the owner's.
@@ -182,29 +175,48 @@ fn has_owner(s: &[u8], w: u64, owner: &[u8]) -> bool
     wire::same_name(owner, owner_of(s, w))
 }
 
-// Whether an entry is the owner's and has the path's key.
-fn has_key(s: &[u8], w: u64, qualified: bool, owner: &[u8], path: &[u8]) -> bool
-    ensures { λ r. ⌜ r ≡ hasKey (now (owner .entry)) (wanted qualified (now (owner .entry)) (now (path .entry))) (entryOf (now (s .entry)) w) ⌝ }
+// Whether the name at an offset is the owner's, where `mine` says it of the offset `known`, if that is one: most entries have the
+// owner of the entry before them.
+fn is_owner(s: &[u8], at: usize, known: usize, mine: bool, owner: &[u8]) -> bool
+    requires { ⌜ (at < 65536) × (known < 65536 → mine ≡ same (now owner) (held (now s) known)) ⌝ }
+    ensures { λ r. ⌜ r ≡ same (now (owner .entry)) (held (now (s .entry)) at) ⌝ }
 {
-    if has_owner(s, w, owner) {
+    if at == known {
+        return mine;
+    }
+    wire::same_name(owner, held_at(s, at))
+}
+
+// Whether an entry is the owner's, which is known, and has the key.
+fn has_key(s: &[u8], w: u64, mine: bool, owner: &[u8], head: &[u8], rest: &[u8]) -> bool
+    requires { ⌜ mine ≡ same (now owner) (held (now s) (ownerAt w)) ⌝ }
+    ensures { λ r. ⌜ r ≡ keyedBy (now (owner .entry)) (now (head .entry) ++ now (rest .entry)) (entryOf (now (s .entry)) w) ⌝ }
+{
+    if mine {
         let made = made_of(w);
         if made == 0 {
-            return path_has(qualified, owner, path, path_of(s, w));
+            return path_has(owner, path_of(s, w), head, rest);
         }
-        return made_has(qualified, owner, path, made);
+        return made_has(owner, made, head, rest);
     }
     false
 }
 
-// The place of the first entry that has the path's key, or how many entries there are.
-fn place(s: &[u8], words: &[u64], n: usize, qualified: bool, owner: &[u8], path: &[u8]) -> usize
+// The place of the first entry of the owner that has the key, or how many entries there are.
+fn place(s: &[u8], words: &[u64], n: usize, owner: &[u8], head: &[u8], rest: &[u8]) -> usize
     requires { ⌜ n ≤ length (now words) ⌝ }
-    ensures { λ r. ⌜ r ≡ placeOf (now (owner .entry)) (wanted qualified (now (owner .entry)) (now (path .entry))) (entriesOf (now (s .entry)) (now (words .entry)) n) ⌝ }
+    ensures { λ r. ⌜ r ≡ placeOf (now (owner .entry)) (now (head .entry) ++ now (rest .entry)) (entriesOf (now (s .entry)) (now (words .entry)) n) ⌝ }
     ensures { λ r. ⌜ r ≤ n ⌝ }
 {
+    let mut known = 65536;
+    let mut mine = false;
     let mut i = 0;
     while i < n {
-        if has_key(s, words[i], qualified, owner, path) {
+        let w = words[i];
+        let at = owner_at(w);
+        mine = is_owner(s, at, known, mine, owner);
+        known = at;
+        if has_key(s, w, mine, owner, head, rest) {
             return i;
         }
         i += 1;
@@ -212,17 +224,20 @@ fn place(s: &[u8], words: &[u64], n: usize, qualified: bool, owner: &[u8], path:
     n
 }
 
-// The first entry that has the path's key.
-fn find(s: &[u8], words: &[u64], n: usize, qualified: bool, owner: &[u8], path: &[u8]) -> Found
-    requires { ⌜ Standing (now s) (now words) n ⌝ }
-    ensures { λ r. ⌜ Looked (now (s .entry)) (now (words .entry)) n r (lookupQualified (now (owner .entry)) (wanted qualified (now (owner .entry)) (now (path .entry))) (entriesOf (now (s .entry)) (now (words .entry)) n)) ⌝ }
-    ensures { λ r. ⌜ r ≡ foundIn (now (owner .entry)) (wanted qualified (now (owner .entry)) (now (path .entry))) (entriesOf (now (s .entry)) (now (words .entry)) n) ⌝ }
+// The same for the key of a path.
+fn path_place(s: &[u8], words: &[u64], n: usize, owner: &[u8], path: &[u8]) -> usize
+    requires { ⌜ n ≤ length (now words) ⌝ }
+    ensures { λ r. ⌜ r ≡ placeOf (now (owner .entry)) (normalize-path (now (owner .entry)) (now (path .entry))) (entriesOf (now (s .entry)) (now (words .entry)) n) ⌝ }
+    ensures { λ r. ⌜ r ≤ n ⌝ }
 {
-    let i = place(s, words, n, qualified, owner, path);
-    if i < n {
-        return Found::At(i);
-    }
-    Found::Missing
+    place(
+        s,
+        words,
+        n,
+        owner,
+        b"",
+        builder_names::normalize_path(owner, path),
+    )
 }
 
 // The entry that names a path under an owner: the first that has the path's key.
@@ -231,7 +246,11 @@ pub fn lookup_name(s: &[u8], words: &[u64], n: usize, owner: &[u8], path: &[u8])
     ensures { λ r. ⌜ Looked (now (s .entry)) (now (words .entry)) n r (lookup-name (now (owner .entry)) (now (path .entry)) (entriesOf (now (s .entry)) (now (words .entry)) n)) ⌝ }
     ensures { λ r. ⌜ r ≡ foundIn (now (owner .entry)) (some (now (path .entry))) (entriesOf (now (s .entry)) (now (words .entry)) n) ⌝ }
 {
-    find(s, words, n, false, owner, path)
+    let at = path_place(s, words, n, owner, path);
+    if at < n {
+        return Found::At(at);
+    }
+    Found::Missing
 }
 
 // The same for the path qualified by the owner's parent.
@@ -240,7 +259,16 @@ pub fn lookup_qualified(s: &[u8], words: &[u64], n: usize, owner: &[u8], path: &
     ensures { λ r. ⌜ Looked (now (s .entry)) (now (words .entry)) n r (lookupQualified (now (owner .entry)) (qualify-parent-path (now (owner .entry)) (now (path .entry))) (entriesOf (now (s .entry)) (now (words .entry)) n)) ⌝ }
     ensures { λ r. ⌜ r ≡ foundIn (now (owner .entry)) (qualify-parent-path (now (owner .entry)) (now (path .entry))) (entriesOf (now (s .entry)) (now (words .entry)) n) ⌝ }
 {
-    find(s, words, n, true, owner, path)
+    match builder_names::qualified_key(owner, path) {
+        Key::Joined(a, b) => {
+            let at = place(s, words, n, owner, &owner[..a], &path[b..]);
+            if at < n {
+                return Found::At(at);
+            }
+            Found::Missing
+        }
+        Key::NoParent => Found::Missing,
+    }
 }
 
 // How many bytes an entry's name has.
@@ -292,7 +320,7 @@ pub fn ensure(s: &[u8], words: &mut [u64], n: usize, owner: usize, path: usize) 
 {
     let o = held_at(s, owner);
     let p = held_at(s, path);
-    let i = place(s, words, n, false, o, p);
+    let i = path_place(s, words, n, o, p);
     if i < n {
         return Held {
             count: n,
@@ -363,11 +391,11 @@ pub fn add_synthetic(s: &[u8], words: &mut [u64], n: usize, owner: usize, made: 
     requires { ⌜ Standing (now s) (now words) n × (owner < 65536) × ((1 ≤ made) × (made ≤ 3)) ⌝ }
     ensures { λ r. ⌜ r .count ≤ 512 ⌝ }
     ensures { λ r. ⌜ Tags (now (s .entry)) (now (words .exit)) r (add-synthetic (held (now (s .entry)) owner) (madePath made) (madeParameter made (held (now (s .entry)) owner)) (entriesOf (now (s .entry)) (now (words .entry)) n)) ⌝ }
-    ensures { λ r. ⌜ r .at ≡ placeOf (held (now (s .entry)) owner) (some (madePath made)) (entriesOf (now (s .entry)) (now (words .entry)) n) ⌝ }
+    ensures { λ r. ⌜ r .at ≡ placeOf (held (now (s .entry)) owner) (normalize-path (held (now (s .entry)) owner) (madePath made)) (entriesOf (now (s .entry)) (now (words .entry)) n) ⌝ }
 {
     let o = held_at(s, owner);
     let text = pick(made, b"__computed_tag", b"__variant", b"__payload_size");
-    let i = place(s, words, n, false, o, text);
+    let i = path_place(s, words, n, o, text);
     if i < n {
         return Tagged {
             at: i,
@@ -388,7 +416,7 @@ pub fn mark_derived(s: &[u8], words: &mut [u64], n: usize, owner: &[u8], path: &
     requires { ⌜ Standing (now s) (now words) n ⌝ }
     ensures { λ _. ⌜ entriesOf (now (s .entry)) (now (words .exit)) n ≡ mark-derived (now (owner .entry)) (now (path .entry)) (entriesOf (now (s .entry)) (now (words .entry)) n) ⌝ }
 {
-    let i = place(s, words, n, false, owner, path);
+    let i = path_place(s, words, n, owner, path);
     if n <= i {
         return;
     }

@@ -21,8 +21,8 @@ slice-aggregate-pick-3 c = search needs
 pick-requires : tie.Need-pick-requires
 pick-requires c κs = search needs
 
-place-requires : tie.Need-place-requires
-place-requires c κs = search needs
+path-place-requires : tie.Need-path-place-requires
+path-place-requires c κs = search needs
 
 same-length : tie.Need-same-length
 same-length c = search needs
@@ -38,7 +38,7 @@ returns c =
           (omega arith) _ _
           (at-held-at .held-at .ensures .0)
           (made-text _ _ (at-pick .pick .ensures)) _
-          (c .before .place .ensures .0)
+          (c .before .path-place .ensures .0)
           (c .if1 .taken),
     )
 
@@ -56,8 +56,8 @@ returns-2 c =
     let at-enter = c .before .before in
     let at-made-word = at-enter .before in
     let at-else1 = at-made-word .before .before in
-    let at-place = at-else1 .before in
-    let at-pick = at-place .before .before in
+    let at-path-place = at-else1 .before in
+    let at-pick = at-path-place .before .before in
     let at-held-at = at-pick .before .before .before .before in
     let at-start = at-held-at .before .before .before in (
       omega arith,
@@ -66,9 +66,9 @@ returns-2 c =
           (omega arith) _ _
           (at-held-at .held-at .ensures .0)
           (made-text _ _ (at-pick .pick .ensures)) _
-          (at-place .place .ensures .0) _
+          (at-path-place .path-place .ensures .0) _
           (at-else1 .if1 .left)
-          (at-place .place .ensures .1)
+          (at-path-place .path-place .ensures .1)
           (at-made-word .made-word .ensures)
           (at-enter .enter .ensures .1 .0)
           (at-enter .enter .ensures .1 .1),
@@ -83,7 +83,7 @@ add-synthetic-spec =
     slice-aggregate-pick-2
     slice-aggregate-pick-3
     pick-requires
-    place-requires
+    path-place-requires
     same-length
     returns
     made-word-requires

@@ -11,8 +11,8 @@ held-at-requires c κs = search needs
 held-at-requires-2 : tie.Need-held-at-requires-2
 held-at-requires-2 c κs = search needs
 
-place-requires : tie.Need-place-requires
-place-requires c κs = search needs
+path-place-requires : tie.Need-path-place-requires
+path-place-requires c κs = search needs
 
 same-length : tie.Need-same-length
 same-length c = search needs
@@ -26,7 +26,7 @@ returns c =
           (omega arith) _ _
           (at-held-at .held-at .ensures .0)
           (at-held-at2 .held-at2 .ensures .0) _
-          (c .before .place .ensures .0)
+          (c .before .path-place .ensures .0)
           (c .if1 .taken),
     )
 
@@ -44,8 +44,8 @@ returns-2 c =
     let at-enter = c .before .before in
     let at-pack = at-enter .before in
     let at-else1 = at-pack .before .before in
-    let at-place = at-else1 .before in
-    let at-held-at2 = at-place .before .before in
+    let at-path-place = at-else1 .before in
+    let at-held-at2 = at-path-place .before .before in
     let at-held-at = at-held-at2 .before in
     let at-start = at-held-at .before .before .before in (
       at-enter .enter .ensures .0,
@@ -53,7 +53,7 @@ returns-2 c =
           (omega (arith, at-start .pre .0 .words, at-start .pre .0 .count)) _ _
           (at-held-at .held-at .ensures .0)
           (at-held-at2 .held-at2 .ensures .0) _
-          (at-place .place .ensures .0)
+          (at-path-place .path-place .ensures .0)
           (at-pack .pack .ensures)
           (at-else1 .if1 .left)
           (at-start .pre .1)
@@ -67,7 +67,7 @@ ensure-spec =
     (tie.spec
     held-at-requires
     held-at-requires-2
-    place-requires
+    path-place-requires
     same-length
     returns
     pack-requires

@@ -4,9 +4,6 @@ use borrow.Author.Needs.{needs}
 use Rattle.builder_registry.proofs.has_key.Statement.{statement}
 use Rattle.builder_registry.proofs.has_key.Tie as tie
 
-has-owner-requires : tie.Need-has-owner-requires
-has-owner-requires c κs = search needs
-
 made-of-requires : tie.Need-made-of-requires
 made-of-requires c κs = search needs
 
@@ -32,7 +29,6 @@ pub has-key-spec : {M : Type 1} → statement M
 has-key-spec =
     tie.close
     (tie.spec
-    has-owner-requires
     made-of-requires
     path-of-requires
     path-has-requires

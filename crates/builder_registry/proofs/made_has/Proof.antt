@@ -19,8 +19,8 @@ pick-requires c κs = search needs
 normalize-path-requires : tie.Need-normalize-path-requires
 normalize-path-requires c κs = search needs
 
-is-key-requires : tie.Need-is-key-requires
-is-key-requires c κs = search needs
+same-behind-requires : tie.Need-same-behind-requires
+same-behind-requires c κs = search needs
 
 returns : tie.Need-returns
 returns c = search (made-text, made-key)
@@ -34,5 +34,5 @@ made-has-spec =
     slice-aggregate-pick-3
     pick-requires
     normalize-path-requires
-    is-key-requires
+    same-behind-requires
     returns)

@@ -6,14 +6,14 @@ use borrow.Author.Needs.{needs}
 use Rattle.builder_registry.proofs.mark_derived.Statement.{statement}
 use Rattle.builder_registry.proofs.mark_derived.Tie as tie
 
-place-requires : tie.Need-place-requires
-place-requires c κs = search needs
+path-place-requires : tie.Need-path-place-requires
+path-place-requires c κs = search needs
 
 same-length : tie.Need-same-length
 same-length c = search needs
 
 returns : tie.Need-returns
-returns c = mark-nothing _ _ _ (omega arith) _ _ _ (c .before .place .ensures .0) (c .if1 .taken)
+returns c = mark-nothing _ _ _ (omega arith) _ _ _ (c .before .path-place .ensures .0) (c .if1 .taken)
 
 mul-w : tie.Need-mul-w
 mul-w c = search needs
@@ -30,10 +30,10 @@ same-length-2 c = search needs
 returns-2 : tie.Need-returns-2
 returns-2 c =
     let at-else1 = c .before .before .before in
-    let at-place = at-else1 .before in
+    let at-path-place = at-else1 .before in
     mark-again _ _ _
     (omega arith) _ _ _
-    (at-place .place .ensures .0)
+    (at-path-place .path-place .ensures .0)
     (at-else1 .if1 .left) _
     (c .before .is-derived .ensures)
     (c .if2 .taken)
@@ -54,10 +54,10 @@ returns-3 : tie.Need-returns-3
 returns-3 c =
     let at-is-derived = c .before .before in
     let at-else1 = at-is-derived .before .before in
-    let at-place = at-else1 .before in
+    let at-path-place = at-else1 .before in
     mark-first _ _ _
     (omega arith) _ _ _
-    (at-place .place .ensures .0)
+    (at-path-place .path-place .ensures .0)
     (at-else1 .if1 .left) _
     (at-is-derived .is-derived .ensures)
     (c .derived-word .ensures)
@@ -67,7 +67,7 @@ pub mark-derived-spec : {M : Type 1} → statement M
 mark-derived-spec =
     tie.close
     (tie.spec
-    place-requires
+    path-place-requires
     same-length
     returns
     mul-w

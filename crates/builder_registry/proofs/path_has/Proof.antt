@@ -7,32 +7,40 @@ use Rattle.builder_registry.proofs.path_has.Tie as tie
 normalize-path-requires : tie.Need-normalize-path-requires
 normalize-path-requires c κs = search needs
 
-is-key-requires : tie.Need-is-key-requires
-is-key-requires c κs = search needs
+same-behind-requires : tie.Need-same-behind-requires
+same-behind-requires c κs = search needs
 
 returns : tie.Need-returns
 returns c = search entered-keys
 
-alias-requires : tie.Need-alias-requires
-alias-requires c κs = search needs
+colons-before-requires : tie.Need-colons-before-requires
+colons-before-requires c κs = search needs
 
 returns-2 : tie.Need-returns-2
 returns-2 c = search entered-keys
 
-is-key-requires-2 : tie.Need-is-key-requires-2
-is-key-requires-2 c κs = search needs
+alias-requires : tie.Need-alias-requires
+alias-requires c κs = search needs
 
 returns-3 : tie.Need-returns-3
 returns-3 c = search entered-keys
+
+same-behind-requires-2 : tie.Need-same-behind-requires-2
+same-behind-requires-2 c κs = search needs
+
+returns-4 : tie.Need-returns-4
+returns-4 c = search entered-keys
 
 pub path-has-spec : {M : Type 1} → statement M
 path-has-spec =
     tie.close
     (tie.spec
     normalize-path-requires
-    is-key-requires
+    same-behind-requires
     returns
-    alias-requires
+    colons-before-requires
     returns-2
-    is-key-requires-2
-    returns-3)
+    alias-requires
+    returns-3
+    same-behind-requires-2
+    returns-4)

@@ -1,39 +1,46 @@
--- `builder_registry::place` meets its contract. The loop's invariant: none of the entries before `i` has the key. Assumes nothing.
+-- `builder_registry::place` meets its contract. The loop's invariant: none of the entries before `i` has the key, and `mine` says
+-- whether the name at `known` is the owner's, once that is an offset. Assumes nothing.
 use borrow.Author.Needs.{needs}
-use Prim.Native.Nat.{_+_, _-_, _≤_}
+use Prim.Native.Nat.{_+_, _-_, _≤_, _<_}
 use native.Mathlib.Omega.{arith}
 use native.Mathlib.Nat.{zero-add}
 use mathlib.Core.Path.{_≡_, sym}
+use mathlib.Core.List.{_++_}
 use lib.ListN.{drop}
-use Rattle.builder_registry.specs.Words.{entriesOf}
-use Rattle.builder_registry.specs.Place.{wanted, placeOf}
+use Rattle.blocks.specs.Name.{same}
+use Rattle.builder_registry.specs.Words.{held, entriesOf}
+use Rattle.builder_registry.specs.Place.{placeOf}
+use Rattle.builder_registry.proofs.Keys.{owner-word}
 use Rattle.builder_registry.proofs.Places.{places}
 use Rattle.builder_registry.proofs.place.Statement.{statement}
 use Rattle.builder_registry.proofs.place.Tie as tie
 
 abbrev Inv-loop : tie.InvT-loop
-Inv-loop s words n qualified owner path i₀ i =
+Inv-loop s words n owner head rest known₀ mine₀ i₀ known mine i =
     (i ≤ n) ×
-    (placeOf owner
-    (wanted qualified owner path)
-    (entriesOf s words n) ≡ i + placeOf owner
-    (wanted qualified owner path)
-    (drop i (entriesOf s words n)))
+    (known < 65536 → mine ≡ same owner (held s known)) ×
+    (placeOf owner (head ++ rest) (entriesOf s words n) ≡ i + placeOf owner (head ++ rest) (drop i (entriesOf s words n)))
 
 abbrev μ-loop : tie.MeasureT-loop
-μ-loop s words n qualified owner path i₀ i = n - i
+μ-loop s words n owner head rest known₀ mine₀ i₀ known mine i = n - i
 
 loop-holds : tie.Need-loop-holds Inv-loop μ-loop
-loop-holds c = (omega arith, sym (zero-add _))
+loop-holds c = (omega arith, (λ l. absurd (let z : ⊥ = omega arith in z)), sym (zero-add _))
 
-mul-has-key : tie.Need-mul-has-key Inv-loop μ-loop
-mul-has-key c = search needs
+mul-w : tie.Need-mul-w Inv-loop μ-loop
+mul-w c = search needs
 
-shared-slice-read-has-key : tie.Need-shared-slice-read-has-key Inv-loop μ-loop
-shared-slice-read-has-key c = search needs
+shared-slice-read-w : tie.Need-shared-slice-read-w Inv-loop μ-loop
+shared-slice-read-w c = search needs
+
+owner-at-requires : tie.Need-owner-at-requires Inv-loop μ-loop
+owner-at-requires c κs = search needs
+
+is-owner-requires : tie.Need-is-owner-requires Inv-loop μ-loop
+is-owner-requires c κs = search needs
 
 has-key-requires : tie.Need-has-key-requires Inv-loop μ-loop
-has-key-requires c κs = search needs
+has-key-requires c κs = owner-word _ _ _ _ _ (c .is-owner .ensures) (c .before .owner-at .ensures .0)
 
 returns : tie.Need-returns Inv-loop μ-loop
 returns c = (search places, omega arith)
@@ -45,7 +52,7 @@ loop-less : tie.Need-loop-less Inv-loop μ-loop
 loop-less c = omega arith
 
 loop-again : tie.Need-loop-again Inv-loop μ-loop
-loop-again c = (omega arith, search places)
+loop-again c = (omega arith, (λ l. c .before .before .is-owner .ensures), search places)
 
 returns-2 : tie.Need-returns-2 Inv-loop μ-loop
 returns-2 c = (search places, omega arith)
@@ -57,8 +64,10 @@ place-spec =
     Inv-loop
     μ-loop
     loop-holds
-    mul-has-key
-    shared-slice-read-has-key
+    mul-w
+    shared-slice-read-w
+    owner-at-requires
+    is-owner-requires
     has-key-requires
     returns
     add-i
