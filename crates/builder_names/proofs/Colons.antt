@@ -22,7 +22,7 @@ use Rattle.builder_names.proofs.Strip.{none-some, prefix-is, prefix-som
 -- ---- `::` in a name
 
 -- the two bytes at a place
-two : (s : Name) (i : ℕ) → i + 2 ≤ length s → drop i s ≡ getD s i 0 ∷ (getD s (i + 1) 0 ∷ drop (i + 2) s)
+pub two : (s : Name) (i : ℕ) → i + 2 ≤ length s → drop i s ≡ getD s i 0 ∷ (getD s (i + 1) 0 ∷ drop (i + 2) s)
 two s i h =
     let e : suc (suc i) ≡ i + 2 = omega arith in
     drop-cons s i 0 (omega arith) ∙ ap (λ (m : Name). getD s i 0 ∷ m) (drop-cons s (suc i) 0 (omega arith) ∙ rw (add-one, e) refl)

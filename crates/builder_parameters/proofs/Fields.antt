@@ -6,7 +6,7 @@ use mathlib.Core.Option.{Option, some, none}
 use Prim.Native.Nat.{ℕ, _+_, _-_, _≤_, _<_}
 use native.Mathlib.Omega.{arith}
 use lib.Dec.{leb}
-use borrow.Author.Tests.{leb-true, leb-false}
+use borrow.Author.Tests.{leb-true, leb-false, not-true, not-false}
 use Rattle.blocks.specs.Bytes.{le2, le4}
 use Rattle.blocks.specs.Name.{Name, same}
 use Rattle.blocks.specs.Tree.{Tree, block, cons, view}
@@ -22,7 +22,6 @@ use Rattle.resolved_parts.specs.declared.ListParts.{ListParts}
 use Rattle.resolved_parts.specs.Types.{ArrayAt, FieldAt, FieldsAt}
 use Rattle.builder.specs.Names.{orElse, split, before-element, replace-colons}
 use Rattle.builder.specs.BuildType.{fieldsOf, has-jagged, jagged-before, is-jagged-element-parameter}
-use Rattle.builder_parameters.proofs.Tests.{was-true, was-false}
 use Rattle.builder_parameters.specs.Listed.{Jagged}
 
 -- ---- kinds
@@ -76,13 +75,13 @@ module _ {s : List ℕ} {at : ℕ} {a : Accepted s 33 33 at} {r : FieldParts} (f
 
   -- it has another name
   pub other-field : {o : Name} {b : Bool} → o ≡ nameAt s (at + 6) → b ≡ same o n → not b ≡ true → within n (cons (tree a) u) ≡ within n u
-  other-field e g h = of-field (ap (λ (m : Name). same m n) (sym e) ∙ sym g ∙ was-false _ h) refl
+  other-field e g h = of-field (ap (λ (m : Name). same m n) (sym e) ∙ sym g ∙ not-true _ h) refl
 
   -- it has the name
   pub that-field : {o : Name} {b j : Bool} → o ≡ nameAt s (at + 6) → b ≡ same o n → not b ≡ false →
       ((t : Accepted s 1 7 (r .kind)) → j ≡ orElse false (jaggedOf (kindOf (typeOf (tree t))))) →
       within n (cons (tree a) u) ≡ (j || within n u)
-  that-field e g h k = of-field (ap (λ (m : Name). same m n) (sym e) ∙ sym g ∙ was-true _ h) (sym (k (f .type)))
+  that-field e g h k = of-field (ap (λ (m : Name). same m n) (sym e) ∙ sym g ∙ not-false _ h) (sym (k (f .type)))
 
   -- it is no jagged array
   pub plain-field : {j : Bool} → ((t : Accepted s 1 7 (r .kind)) → j ≡ orElse false (jaggedOf (kindOf (typeOf (tree t))))) → j ≡ false →

@@ -1,4 +1,3 @@
-pub mod Tests
 pub mod Segments
 pub mod Fields
 pub mod Listed

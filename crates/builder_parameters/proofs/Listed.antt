@@ -9,6 +9,7 @@ use native.Mathlib.Omega.{arith}
 use lib.ListN.{length, take, drop, getD, set}
 use lib.Seq.{drop-cons, set-comm}
 use Rattle.blocks.specs.Bytes.{bytes}
+use borrow.Author.Tests.{not-true, not-false}
 use Rattle.blocks.specs.Name.{Name, same, among}
 use Rattle.blocks.specs.Tree.{num}
 use Rattle.blocks.specs.Write.{write}
@@ -25,7 +26,6 @@ use Rattle.builder_registry.specs.Words.{Standing, entryOf, entriesOf}
 use Rattle.builder_parameters.specs.declared.Segment.{Segment}
 use Rattle.builder_parameters.specs.declared.Segment.the-variants.{Part, Missing}
 use Rattle.builder_parameters.specs.Segments.{Found}
-use Rattle.builder_parameters.proofs.Tests.{was-true, was-false}
 use Rattle.builder_parameters.specs.Ready.{Ready}
 use Rattle.builder_parameters.specs.Listed.{nameIn, names, lists, Room, Jagged, Asks}
 
@@ -103,12 +103,12 @@ module _ {m : Name} (n : Name) (f : m ≡ replace-colons n) (t : ResolvedType) {
 module _ (t : ResolvedType) (s ws : List ℕ) (i : ℕ) {f : Bool} (e : f ≡ not (among (nameIn s ws i) (names s ws i))) where
   -- an entry whose name an earlier one has is not listed
   pub not-first : not f ≡ true → false ≡ lists t s ws i
-  not-first h = ap (λ (b : Bool). b && not (is-jagged-element-parameter t (nameIn s ws i))) (sym (was-false f h) ∙ e)
+  not-first h = ap (λ (b : Bool). b && not (is-jagged-element-parameter t (nameIn s ws i))) (sym (not-true f h) ∙ e)
 
   -- another one is listed if it is no element of a jagged array
   pub first-listed : {r : Bool} → not f ≡ false → r ≡ is-jagged-element-parameter t (nameIn s ws i) → not r ≡ lists t s ws i
   first-listed {r} h g =
-      ap not g ∙ ap (λ (b : Bool). b && not (is-jagged-element-parameter t (nameIn s ws i))) (sym (was-true f h) ∙ e)
+      ap not g ∙ ap (λ (b : Bool). b && not (is-jagged-element-parameter t (nameIn s ws i))) (sym (not-false f h) ∙ e)
 
 -- ---- one entry after another
 
@@ -129,11 +129,11 @@ module _ (t : ResolvedType) (s ws : List ℕ) {i n : ℕ} where
   module _ {r : Bool} (h : i < n) (e : r ≡ lists t s ws i) where
     -- it is not
     pub listed-no : not r ≡ true → listed t s ws i (n - i) ≡ listed t s ws (i + 1) (n - (i + 1))
-    listed-no f = rw (listed-step h, ← e, was-false r f) refl
+    listed-no f = rw (listed-step h, ← e, not-true r f) refl
 
     -- it is
     pub listed-yes : not r ≡ false → listed t s ws i (n - i) ≡ entryOf s (getD ws i 0) .parameter ∷ listed t s ws (i + 1) (n - (i + 1))
-    listed-yes f = rw (listed-step h, ← e, was-true r f) refl
+    listed-yes f = rw (listed-step h, ← e, not-false r f) refl
 
   -- behind the last entry nothing is
   pub listed-end : n ≤ i → listed t s ws i (n - i) ≡ []

@@ -17,8 +17,10 @@ use Rattle.blocks.specs.Write.{write}
 use Rattle.wire.specs.Poke.{poke, Wrote}
 use Rattle.wire.proofs.Laws.{both, poke-whole, bytes-length}
 use Rattle.builder.specs.Names.{replace-colons, split, onto, before, before-element}
+use Rattle.builder_names.specs.Views.{colons}
+use Rattle.builder_names.proofs.Colons.{two}
 use Rattle.builder_parameters.specs.declared.Segment.the-variants.{Part, Missing}
-use Rattle.builder_parameters.specs.Segments.{pair, first-length, Found}
+use Rattle.builder_parameters.specs.Segments.{first-length, Found}
 
 -- ---- a buffer
 
@@ -70,44 +72,25 @@ replaced {xs} {ys} {r} n m w h e k l z =
 
 -- ---- `::`
 
--- the bytes at i and behind it
-two : (n : Name) (i : ℕ) → i + 2 ≤ length n → drop i n ≡ getD n i 0 ∷ (getD n (i + 1) 0 ∷ drop (i + 2) n)
-two n i h =
-    let e : suc (suc i) ≡ i + 2 = omega arith in
-    drop-cons n i 0 (omega arith) ∙ ap (λ (m : Name). getD n i 0 ∷ m) (drop-cons n (suc i) 0 (omega arith) ∙ rw (add-one, e) refl)
-
-module _ (n : Name) (i : ℕ) where
-  -- the last byte is no `::`
-  pub no-room : i < length n → length n ≤ i + 1 → false ≡ pair (drop i n)
-  no-room h l = rw (drop-cons n i 0 h, drop-of-length-le n {i = suc i} (omega arith)) refl
-
-  -- another byte than `:` begins none
-  pub no-colon : i + 1 < length n → (getD n i 0 ≡ 0x3A → ⊥) → false ≡ pair (drop i n)
-  no-colon h f = rw (two n i (omega arith), ne-eqb (getD n i 0) 0x3A f) refl
-
-  -- behind a `:` the next byte decides
-  pub colon : i + 1 < length n → getD n i 0 ≡ 0x3A → eqb (getD n (i + 1) 0) 0x3A ≡ pair (drop i n)
-  colon h f = rw (two n i (omega arith), eq-eqb (getD n i 0) 0x3A f) refl
-
 -- `::` is replaced
-replace-pair : (x y : ℕ) (n : Name) → pair (x ∷ (y ∷ n)) ≡ true → replace-colons (x ∷ (y ∷ n)) ≡ 0x2E ∷ replace-colons n
+replace-pair : (x y : ℕ) (n : Name) → colons (x ∷ (y ∷ n)) ≡ true → replace-colons (x ∷ (y ∷ n)) ≡ 0x2E ∷ replace-colons n
 unfolding replace-colons
 replace-pair x y n e = rw e
 
 -- any other byte stays
-replace-one : (x : ℕ) (n : Name) → pair (x ∷ n) ≡ false → replace-colons (x ∷ n) ≡ x ∷ replace-colons n
+replace-one : (x : ℕ) (n : Name) → colons (x ∷ n) ≡ false → replace-colons (x ∷ n) ≡ x ∷ replace-colons n
 unfolding replace-colons
 replace-one x [] e = refl
 replace-one x (y ∷ n) e = rw e
 
-module _ {xs ys zs : List ℕ} {p q r : ℕ} (n : Name) (i : ℕ) {b : Bool} (e : b ≡ pair (drop i n)) where
+module _ {xs ys zs : List ℕ} {p q r : ℕ} (n : Name) (i : ℕ) {b : Bool} (e : b ≡ colons (drop i n)) where
   -- a dot is written, and the rest behind the `::`
   pub pair-more : b ≡ true → i + 2 ≤ length n → Wrote xs p (0x2E ∷ []) ys q → Wrote ys q (replace-colons (drop (i + 2) n)) zs r →
       Wrote xs p (replace-colons (drop i n)) zs r
   pair-more t h f g =
       let d = two n i h in
       let w : replace-colons (drop i n) ≡ 0x2E ∷ replace-colons (drop (i + 2) n) = ap replace-colons d
-      ∙ replace-pair (getD n i 0) (getD n (i + 1) 0) (drop (i + 2) n) (ap pair (sym d) ∙ sym e ∙ t) in
+      ∙ replace-pair (getD n i 0) (getD n (i + 1) 0) (drop (i + 2) n) (ap colons (sym d) ∙ sym e ∙ t) in
       rw w (both f g)
 
   -- the byte is written, and the rest behind it
@@ -116,7 +99,7 @@ module _ {xs ys zs : List ℕ} {p q r : ℕ} (n : Name) (i : ℕ) {b : Bool} (e 
   one-more t h f g =
       let d : drop i n ≡ getD n i 0 ∷ drop (i + 1) n = drop-cons n i 0 h ∙ rw add-one refl in
       let w : replace-colons (drop i n) ≡ getD n i 0 ∷ replace-colons (drop (i + 1) n) = ap replace-colons d
-      ∙ replace-one (getD n i 0) (drop (i + 1) n) (ap pair (sym d) ∙ sym e ∙ t) in
+      ∙ replace-one (getD n i 0) (drop (i + 1) n) (ap colons (sym d) ∙ sym e ∙ t) in
       rw w (both f g)
 
 -- nothing is left to write

@@ -1,6 +1,6 @@
--- The segments of a name, and `::` in it, as the code finds them.
+-- The segments of a name, as the code finds them.
 use Prim.Native.Nat.{ℕ, suc, _-_, _≤_}
-use mathlib.Core.Bool.{Bool, false, _&&_, cond}
+use mathlib.Core.Bool.{cond}
 use mathlib.Core.List.{[], _∷_}
 use mathlib.Core.Option.{Option, some, none}
 use lib.Dec.{eqb}
@@ -8,12 +8,6 @@ use lib.ListN.{length, take, drop}
 use Rattle.blocks.specs.Name.{Name}
 use Rattle.builder_parameters.specs.declared.Segment.{Segment}
 use Rattle.builder_parameters.specs.declared.Segment.the-variants.{Part, Missing}
-
--- whether a name begins with `::`
-abbrev pub pair : Name → Bool
-pair [] = false
-pair (x ∷ []) = false
-pair (x ∷ (y ∷ ys)) = eqb x 0x3A && eqb y 0x3A
 
 -- how many bytes the first segment has
 unfoldable pub first-length : Name → ℕ

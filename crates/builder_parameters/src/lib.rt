@@ -17,7 +17,7 @@ ghost use Rattle.builder.specs.BuildType.{fieldsOf, has-jagged, is-jagged-eleme
 ghost use Rattle.wire.specs.Poke.{Wrote};
 ghost use Rattle.builder_registry.specs.Words.{Standing, entriesOf};
 ghost use Rattle.builder_parameters.specs.Ready.{Ready};
-ghost use Rattle.builder_parameters.specs.Segments.{pair, first-length, Found};
+ghost use Rattle.builder_parameters.specs.Segments.{first-length, Found};
 ghost use Rattle.builder_parameters.specs.Listed.{nameIn, names, lists, Room, Jagged, Asks};
 ghost use Rattle.builder_parameters.specs.Links.{placeOf, OfPlace, Links, Linked};
 
@@ -25,22 +25,6 @@ ghost use Rattle.builder_parameters.specs.Links.{placeOf, OfPlace, Links
 enum Segment {
     Part(usize, usize),
     Missing,
-}
-
-// Whether `::` stands at i.
-fn is_pair(name: &[u8], i: usize) -> bool
-    requires { ⌜ i < length (now name) ⌝ }
-    ensures { λ r. ⌜ r ≡ pair (drop i (now (name .entry))) ⌝ }
-    ensures { λ r. ⌜ (r ≡ true → i + 2 ≤ length (now (name .entry))) ⌝ }
-{
-    let j = i + 1;
-    if name.len() <= j {
-        return false;
-    }
-    if name[i] != b':' {
-        return false;
-    }
-    name[j] == b':'
 }
 
 // The name with `::` read as `.`.
@@ -52,7 +36,7 @@ fn replace_colons(name: &[u8], out: &mut [u8]) -> usize
     let mut p = 0;
     let mut i = 0;
     while i < name.len() {
-        if is_pair(name, i) {
+        if builder_names::colons_at(name, i) {
             p = wire::put_byte(out, p, b'.');
             i += 2;
             continue;

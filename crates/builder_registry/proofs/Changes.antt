@@ -90,13 +90,11 @@ module _ (s ws : List ℕ) (n w l : ℕ) (fit : n ≤ length ws) (e : l ≡ leng
 
   -- its answer else, and where the new word stands
   pub entered : l ≤ 255 → n < 512 → n < length ws →
-      Kept s (set ws n w) (record {
-        count =
-            n + 1;
-        number = 0;
-      }) (enter (entryOf s w) (entriesOf s ws n)) × (_≡_ {A = ℕ} 0 0 → (n + 1 ≡ n + 1) × (getD (set ws n w) n 0 ≡ w))
+      Kept s (set ws n w) (record { count = n + 1; number = 0 }) (enter (entryOf s w) (entriesOf s ws n)) ×
+      (_≡_ {A = ℕ} 0 0 → (n + 1 ≡ n + 1) × (getD (set ws n w) n 0 ≡ w))
   entered h k g = (
-    rw (enter-room (entryOf s w) (entriesOf s ws n) (omega arith) (omega (arith, entries-length s ws n fit))) (AnswersIn.made _ refl (record { entries = pushed s ws n w g })),
+    rw (enter-room (entryOf s w) (entriesOf s ws n) (omega arith) (omega (arith, entries-length s ws n fit)))
+        (AnswersIn.made _ refl (record { entries = pushed s ws n w g })),
     λ z. (refl, getD-set-same ws n w 0 g),
   )
 
@@ -160,7 +158,8 @@ module _ (s ws : List ℕ) (n owner made : ℕ) (fit : n ≤ length ws) (o p : N
       (add-synthetic (held s owner) (madePath made) (madeParameter made (held s owner)) (entriesOf s ws n)) ×
       (i ≡ placeOf (held s owner) (normalize-path (held s owner) (madePath made)) (entriesOf s ws n))
   synthetic-has h = (
-    rw (← f, ← g, synthetic-found o p (entriesOf s ws n) (madeParameter made o) _ (found-at s ws n fit o (normalize-path o p) i e h)) (AnswersIn.made _ refl (record { named = refl; entries = refl; within = h })),
+    rw (← f, ← g, synthetic-found o p (entriesOf s ws n) (madeParameter made o) _ (found-at s ws n fit o (normalize-path o p) i e h))
+        (AnswersIn.made _ refl (record { named = refl; entries = refl; within = h })),
     place-is,
   )
 

@@ -40,15 +40,17 @@ module _ {A : Type 0} (all : List A → Build Unit) (one : A → Build Unit) (ea
   pub begin : {s : List ℕ} {i : Item} {n at left : ℕ} {g : Registry} → left ≡ n → Entries s i n at → Left (Met all make g g) s i n at left at
   begin {s} {i} {n} {at} {g = g} e l = subst (λ (k : ℕ). Left (Met all make g g) s i n at k at) (sym e) (starts (λ t. record { is = refl }) l)
 
+  -- the entries behind one, after what it made
+  abbrev rest : Tree → Outcome (Unit × Registry) → Outcome (Unit × Registry)
+  rest u o = _andThen_ o (λ y. all (entries make u) (y .1))
+
   module _ {s us : List ℕ} {i : Item} {n at left q : ℕ} {g h : Registry} {r : Held} where
     -- an entry t, which is entered; the next begins at p
     pub go-on : {p : ℕ} (t : Entries s i left q → Tree) → ((l : Entries s i left q) → After l (t l) p) →
         ((l : Entries s i left q) → Kept s us r (one (make (t l)) h)) → r .number ≡ 0 →
         Left (Met all make g h) s i n at left q → Left (Met all make g (entriesOf s us (r .count))) s i n at (left - 1) p
     unfolding entries _andThen_
-    go-on t a k z l =
-        steps t a
-        (λ m w u x. record { is = x .is ∙ (each .more (make (t m)) (entries make u) h ∙ ap (λ (o : Outcome (Unit × Registry)). _andThen_ o (λ y. all (entries make u) (y .1))) (kept-done z (k m))) }) l
+    go-on t a k z l = steps t a (λ m w u x. record { is = x .is ∙ (each .more (make (t m)) (entries make u) h ∙ ap (rest u) (kept-done z (k m))) }) l
 
     -- an entry that is refused
     pub stop : {p : ℕ} (t : Entries s i left q → Tree) → ((l : Entries s i left q) → After l (t l) p) →
@@ -58,11 +60,11 @@ module _ {A : Type 0} (all : List A → Build Unit) (one : A → Build Unit) (ea
     stop t a k z l w =
         let m = l .whole w in
         let b = unanswered z (k (m .0)) in
+        let u = a (m .0) .rest .got .0 in
         let e : all (entries make (w .got .0)) g ≡ refused (plain (r .number)) =
         m .1 .is ∙
         (ap (λ (x : Tree). all (entries make x) h) (a (m .0) .tree) ∙
-        (each .more (make (t (m .0))) (entries make (a (m .0) .rest .got .0)) h ∙
-        ap (λ (o : Outcome (Unit × Registry)). _andThen_ o (λ y. all (entries make (a (m .0) .rest .got .0)) (y .1))) (b .0))) in
+        (each .more (make (t (m .0))) (entries make u) h ∙ ap (rest u) (b .0))) in
         refuses (b .1) e
 
   -- no entry is left

@@ -1,24 +1,27 @@
 -- A key of more than 255 bytes is in no entry. Assumes nothing.
-use Prim.Native.Nat.{ℕ, _+_, _≤_, _<_}
+use Prim.Native.Nat.{ℕ, suc, _+_, _≤_, _<_}
 use native.Mathlib.Omega.{arith}
 use mathlib.Core.Path.{_≡_, refl, sym, ap, _∙_}
-use mathlib.Core.Bool.{Bool, true, false, _&&_, _||_, cond}
-use mathlib.Core.List.{List, [], _∷_, _++_, map}
-use mathlib.Core.Option.{Option, some, none}
+use mathlib.Core.Bool.{Bool, true, false, _&&_}
+use mathlib.Core.List.{List, [], _∷_, map}
+use mathlib.Core.Option.{none}
 use lib.Dec.{eqb}
-use lib.ListN.{length, take, length-drop, length-append}
+use lib.ListN.{length, take, length-drop}
 use borrow.Author.Tests.{eqb-true, eqb-false}
 use Rattle.blocks.specs.Name.{Name, ascii, same, among}
 use Rattle.blocks.proofs.Name.{same-eq}
 use Rattle.wire.proofs.Names.{same-long}
-use Rattle.builder.specs.Names.{isEmpty, isSome, strip-owner, normalize-path, rsplit-once, aliasUnless, alternate-owner-aliases}
-use Rattle.builder.specs.Registry.{Entry, Registry, keyedBy, findKey, derivedEntry, mark, entryOf as pathEntry}
+use Rattle.builder.specs.Names.{isSome, strip-owner, normalize-path, alternate-owner-aliases}
+use Rattle.builder.specs.Registry.{Entry, keyedBy, findKey, mark, entryOf as pathEntry}
 use Rattle.builder_names.proofs.Strip.{normal-rest, normal-whole}
-use Rattle.builder_names.proofs.Qualified.{split-whole}
+use Rattle.builder_names.proofs.Colons.{before-rest}
+use Rattle.builder_names.proofs.Qualified.{not-alias}
 use Rattle.builder_registry.specs.Word.{ownerAt, pathAt, madeOf}
 use Rattle.builder_registry.specs.Words.{held, madePath, madeEntry, entryOf, entriesOf}
+use Rattle.builder_registry.specs.Place.{placeOf}
 use Rattle.builder_registry.proofs.Keys.{held-bound, entry-path, entry-made}
 use Rattle.builder_registry.proofs.Names.{normal-short, picked-short}
+use Rattle.builder_registry.proofs.Places.{find-none, mark-none}
 
 -- ---- a long key
 
@@ -28,25 +31,13 @@ module _ (k : Name) (long : 255 < length k) where
   not-same n h = sym (same-long k n (λ e. let z : ⊥ = omega arith in z))
 
   -- nor the alias of a short path
-  not-alias : (p n : Name) → length p ≤ 255 → among k (alternate-owner-aliases p n) ≡ false
-  unfolding alternate-owner-aliases among
-  not-alias p n h = go (rsplit-once p) refl
-    where
-      go : (t : Option (Name × Name)) → rsplit-once p ≡ t → among k (aliasUnless n t) ≡ false
-      go none e = refl
-      go (some q) e = all (isEmpty (q .1) || same (q .1) n)
-        where
-          short : length (q .1) ≤ 255
-          short = omega (arith, ap length (split-whole p (q .0) (q .1) e), length-append (q .0) (ascii "::" ++ q .1))
-
-          all : (b : Bool) → among k (cond b [] (q .1 ∷ [])) ≡ false
-          all true = refl
-          all false = rw (not-same (q .1) short)
+  not-short-alias : (p n : Name) → length p ≤ 255 → among k (alternate-owner-aliases p n) ≡ false
+  not-short-alias p n h = not-alias [] k p n (sym (before-rest p 0 (length k) (omega arith)))
 
   -- nor a key of an entered path
   not-path : (o p : Name) → length p ≤ 255 → among k (pathEntry o p .keys) ≡ false
   unfolding among
-  not-path o p h = rw (not-same (normalize-path o p) (omega (arith, normal-short o p))) (not-alias p (normalize-path o p) h)
+  not-path o p h = rw (not-same (normalize-path o p) (omega (arith, normal-short o p))) (not-short-alias p (normalize-path o p) h)
 
   -- the path of a made parameter is short
   made-short : (m : ℕ) → length (madePath m) ≤ 255
@@ -77,30 +68,22 @@ module _ (k : Name) (long : 255 < length k) where
       go true = refl
       go false = refl
 
-  -- nothing is found in any words
-  find-words : (o : Name) (s ws : List ℕ) → findKey o k (map (entryOf s) ws) ≡ none
-  unfolding findKey
-  find-words o s [] = refl
-  find-words o s (w ∷ ws) =
-      ap (λ (t : Bool). elim t [ true ↦ some (entryOf s w .parameter) | false ↦ findKey o k (map (entryOf s) ws) ]) (not-held o s w) ∙ find-words o s ws
+  -- and it has no place in any words
+  nowhere : (o : Name) (s ws : List ℕ) → placeOf o k (map (entryOf s) ws) ≡ length (map (entryOf s) ws)
+  unfolding placeOf
+  nowhere o s [] = refl
+  nowhere o s (w ∷ ws) = rw (not-held o s w) (ap suc (nowhere o s ws))
 
-  -- and nothing is marked
-  mark-words : (o : Name) (s ws : List ℕ) → mark o k (map (entryOf s) ws) ≡ map (entryOf s) ws
-  unfolding mark
-  mark-words o s [] = refl
-  mark-words o s (w ∷ ws) =
-      ap (λ (t : Bool). cond t (derivedEntry (entryOf s w) ∷ map (entryOf s) ws) (entryOf s w ∷ mark o k (map (entryOf s) ws))) (not-held o s w) ∙
-      ap (λ (l : Registry). entryOf s w ∷ l) (mark-words o s ws)
+  module _ (o : Name) (s ws : List ℕ) (n : ℕ) where
+    -- nothing is found in the first n words
+    pub find-long : findKey o k (entriesOf s ws n) ≡ none
+    unfolding entriesOf
+    find-long = find-none o k (entriesOf s ws n) (omega (arith, nowhere o s (take n ws)))
 
-  -- nothing is found in the first n words
-  pub find-long : (o : Name) (s ws : List ℕ) (n : ℕ) → findKey o k (entriesOf s ws n) ≡ none
-  unfolding entriesOf
-  find-long o s ws n = find-words o s (take n ws)
-
-  -- and nothing is marked in them
-  pub mark-long : (o : Name) (s ws : List ℕ) (n : ℕ) → mark o k (entriesOf s ws n) ≡ entriesOf s ws n
-  unfolding entriesOf
-  mark-long o s ws n = mark-words o s (take n ws)
+    -- and nothing is marked in them
+    pub mark-long : mark o k (entriesOf s ws n) ≡ entriesOf s ws n
+    unfolding entriesOf
+    mark-long = mark-none o k (entriesOf s ws n) (omega (arith, nowhere o s (take n ws)))
 
 -- the normal path of a long path is long
 pub normal-long : (o p : Name) → length o ≤ 255 → 511 < length p → 255 < length (normalize-path o p)

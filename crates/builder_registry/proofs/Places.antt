@@ -104,7 +104,7 @@ module _ (o q : Name) where
       (λ e es i h ih l. find-next e es h ∙ ih (omega arith))
 
   -- no entry has the key
-  find-none : (es : Registry) → length es ≤ placeOf o q es → findKey o q es ≡ none
+  pub find-none : (es : Registry) → length es ≤ placeOf o q es → findKey o q es ≡ none
   unfolding findKey
   find-none =
       by-place o q (λ es i. length es ≤ i → findKey o q es ≡ none)
@@ -122,7 +122,7 @@ module _ (o q : Name) where
       (λ e es i h ih l. mark-next e es h ∙ ap (λ (r : Registry). e ∷ r) (ih (omega arith)))
 
   -- no mark is set
-  mark-none : (es : Registry) → length es ≤ placeOf o q es → mark o q es ≡ es
+  pub mark-none : (es : Registry) → length es ≤ placeOf o q es → mark o q es ≡ es
   unfolding mark
   mark-none =
       by-place o q (λ es i. length es ≤ i → mark o q es ≡ es)

@@ -3,7 +3,7 @@
 use mathlib.Core.Path.{sym, _∙_}
 use Rattle.resolved.specs.Set.{typeOf}
 use Rattle.accepted.specs.Accepted.{tree}
-use Rattle.builder_parameters.proofs.Tests.{was-true, was-false}
+use borrow.Author.Tests.{not-true, not-false}
 use Rattle.builder_parameters.proofs.Listed.{not-first, first-listed, same-room}
 use Rattle.builder_parameters.proofs.is_listed.Statement.{statement}
 use Rattle.builder_parameters.proofs.is_listed.Tie as tie
@@ -53,7 +53,7 @@ returns-2 c =
           (at-start at-b .args .i)
           (at-is-first at-b .is-first .ensures .0)
           (c .before .if1 .left)
-          (sym (at-start at-b .pre .0 .jagged-is .no-element (was-false _ (c .if2 .taken)) x _)),
+          (sym (at-start at-b .pre .0 .jagged-is .no-element (not-true _ (c .if2 .taken)) x _)),
       at-is-first at-b .is-first .ensures .1,
     )
 
@@ -66,7 +66,7 @@ is-jagged-element-requires c κs =
           (at-is-first at-b .is-first .kept .1 .1 .1 .1 .1 .1 .1 .0),
       at-start at-b .pre .1,
       at-start at-b .pre .0 .type-at,
-      at-start at-b .pre .0 .jagged-is .struct (was-true _ (c .before .before .if2 .left)),
+      at-start at-b .pre .0 .jagged-is .struct (not-false _ (c .before .before .if2 .left)),
     )
 
 same-length-5 : tie.Need-same-length-5

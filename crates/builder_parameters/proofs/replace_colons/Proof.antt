@@ -24,8 +24,8 @@ abbrev μ-loop : tie.MeasureT-loop
 loop-holds : tie.Need-loop-holds Inv-loop μ-loop
 loop-holds c = (omega arith, omega arith, search needs, λ zs r g. g)
 
-is-pair-requires : tie.Need-is-pair-requires Inv-loop μ-loop
-is-pair-requires c κs = c .loop-test .taken
+colons-at-requires : tie.Need-colons-at-requires Inv-loop μ-loop
+colons-at-requires c κs = c .loop-test .taken
 
 -- The places, each seen from a later one: what was known there.
 abbrev at-start : tie.At-loop Inv-loop μ-loop → tie.Start Inv-loop μ-loop
@@ -50,16 +50,16 @@ loop-again : tie.Need-loop-again Inv-loop μ-loop
 loop-again c =
     let at-put-byte = c .before .before in
     let at-then1 = at-put-byte .before .before in
-    let at-is-pair = at-then1 .before in
-    let at-loop = at-is-pair .before .before in (
+    let at-colons-at = at-then1 .before in
+    let at-loop = at-colons-at .before .before in (
       omega (arith, at-loop .loop .inv .0, at-put-byte .put-byte .ensures .1),
-      omega (arith, at-is-pair .is-pair .ensures .1 (at-then1 .if1 .taken)),
+      omega (arith, at-colons-at .colons-at .ensures .1 (at-then1 .if1 .taken)),
       search needs,
       λ zs r g. at-loop .loop .inv .3 zs r
           (pair-more _ _
-          (at-is-pair .is-pair .ensures .0)
+          (at-colons-at .colons-at .ensures .0)
           (at-then1 .if1 .taken)
-          (at-is-pair .is-pair .ensures .1 (at-then1 .if1 .taken))
+          (at-colons-at .colons-at .ensures .1 (at-then1 .if1 .taken))
           (at-put-byte .put-byte .ensures .0) g),
     )
 
@@ -87,15 +87,15 @@ loop-again-2 : tie.Need-loop-again-2 Inv-loop μ-loop
 loop-again-2 c =
     let at-put-byte2 = c .before .before in
     let at-else1 = at-put-byte2 .before .before .before in
-    let at-is-pair = at-else1 .before in
-    let in-loop = at-is-pair .before in
+    let at-colons-at = at-else1 .before in
+    let in-loop = at-colons-at .before in
     let at-loop = in-loop .before in (
       omega (arith, at-loop .loop .inv .0, at-put-byte2 .put-byte2 .ensures .1),
       omega (arith, in-loop .loop-test .taken),
       search needs,
       λ zs r g. at-loop .loop .inv .3 zs r
           (one-more _ _
-          (at-is-pair .is-pair .ensures .0)
+          (at-colons-at .colons-at .ensures .0)
           (at-else1 .if1 .left)
           (in-loop .loop-test .taken)
           (at-put-byte2 .put-byte2 .ensures .0) g),
@@ -113,6 +113,6 @@ returns c = (
 pub replace-colons-spec : {M : Type 1} → statement M
 replace-colons-spec =
     tie.close
-    (tie.spec Inv-loop μ-loop loop-holds is-pair-requires put-byte-requires add-i loop-less
+    (tie.spec Inv-loop μ-loop loop-holds colons-at-requires put-byte-requires add-i loop-less
     loop-again shared-slice-read-put-byte put-byte-requires-2 add-i-2 loop-less-2 loop-again-2
     same-length returns)
