@@ -9,7 +9,7 @@ use mathlib.Core.List.{[], _∷_, _++_, append-assoc}
 use mathlib.Core.Option.{Option, some, none}
 use lib.Dec.{eqb}
 use lib.ListN.{length, take, drop, getD, length-append, length-drop}
-use lib.Seq.{split-at, take-at, getD-at, take-all, drop-append-add, drop-append-seam, drop-length}
+use lib.Seq.{split-at, take-at, getD-at, take-all, drop-append-seam, drop-length}
 use borrow.Author.Tests.{eq-eqb, eqb-true}
 use Rattle.blocks.specs.Name.{Name, ascii, same}
 use Rattle.blocks.proofs.Name.{false-true, same-refl, same-eq}

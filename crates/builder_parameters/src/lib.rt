@@ -1,6 +1,6 @@
 // builder.rs, `into_parameters` and `filter_jagged_element_parameters`: the parameters that a type lists.
 ghost use mathlib.Core.Path.{_≡_};
-ghost use mathlib.Core.Bool.{true, false, not, _||_};
+ghost use mathlib.Core.Bool.{false, not, _||_};
 ghost use Prim.Native.Nat.{_+_, _≤_, _<_};
 ghost use lib.ListN.{length, drop};
 ghost use Rattle.blocks.specs.Bytes.{le2};
