@@ -10,7 +10,7 @@ use borrow.Author.Tests.{le-leb, lt-leb, leb-true, eq-eqb, ne-eqb, not-true}
 use Rattle.blocks.specs.Bytes.{le2, nameAt}
 use Rattle.blocks.specs.Name.{Name, ascii, same, among}
 use Rattle.blocks.proofs.Name.{same-eq}
-use Rattle.builder.specs.Names.{isEmpty, normalize-path}
+use Rattle.builder.specs.Names.{isEmpty, normalize-path, alternate-owner-aliases}
 use Rattle.builder.specs.Registry.{Entry, keyedBy, entryOf as pathEntry}
 use Rattle.builder_names.specs.Views.{aliasOf, colonsBefore}
 use Rattle.builder_names.proofs.Colons.{aliases-are}
@@ -88,25 +88,26 @@ module _ (o p h r n : Name) (e : n ≡ normalize-path o p) (b : Bool) (f : b ≡
   keys-normal g = let q : same (h ++ r) (normalize-path o p) ≡ true = ap (same (h ++ r)) (sym e) ∙ (sym f ∙ g) in rw q
 
   module _ (g : b ≡ false) where
-    -- else the alias decides, if there is one
-    keys-rest : among (h ++ r) (pathEntry o p .keys) ≡ among (h ++ r) (cond (isEmpty (aliasOf p n)) [] (aliasOf p n ∷ []))
+    -- else the aliases decide
+    keys-rest : among (h ++ r) (pathEntry o p .keys) ≡ among (h ++ r) (alternate-owner-aliases p n)
     unfolding among
     keys-rest =
         let q : same (h ++ r) (normalize-path o p) ≡ false = ap (same (h ++ r)) (sym e) ∙ (sym f ∙ g) in
-        rw q (ap (among (h ++ r)) (aliases-are p (normalize-path o p) ∙ ap (λ (x : Name). cond (isEmpty (aliasOf p x)) [] (aliasOf p x ∷ [])) (sym e)))
+        rw q (ap (λ (x : Name). among (h ++ r) (alternate-owner-aliases p x)) (sym e))
 
     -- no `::` stands where it would before the key: the key is not the alias
     pub keys-other : (t : Bool) → t ≡ colonsBefore (length h + length r) p → not t ≡ true → false ≡ among (h ++ r) (pathEntry o p .keys)
-    unfolding among
-    keys-other t i j =
-        let q : same (h ++ r) (normalize-path o p) ≡ false = ap (same (h ++ r)) (sym e) ∙ (sym f ∙ g) in
-        rw q (sym (not-alias h r p (normalize-path o p) (sym i ∙ not-true t j)))
+    keys-other t i j = sym (keys-rest ∙ not-alias h r p n (sym i ∙ not-true t j))
 
     module _ (a : Name) (i : a ≡ aliasOf p n) where
-      -- there is no alias
+      -- the one alias that there can be
+      keys-one : among (h ++ r) (pathEntry o p .keys) ≡ among (h ++ r) (cond (isEmpty a) [] (a ∷ []))
+      keys-one = keys-rest ∙ ap (among (h ++ r)) (aliases-are p n ∙ ap (λ (x : Name). cond (isEmpty x) [] (x ∷ [])) (sym i))
+
+      -- there is none
       pub keys-none : length a ≡ 0 → false ≡ among (h ++ r) (pathEntry o p .keys)
       unfolding among
-      keys-none l = sym (keys-rest ∙ (ap (λ (x : Name). among (h ++ r) (cond (isEmpty x) [] (x ∷ []))) (sym i) ∙ go a l))
+      keys-none l = sym (keys-one ∙ go a l)
         where
           go : (a : Name) → length a ≡ 0 → among (h ++ r) (cond (isEmpty a) [] (a ∷ [])) ≡ false
           go [] l = refl
@@ -115,7 +116,7 @@ module _ (o p h r n : Name) (e : n ≡ normalize-path o p) (b : Bool) (f : b ≡
       -- there is one
       pub keys-alias : (t : Bool) → (length a ≡ 0 → ⊥) → t ≡ same (h ++ r) a → t ≡ among (h ++ r) (pathEntry o p .keys)
       unfolding among
-      keys-alias t l j = j ∙ sym (keys-rest ∙ (ap (λ (x : Name). among (h ++ r) (cond (isEmpty x) [] (x ∷ []))) (sym i) ∙ go a l))
+      keys-alias t l j = j ∙ sym (keys-one ∙ go a l)
         where
           go : (a : Name) → (length a ≡ 0 → ⊥) → among (h ++ r) (cond (isEmpty a) [] (a ∷ [])) ≡ same (h ++ r) a
           go [] l = absurd (l refl)
