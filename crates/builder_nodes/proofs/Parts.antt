@@ -8,47 +8,126 @@ use native.Mathlib.Omega.{arith}
 use lib.ListN.{length, length-append}
 use borrow.Author.Tests.{le-leb, eq-eqb, ne-eqb}
 use Rattle.blocks.specs.Bytes.{bytes}
+use Rattle.blocks.specs.declared.Part.the-variants.{Text, Number, OptText}
 use Rattle.blocks.specs.Name.{Name, ascii}
 use Rattle.blocks.specs.Grammar.{partsOf, nodeTable}
 use Rattle.blocks.specs.Tree.{Tree, name, num, nil, cons}
 use Rattle.blocks.specs.Write.{write}
 use Rattle.ir.specs.Ir.{IrNode, aligned, default-alignment, default-metadata, unplaced}
-use Rattle.ir_nodes.specs.Codes.{codeAt}
+use Rattle.ir_nodes.specs.Codes.{codeOf, codeAt}
 use Rattle.ir.specs.Layout.{nodeTree, optionalTree}
 use Rattle.builder.specs.Nodes.{const-or-zero, refText, buffer-size}
 use Rattle.wire.specs.Poke.{Wrote, opened}
 use Rattle.wire.proofs.Laws.{none as nothing, both, parts, no-parts, closed, bytes-length}
-use Rattle.builder_nodes.specs.Built.{nodeStart, numberPart, textFlag}
+use Rattle.builder_nodes.specs.Built.{nodeStart, numberPart, textFlag, countPart, noNode, cases, arguments, optionalNode}
 use Rattle.builder_nodes.proofs.Laws.{node-closed, align-closed, start-at}
 
 -- ---- one part, by its code in the table
 
 module _ {xs ys : List ℕ} {at r code c : ℕ} (e : c ≡ code) where
   -- a number part is written where the table has one
-  pub number-there : (v : ℕ) → c ≡ 3 → Wrote xs at (bytes 8 v) ys r → Wrote xs at (numberPart code v) ys r
+  pub number-there : (v : ℕ) → c ≡ codeOf Number → Wrote xs at (bytes 8 v) ys r → Wrote xs at (numberPart code v) ys r
   unfolding numberPart write
-  number-there v h f = rw (eq-eqb _ _ (sym e ∙ h)) f
+  number-there v h f = rw (eq-eqb code (codeOf Number) (sym e ∙ h)) f
 
   -- the flag of a text where the table has an optional text
-  pub flag-there : (b : Bool) → c ≡ 7 → Wrote xs at (write (num 1 (cond b 1 0))) ys r → Wrote xs at (textFlag b code) ys r
+  pub flag-there : (b : Bool) → c ≡ codeOf OptText → Wrote xs at (write (num 1 (cond b 1 0))) ys r → Wrote xs at (textFlag b code) ys r
   unfolding textFlag
-  flag-there b h f = rw (eq-eqb _ _ (sym e ∙ h)) f
+  flag-there b h f = rw (eq-eqb code (codeOf OptText) (sym e ∙ h)) f
+
+  -- a count where it has cases
+  pub count-cases : (n : ℕ) → c ≡ codeOf cases → Wrote xs at (bytes 2 n) ys r → Wrote xs at (countPart code n) ys r
+  unfolding countPart write
+  count-cases n h f = rw (eq-eqb code (codeOf cases) (sym e ∙ h)) f
+
+  -- or arguments
+  pub count-arguments : (n : ℕ) → (c ≡ codeOf cases → ⊥) → c ≡ codeOf arguments → Wrote xs at (bytes 2 n) ys r → Wrote xs at (countPart code n) ys r
+  unfolding countPart write
+  count-arguments n d h f = rw (ne-eqb code (codeOf cases) (λ q. d (e ∙ q)), eq-eqb code (codeOf arguments) (sym e ∙ h)) f
+
+  -- the flag 0 where it has an optional node
+  pub no-node-there : c ≡ codeOf optionalNode → Wrote xs at (write (num 1 0)) ys r → Wrote xs at (noNode code) ys r
+  unfolding noNode
+  no-node-there h f = rw (eq-eqb code (codeOf optionalNode) (sym e ∙ h)) f
 
 module _ {xs : List ℕ} {at code c : ℕ} (e : c ≡ code) where
   -- nothing is written where the table has no number
-  pub number-other : (v : ℕ) → (c ≡ 3 → ⊥) → Wrote xs at (numberPart code v) xs at
+  pub number-other : (v : ℕ) → (c ≡ codeOf Number → ⊥) → Wrote xs at (numberPart code v) xs at
   unfolding numberPart
-  number-other v h = rw (ne-eqb _ _ (λ q. h (e ∙ q))) (nothing xs at)
+  number-other v h = rw (ne-eqb code (codeOf Number) (λ q. h (e ∙ q))) (nothing xs at)
 
   -- no flag where it has none
-  pub flag-other : (b : Bool) → (c ≡ 7 → ⊥) → Wrote xs at (textFlag b code) xs at
+  pub flag-other : (b : Bool) → (c ≡ codeOf OptText → ⊥) → Wrote xs at (textFlag b code) xs at
   unfolding textFlag
-  flag-other b h = rw (ne-eqb _ _ (λ q. h (e ∙ q))) (nothing xs at)
+  flag-other b h = rw (ne-eqb code (codeOf OptText) (λ q. h (e ∙ q))) (nothing xs at)
+
+  -- no count where it has neither cases nor arguments
+  pub count-other : (n : ℕ) → (c ≡ codeOf cases → ⊥) → (c ≡ codeOf arguments → ⊥) → Wrote xs at (countPart code n) xs at
+  unfolding countPart
+  count-other n d h = rw (ne-eqb code (codeOf cases) (λ q. d (e ∙ q)), ne-eqb code (codeOf arguments) (λ q. h (e ∙ q))) (nothing xs at)
+
+  -- and no flag where it has no optional node
+  pub no-node-other : (c ≡ codeOf optionalNode → ⊥) → Wrote xs at (noNode code) xs at
+  unfolding noNode
+  no-node-other h = rw (ne-eqb code (codeOf optionalNode) (λ q. h (e ∙ q))) (nothing xs at)
+
+-- ---- the rows: what is written by a part's code is what the definition writes
+
+-- a text that is not optional
+text-part : {xs ys : List ℕ} {at r code : ℕ} (t : Name) → code ≡ codeOf Text → Wrote xs at (textFlag true code ++ write (name t)) ys r → Wrote xs at (write (name t)) ys r
+unfolding textFlag
+text-part t e w = rw e at w
+
+-- the row of Switch: tag, cases, default
+switch-row : (codeAt 132 2 ≡ codeOf Text) × (codeAt 132 3 ≡ codeOf cases) × (codeAt 132 4 ≡ codeOf optionalNode)
+unfolding codeAt partsOf nodeTable
+switch-row = (refl, refl, refl)
+
+-- the row of CallNested: type_name, arguments
+call-row : (codeAt 133 2 ≡ codeOf Text) × (codeAt 133 3 ≡ codeOf arguments)
+unfolding codeAt partsOf nodeTable
+call-row = (refl, refl)
+
+-- the row of SumOverArray behind its count: element_type_name, field_name
+sum-row : (codeAt 144 3 ≡ codeOf Text) × (codeAt 144 4 ≡ codeOf Text)
+unfolding codeAt partsOf nodeTable
+sum-row = (refl, refl)
+
+module _ {xs ys : List ℕ} {at r : ℕ} where
+  -- the tag of a switch is a name
+  pub switch-tag : (t : Name) → Wrote xs at (textFlag true (codeAt 132 2) ++ write (name t)) ys r → Wrote xs at (write (name t)) ys r
+  switch-tag t w = text-part t (switch-row .0) w
+
+  -- the count of its cases is a number of 2 bytes
+  pub switch-count : (n : ℕ) → Wrote xs at (countPart (codeAt 132 3) n) ys r → Wrote xs at (write (num 2 n)) ys r
+  unfolding countPart
+  switch-count n w = rw (switch-row .1) at w
+
+  -- no default is the flag 0
+  pub switch-default : Wrote xs at (noNode (codeAt 132 4)) ys r → Wrote xs at (write (num 1 0)) ys r
+  unfolding noNode
+  switch-default w = rw (switch-row .2) at w
+
+  -- the called type's name is a name
+  pub call-name : (t : Name) → Wrote xs at (textFlag true (codeAt 133 2) ++ write (name t)) ys r → Wrote xs at (write (name t)) ys r
+  call-name t w = text-part t (call-row .0) w
+
+  -- the count of the arguments is a number of 2 bytes
+  pub call-count : (n : ℕ) → Wrote xs at (countPart (codeAt 133 3) n) ys r → Wrote xs at (write (num 2 n)) ys r
+  unfolding countPart
+  call-count n w = rw (call-row .1) at w
+
+  -- the two names of a sum over an array are names
+  pub sum-element : (t : Name) → Wrote xs at (textFlag true (codeAt 144 3) ++ write (name t)) ys r → Wrote xs at (write (name t)) ys r
+  sum-element t w = text-part t (sum-row .0) w
+
+  pub sum-field : (t : Name) → Wrote xs at (textFlag true (codeAt 144 4) ++ write (name t)) ys r → Wrote xs at (write (name t)) ys r
+  sum-field t w = text-part t (sum-row .1) w
 
 -- ---- the metadata
 
 -- which every kind begins with
-meta-codes : (k : ℕ) → 128 ≤ k → k ≤ 144 → (codeAt k 0 ≡ 3) × (codeAt k 1 ≡ 7)
+meta-codes : (k : ℕ) → 128 ≤ k → k ≤ 144 → (codeAt k 0 ≡ codeOf Number) × (codeAt k 1 ≡ codeOf OptText)
 unfolding codeAt partsOf nodeTable
 meta-codes k l h = rw (le-leb _ _ l, le-leb _ _ h) (refl, refl)
 
@@ -112,28 +191,26 @@ buffer-flag : length (textFlag false (codeAt 130 3)) ≡ 1
 unfolding textFlag codeAt partsOf nodeTable write bytes
 buffer-flag = refl
 
-module _ {xs ys zs vs : List ℕ} {at p q r : ℕ} where
-  -- the answer of `put_ref_parts`
-  pub ref-parts : (path parameter : Name) → Wrote xs at (textFlag true (codeAt 130 2) ++ write (name path)) ys p →
-      Wrote ys p (textFlag true (codeAt 130 3)) zs q → Wrote zs q (write (name parameter)) vs r →
-      Wrote xs at (write (refParts path parameter)) vs r
-  unfolding textFlag codeAt partsOf nodeTable
-  ref-parts path n f g h =
-      parts (name path) (cons (optionalTree name (some n)) nil) f (parts (optionalTree name (some n)) nil (parts (num 1 1) (name n) g h) (no-parts vs r))
+-- the answer of `put_ref_parts`
+pub ref-parts : {xs ys zs : List ℕ} {at p q : ℕ} (path parameter : Name) → Wrote xs at (textFlag true (codeAt 130 2) ++ write (name path)) ys p →
+    Wrote ys p (textFlag true (codeAt 130 3) ++ write (name parameter)) zs q → Wrote xs at (write (refParts path parameter)) zs q
+unfolding textFlag codeAt partsOf nodeTable write
+ref-parts {zs = zs} {q = q} path n f g =
+    parts (name path) (cons (optionalTree name (some n)) nil) f (parts (optionalTree name (some n)) nil g (no-parts zs q))
 
-  -- the answer of `put_buffer_size`
-  pub buffer-closed : {e a : ℕ} → a ≡ default-alignment → Wrote xs at (nodeStart 130 a) ys p →
-      Wrote ys p (textFlag true (codeAt 130 2) ++ write (name buffer-size)) zs q → Wrote zs q (textFlag false (codeAt 130 3)) vs r →
-      {us : List ℕ} → Wrote vs at (bytes 4 (r - at - 4)) us e →
-      Wrote xs at (write (nodeTree (IrNode.FieldRef unplaced default-metadata buffer-size none))) us r × (r ≡ at + 31)
-  unfolding textFlag codeAt partsOf nodeTable nodeTree
-  buffer-closed {a = a} i f g h c =
-      let w : Wrote xs at (nodeStart 130 default-alignment) ys p = start-at 130 i f in
-      let t : Tree = cons (name buffer-size) (cons (optionalTree name none) nil) in
-      let d = node-closed 130 default-alignment t w
-      (parts (name buffer-size) (cons (optionalTree name none) nil) g
-      (parts (optionalTree name none) nil (parts (num 1 0) nil h (no-parts vs r)) (no-parts vs r))) c in
-      (d, omega (arith, w .end, g .end, h .end, start-length 130 default-alignment, buffer-length, buffer-flag))
+-- the answer of `put_buffer_size`
+pub buffer-closed : {xs ys zs vs us : List ℕ} {at p q r a e : ℕ} → a ≡ default-alignment → Wrote xs at (nodeStart 130 a) ys p →
+    Wrote ys p (textFlag true (codeAt 130 2) ++ write (name buffer-size)) zs q → Wrote zs q (textFlag false (codeAt 130 3)) vs r →
+    Wrote vs at (bytes 4 (r - at - 4)) us e →
+    Wrote xs at (write (nodeTree (IrNode.FieldRef unplaced default-metadata buffer-size none))) us r × (r ≡ at + 31)
+unfolding textFlag codeAt partsOf nodeTable nodeTree
+buffer-closed {xs} {ys} {vs = vs} {at = at} {p = p} {r = r} i f g h c =
+    let w : Wrote xs at (nodeStart 130 default-alignment) ys p = start-at 130 i f in
+    let t : Tree = cons (name buffer-size) (cons (optionalTree name none) nil) in
+    let d = node-closed 130 default-alignment t w
+    (parts (name buffer-size) (cons (optionalTree name none) nil) g
+    (parts (optionalTree name none) nil (parts (num 1 0) nil h (no-parts vs r)) (no-parts vs r))) c in
+    (d, omega (arith, w .end, g .end, h .end, start-length 130 default-alignment, buffer-length, buffer-flag))
 
 -- the answer of `put_path_ref`
 pub path-closed : {xs ys zs vs : List ℕ} {at p q a e : ℕ} (path parameter : Name) → a ≡ default-alignment →

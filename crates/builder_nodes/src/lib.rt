@@ -14,7 +14,7 @@ ghost use Rattle.ir.specs.Layout.{nodeTree, optionalTree};
 ghost use Rattle.builder.specs.Nodes.{const-or-zero, refText, buffer-size};
 ghost use Rattle.wire.specs.Poke.{Wrote};
 ghost use Rattle.builder_registry.specs.Words.{entryName};
-ghost use Rattle.builder_nodes.specs.Built.{nodeStart, numberPart, textFlag};
+ghost use Rattle.builder_nodes.specs.Built.{nodeStart, numberPart, textFlag, countPart, noNode};
 
 // The next cursor, how many entries the registry has, and the number of a refusal or 0.
 pub struct Built {
@@ -48,13 +48,51 @@ fn put_text_flag(out: &mut [u8], at: usize, kind: usize, i: usize, there: bool) 
 }
 
 // A text, as part i of a node kind.
-fn put_text_part(out: &mut [u8], at: usize, kind: usize, i: usize, text: &[u8]) -> usize
+pub fn put_text_part(out: &mut [u8], at: usize, kind: usize, i: usize, text: &[u8]) -> usize
     requires { ⌜ (at + length (now text) < 2 ^ 59 + 2 ^ 58) × (128 ≤ kind) × (kind ≤ 144) × (i < 5) ⌝ }
     ensures { λ r. ⌜ Wrote (now (out .entry)) at (textFlag true (codeAt kind i) ++ write (name (now (text .entry)))) (now (out .exit)) r ⌝ }
     ensures { λ r. ⌜ (at ≤ r) × (r ≤ at + 3 + length (now (text .entry))) ⌝ }
 {
     let p = put_text_flag(out, at, kind, i, true);
     wire::put_name(out, p, text)
+}
+
+// An entry's name, as part i of a node kind.
+pub fn put_entry_part(s: &[u8], w: u64, out: &mut [u8], at: usize, kind: usize, i: usize) -> usize
+    requires { ⌜ (length (now s) ≤ 65536) × (at + 1 < 2 ^ 59) × (128 ≤ kind) × (kind ≤ 144) × (i < 5) ⌝ }
+    ensures { λ r. ⌜ Wrote (now (out .entry)) at (textFlag true (codeAt kind i) ++ write (name (entryName (now (s .entry)) w))) (now (out .exit)) r ⌝ }
+    ensures { λ r. ⌜ (at ≤ r) × (r ≤ at + 514) ⌝ }
+{
+    let p = put_text_flag(out, at, kind, i, true);
+    builder_registry::put_entry_name(s, w, out, p)
+}
+
+// The count of a list, as part i of a node kind: its cases or arguments follow.
+pub fn put_count_part(out: &mut [u8], at: usize, kind: usize, i: usize, count: usize) -> usize
+    requires { ⌜ (at < 2 ^ 61) × (128 ≤ kind) × (kind ≤ 144) × (i < 5) ⌝ }
+    ensures { λ r. ⌜ Wrote (now (out .entry)) at (countPart (codeAt kind i) count) (now (out .exit)) r ⌝ }
+    ensures { λ r. ⌜ (at ≤ r) × (r ≤ at + 2) ⌝ }
+{
+    let code = ir_nodes::node_part(kind, i);
+    if code == ir_nodes::CASES {
+        return wire::put_le(out, at, 2, count as u64);
+    }
+    if code == ir_nodes::ARGUMENTS {
+        return wire::put_le(out, at, 2, count as u64);
+    }
+    at
+}
+
+// An optional node that is not there, as part i of a node kind.
+pub fn put_no_node(out: &mut [u8], at: usize, kind: usize, i: usize) -> usize
+    requires { ⌜ (at < 2 ^ 61) × (128 ≤ kind) × (kind ≤ 144) × (i < 5) ⌝ }
+    ensures { λ r. ⌜ Wrote (now (out .entry)) at (noNode (codeAt kind i)) (now (out .exit)) r ⌝ }
+    ensures { λ r. ⌜ (at ≤ r) × (r ≤ at + 1) ⌝ }
+{
+    if ir_nodes::node_part(kind, i) == ir_nodes::OPT_NODE {
+        return wire::put_flag(out, at, false);
+    }
+    at
 }
 
 // A node of a kind, as far as its metadata.
@@ -68,7 +106,8 @@ fn start_node(out: &mut [u8], at: usize, kind: usize, meta: NodeMetadata) -> usi
     put_text_flag(out, q, kind, 1, false)
 }
 
-// A node of a kind, as far as its metadata, with no size text.
+// A node of a kind, as far as its metadata, with no size text. A part that is a node is that node's block, with nothing before
+// it: the operands of AddChecked to RightShift, the node of AlignUp and the count of SumOverArray are put by what builds them.
 pub fn open_node(out: &mut [u8], at: usize, kind: usize, alignment: u64) -> usize
     requires { ⌜ (at < 2 ^ 60) × (128 ≤ kind) × (kind ≤ 144) ⌝ }
     ensures { λ r. ⌜ Wrote (now (out .entry)) at (nodeStart kind alignment) (now (out .exit)) r ⌝ }
@@ -134,33 +173,19 @@ pub fn put_const_or_zero(out: &mut [u8], at: usize, value: u64, alignment: u64) 
     q
 }
 
-// An entry's name, written in what the output has from the cursor on.
-fn put_entry(s: &[u8], w: u64, out: &mut [u8], at: usize) -> usize
-    requires { ⌜ (length (now s) ≤ 65536) × (at < 2 ^ 60) ⌝ }
-    ensures { λ r. ⌜ Wrote (now (out .entry)) at (write (name (entryName (now (s .entry)) w))) (now (out .exit)) r ⌝ }
-    ensures { λ r. ⌜ (at ≤ r) × (r ≤ at + 513) ⌝ }
-{
-    let end = out.len();
-    if end < at {
-        return at + builder_registry::put_entry_name(s, w, &mut out[end..], 0);
-    }
-    at + builder_registry::put_entry_name(s, w, &mut out[at..], 0)
-}
-
 // The parts of a FieldRef node behind its metadata: the path, and the entry's name as the parameter.
 fn put_ref_parts(s: &[u8], w: u64, path: &[u8], out: &mut [u8], at: usize) -> usize
-    requires { ⌜ (length (now s) ≤ 65536) × (at < 2 ^ 59 + 1024) × (length (now path) ≤ 255) ⌝ }
+    requires { ⌜ (length (now s) ≤ 65536) × (at < 2 ^ 58 + 1024) × (length (now path) ≤ 255) ⌝ }
     ensures { λ r. ⌜ Wrote (now (out .entry)) at (write (cons (name (now (path .entry))) (cons (optionalTree name (some (entryName (now (s .entry)) w))) nil))) (now (out .exit)) r ⌝ }
     ensures { λ r. ⌜ (at ≤ r) × (r ≤ at + 772) ⌝ }
 {
     let p = put_text_part(out, at, 130, 2, path);
-    let q = put_text_flag(out, p, 130, 3, true);
-    put_entry(s, w, out, q)
+    put_entry_part(s, w, out, p, 130, 3)
 }
 
 // The size text `owner:path` of a FieldRef node.
 fn put_size_text(owner: &[u8], path: &[u8], out: &mut [u8], at: usize) -> usize
-    requires { ⌜ (at < 2 ^ 59 + 64) × (length (now owner) + (1 + length (now path)) ≤ 255) ⌝ }
+    requires { ⌜ (at < 2 ^ 58 + 64) × (length (now owner) + (1 + length (now path)) ≤ 255) ⌝ }
     ensures { λ r. ⌜ Wrote (now (out .entry)) at (write (optionalTree name (some (refText (now (owner .entry)) (now (path .entry)))))) (now (out .exit)) r ⌝ }
     ensures { λ r. ⌜ (at ≤ r) × (r ≤ at + 258) ⌝ }
 {
@@ -173,7 +198,7 @@ fn put_size_text(owner: &[u8], path: &[u8], out: &mut [u8], at: usize) -> usize
 
 // A FieldRef node of a sum of references: its size text is `owner:path`, its parameter the entry's name.
 pub fn put_size_ref(s: &[u8], w: u64, owner: &[u8], path: &[u8], out: &mut [u8], at: usize) -> usize
-    requires { ⌜ (length (now s) ≤ 65536) × (at < 2 ^ 59) × (length (now owner) + (1 + length (now path)) ≤ 255) ⌝ }
+    requires { ⌜ (length (now s) ≤ 65536) × (at < 2 ^ 58) × (length (now owner) + (1 + length (now path)) ≤ 255) ⌝ }
     ensures { λ r. ⌜ Wrote (now (out .entry)) at (write (nodeTree (IrNode.FieldRef unplaced (record { alignment = default-alignment; size-expr = some (refText (now (owner .entry)) (now (path .entry))) }) (now (path .entry)) (some (entryName (now (s .entry)) w))))) (now (out .exit)) r ⌝ }
     ensures { λ r. ⌜ (at ≤ r) × (r ≤ at + 1100) ⌝ }
 {
@@ -187,7 +212,7 @@ pub fn put_size_ref(s: &[u8], w: u64, owner: &[u8], path: &[u8], out: &mut [u8],
 
 // A FieldRef node of a size expression: its parameter is the entry's name.
 pub fn put_path_ref(s: &[u8], w: u64, path: &[u8], out: &mut [u8], at: usize) -> usize
-    requires { ⌜ (length (now s) ≤ 65536) × (at < 2 ^ 59) × (length (now path) ≤ 255) ⌝ }
+    requires { ⌜ (length (now s) ≤ 65536) × (at < 2 ^ 58) × (length (now path) ≤ 255) ⌝ }
     ensures { λ r. ⌜ Wrote (now (out .entry)) at (write (nodeTree (IrNode.FieldRef unplaced default-metadata (now (path .entry)) (some (entryName (now (s .entry)) w))))) (now (out .exit)) r ⌝ }
     ensures { λ r. ⌜ (at ≤ r) × (r ≤ at + 1000) ⌝ }
 {
