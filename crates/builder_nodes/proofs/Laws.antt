@@ -1,16 +1,25 @@
--- Nodes that are opened, then filled, then closed.
-use mathlib.Core.Path.{_≡_, refl, _∙_, subst}
+-- Nodes that are opened, then filled, then closed; what a builder's answer says, and how it goes on.
+use mathlib.Core.Path.{_≡_, refl, sym, ap, _∙_, subst}
 use mathlib.Core.List.{List, [], _++_, append-assoc, append-nil}
-use Prim.Native.Nat.{ℕ, _+_, _-_}
+use Prim.Native.Nat.{ℕ, _+_, _-_, _≤_, _<_}
+use native.Mathlib.Omega.{arith}
+use Rattle.errors.specs.Refusal.{Outcome, done, refused, plain}
+use Rattle.answers.specs.Answers.{Answers}
+use Rattle.answers.proofs.Laws.{answered, unanswered, passes, goes}
 use Rattle.blocks.specs.Bytes.{bytes}
 use Rattle.blocks.specs.Tree.{Tree, num, nil, cons}
 use Rattle.blocks.specs.Write.{write}
 use Rattle.ir.specs.Ir.{IrNode, aligned}
 use Rattle.ir.specs.Layout.{nodeBlock, nodeTree}
+use Rattle.builder.specs.Registry.{Registry, Build, _>>=_}
 use Rattle.builder.specs.Nodes.{align-node}
 use Rattle.wire.specs.Poke.{Wrote, opened}
 use Rattle.wire.proofs.Laws.{both, closed}
-use Rattle.builder_nodes.specs.Built.{nodeStart}
+use Rattle.builder_registry.specs.Words.{entriesOf}
+use Rattle.builder_nodes.specs.declared.Built.{Built}
+use Rattle.builder_nodes.specs.Built.{Builds, Within, nodeStart}
+
+-- ---- the bytes of a node
 
 -- the bytes of a node's head and of its parts, in the order in which the block has them
 start-node : (k a : ℕ) (w : List ℕ) → nodeStart k a ++ w ≡ opened k ++ (bytes 8 a ++ ((bytes 1 0 ++ []) ++ w))
@@ -42,3 +51,48 @@ align-closed {xs} {ys} {ys′} {at} {p} {u} a n w v c =
 -- the same of another alignment that is the same
 pub start-at : {xs ys : List ℕ} {at p : ℕ} (k : ℕ) {a b : ℕ} → a ≡ b → Wrote xs at (nodeStart k a) ys p → Wrote xs at (nodeStart k b) ys p
 start-at {xs} {ys} {at} {p} k e w = subst (λ (z : ℕ). Wrote xs at (nodeStart k z) ys p) e w
+
+-- ---- what a builder's answer says
+
+module _ {s xs us ys : List ℕ} {at : ℕ} {r : Built} {o : Outcome (IrNode × Registry)} where
+  -- a number of 0: the definition gives a node and the registry that the words hold, and the node was written
+  pub builds-done : r .number ≡ 0 → Builds s xs at us ys r o →
+      (n : IrNode) × (o ≡ done (n, entriesOf s us (r .count))) × Wrote xs at (write (nodeTree n)) ys (r .at)
+  builds-done z b =
+      let a = answered z b in
+      (a .0 .0, a .1 ∙ ap (λ (g : Registry). done (a .0 .0, g)) (sym (a .2 .entries)), a .2 .wrote)
+
+  -- another number: the definition refuses with it
+  pub builds-refused : (r .number ≡ 0 → ⊥) → Builds s xs at us ys r o → (o ≡ refused (plain (r .number))) × (0 < r .number)
+  builds-refused z b = unanswered z b
+
+-- ---- how an action on the registry goes on, once its first step was answered
+
+module _ {A B : Type 0} {Made : A × Registry → Type 0} {Next : B × Registry → Type 0} {number n : ℕ} (m : Build A) (k : A → Build B) (g : Registry) where
+  -- a refusal is the answer of the whole
+  pub step-passes : n ≡ number → (number ≡ 0 → ⊥) → Answers number Made (m g) → Answers n Next ((m >>= k) g)
+  unfolding _>>=_
+  step-passes e z a = passes (λ (x : A × Registry). k (x .0) (x .1)) e z a
+
+  -- what was made goes on
+  pub step-goes : number ≡ 0 → Answers number Made (m g) → ((x : A × Registry) → Made x → Answers n Next (k (x .0) (x .1))) → Answers n Next ((m >>= k) g)
+  unfolding _>>=_
+  step-goes z a f = goes (λ (x : A × Registry). k (x .0) (x .1)) z a f
+
+-- ---- where the cursor goes
+
+-- a refusal leaves the cursor where it was
+pub stopped : {at room n number : ℕ} → n ≤ 512 → Within at room (record { at = at; count = n; number = number })
+stopped h = record { low = omega arith; high = omega arith; count = h }
+
+-- what stays within some room stays within more
+pub widened : {at room more : ℕ} {r : Built} → room ≤ more → Within at room r → Within at more r
+widened h w = record { low = w .low; high = omega (arith, w .high); count = w .count }
+
+-- so does what is built behind d bytes
+pub behind : {at p room more : ℕ} {r : Built} (d : ℕ) → p ≡ at + d → d + room ≤ more → Within p room r → Within at more r
+behind d e h w = record { low = omega (arith, w .low); high = omega (arith, w .high); count = w .count }
+
+-- a cursor behind what was built
+pub ends-at : {at r room n number : ℕ} → at ≤ r → r ≤ at + room → n ≤ 512 → Within at room (record { at = r; count = n; number = number })
+ends-at l h c = record { low = l; high = h; count = c }

@@ -1,10 +1,11 @@
 -- What a builder of a node leaves.
-use Prim.Native.Nat.{ℕ, _+_, _≤_, _<_}
+use Prim.Native.Nat.{ℕ, _+_, _≤_}
 use mathlib.Core.Path.{_≡_}
 use mathlib.Core.Bool.{Bool, cond, _||_}
 use mathlib.Core.List.{List, [], _++_}
 use lib.Dec.{eqb}
-use Rattle.errors.specs.Refusal.{Outcome, done, refused, plain}
+use Rattle.errors.specs.Refusal.{Outcome}
+use Rattle.answers.specs.Answers.{Answers}
 use Rattle.blocks.specs.declared.Part.{Part}
 use Rattle.blocks.specs.declared.Part.the-variants.{Number, OptText, OptBlock, Blocks}
 use Rattle.blocks.specs.Tree.{num}
@@ -17,11 +18,15 @@ use Rattle.wire.specs.Poke.{Wrote, opened}
 use Rattle.builder_registry.specs.Words.{entriesOf}
 use Rattle.builder_nodes.specs.declared.Built.{Built}
 
--- The node's bytes in the output ys and the next cursor, and the entries in the words us; or the refusal, of which nothing is
--- said but its number. Nothing is said of the words behind the entries.
-pub data Builds (s xs : List ℕ) (at : ℕ) (us ys : List ℕ) (r : Built) : Outcome (IrNode × Registry) → Type 0 where
-  made : (x : IrNode × Registry) → r .number ≡ 0 → entriesOf s us (r .count) ≡ x .1 → Wrote xs at (write (nodeTree (x .0))) ys (r .at) → Builds s xs at us ys r (done x)
-  not : (k : ℕ) → r .number ≡ k → 0 < k → Builds s xs at us ys r (refused (plain k))
+-- a node that was made: its bytes in the output ys, up to the next cursor, and the entries in the words us. Nothing is said of
+-- the words behind the entries.
+pub record BuiltIn (s xs : List ℕ) (at : ℕ) (us ys : List ℕ) (r : Built) (x : IrNode × Registry) : Type 0 where
+  pub entries : entriesOf s us (r .count) ≡ x .1
+  pub wrote : Wrote xs at (write (nodeTree (x .0))) ys (r .at)
+
+-- that, or the refusal, of which nothing is said but its number
+abbrev pub Builds : (s xs : List ℕ) (at : ℕ) (us ys : List ℕ) (r : Built) → Outcome (IrNode × Registry) → Type 0
+Builds s xs at us ys r = Answers (r .number) (BuiltIn s xs at us ys r)
 
 -- whatever is built: the cursor moves by at most `room`, and the registry has at most 512 entries
 pub record Within (at room : ℕ) (r : Built) : Type 0 where
