@@ -11,6 +11,7 @@ use lib.Seq.{take-suc, take-length}
 use borrow.Author.Tests.{le-leb, lt-leb}
 use Rattle.errors.specs.Refusal.{Outcome, done, refused, plain, MissingDynamicRefs, MissingParameter}
 use Rattle.errors.specs.Refusal.{_>>=_ as _andThen_}
+use Rattle.answers.specs.Answers.{AnswersIn}
 use Rattle.blocks.specs.Bytes.{bytes}
 use Rattle.blocks.specs.Name.{Name}
 use Rattle.blocks.specs.Tree.{nil, cons}
@@ -25,6 +26,7 @@ use Rattle.resolved_parts.specs.Types.{PathsAt, textsOf}
 use Rattle.builder_registry.specs.declared.Found.{Found}
 use Rattle.builder_registry.specs.declared.Found.the-variants.{At, Missing}
 use Rattle.builder_registry.specs.Words.{Looked, entriesOf, entryName}
+use Rattle.builder_registry.proofs.Laws.{looked-entry, looked-missing}
 use Rattle.builder_nodes.specs.declared.Built.{Built}
 use Rattle.builder_nodes.specs.Built.{Builds, Within, nodeStart}
 use Rattle.builder_nodes.proofs.Laws.{node-closed}
@@ -176,26 +178,16 @@ module _ (owner : Name) (g : Registry) where
 -- a builder that leaves the registry gave no refusal: the node that it wrote
 built-done : {s xs us ys : List ℕ} {at : ℕ} {r : Built} (g : Registry) (o : Outcome IrNode) → r .number ≡ 0 → Builds s xs at us ys r (leaving g o) →
     (n : IrNode) × (o ≡ done n) × Wrote xs at (write (nodeTree n)) ys (r .at)
-built-done g (done n) z (Builds.made x e f w) = (n, refl, w)
-built-done g (refused q) z (Builds.not k e h) = absurd (omega arith)
+built-done g (done n) z (AnswersIn.made x e m) = (n, refl, m .wrote)
+built-done g (refused q) z (AnswersIn.not k e h) = absurd (omega arith)
 
 -- it gave one: the number of the refusal
 built-refused : {s xs us ys : List ℕ} {at : ℕ} {r : Built} (g : Registry) (o : Outcome IrNode) → (r .number ≡ 0 → ⊥) →
     Builds s xs at us ys r (leaving g o) → (0 < r .number) × (o ≡ refused (plain (r .number)))
-built-refused g (done n) z (Builds.made x e f w) = absurd (z e)
-built-refused g (refused q) z (Builds.not k e h) = rw e (h, refl)
+built-refused g (done n) z (AnswersIn.made x e m) = absurd (z e)
+built-refused g (refused q) z (AnswersIn.not k e h) = rw e (h, refl)
 
 -- ---- one reference, in the code's form
-
--- a lookup that found an entry: the entry's name is the answer
-pub looked-at : {s ws : List ℕ} {n i : ℕ} {f : Found} {o : Option Name} → f ≡ At i → Looked s ws n f o → (i < n) × (o ≡ some (entryName s (getD ws i 0)))
-looked-at {i} e (Looked.at {i = j} h) = let z : j ≡ i = cc in rw (← z) (h, refl)
-looked-at e Looked.missing = let z : _≡_ {A = ℕ} 0 1 = cc in absurd (omega arith)
-
--- a lookup that found nothing
-pub looked-none : {s ws : List ℕ} {n : ℕ} {f : Found} {o : Option Name} → f ≡ Missing → Looked s ws n f o → o ≡ none
-looked-none e (Looked.at h) = let z : _≡_ {A = ℕ} 0 1 = cc in absurd (omega arith)
-looked-none e Looked.missing = refl
 
 -- how long the text owner.path is
 ref-length : (owner path : Name) → length (refText owner path) ≡ length owner + (1 + length path)
@@ -214,20 +206,20 @@ module _ {s ws : List ℕ} {n : ℕ} {f : Found} (owner : Name) {path name : Nam
   module _ {xs ys : List ℕ} {at : ℕ} where
     -- no entry has the path
     pub ref-missing : f ≡ Missing → Builds s xs at ws ys (record { at = at; count = n; number = 12 }) (build-ref owner name (entriesOf s ws n))
-    ref-missing m = leads (looked-none m l) refl (Builds.not 12 refl (omega arith))
+    ref-missing m = leads (looked-missing m l) refl (AnswersIn.not 12 refl (omega arith))
 
     -- the text owner.path is too long
     pub ref-long : {i : ℕ} → f ≡ At i → 255 < length owner + (1 + length path) →
         Builds s xs at ws ys (record { at = at; count = n; number = 17 }) (build-ref owner name (entriesOf s ws n))
-    ref-long m h = leads (looked-at m l .1) (lt-leb (length (refText owner path)) 255 (omega (arith, ref-length owner path))) (Builds.not 17 refl (omega arith))
+    ref-long m h = leads (looked-entry m l .1) (lt-leb (length (refText owner path)) 255 (omega (arith, ref-length owner path))) (AnswersIn.not 17 refl (omega arith))
 
     -- the reference was written
     pub ref-done : {i w r : ℕ} → f ≡ At i → length owner + (1 + length path) ≤ 255 → w ≡ getD ws i 0 →
         Wrote xs at (write (nodeTree (refNode owner path (entryName s w)))) ys r →
         Builds s xs at ws ys (record { at = r; count = n; number = 0 }) (build-ref owner name (entriesOf s ws n))
     ref-done {i} m h d v =
-        leads (looked-at m l .1) (le-leb (length (refText owner path)) 255 (omega (arith, ref-length owner path)))
-        (Builds.made (refNode owner path (entryName s (getD ws i 0)), entriesOf s ws n) refl refl (rw d at v))
+        leads (looked-entry m l .1) (le-leb (length (refText owner path)) 255 (omega (arith, ref-length owner path)))
+        (AnswersIn.made (refNode owner path (entryName s (getD ws i 0)), entriesOf s ws n) refl (record { entries = refl; wrote = rw d at v }))
 
 -- ---- a sum, in the code's form
 
@@ -266,7 +258,7 @@ module _ {s xs ws x₁ x₂ : List ℕ} {at k p : ℕ} {l : Built} (owner : Name
   pub sum-stops : {ys : List ℕ} → (l .number ≡ 0 → ⊥) →
       Builds s xs at ws ys (record { at = at; count = n; number = l .number }) (sum-refs owner (take k cs) (entriesOf s ws n))
   sum-stops z = let d = built-refused (entriesOf s ws n) (before owner cs k (entriesOf s ws n)) z front in
-      rw (whole owner cs k (entriesOf s ws n) h h₁ h₂, d .1) (Builds.not (l .number) refl (d .0))
+      rw (whole owner cs k (entriesOf s ws n) h h₁ h₂, d .1) (AnswersIn.not (l .number) refl (d .0))
 
   module _ {x₃ : List ℕ} {m : Built} (z : l .number ≡ 0) (v : Builds s x₂ (l .at) ws x₃ m (build-ref owner (getD cs (k - 1) []) (entriesOf s ws n))) where
     -- the last reference, as it was built
@@ -279,7 +271,7 @@ module _ {s xs ws x₁ x₂ : List ℕ} {at k p : ℕ} {l : Built} (owner : Name
     sum-stops-last y =
         let d = built-done (entriesOf s ws n) (before owner cs k (entriesOf s ws n)) z front in
         let q = built-refused (entriesOf s ws n) (last owner cs k (entriesOf s ws n)) y back in
-        rw (whole owner cs k (entriesOf s ws n) h h₁ h₂, d .1, q .1) (Builds.not (m .number) refl (q .0))
+        rw (whole owner cs k (entriesOf s ws n) h h₁ h₂, d .1, q .1) (AnswersIn.not (m .number) refl (q .0))
 
     -- both were written, and the length of the Add is patched in
     pub sum-done : {ys : List ℕ} {q : ℕ} → m .number ≡ 0 → Wrote x₃ at (bytes 4 (m .at - at - 4)) ys q →
@@ -289,20 +281,14 @@ module _ {s xs ws x₁ x₂ : List ℕ} {at k p : ℕ} {l : Built} (owner : Name
         let d = built-done (entriesOf s ws n) (before owner cs k (entriesOf s ws n)) z front in
         let q = built-done (entriesOf s ws n) (last owner cs k (entriesOf s ws n)) y back in
         rw (whole owner cs k (entriesOf s ws n) h h₁ h₂, d .1, q .1)
-        (Builds.made (IrNode.Binary unplaced default-metadata BinaryOp.AddChecked (d .0) (q .0), entriesOf s ws n) refl refl
-        (node-closed 134 1
-        (cons (nodeTree (d .0)) (cons (nodeTree (q .0)) nil)) w
-        (parts (nodeTree (d .0)) (cons (nodeTree (q .0)) nil) (d .2) (parts (nodeTree (q .0)) nil (q .2) (no-parts x₃ (m .at)))) u))
+        (AnswersIn.made (IrNode.Binary unplaced default-metadata BinaryOp.AddChecked (d .0) (q .0), entriesOf s ws n) refl (record {
+          entries = refl;
+          wrote = node-closed 134 1
+              (cons (nodeTree (d .0)) (cons (nodeTree (q .0)) nil)) w
+              (parts (nodeTree (d .0)) (cons (nodeTree (q .0)) nil) (d .2) (parts (nodeTree (q .0)) nil (q .2) (no-parts x₃ (m .at)))) u;
+        }))
 
 -- ---- where the cursor goes
-
--- a refusal leaves the cursor where it was
-pub stopped : {at room n no : ℕ} → n ≤ 512 → Within at room (record { at = at; count = n; number = no })
-stopped h = record { low = omega arith; high = omega arith; count = h }
-
--- what stays within some room stays within more
-pub widened : {at room more : ℕ} {r : Built} → room ≤ more → Within at room r → Within at more r
-widened h w = record { low = w .low; high = omega (arith, w .high); count = w .count }
 
 -- the Add has the 15 bytes of its head, the sum of one less and one reference
 pub sum-within : {at k p n : ℕ} {l m : Built} → 0 < k → n ≤ 512 → p ≡ at + 15 → Within p (1115 * (k - 1)) l → Within (l .at) 1100 m →
@@ -318,7 +304,7 @@ unfolding refs
 sum-none {s} {xs} {us} {ys} {at} {n} {q} owner only g e z p = rw (picks-are only p) (go (picks s only q) (omega arith))
   where
     go : (ps : List Name) → length ps ≡ 0 → Builds s xs at us ys (record { at = at; count = n; number = 11 }) (sum-refs owner ps g)
-    go [] h = rw (sum-is owner g []) (Builds.not 11 refl (omega arith))
+    go [] h = rw (sum-is owner g []) (AnswersIn.not 11 refl (omega arith))
     go (x ∷ ps) h = absurd (omega arith)
 
 -- the sum of all the chosen paths

@@ -89,7 +89,7 @@ fn put_ref(
     out: &mut [u8],
     at: usize,
 ) -> Built
-    requires { ⌜ Summing (now s) (now words) n (now owner) (chosen .paths) × (i < length (picks (now s) (chosen .only) (chosen .paths))) × (at < 2 ^ 59) ⌝ }
+    requires { ⌜ Summing (now s) (now words) n (now owner) (chosen .paths) × (i < length (picks (now s) (chosen .only) (chosen .paths))) × (at < 2 ^ 58) ⌝ }
     ensures { λ r. ⌜ Within at 1100 r ⌝ }
     ensures { λ r. ⌜ Builds (now (s .entry)) (now (out .entry)) at (now (words .entry)) (now (out .exit)) r (build-ref (now (owner .entry)) (getD (picks (now (s .entry)) (chosen .only) (chosen .paths)) i []) (entriesOf (now (s .entry)) (now (words .entry)) n)) ⌝ }
 {

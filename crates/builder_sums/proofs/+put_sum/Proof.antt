@@ -1,6 +1,7 @@
 -- `put_sum`: the sum of k references is the head of an Add, the sum of k - 1, the last reference, and the length patched in. It calls itself
 -- with k - 1, so k is the measure. `whole` says that the definition's sum of k is that Add; a refusal of either part is the whole's.
-use Rattle.builder_sums.proofs.Sums.{sum-first, sum-stops, sum-stops-last, sum-done, stopped, widened, sum-within}
+use Rattle.builder_nodes.proofs.Laws.{stopped, widened}
+use Rattle.builder_sums.proofs.Sums.{sum-first, sum-stops, sum-stops-last, sum-done, sum-within}
 use borrow.Author.Needs.{needs}
 use native.Mathlib.Omega.{arith}
 use Prim.Native.Nat.{ℕ, _<_}

@@ -2,7 +2,9 @@
 -- (`ref-is`); where both pass, the reference is written.
 use mathlib.Core.Path.{refl, _∙_}
 use native.Mathlib.Omega.{arith}
-use Rattle.builder_sums.proofs.Sums.{stopped, looked-at, ref-missing, ref-long, ref-done}
+use Rattle.builder_registry.proofs.Laws.{looked-entry}
+use Rattle.builder_nodes.proofs.Laws.{stopped, ends-at}
+use Rattle.builder_sums.proofs.Sums.{ref-missing, ref-long, ref-done}
 use borrow.Author.Needs.{needs}
 use Rattle.builder_sums.proofs.put_ref.Statement.{statement}
 use Rattle.builder_sums.proofs.put_ref.Tie as tie
@@ -47,13 +49,13 @@ returns c =
 mul-put-size-ref : tie.Need-mul-put-size-ref
 mul-put-size-ref c =
     let at-e = c .before .before in
-    let found = looked-at (at-e .e .given .1) (at-lookup-name at-e .lookup-name .ensures .0) in
+    let found = looked-entry (at-e .e .given .1) (at-lookup-name at-e .lookup-name .ensures .0) in
     omega (arith, found .0, at-start at-e .pre .0 .standing)
 
 shared-slice-read-put-size-ref : tie.Need-shared-slice-read-put-size-ref
 shared-slice-read-put-size-ref c =
     let at-e = c .before .before .before in
-    let found = looked-at (at-e .e .given .1) (at-lookup-name at-e .lookup-name .ensures .0) in
+    let found = looked-entry (at-e .e .given .1) (at-lookup-name at-e .lookup-name .ensures .0) in
     omega (arith, found .0, at-start at-e .pre .0 .standing)
 
 put-size-ref-requires : tie.Need-put-size-ref-requires
@@ -71,11 +73,10 @@ returns-2 c =
     let at-else1 = at-put-size-ref .before .before .before in
     let at-e = at-else1 .before .before in
     let at-name-at = at-lookup-name at-e .before in (
-      record {
-        low = omega (arith, at-put-size-ref .put-size-ref .ensures .1);
-        high = omega (arith, at-put-size-ref .put-size-ref .ensures .1);
-        count = at-start at-e .pre .0 .standing .count;
-      },
+      ends-at
+          (at-put-size-ref .put-size-ref .ensures .1 .0)
+          (at-put-size-ref .put-size-ref .ensures .1 .1)
+          (at-start at-e .pre .0 .standing .count),
       ref-done _
           (at-name-at .name-at .ensures ∙ at-name-at .before .chosen-path .ensures .1)
           (at-lookup-name at-e .lookup-name .ensures .0)

@@ -1,7 +1,8 @@
 -- `sum_refs`: the chosen paths are counted; of none there is no sum (11), else `put_sum` writes the sum of all of them.
 use native.Mathlib.Omega.{arith}
 use borrow.Author.Needs.{needs}
-use Rattle.builder_sums.proofs.Sums.{sum-none, sum-all, stopped, widened}
+use Rattle.builder_nodes.proofs.Laws.{stopped, widened}
+use Rattle.builder_sums.proofs.Sums.{sum-none, sum-all}
 use Rattle.builder_sums.proofs.sum_refs.Statement.{statement}
 use Rattle.builder_sums.proofs.sum_refs.Tie as tie
 
