@@ -4,7 +4,8 @@ use mathlib.Core.List.{List, [], _++_, append-assoc, append-nil}
 use Prim.Native.Nat.{ℕ, _+_, _-_, _≤_, _<_}
 use native.Mathlib.Omega.{arith}
 use Rattle.errors.specs.Refusal.{Outcome, done, refused, plain}
-use Rattle.answers.specs.Answers.{Answers}
+use Rattle.errors.specs.Refusal.{_>>=_ as _andThen_}
+use Rattle.answers.specs.Answers.{Answers, AnswersIn}
 use Rattle.answers.proofs.Laws.{answered, unanswered, passes, goes}
 use Rattle.blocks.specs.Bytes.{bytes}
 use Rattle.blocks.specs.Tree.{Tree, num, nil, cons}
@@ -68,16 +69,45 @@ module _ {s xs us ys : List ℕ} {at : ℕ} {r : Built} {o : Outcome (IrNode × 
 
 -- ---- how an action on the registry goes on, once its first step was answered
 
-module _ {A B : Type 0} {Made : A × Registry → Type 0} {Next : B × Registry → Type 0} {number n : ℕ} (m : Build A) (k : A → Build B) (g : Registry) where
+module _ {A B : Type 0} {Made : A × Registry → Type 0} {Next : B × Registry → Type 0} {n : ℕ} (m : Build A) (k : A → Build B) (g : Registry) where
   -- a refusal is the answer of the whole
-  pub step-passes : n ≡ number → (number ≡ 0 → ⊥) → Answers number Made (m g) → Answers n Next ((m >>= k) g)
+  pub step-passes : {number : ℕ} → n ≡ number → (number ≡ 0 → ⊥) → Answers number Made (m g) → Answers n Next ((m >>= k) g)
   unfolding _>>=_
   step-passes e z a = passes (λ (x : A × Registry). k (x .0) (x .1)) e z a
 
   -- what was made goes on
-  pub step-goes : number ≡ 0 → Answers number Made (m g) → ((x : A × Registry) → Made x → Answers n Next (k (x .0) (x .1))) → Answers n Next ((m >>= k) g)
+  pub step-goes : {number : ℕ} → number ≡ 0 → Answers number Made (m g) → ((x : A × Registry) → Made x → Answers n Next (k (x .0) (x .1))) → Answers n Next ((m >>= k) g)
   unfolding _>>=_
   step-goes z a f = goes (λ (x : A × Registry). k (x .0) (x .1)) z a f
+
+  -- whatever the answer is: a refusal is the whole's, and what was made goes on
+  pub step-then : Answers n Made (m g) → ((x : A × Registry) → n ≡ 0 → Made x → Answers n Next (k (x .0) (x .1))) → Answers n Next ((m >>= k) g)
+  unfolding _>>=_ _andThen_
+  step-then a f = go a
+    where
+      go : {o : Outcome (A × Registry)} → Answers n Made o → Answers n Next (_andThen_ o (λ x. k (x .0) (x .1)))
+      go (AnswersIn.made x e h) = f x e h
+      go (AnswersIn.not i e l) = AnswersIn.not i e l
+
+module _ {A B : Type 0} (m : Build A) (g : Registry) where
+  -- steps are the same however they are grouped
+  pub step-assoc : {C : Type 0} (k : A → Build B) (l : B → Build C) → ((m >>= k) >>= l) g ≡ (m >>= (λ a. k a >>= l)) g
+  unfolding _>>=_ _andThen_
+  step-assoc {C} k l = go (m g)
+    where
+      go : (o : Outcome (A × Registry)) →
+          _andThen_ {B = C × Registry} (_andThen_ o (λ x. k (x .0) (x .1))) (λ y. l (y .0) (y .1)) ≡ _andThen_ o (λ x. _andThen_ (k (x .0) (x .1)) (λ y. l (y .0) (y .1)))
+      go (done x) = refl
+      go (refused q) = refl
+
+  -- steps that go on alike are the same
+  pub step-same : (k l : A → Build B) → ((a : A) (h : Registry) → k a h ≡ l a h) → (m >>= k) g ≡ (m >>= l) g
+  unfolding _>>=_ _andThen_
+  step-same k l f = go (m g)
+    where
+      go : (o : Outcome (A × Registry)) → _andThen_ o (λ x. k (x .0) (x .1)) ≡ _andThen_ o (λ x. l (x .0) (x .1))
+      go (done x) = f (x .0) (x .1)
+      go (refused q) = refl
 
 -- ---- where the cursor goes
 
