@@ -1,16 +1,16 @@
 -- The alternatives of a switch, their nodes and their cases, one by one.
-use mathlib.Core.Path.{_≡_, refl, ap, subst, _∙_}
+use mathlib.Core.Path.{_≡_, refl, sym, ap, subst, _∙_}
 use mathlib.Core.Bool.{Bool, true, false, cond}
-use mathlib.Core.List.{List, [], _∷_, _++_, append-nil}
+use mathlib.Core.List.{List, [], _∷_, _++_}
 use mathlib.Core.Option.{some, none}
 use Prim.Native.Nat.{ℕ, suc, _+_, _-_, _*_, _^_, _≤_, _<_}
 use native.Mathlib.Numerals.{add-one}
 use native.Mathlib.Omega.{arith}
 use lib.ListN.{length}
 use lib.Dec.{eqb}
-use Rattle.errors.specs.Refusal.{Refusal, Outcome, done, refused, plain, MissingDynamicRefs}
+use Rattle.errors.specs.Refusal.{Outcome, done, MissingDynamicRefs}
 use Rattle.errors.specs.Refusal.{_>>=_ as _andThen_}
-use Rattle.errors.proofs.Laws.{done-one, not-done}
+use Rattle.answers.specs.Answers.{Answers, AnswersIn}
 use Rattle.blocks.specs.Bytes.{bytes, le4, nameAt}
 use Rattle.blocks.specs.Name.{Name}
 use Rattle.blocks.specs.Tree.{Tree, name, num, block, nil, cons, view}
@@ -22,8 +22,9 @@ use Rattle.resolved.specs.Resolved.{Owner, Size, fields, variants, get}
 use Rattle.resolved.specs.Set.{thingOf, fieldsIn, variantsIn}
 use Rattle.ir.specs.Ir.{IrNode, IrParameter, SwitchCases, unplaced}
 use Rattle.ir.specs.Layout.{nodeTree, casesTree, caseCount, listTree, parameterTree}
-use Rattle.builder.specs.Registry.{Registry, _>>=_, give, refuse, need, reads, owner-parameters}
+use Rattle.builder.specs.Registry.{Registry, Build, _>>=_, give, reads, owner-parameters}
 use Rattle.builder.specs.Nodes.{Alternative, enum-alternatives, union-alternatives, sized-alternatives, align-node, const-or-zero, sum-refs, build-alternative, build-cases}
+use Rattle.builder.proofs.Steps.{need-some, need-none, reads-then}
 use Rattle.wire.specs.Poke.{Wrote, opened}
 use Rattle.wire.proofs.Laws.{both, parts, no-parts, closed}
 use Rattle.resolved_parts.specs.declared.TypeHead.{TypeHead}
@@ -35,9 +36,9 @@ use Rattle.resolved_parts.specs.Types.{HeadAt, FieldAt, VariantAt, PathsAt, Pat
 use Rattle.builder_registry.specs.Words.{entriesOf}
 use Rattle.builder_nodes.specs.declared.Built.{Built}
 use Rattle.builder_nodes.specs.Built.{Builds, Within, nodeStart}
-use Rattle.builder_nodes.proofs.Laws.{align-closed}
+use Rattle.builder_nodes.proofs.Laws.{align-closed, ends-at, step-passes, step-goes, step-then, step-assoc}
 use Rattle.builder_switches.specs.declared.Choice.{Choice}
-use Rattle.builder_switches.specs.Cases.{alternatives, Kind, AltAt, Cases, CaseAt}
+use Rattle.builder_switches.specs.Cases.{alternatives, Kind, AltAt, Cases, CaseIn, CaseAt, build-case, caseTree}
 
 -- ---- the alternatives of each kind
 
@@ -111,32 +112,6 @@ none-more k i = go (eqb k 33) (eqb k 34)
 
 -- ---- the node of an alternative
 
--- of constant size: the constant
-const-node : (os : List Owner) (n : Name) (v a : ℕ) (g : Registry) → build-alternative os n (Size.Const v) a g ≡ done (const-or-zero v a, g)
-unfolding build-alternative give
-const-node os n v a g = refl
-
--- of variable size: the sum, aligned
-abbrev alignIf : ℕ → Outcome (IrNode × Registry) → Outcome (IrNode × Registry)
-alignIf a (done x) = done (align-node (x .0) a, x .1)
-alignIf a (refused q) = refused q
-
--- the sum is that of the references of its name
-variable-node : (os : List Owner) (n : Name) (a : ℕ) (g : Registry) (ps : List Name) → get n os ≡ some ps →
-    build-alternative os n Size.Variable a g ≡ alignIf a (sum-refs n ps g)
-unfolding build-alternative _>>=_ _andThen_ need give
-variable-node os n a g ps e = rw e (go (sum-refs n ps g))
-  where
-    go : (o : Outcome (IrNode × Registry)) → _andThen_ o (λ y. done (align-node (y .0) a, y .1)) ≡ alignIf a o
-    go (done y) = refl
-    go (refused q) = refl
-
--- a name without references is refused
-missing-node : (os : List Owner) (n : Name) (a : ℕ) (g : Registry) → get n os ≡ none →
-    build-alternative os n Size.Variable a g ≡ refused (plain MissingDynamicRefs)
-unfolding build-alternative _>>=_ _andThen_ need refuse
-missing-node os n a g e = rw e refl
-
 module _ {s : List ℕ} {references : ℕ} {f : Paths} {o : Name} (q : ℕ) (d : o ≡ nameAt s q)
     (p : (a : Accepted s 32 32 references) → PathsFound s o (ownersOf (tree a)) f) where
   -- what was found is found by the name at q
@@ -173,113 +148,60 @@ abbrev nodeOf : {s : List ℕ} {references : ℕ} → Accepted s 32 32 reference
 nodeOf {s} a q x g = build-alternative (ownersOf (tree a)) (nameAt s q) (sized (x .variable) (x .size)) (x .alignment) g
 
 module _ {s xs ws : List ℕ} {at references : ℕ} (n q : ℕ) (x : Choice) where
-  -- the constant was written
+  -- of constant size: the constant was written
   pub node-const : {ys : List ℕ} {r : ℕ} → x .variable ≡ false →
       Wrote xs at (write (nodeTree (const-or-zero (x .size) (x .alignment)))) ys r → (a : Accepted s 32 32 references) →
       Builds s xs at ws ys (record { at = r; count = n; number = 0 }) (nodeOf a q x (entriesOf s ws n))
-  node-const h w a =
-      rw (h, const-node (ownersOf (tree a)) (nameAt s q) (x .size) (x .alignment) (entriesOf s ws n))
-      (Builds.made (const-or-zero (x .size) (x .alignment), entriesOf s ws n) refl refl w)
+  unfolding build-alternative give
+  node-const h w a = rw h (AnswersIn.made (const-or-zero (x .size) (x .alignment), entriesOf s ws n) refl (record { entries = refl; wrote = w }))
 
-  -- the name has no references
+  -- of variable size: the name has no references
   pub node-missing : {ys : List ℕ} {f : Paths} {o : Name} → x .variable ≡ true → o ≡ nameAt s q →
       ((a : Accepted s 32 32 references) → PathsFound s o (ownersOf (tree a)) f) → f ≡ Missing → (a : Accepted s 32 32 references) →
       Builds s xs at ws ys (record { at = at; count = n; number = 11 }) (nodeOf a q x (entriesOf s ws n))
-  node-missing v d p h a =
-      rw (v, missing-node (ownersOf (tree a)) (nameAt s q) (x .alignment) (entriesOf s ws n) (no-paths q d p h a))
-      (Builds.not 11 refl (omega arith))
+  unfolding build-alternative
+  node-missing v d p h a = rw (v, need-none {o = get (nameAt s q) (ownersOf (tree a))} MissingDynamicRefs _ (entriesOf s ws n) (no-paths q d p h a)) (AnswersIn.not 11 refl (omega arith))
 
   module _ {f : Paths} {o : Name} {zs y : List ℕ} {b t : ℕ} {r : Built} (v : x .variable ≡ true) (d : o ≡ nameAt s q)
       (p : (a : Accepted s 32 32 references) → PathsFound s o (ownersOf (tree a)) f) (h : f ≡ At b)
       (u : Wrote xs at (nodeStart 131 (x .alignment) ++ write (num 8 (x .alignment))) zs t)
       (m : (p : PathsAt s b) → Builds s zs t ws y r (sum-refs o (textsOf (p .list .got .0)) (entriesOf s ws n))) where
-    -- the sum that was written is that of the name's references
-    summed : (a : Accepted s 32 32 references) →
-        Builds s zs t ws y r (sum-refs (nameAt s q) (textsOf (some-paths q d p h a .0 .list .got .0)) (entriesOf s ws n))
-    summed a =
-        subst (λ (z : Name). Builds s zs t ws y r (sum-refs z (textsOf (some-paths q d p h a .0 .list .got .0)) (entriesOf s ws n))) d
-        (m (some-paths q d p h a .0))
+    -- the references of the name
+    abbrev pathsOf : Accepted s 32 32 references → List Name
+    pathsOf a = textsOf (some-paths q d p h a .0 .list .got .0)
+
+    -- the sum that was written is theirs
+    summed : (a : Accepted s 32 32 references) → Builds s zs t ws y r (sum-refs (nameAt s q) (pathsOf a) (entriesOf s ws n))
+    summed a = subst (λ (z : Name). Builds s zs t ws y r (sum-refs z (pathsOf a) (entriesOf s ws n))) d (m (some-paths q d p h a .0))
 
     -- the node is that sum, aligned
-    is-sum : (a : Accepted s 32 32 references) → nodeOf a q x (entriesOf s ws n) ≡
-        alignIf (x .alignment) (sum-refs (nameAt s q) (textsOf (some-paths q d p h a .0 .list .got .0)) (entriesOf s ws n))
-    is-sum a =
-        rw v
-        (variable-node
-        (ownersOf (tree a))
-        (nameAt s q)
-        (x .alignment)
-        (entriesOf s ws n)
-        (textsOf (some-paths q d p h a .0 .list .got .0))
-        (some-paths q d p h a .1))
+    is-sum : (a : Accepted s 32 32 references) →
+        nodeOf a q x (entriesOf s ws n) ≡ (sum-refs (nameAt s q) (pathsOf a) >>= (λ sum. give (align-node sum (x .alignment)))) (entriesOf s ws n)
+    unfolding build-alternative
+    is-sum a = rw v (need-some {o = get (nameAt s q) (ownersOf (tree a))} MissingDynamicRefs _ (entriesOf s ws n) (some-paths q d p h a .1))
 
     -- the sum was refused
     pub node-stops : {ys : List ℕ} {i : ℕ} → (r .number ≡ 0 → ⊥) → (a : Accepted s 32 32 references) →
         Builds s xs at ws ys (record { at = at; count = i; number = r .number }) (nodeOf a q x (entriesOf s ws n))
-    node-stops {ys} {i} z a = rw (is-sum a) (go z (summed a))
-      where
-        go : {o : Outcome (IrNode × Registry)} → (r .number ≡ 0 → ⊥) → Builds s zs t ws y r o →
-            Builds s xs at ws ys (record { at = at; count = i; number = r .number }) (alignIf (x .alignment) o)
-        go z (Builds.made w e f k) = absurd (z e)
-        go z (Builds.not k e l) = rw e (Builds.not k refl l)
+    node-stops z a = rw (is-sum a) (step-passes (sum-refs (nameAt s q) (pathsOf a)) _ (entriesOf s ws n) refl z (summed a))
 
     -- the sum was written, and the length of its AlignUp is patched in
     pub node-done : {ys : List ℕ} {j : ℕ} → r .number ≡ 0 → Wrote y at (bytes 4 (r .at - at - 4)) ys j → (a : Accepted s 32 32 references) →
         Builds s xs at ws ys r (nodeOf a q x (entriesOf s ws n))
-    node-done {ys} z c a = rw (is-sum a) (go z (summed a))
-      where
-        go : {o : Outcome (IrNode × Registry)} → r .number ≡ 0 → Builds s zs t ws y r o → Builds s xs at ws ys r (alignIf (x .alignment) o)
-        go z (Builds.made w e f k) = Builds.made (align-node (w .0) (x .alignment), w .1) e f (align-closed (x .alignment) (w .0) u k c)
-        go z (Builds.not k e l) = absurd (omega arith)
+    unfolding give
+    node-done z c a =
+        rw (is-sum a)
+        (step-goes (sum-refs (nameAt s q) (pathsOf a)) _ (entriesOf s ws n) z (summed a)
+        (λ w e. AnswersIn.made (align-node (w .0) (x .alignment), w .1) z (record {
+          entries = e .entries;
+          wrote = align-closed (x .alignment) (w .0) u (e .wrote) c;
+        })))
 
 -- ---- a case
-
--- the block of a case
-abbrev caseTree : ℕ → IrNode → List IrParameter → Tree
-caseTree v n ps = block unplaced 163 (cons (num 8 v) (cons (nodeTree n) (cons (listTree parameterTree ps) nil)))
-
--- the cases behind one whose node was built
-abbrev caseIf : Alternative → IrNode → List IrParameter → Outcome (SwitchCases × Registry) → Outcome (SwitchCases × Registry)
-caseIf x n ps (done y) = done (SwitchCases.case (x .tag) n ps (y .0), y .1)
-caseIf x n ps (refused q) = refused q
-
--- the same, by the node's own outcome
-abbrev casesIf : List Owner → Alternative → List Alternative → Outcome (IrNode × Registry) → Outcome (SwitchCases × Registry)
-casesIf os x xs (done y) = caseIf x (y .0) (owner-parameters (x .name) (y .1)) (build-cases os xs (y .1))
-casesIf os x xs (refused q) = refused q
-
--- the definition's cases: the first, then the others
-cases-are : (os : List Owner) (x : Alternative) (xs : List Alternative) (g : Registry) →
-    build-cases os (x ∷ xs) g ≡ casesIf os x xs (build-alternative os (x .name) (x .size) (x .alignment) g)
-unfolding build-cases _>>=_ _andThen_ reads give
-cases-are os x xs g = go (build-alternative os (x .name) (x .size) (x .alignment) g)
-  where
-    into : (n : IrNode) (ps : List IrParameter) (z : Outcome (SwitchCases × Registry)) →
-        _andThen_ z (λ w. done (SwitchCases.case (x .tag) n ps (w .0), w .1)) ≡ caseIf x n ps z
-    into n ps (done w) = refl
-    into n ps (refused q) = refl
-
-    go : (o : Outcome (IrNode × Registry)) →
-        _andThen_ o (λ y. _andThen_ (build-cases os xs (y .1)) (λ w. done (SwitchCases.case (x .tag) (y .0) (owner-parameters (x .name) (y .1)) (w .0), w .1))) ≡
-        casesIf os x xs o
-    go (refused q) = refl
-    go (done y) = into (y .0) (owner-parameters (x .name) (y .1)) (build-cases os xs (y .1))
-
--- no alternative, no case
-no-cases : (os : List Owner) (g : Registry) → build-cases os [] g ≡ done (SwitchCases.noCase, g)
-unfolding build-cases give
-no-cases os g = refl
 
 -- the alternative at q, as the code read it
 abbrev alternativeAt : List ℕ → ℕ → Choice → Alternative
 alternativeAt s q x = alternativeOf (x .tag) (nameAt s (q + 6)) (sized (x .variable) (x .size)) (x .alignment)
-
--- the node was refused: so are the cases
-case-refused : {s xs at′ ws ys zs : List ℕ} {p at : ℕ} {r t : Built} (os : List Owner) (x : Alternative) (xs′ : List Alternative) (j : ℕ)
-    {o : Outcome (IrNode × Registry)} → (r .number ≡ 0 → ⊥) → t .number ≡ r .number → Builds s xs p ws ys r o →
-    Cases s at′ at ws zs t j (casesIf os x xs′ o)
-case-refused os x xs′ j z e (Builds.made y f g w) = absurd (z f)
-case-refused os x xs′ j z e (Builds.not k f l) = Cases.not k (e ∙ f) l
 
 -- the bytes of a case
 case-write : {xs x₁ x₂ x₃ x₄ ys : List ℕ} {at b p r u j : ℕ} (v : ℕ) (n : IrNode) (ps : List IrParameter) → Wrote xs at (opened 163) x₁ b →
@@ -295,107 +217,76 @@ case-write {x₄} {u} v n ps w₁ w₂ w₃ w₄ w₅ =
     (cons (nodeTree n) (cons (listTree parameterTree ps) nil)) w₂
     (parts (nodeTree n) (cons (listTree parameterTree ps) nil) w₃ (parts (listTree parameterTree ps) nil w₄ (no-parts x₄ u))))) w₅
 
--- a case alone
-one-case : {xs ys : List ℕ} {at u : ℕ} (v : ℕ) (n : IrNode) (ps : List IrParameter) → Wrote xs at (write (caseTree v n ps)) ys u →
-    Wrote xs at (write (casesTree (SwitchCases.case v n ps SwitchCases.noCase))) ys u
-unfolding casesTree
-one-case {ys} {u} v n ps w = parts (caseTree v n ps) nil w (no-parts ys u)
-
 module _ {s xs ws x₁ x₂ x₃ : List ℕ} {k q i at b p references : ℕ} {x : Choice} {r : Built} (n : ℕ)
     (alt : (c : Accepted s k k q) → AltAt c i x) (w₁ : Wrote xs at (opened 163) x₁ b) (w₂ : Wrote x₁ b (bytes 8 (x .tag)) x₂ p)
     (nd : (a : Accepted s 32 32 references) → Builds s x₂ p ws x₃ r (nodeOf a (q + 6) x (entriesOf s ws n))) where
+  -- the node of the case, as the definition builds it
+  abbrev nodeAt : Accepted s 32 32 references → Build IrNode
+  nodeAt a = build-alternative (ownersOf (tree a)) (nameAt s (q + 6)) (sized (x .variable) (x .size)) (x .alignment)
+
   -- the node of the case was refused
   pub case-stops : {ys : List ℕ} {j : ℕ} → (r .number ≡ 0 → ⊥) → (c : Accepted s k k q) (a : Accepted s 32 32 references) →
       CaseAt c i xs at ws ys (record { at = at; count = j; number = r .number }) (ownersOf (tree a)) (entriesOf s ws n)
-  case-stops z c a = record {
-    alternative = alternativeAt s q x;
-    is = alt c .is;
-    made = rw
-        (cases-are (ownersOf (tree a)) (alternativeAt s q x) [] (entriesOf s ws n))
-        (case-refused (ownersOf (tree a)) (alternativeAt s q x) [] 1 z refl (nd a));
-  }
+  unfolding build-case
+  case-stops z c a = record { alternative = alternativeAt s q x; is = alt c .is; made = step-passes (nodeAt a) _ (entriesOf s ws n) refl z (nd a) }
 
   -- the case was written
   pub case-done : {ys x₄ : List ℕ} {u j : ℕ} {o : Name} → r .number ≡ 0 → o ≡ nameAt s (q + 6) →
       Wrote x₃ (r .at) (write (listTree parameterTree (owner-parameters o (entriesOf s ws (r .count))))) x₄ u →
       Wrote x₄ at (bytes 4 (u - at - 4)) ys j → (c : Accepted s k k q) (a : Accepted s 32 32 references) →
       CaseAt c i xs at ws ys (record { at = u; count = r .count; number = 0 }) (ownersOf (tree a)) (entriesOf s ws n)
-  unfolding caseCount
-  case-done {ys} {x₄} {u} {o} z d w₃ w₄ c a = record {
+  unfolding build-case give
+  case-done z d w₃ w₄ c a = record {
     alternative = alternativeAt s q x;
     is = alt c .is;
-    made = rw (cases-are (ownersOf (tree a)) (alternativeAt s q x) [] (entriesOf s ws n)) (go (nd a));
+    made = step-goes (nodeAt a) _ (entriesOf s ws n) z (nd a)
+        (λ y e.
+        let ps = owner-parameters (nameAt s (q + 6)) (y .1) in
+        rw (reads-then {B = IrNode × List IrParameter} (owner-parameters (nameAt s (q + 6))) (λ ps. give (y .0, ps)) (y .1))
+        (AnswersIn.made ((y .0, ps), y .1) refl (record {
+          entries = e .entries;
+          wrote = case-write (x .tag) (y .0) ps w₁ w₂ (e .wrote) (rw (d, e .entries) at w₃) w₄;
+        })));
   }
-    where
-      go : {t : Outcome (IrNode × Registry)} → Builds s x₂ p ws x₃ r t →
-          Cases s xs at ws ys (record { at = u; count = r .count; number = 0 }) 1 (casesIf (ownersOf (tree a)) (alternativeAt s q x) [] t)
-      go (Builds.made y e f w) =
-          let ps = owner-parameters (nameAt s (q + 6)) (y .1) in
-          rw (no-cases (ownersOf (tree a)) (y .1))
-          (Cases.made (SwitchCases.case (x .tag) (y .0) ps SwitchCases.noCase, y .1) refl f (omega arith)
-          (one-case (x .tag) (y .0) ps (case-write (x .tag) (y .0) ps w₁ w₂ w (rw (d, f) at w₃) w₄)))
-      go (Builds.not h e l) = absurd (omega arith)
 
 -- ---- one case more
 
--- the bytes of a case before others
-first-case : {xs ys zs : List ℕ} {at p r : ℕ} (v : ℕ) (n : IrNode) (ps : List IrParameter) (cs : SwitchCases) →
-    Wrote xs at (write (casesTree (SwitchCases.case v n ps SwitchCases.noCase))) ys p → Wrote ys p (write (casesTree cs)) zs r →
-    Wrote xs at (write (casesTree (SwitchCases.case v n ps cs))) zs r
-unfolding casesTree write
-first-case v n ps cs w u = both (rw append-nil at w) u
+-- the cases of the definition: the first, then the others
+cases-are : (os : List Owner) (x : Alternative) (xs : List Alternative) (g : Registry) →
+    build-cases os (x ∷ xs) g ≡ (build-case os x >>= (λ c. build-cases os xs >>= (λ cs. give (SwitchCases.case (x .tag) (c .0) (c .1) cs)))) g
+unfolding build-cases build-case _>>=_ _andThen_ reads give
+cases-are os x xs g =
+    sym
+    (step-assoc (build-alternative os (x .name) (x .size) (x .alignment)) g
+    (λ node. reads (owner-parameters (x .name)) >>= (λ ps. give {A = IrNode × List IrParameter} (node, ps)))
+    (λ c. build-cases os xs >>= (λ cs. give (SwitchCases.case (x .tag) (c .0) (c .1) cs))))
+
+-- no alternative, no case
+no-cases : (os : List Owner) (g : Registry) → build-cases os [] g ≡ done (SwitchCases.noCase, g)
+unfolding build-cases give
+no-cases os g = refl
 
 -- one case, then the others
 case-more : {s xs ws ys zs : List ℕ} {at : ℕ} {r t : Built} (os : List Owner) (x : Alternative) (xs′ : List Alternative) (j : ℕ) (g : Registry) →
-    r .number ≡ 0 → Cases s xs at ws ys r 1 (build-cases os (x ∷ []) g) →
+    r .number ≡ 0 → Answers (r .number) (CaseIn s xs at ws ys r (x .tag)) (build-case os x g) →
     Cases s ys (r .at) ws zs t j (build-cases os xs′ (entriesOf s ws (r .count))) →
     Cases s xs at ws zs t (suc j) (build-cases os (x ∷ xs′) g)
-unfolding caseCount
-case-more {s} {xs} {ws} {ys} {zs} {at} {r} {t} os x xs′ j g z c d =
-    rw (cases-are os x xs′ g) (go (build-alternative os (x .name) (x .size) (x .alignment) g) (rw (cases-are os x [] g) at c))
-  where
-    last : (n : IrNode) (ps : List IrParameter) (h : Registry) → entriesOf s ws (r .count) ≡ h →
-        Wrote xs at (write (casesTree (SwitchCases.case (x .tag) n ps SwitchCases.noCase))) ys (r .at) →
-        {o : Outcome (SwitchCases × Registry)} → Cases s ys (r .at) ws zs t j o → Cases s xs at ws zs t (suc j) (caseIf x n ps o)
-    last n ps h e w (Cases.made y f l m v) = Cases.made (SwitchCases.case (x .tag) n ps (y .0), y .1) f l (omega arith) (first-case (x .tag) n ps (y .0) w v)
-    last n ps h e w (Cases.not k f l) = Cases.not k f l
-
-    still : (n : IrNode) (ps : List IrParameter) (h : Registry) {o : Outcome (SwitchCases × Registry)} →
-        o ≡ done (SwitchCases.case (x .tag) n ps SwitchCases.noCase, h) → Cases s xs at ws ys r 1 o →
-        (entriesOf s ws (r .count) ≡ h) × Wrote xs at (write (casesTree (SwitchCases.case (x .tag) n ps SwitchCases.noCase))) ys (r .at)
-    still n ps h e (Cases.made y f l m v) = let q : y ≡ (SwitchCases.case (x .tag) n ps SwitchCases.noCase, h) = done-one e in
-        (l ∙ ap (λ (a : SwitchCases × Registry). a .1) q, rw q at v)
-    still n ps h e (Cases.not k f l) = absurd (omega arith)
-
-    go : (o : Outcome (IrNode × Registry)) → Cases s xs at ws ys r 1 (casesIf os x [] o) → Cases s xs at ws zs t (suc j) (casesIf os x xs′ o)
-    go (done y) c =
-        let ps = owner-parameters (x .name) (y .1) in
-        let b = still (y .0) ps (y .1) (ap (caseIf x (y .0) ps) (no-cases os (y .1))) c in
-        last (y .0) ps (y .1) (b .0) (b .1) (rw (b .0) at d)
-    go (refused q) c = absurd (never c)
-      where
-        never : {q : Refusal} → Cases s xs at ws ys r 1 (refused q) → ⊥
-        never (Cases.not k f l) = omega arith
+unfolding caseCount casesTree give
+case-more os x xs′ j g z c d =
+    rw (cases-are os x xs′ g)
+    (step-goes (build-case os x) _ g z c
+    (λ y e. step-then (build-cases os xs′) _ (y .1) (rw (e .entries) at d)
+    (λ w f h. AnswersIn.made (SwitchCases.case (x .tag) (y .0 .0) (y .0 .1) (w .0), w .1) f (record {
+      entries = h .entries;
+      counted = omega (arith, h .counted);
+      wrote = parts (caseTree (x .tag) (y .0 .0) (y .0 .1)) (casesTree (w .0)) (e .wrote) (h .wrote);
+    }))))
 
 -- one case that was refused ends them
 case-stop : {s xs ws ys zs : List ℕ} {at p : ℕ} {r t : Built} (os : List Owner) (x : Alternative) (xs′ : List Alternative) (j : ℕ) (g : Registry) →
-    (r .number ≡ 0 → ⊥) → t .number ≡ r .number → Cases s xs at ws ys r 1 (build-cases os (x ∷ []) g) →
+    (r .number ≡ 0 → ⊥) → t .number ≡ r .number → Answers (r .number) (CaseIn s xs at ws ys r (x .tag)) (build-case os x g) →
     Cases s xs p ws zs t j (build-cases os (x ∷ xs′) g)
-case-stop {s} {xs} {ws} {ys} {zs} {at} {p} {r} {t} os x xs′ j g z e c =
-    rw (cases-are os x xs′ g) (go (build-alternative os (x .name) (x .size) (x .alignment) g) (rw (cases-are os x [] g) at c))
-  where
-    go : (o : Outcome (IrNode × Registry)) → Cases s xs at ws ys r 1 (casesIf os x [] o) → Cases s xs p ws zs t j (casesIf os x xs′ o)
-    go (done y) c = absurd (never (ap (caseIf x (y .0) (owner-parameters (x .name) (y .1))) (no-cases os (y .1))) c)
-      where
-        never : {o : Outcome (SwitchCases × Registry)} →
-            o ≡ done (SwitchCases.case (x .tag) (y .0) (owner-parameters (x .name) (y .1)) SwitchCases.noCase, y .1) →
-            Cases s xs at ws ys r 1 o → ⊥
-        never e (Cases.made y f l m v) = z f
-        never e (Cases.not k f l) = not-done e
-    go (refused q) c = still c
-      where
-        still : {q : Refusal} → Cases s xs at ws ys r 1 (refused q) → Cases s xs p ws zs t j (refused q)
-        still (Cases.not k f l) = Cases.not k (e ∙ f) l
+case-stop os x xs′ j g z e c = rw (cases-are os x xs′ g) (step-passes (build-case os x) _ g e z c)
 
 -- ---- what the code asks on the way
 
@@ -411,14 +302,6 @@ not-union h n = omega (arith, h .low)
 pub below-60 : (at : ℕ) → at < 2 ^ 56 + 2 ^ 27 → at < 2 ^ 60
 below-60 at h = omega arith
 
--- what is built behind d bytes
-pub behind : {at p room more : ℕ} {r : Built} (d : ℕ) → p ≡ at + d → d + room ≤ more → Within p room r → Within at more r
-behind d e h w = record { low = omega (arith, w .low); high = omega (arith, w .high); count = w .count }
-
--- a cursor behind what was built
-pub ends-at : {at r more n no : ℕ} → at ≤ r → r ≤ at + more → n ≤ 512 → Within at more (record { at = r; count = n; number = no })
-ends-at l h c = record { low = l; high = h; count = c }
-
 -- where a block ends that begins at `at`: behind its length, and within some room
 pub record Ends (at room u : ℕ) : Type 0 where
   pub low : at + 4 ≤ u
@@ -433,9 +316,9 @@ pub case-ends : {at b p u : ℕ} {r : Built} → b ≡ at + 6 → p ≡ b + 8 �
 case-ends eb ep w h = record { low = omega (arith, w .low, h .0); high = omega (arith, w .high, h .1) }
 
 -- a switch: the head of its node, the name of its tag, the count of its cases, the cases, and the flag that there is no default
-pub switch-ends : {at b c d u count : ℕ} {r : Built} → b ≡ at + 15 → (b ≤ c) × (c ≤ b + 513) → d ≡ c + 2 → count ≤ 64 → Within d (540000 * count) r →
-    u ≡ r .at + 1 → Ends at (2 ^ 27) u
-switch-ends eb h ed l w eu = record { low = omega (arith, h .0, w .low); high = omega (arith, h .1, w .high) }
+pub switch-ends : {at b c d u count : ℕ} {r : Built} → b ≡ at + 15 → (b ≤ c) × (c ≤ b + 514) → (c ≤ d) × (d ≤ c + 2) → count ≤ 64 →
+    Within d (540000 * count) r → (r .at ≤ u) × (u ≤ r .at + 1) → Ends at (2 ^ 27) u
+switch-ends e f g l w h = record { low = omega (arith, f .0, g .0, w .low, h .0); high = omega (arith, f .1, g .1, w .high, h .1) }
 
 -- ---- all the cases
 
@@ -543,7 +426,7 @@ cases-end {s} {ws} {k} {count} {i} {ys} {p} {m} h inv l a =
     (inv .rest) l .0 a ys
     (record { at = p; count = m; number = 0 })
     (rw (none-more k i, no-cases (ownersOf (tree a)) (entriesOf s ws m))
-    (Cases.made (SwitchCases.noCase, entriesOf s ws m) refl refl z (no-parts ys p)))
+    (AnswersIn.made (SwitchCases.noCase, entriesOf s ws m) refl (record { entries = refl; counted = z; wrote = no-parts ys p })))
 
 -- the cursor of a switch is small enough for its head
 pub start-60 : (at : ℕ) → at < 2 ^ 56 → at < 2 ^ 60

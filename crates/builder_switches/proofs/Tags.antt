@@ -10,6 +10,7 @@ use lib.Dec.{leb, eqb}
 use borrow.Author.Tests.{leb-true, leb-false, eqb-true, eqb-false}
 use Rattle.errors.specs.Refusal.{Outcome, done, refused, plain, MissingParameter}
 use Rattle.errors.specs.Refusal.{_>>=_ as _andThen_}
+use Rattle.answers.specs.Answers.{AnswersIn}
 use Rattle.blocks.specs.Bytes.{le2, nameAt}
 use Rattle.blocks.specs.Name.{Name}
 use Rattle.accepted.specs.Accepted.{Accepted, tree}
@@ -26,9 +27,8 @@ use Rattle.builder_registry.specs.declared.Found.{Found}
 use Rattle.builder_registry.specs.declared.Found.the-variants.{At, Missing}
 use Rattle.builder_registry.specs.declared.Tagged.{Tagged}
 use Rattle.builder_registry.specs.Words.{Standing, Looked, Tags, held, madePath, madeParameter, entriesOf}
-use Rattle.builder_registry.proofs.Laws.{held-name, long-lookup, long-qualified}
+use Rattle.builder_registry.proofs.Laws.{held-name, looked-entry, looked-missing, long-lookup, long-qualified}
 use Rattle.builder_registry.proofs.Keys.{held-bound}
-use Rattle.builder_sums.proofs.Sums.{looked-at, looked-none}
 use Rattle.builder_switches.proofs.Marks.{path-is, path-held}
 
 -- ---- a path's entry
@@ -55,7 +55,7 @@ module _ {s ws : List ℕ} {n e m : ℕ} (owner : Name)
         Looked s ws n (At i) (tag-lookup owner (join path) (entriesOf s ws n))
     unfolding tag-lookup
     tag-found d a path x =
-        let q = looked-at d (rw (held-path a path x) at k) in
+        let q = looked-entry d (rw (held-path a path x) at k) in
         rw (q .1) (Looked.at (q .0))
 
     -- it has none: the parent's entry, or none
@@ -65,7 +65,7 @@ module _ {s ws : List ℕ} {n e m : ℕ} (owner : Name)
         Looked s ws n g (tag-lookup owner (join path) (entriesOf s ws n))
     unfolding tag-lookup
     tag-other {g} d c a path x =
-        rw (looked-none d (rw (held-path a path x) at k))
+        rw (looked-missing d (rw (held-path a path x) at k))
         (rw (held-path a path x) at c)
 
 -- ---- the tag
@@ -100,7 +100,7 @@ module _ {s ws : List ℕ} {n e : ℕ} {f : Found} (o owner : Name) (d : o ≡ o
     where
       go : {f : Found} (o : Option Name) → f ≡ At i → Looked s ws n f o → Tags s ws (record { at = i; count = n; number = 0 }) (tagOf o (entriesOf s ws n))
       go none d Looked.missing = let z : _≡_ {A = ℕ} 0 1 = cc in absurd (omega arith)
-      go (some x) d (Looked.at {i = j} h) = let z : j ≡ i = cc in rw z (Tags.tags (entriesOf s ws n) refl refl (rw (← z) h))
+      go (some x) d (Looked.at {i = j} h) = let z : j ≡ i = cc in rw (← z) (AnswersIn.made _ refl (record { named = refl; entries = refl; within = h }))
 
   -- it has none
   pub tag-unknown : f ≡ Missing → {i : ℕ} (a : Accepted s 64 91 e) →
@@ -111,7 +111,7 @@ module _ {s ws : List ℕ} {n e : ℕ} {f : Found} (o owner : Name) (d : o ≡ o
       rw (p .is, found-tag owner path (entriesOf s ws n)) (go (tag-lookup owner (join path) (entriesOf s ws n)) h (l a path (p .is)))
     where
       go : {f : Found} (o : Option Name) → f ≡ Missing → Looked s ws n f o → Tags s ws (record { at = i; count = n; number = 12 }) (tagOf o (entriesOf s ws n))
-      go none d Looked.missing = Tags.not 12 refl (omega arith)
+      go none d Looked.missing = AnswersIn.not 12 refl (omega arith)
       go (some x) d (Looked.at h) = let z : _≡_ {A = ℕ} 0 1 = cc in absurd (omega arith)
 
 -- of any other expression the tag is made

@@ -5,19 +5,22 @@ use mathlib.Core.Bool.{cond}
 use mathlib.Core.List.{List, [], _∷_}
 use lib.Dec.{eqb}
 use lib.ListN.{length}
-use Rattle.errors.specs.Refusal.{Outcome, done, refused, plain}
+use Rattle.errors.specs.Refusal.{Outcome}
+use Rattle.answers.specs.Answers.{Answers}
 use Rattle.blocks.specs.Bytes.{nameAt}
-use Rattle.blocks.specs.Tree.{Tree, cons, view}
+use Rattle.blocks.specs.Name.{Name}
+use Rattle.blocks.specs.Tree.{Tree, num, block, nil, cons, view}
 use Rattle.blocks.specs.Write.{write}
 use Rattle.accepted.specs.Accepted.{Accepted, tree, Listed}
-use Rattle.resolved.specs.Resolved.{Owner, fields, variants}
+use Rattle.resolved.specs.Resolved.{Owner, Head, fields, variants}
 use Rattle.resolved.specs.Set.{thingOf, fieldsIn, variantsIn}
-use Rattle.ir.specs.Ir.{SwitchCases}
-use Rattle.ir.specs.Layout.{casesTree, caseCount}
-use Rattle.builder.specs.Registry.{Registry}
-use Rattle.builder.specs.Nodes.{Alternative, enum-alternatives, union-alternatives, sized-alternatives, build-cases}
+use Rattle.ir.specs.Ir.{IrNode, IrParameter, SwitchCases, unplaced}
+use Rattle.ir.specs.Layout.{nodeTree, casesTree, caseCount, listTree, parameterTree}
+use Rattle.builder.specs.Registry.{Registry, Build, _>>=_, give, reads, owner-parameters}
+use Rattle.builder.specs.Nodes.{Alternative, enum-alternatives, union-alternatives, sized-alternatives, build-alternative, build-switch}
 use Rattle.wire.specs.Poke.{Wrote}
 use Rattle.resolved_parts.specs.Types.{Named, sized}
+use Rattle.builder_registry.specs.declared.Tagged.{Tagged}
 use Rattle.builder_registry.specs.Words.{Standing, entriesOf}
 use Rattle.builder_nodes.specs.declared.Built.{Built}
 use Rattle.builder_switches.specs.declared.Choice.{Choice}
@@ -45,17 +48,37 @@ pub record AltAt {s : List ℕ} {k q : ℕ} (c : Accepted s k k q) (i : ℕ) (r 
   pub is : (u : Tree) → alternatives k i (cons (tree c) u) ≡
       record { tag = r .tag; name = nameAt s (q + 6); size = sized (r .variable) (r .size); alignment = r .alignment } ∷ alternatives k (suc i) u
 
--- The bytes of so many cases in the output ys and the next cursor, and the entries in the words us; or the refusal.
-pub data Cases (s xs : List ℕ) (at : ℕ) (us ys : List ℕ) (r : Built) (count : ℕ) : Outcome (SwitchCases × Registry) → Type 0 where
-  made : (x : SwitchCases × Registry) → r .number ≡ 0 → entriesOf s us (r .count) ≡ x .1 → caseCount (x .0) ≡ count →
-      Wrote xs at (write (casesTree (x .0))) ys (r .at) → Cases s xs at us ys r count (done x)
-  not : (k : ℕ) → r .number ≡ k → 0 < k → Cases s xs at us ys r count (refused (plain k))
+-- one case, as `build-cases` makes it: the alternative's node and the parameters of its name
+unfoldable pub build-case : List Owner → Alternative → Build (IrNode × List IrParameter)
+build-case refs x = do
+  node ← build-alternative refs (x .name) (x .size) (x .alignment)
+  parameters ← reads (owner-parameters (x .name))
+  give (node, parameters)
+
+-- its block
+abbrev pub caseTree : ℕ → IrNode → List IrParameter → Tree
+caseTree v n ps = block unplaced 163 (cons (num 8 v) (cons (nodeTree n) (cons (listTree parameterTree ps) nil)))
+
+-- a case that was made: its bytes in the output ys, up to the next cursor, and the entries in the words us
+pub record CaseIn (s xs : List ℕ) (at : ℕ) (us ys : List ℕ) (r : Built) (tag : ℕ) (x : (IrNode × List IrParameter) × Registry) : Type 0 where
+  pub entries : entriesOf s us (r .count) ≡ x .1
+  pub wrote : Wrote xs at (write (caseTree tag (x .0 .0) (x .0 .1))) ys (r .at)
+
+-- the same of so many cases
+pub record CasesIn (s xs : List ℕ) (at : ℕ) (us ys : List ℕ) (r : Built) (count : ℕ) (x : SwitchCases × Registry) : Type 0 where
+  pub entries : entriesOf s us (r .count) ≡ x .1
+  pub counted : caseCount (x .0) ≡ count
+  pub wrote : Wrote xs at (write (casesTree (x .0))) ys (r .at)
+
+-- that, or the refusal
+abbrev pub Cases : (s xs : List ℕ) (at : ℕ) (us ys : List ℕ) (r : Built) (count : ℕ) → Outcome (SwitchCases × Registry) → Type 0
+Cases s xs at us ys r count = Answers (r .number) (CasesIn s xs at us ys r count)
 
 -- the case of the alternative at place i, under the references os, from the registry g
 pub record CaseAt {s : List ℕ} {k q : ℕ} (c : Accepted s k k q) (i : ℕ) (xs : List ℕ) (at : ℕ) (us ys : List ℕ) (r : Built) (os : List Owner) (g : Registry) : Type 0 where
   pub alternative : Alternative
   pub is : (u : Tree) → alternatives k i (cons (tree c) u) ≡ alternative ∷ alternatives k (suc i) u
-  pub made : Cases s xs at us ys r 1 (build-cases os (alternative ∷ []) g)
+  pub made : Answers (r .number) (CaseIn s xs at us ys r (alternative .tag)) (build-case os alternative g)
 
 -- an expression whose references are marked under an owner
 pub record Marking (s ws : List ℕ) (n : ℕ) (owner : List ℕ) (e : ℕ) : Type 0 where
@@ -93,12 +116,16 @@ pub record Listed-cases (s ws : List ℕ) (n references k count first at : ℕ) 
   pub most : count ≤ 64
   pub cursor : at < 2 ^ 56 + 1000
 
--- a type with such a list, and the entry that names its tag
-pub record Switching (s ws : List ℕ) (n type entry k count first at : ℕ) : Type 0 where
-  pub standing : Standing s ws n
+-- a type with such a list, and the answer that its tag is the name of an entry
+pub record Switching (s ws : List ℕ) (type : ℕ) (tag : Tagged) (k count first at : ℕ) : Type 0 where
+  pub standing : Standing s ws (tag .count)
   pub type-at : Accepted s 1 7 type
-  pub within : entry < n
+  pub within : tag .number ≡ 0 → tag .at < tag .count
   pub kind : Kind k
   pub list : Listed s k k count first
   pub most : count ≤ 64
   pub cursor : at < 2 ^ 56
+
+-- the switch of a type, by the tag that an action finds or makes
+abbrev pub switchBy : Build Name → Head → List Alternative → Build IrNode
+switchBy tag h xs = tag >>= (λ name. build-switch h name xs)

@@ -6,7 +6,6 @@ use resolved_parts::Paths;
 ghost use mathlib.Core.Path.{_≡_};
 ghost use mathlib.Core.List.{List};
 ghost use Prim.Native.Nat.{_+_, _*_, _^_, _≤_};
-ghost use lib.ListN.{getD};
 ghost use Rattle.blocks.specs.Bytes.{le2, nameAt};
 ghost use Rattle.blocks.specs.Name.{Name};
 ghost use Rattle.accepted.specs.Accepted.{Accepted, tree, Listed};
@@ -14,11 +13,12 @@ ghost use Rattle.expr.specs.Expr.{ExprKind, exprOf};
 ghost use Rattle.resolved.specs.Resolved.{ResolvedTypeKind, Fields, Variants, head, kindOf};
 ghost use Rattle.resolved.specs.Set.{typeOf};
 ghost use Rattle.builder.specs.Names.{join};
-ghost use Rattle.builder.specs.Nodes.{mark-all, field-refs, tag-lookup, enum-tag-parameter, build-alternative, build-cases, build-switch, build-enum-node, build-union-node, build-size-discriminated-union-node};
+ghost use Rattle.builder.specs.Registry.{Registry, Build};
+ghost use Rattle.builder.specs.Nodes.{mark-all, field-refs, tag-lookup, enum-tag-parameter, build-alternative, build-cases, build-enum-node, build-union-node, build-size-discriminated-union-node};
 ghost use Rattle.resolved_parts.specs.Types.{ownersOf, sized};
-ghost use Rattle.builder_registry.specs.Words.{Looked, Tags, entriesOf, entryName};
+ghost use Rattle.builder_registry.specs.Words.{Looked, Tags, entriesOf};
 ghost use Rattle.builder_nodes.specs.Built.{Builds, Within};
-ghost use Rattle.builder_switches.specs.Cases.{alternatives, Listing, AltAt, Cases, CaseAt, Marking, Tagging, Choosing, Casing, Listed-cases, Switching};
+ghost use Rattle.builder_switches.specs.Cases.{alternatives, Listing, AltAt, Cases, CaseAt, Marking, Tagging, Choosing, Casing, Listed-cases, Switching, switchBy};
 ghost use Rattle.builder_switches.specs.Ready.{Ready};
 
 // A variant's tag, whether its size is variable, the constant size (0 where variable), and the alignment.
@@ -299,25 +299,33 @@ fn put_cases(
     }
 }
 
-// The switch over the alternatives of a type, by the tag that an entry names.
+// The switch over the alternatives of a type, by the tag that was found or made; where none was, its refusal.
 fn put_switch(
     s: &[u8],
     words: &[u64],
-    n: usize,
     kind: usize,
-    entry: usize,
+    tag: Tagged,
     list: Alternatives,
     out: &mut [u8],
     at: usize,
 ) -> Built
-    requires { ⌜ Switching (now s) (now words) n kind entry (list .kind) (list .count) (list .first) at ⌝ }
+    requires { ⌜ Switching (now s) (now words) kind tag (list .kind) (list .count) (list .first) at ⌝ }
     ensures { λ r. ⌜ Within at (2 ^ 27) r ⌝ }
-    ensures { λ r. ⌜ ((a : Accepted (now (s .entry)) 1 7 kind) (l : Listed (now (s .entry)) (list .kind) (list .kind) (list .count) (list .first)) → Builds (now (s .entry)) (now (out .entry)) at (now (words .entry)) (now (out .exit)) r (build-switch (head (typeOf (tree a))) (entryName (now (s .entry)) (getD (now (words .entry)) entry 0)) (alternatives (list .kind) 0 (l .got .0)) (entriesOf (now (s .entry)) (now (words .entry)) n))) ⌝ }
+    ensures { λ r. ⌜ ((a : Accepted (now (s .entry)) 1 7 kind) (l : Listed (now (s .entry)) (list .kind) (list .kind) (list .count) (list .first)) (m : Build Name) (g : Registry) → Tags (now (s .entry)) (now (words .entry)) tag (m g) → Builds (now (s .entry)) (now (out .entry)) at (now (words .entry)) (now (out .exit)) r (switchBy m (head (typeOf (tree a))) (alternatives (list .kind) 0 (l .got .0)) g)) ⌝ }
 {
+    let entry = tag.at;
+    let n = tag.count;
+    if tag.number != 0 {
+        return Built {
+            at,
+            count: n,
+            number: tag.number,
+        };
+    }
     let h = resolved_parts::type_head(s, kind);
     let b = builder_nodes::open_node(out, at, 132, h.alignment);
-    let c = builder_registry::put_entry_name(s, words[entry], out, b);
-    let d = wire::put_le(out, c, 2, list.count as u64);
+    let c = builder_nodes::put_entry_part(s, words[entry], out, b, 132, 2);
+    let d = builder_nodes::put_count_part(out, c, 132, 3, list.count);
     let r = put_cases(s, words, n, h.references, list, out, d);
     if r.number != 0 {
         return Built {
@@ -326,7 +334,7 @@ fn put_switch(
             number: r.number,
         };
     }
-    let u = wire::put_flag(out, r.at, false);
+    let u = builder_nodes::put_no_node(out, r.at, 132, 4);
     wire::close_block(out, at, u);
     Built {
         at: u,
@@ -359,19 +367,12 @@ pub fn build_enum_node(
     }
     let p = resolved_parts::enum_parts(s, kind);
     let t = enum_tag_parameter(s, words, x.count, kind, p.tag);
-    if t.number != 0 {
-        return Built {
-            at,
-            count: n,
-            number: t.number,
-        };
-    }
     let variants = Alternatives {
         kind: 34,
         count: p.count,
         first: p.first,
     };
-    put_switch(s, words, t.count, kind, t.at, variants, out, at)
+    put_switch(s, words, kind, t, variants, out, at)
 }
 
 // A union: the tag of a variant is its place.
@@ -397,20 +398,13 @@ pub fn build_union_node(
         };
     }
     let t = builder_registry::add_synthetic(s, words, x.count, kind + 6, 2);
-    if t.number != 0 {
-        return Built {
-            at,
-            count: n,
-            number: t.number,
-        };
-    }
     let p = resolved_parts::field_list(s, kind);
     let fields = Alternatives {
         kind: 33,
         count: p.count,
         first: p.first,
     };
-    put_switch(s, words, t.count, kind, t.at, fields, out, at)
+    put_switch(s, words, kind, t, fields, out, at)
 }
 
 // A size-discriminated union: tag and size of a variant are its expected size.
@@ -444,17 +438,10 @@ pub fn build_size_discriminated_union_node(
         };
     }
     let t = builder_registry::add_synthetic(s, words, x.count, kind + 6, 3);
-    if t.number != 0 {
-        return Built {
-            at,
-            count: n,
-            number: t.number,
-        };
-    }
     let list = Alternatives {
         kind: 35,
         count: p.count,
         first: p.first,
     };
-    put_switch(s, words, t.count, kind, t.at, list, out, at)
+    put_switch(s, words, kind, t, list, out, at)
 }

@@ -1,11 +1,12 @@
 -- `build_enum_node`: the references of the type are entered, its tag is found or made, and the switch over its variants is written. Each return has its
--- law: the references were refused, the tag was, or the switch decides.
+-- law: the references were refused, or the switch decides, which the tag's refusal is a part of.
 use borrow.Author.Needs.{needs}
 use native.Mathlib.Omega.{arith}
 use mathlib.Core.Path.{_∙_}
+use Rattle.builder.specs.Nodes.{build-enum-node}
 use Rattle.builder_registry.proofs.Laws.{standing}
-use Rattle.builder_sums.proofs.Sums.{stopped}
-use Rattle.builder_switches.proofs.Switch.{switching, tag-in, enum-refs-stop, enum-tag-stops, enum-done}
+use Rattle.builder_nodes.proofs.Laws.{stopped}
+use Rattle.builder_switches.proofs.Switch.{switching, refs-stop, enum-done}
 use Rattle.builder_switches.proofs.build_enum_node.Statement.{statement}
 use Rattle.builder_switches.proofs.build_enum_node.Tie as tie
 
@@ -28,13 +29,14 @@ same-length : tie.Need-same-length
 same-length c = search needs
 
 returns : tie.Need-returns
+unfolding build-enum-node
 returns c =
     let at-extend-with = c .before .before .before .before in (
       stopped (at-start at-extend-with .pre .standing .count),
-      λ a e vs q. enum-refs-stop _
+      λ a e vs q. refs-stop _
           (at-type-head at-extend-with .type-head .ensures)
-          (at-extend-with .extend-with .ensures .1)
-          (c .if1 .taken) a e vs q,
+          (at-extend-with .extend-with .ensures .1) _
+          (c .if1 .taken) a,
     )
 
 enum-parts-requires : tie.Need-enum-parts-requires
@@ -53,29 +55,9 @@ enum-tag-parameter-requires c κs =
       expr = c .before .enum-parts .ensures (at-start .pre .type-at) .tag;
     }
 
-same-length-2 : tie.Need-same-length-2
-same-length-2 c = search needs
-
-returns-2 : tie.Need-returns-2
-returns-2 c =
-    let at-enum-tag-parameter = c .before .before .before .before in
-    let at-enum-parts = at-enum-tag-parameter .before .before in
-    let at-else1 = at-enum-parts .before in
-    let at-extend-with = at-else1 .before .before .before .before in (
-      stopped (at-start at-extend-with .pre .standing .count),
-      λ a e vs q. enum-tag-stops _
-          (at-type-head at-extend-with .type-head .ensures)
-          (at-extend-with .extend-with .ensures .1)
-          (at-else1 .if1 .left)
-          (at-enum-parts .enum-parts .ensures)
-          (at-enum-tag-parameter .enum-tag-parameter .ensures .1)
-          (c .if2 .taken) a e vs q,
-    )
-
 put-switch-requires : tie.Need-put-switch-requires
 put-switch-requires c κs =
-    let at-else2 = c .before .before in
-    let at-enum-tag-parameter = at-else2 .before .before .before .before in
+    let at-enum-tag-parameter = c .before .before .before .before in
     let at-enum-parts = at-enum-tag-parameter .before .before in
     let at-extend-with = at-enum-parts .before .before .before .before .before in
     let parts = at-enum-parts .enum-parts .ensures (at-start at-extend-with .pre .type-at) in
@@ -83,23 +65,22 @@ put-switch-requires c κs =
     (at-start at-extend-with .pre)
     (at-enum-tag-parameter .enum-tag-parameter .kept .1 .0 ∙ at-extend-with .extend-with .kept .1 .0)
     (at-enum-tag-parameter .enum-tag-parameter .ensures .0)
-    (tag-in (at-else2 .if2 .left) (at-enum-tag-parameter .enum-tag-parameter .ensures .1 (parts .tag)))
+    (at-enum-tag-parameter .enum-tag-parameter .ensures .1 (parts .tag))
     (omega arith)
     (omega arith)
     (parts .list)
     (parts .few)
 
+same-length-2 : tie.Need-same-length-2
+same-length-2 c = search needs
+
 same-length-3 : tie.Need-same-length-3
 same-length-3 c = search needs
 
-same-length-4 : tie.Need-same-length-4
-same-length-4 c = search needs
-
-returns-3 : tie.Need-returns-3
-returns-3 c =
+returns-2 : tie.Need-returns-2
+returns-2 c =
     let at-put-switch = c .before .before in
-    let at-else2 = at-put-switch .before .before .before in
-    let at-enum-tag-parameter = at-else2 .before .before .before .before in
+    let at-enum-tag-parameter = at-put-switch .before .before .before .before .before in
     let at-enum-parts = at-enum-tag-parameter .before .before in
     let at-else1 = at-enum-parts .before in
     let at-extend-with = at-else1 .before .before .before .before in (
@@ -110,7 +91,6 @@ returns-3 c =
           (at-else1 .if1 .left)
           (at-enum-parts .enum-parts .ensures)
           (at-enum-tag-parameter .enum-tag-parameter .ensures .1)
-          (at-else2 .if2 .left)
           (at-put-switch .put-switch .ensures .1) a e vs q,
     )
 
@@ -124,9 +104,7 @@ build-enum-node-spec =
     returns
     enum-parts-requires
     enum-tag-parameter-requires
-    same-length-2
-    returns-2
     put-switch-requires
+    same-length-2
     same-length-3
-    same-length-4
-    returns-3)
+    returns-2)

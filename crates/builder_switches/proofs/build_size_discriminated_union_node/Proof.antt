@@ -1,11 +1,13 @@
 -- `build_size_discriminated_union_node`: the references of the type are entered, no variant is refused (10), a tag is made under its name, and the switch
--- over its variants is written. Each return has its law: the references were refused, there is no variant, the tag was refused, or the switch decides.
+-- over its variants is written. Each return has its law: the references were refused, there is no variant, or the switch decides, which the tag's refusal
+-- is a part of.
 use borrow.Author.Needs.{needs}
 use native.Mathlib.Omega.{arith}
 use mathlib.Core.Path.{_∙_}
+use Rattle.builder.specs.Nodes.{build-size-discriminated-union-node}
 use Rattle.builder_registry.proofs.Laws.{standing}
-use Rattle.builder_sums.proofs.Sums.{stopped}
-use Rattle.builder_switches.proofs.Switch.{switching, tag-in, sized-refs-stop, sized-none, sized-tag-stops, sized-done}
+use Rattle.builder_nodes.proofs.Laws.{stopped}
+use Rattle.builder_switches.proofs.Switch.{switching, refs-stop, sized-none, sized-done}
 use Rattle.builder_switches.proofs.build_size_discriminated_union_node.Statement.{statement}
 use Rattle.builder_switches.proofs.build_size_discriminated_union_node.Tie as tie
 
@@ -31,15 +33,16 @@ same-length : tie.Need-same-length
 same-length c = search needs
 
 returns : tie.Need-returns
+unfolding build-size-discriminated-union-node
 returns c =
     let at-extend-with = c .before .before .before .before in
     let at-type-head = at-extend-with .before .before in
     let at-start = at-type-head .before .before .before .before in (
       stopped (at-start .pre .standing .count),
-      λ a vs q. sized-refs-stop _
+      λ a vs q. refs-stop _
           (at-type-head .type-head .ensures)
-          (at-extend-with .extend-with .ensures .1)
-          (c .if1 .taken) a vs q,
+          (at-extend-with .extend-with .ensures .1) _
+          (c .if1 .taken) a,
     )
 
 sized-list-requires : tie.Need-sized-list-requires
@@ -84,30 +87,9 @@ add-synthetic-requires c κs =
       (omega arith, omega arith),
     )
 
-same-length-3 : tie.Need-same-length-3
-same-length-3 c = search needs
-
-returns-3 : tie.Need-returns-3
-returns-3 c =
-    let at-add-synthetic = c .before .before .before .before in
-    let at-else2 = at-add-synthetic .before .before in
-    let at-sized-list = at-else2 .before .before in
-    let at-else1 = at-sized-list .before in (
-      stopped (at-start at-else1 .pre .standing .count),
-      λ a vs q. sized-tag-stops _
-          (at-type-head at-else1 .type-head .ensures)
-          (at-extend-with at-else1 .extend-with .ensures .1)
-          (at-else1 .if1 .left)
-          (at-sized-list .sized-list .ensures)
-          (at-else2 .if2 .left)
-          (at-add-synthetic .add-synthetic .ensures .1 .0)
-          (c .if3 .taken) a vs q,
-    )
-
 put-switch-requires : tie.Need-put-switch-requires
 put-switch-requires c κs =
-    let at-else3 = c .before .before in
-    let at-add-synthetic = at-else3 .before .before .before .before in
+    let at-add-synthetic = c .before .before .before .before in
     let at-sized-list = at-add-synthetic .before .before .before .before in
     let at-else1 = at-sized-list .before in
     let variants = at-sized-list .sized-list .ensures (at-start at-else1 .pre .type-at) in
@@ -115,23 +97,22 @@ put-switch-requires c κs =
     (at-start at-else1 .pre)
     (at-add-synthetic .add-synthetic .kept .1 .0 ∙ at-extend-with at-else1 .extend-with .kept .1 .0)
     (at-add-synthetic .add-synthetic .ensures .0)
-    (tag-in (at-else3 .if3 .left) (at-add-synthetic .add-synthetic .ensures .1 .0))
+    (at-add-synthetic .add-synthetic .ensures .1 .0)
     (omega arith)
     (omega arith)
     (variants .list)
     (variants .few)
 
+same-length-3 : tie.Need-same-length-3
+same-length-3 c = search needs
+
 same-length-4 : tie.Need-same-length-4
 same-length-4 c = search needs
 
-same-length-5 : tie.Need-same-length-5
-same-length-5 c = search needs
-
-returns-4 : tie.Need-returns-4
-returns-4 c =
+returns-3 : tie.Need-returns-3
+returns-3 c =
     let at-put-switch = c .before .before in
-    let at-else3 = at-put-switch .before .before .before in
-    let at-add-synthetic = at-else3 .before .before .before .before in
+    let at-add-synthetic = at-put-switch .before .before .before .before .before in
     let at-else2 = at-add-synthetic .before .before in
     let at-sized-list = at-else2 .before .before in
     let at-else1 = at-sized-list .before in (
@@ -143,7 +124,6 @@ returns-4 c =
           (at-sized-list .sized-list .ensures)
           (at-else2 .if2 .left)
           (at-add-synthetic .add-synthetic .ensures .1 .0)
-          (at-else3 .if3 .left)
           (at-put-switch .put-switch .ensures .1) a vs q,
     )
 
@@ -160,9 +140,7 @@ build-size-discriminated-union-node-spec =
     returns-2
     add-add-synthetic
     add-synthetic-requires
-    same-length-3
-    returns-3
     put-switch-requires
+    same-length-3
     same-length-4
-    same-length-5
-    returns-4)
+    returns-3)

@@ -1,11 +1,12 @@
 -- `build_union_node`: the references of the type are entered, a tag is made under its name, and the switch over its fields is written. Each return has its
--- law: the references were refused, the tag was, or the switch decides.
+-- law: the references were refused, or the switch decides, which the tag's refusal is a part of.
 use borrow.Author.Needs.{needs}
 use native.Mathlib.Omega.{arith}
 use mathlib.Core.Path.{_∙_}
+use Rattle.builder.specs.Nodes.{build-union-node}
 use Rattle.builder_registry.proofs.Laws.{standing}
-use Rattle.builder_sums.proofs.Sums.{stopped}
-use Rattle.builder_switches.proofs.Switch.{switching, tag-in, union-kind, union-refs-stop, union-tag-stops, union-done}
+use Rattle.builder_nodes.proofs.Laws.{stopped}
+use Rattle.builder_switches.proofs.Switch.{switching, union-kind, refs-stop, union-done}
 use Rattle.builder_switches.proofs.build_union_node.Statement.{statement}
 use Rattle.builder_switches.proofs.build_union_node.Tie as tie
 
@@ -28,13 +29,14 @@ same-length : tie.Need-same-length
 same-length c = search needs
 
 returns : tie.Need-returns
+unfolding build-union-node
 returns c =
     let at-extend-with = c .before .before .before .before in (
       stopped (at-start at-extend-with .pre .standing .count),
-      λ a fs q. union-refs-stop _
+      λ a fs q. refs-stop _
           (at-type-head at-extend-with .type-head .ensures)
-          (at-extend-with .extend-with .ensures .1)
-          (c .if1 .taken) a fs q,
+          (at-extend-with .extend-with .ensures .1) _
+          (c .if1 .taken) a,
     )
 
 add-add-synthetic : tie.Need-add-add-synthetic
@@ -61,26 +63,9 @@ add-synthetic-requires c κs =
       (omega arith, omega arith),
     )
 
-same-length-2 : tie.Need-same-length-2
-same-length-2 c = search needs
-
-returns-2 : tie.Need-returns-2
-returns-2 c =
-    let at-add-synthetic = c .before .before .before .before in
-    let at-else1 = at-add-synthetic .before .before in
-    let at-extend-with = at-else1 .before .before .before .before in (
-      stopped (at-start at-extend-with .pre .standing .count),
-      λ a fs q. union-tag-stops _
-          (at-type-head at-extend-with .type-head .ensures)
-          (at-extend-with .extend-with .ensures .1)
-          (at-else1 .if1 .left)
-          (at-add-synthetic .add-synthetic .ensures .1 .0)
-          (c .if2 .taken) a fs q,
-    )
-
 field-list-requires : tie.Need-field-list-requires
 field-list-requires c κs =
-    let at-extend-with = c .before .before .before .before .before .before .before .before .before .before in
+    let at-extend-with = c .before .before .before .before .before .before .before .before in
     search (
       needs,
       union-kind (at-start at-extend-with .pre .kind-is),
@@ -91,32 +76,30 @@ field-list-requires c κs =
 put-switch-requires : tie.Need-put-switch-requires
 put-switch-requires c κs =
     let at-field-list = c .before .before in
-    let at-else2 = at-field-list .before in
-    let at-add-synthetic = at-else2 .before .before .before .before in
+    let at-add-synthetic = at-field-list .before .before .before in
     let at-extend-with = at-add-synthetic .before .before .before .before .before .before in
     let fields = at-field-list .field-list .ensures (at-start at-extend-with .pre .type-at) in
     switching
     (at-start at-extend-with .pre)
     (at-add-synthetic .add-synthetic .kept .1 .0 ∙ at-extend-with .extend-with .kept .1 .0)
     (at-add-synthetic .add-synthetic .ensures .0)
-    (tag-in (at-else2 .if2 .left) (at-add-synthetic .add-synthetic .ensures .1 .0))
+    (at-add-synthetic .add-synthetic .ensures .1 .0)
     (omega arith)
     (omega arith)
     (fields .list)
     (fields .few)
 
+same-length-2 : tie.Need-same-length-2
+same-length-2 c = search needs
+
 same-length-3 : tie.Need-same-length-3
 same-length-3 c = search needs
 
-same-length-4 : tie.Need-same-length-4
-same-length-4 c = search needs
-
-returns-3 : tie.Need-returns-3
-returns-3 c =
+returns-2 : tie.Need-returns-2
+returns-2 c =
     let at-put-switch = c .before .before in
     let at-field-list = at-put-switch .before .before .before in
-    let at-else2 = at-field-list .before in
-    let at-add-synthetic = at-else2 .before .before .before .before in
+    let at-add-synthetic = at-field-list .before .before .before in
     let at-else1 = at-add-synthetic .before .before in
     let at-extend-with = at-else1 .before .before .before .before in (
       at-put-switch .put-switch .ensures .0,
@@ -124,10 +107,9 @@ returns-3 c =
           (at-type-head at-extend-with .type-head .ensures)
           (at-extend-with .extend-with .ensures .1)
           (at-else1 .if1 .left)
-          (at-add-synthetic .add-synthetic .ensures .1 .0)
-          (at-else2 .if2 .left)
           (at-start at-extend-with .pre .kind-is)
           (at-field-list .field-list .ensures)
+          (at-add-synthetic .add-synthetic .ensures .1 .0)
           (at-put-switch .put-switch .ensures .1) a fs q,
     )
 
@@ -141,10 +123,8 @@ build-union-node-spec =
     returns
     add-add-synthetic
     add-synthetic-requires
-    same-length-2
-    returns-2
     field-list-requires
     put-switch-requires
+    same-length-2
     same-length-3
-    same-length-4
-    returns-3)
+    returns-2)

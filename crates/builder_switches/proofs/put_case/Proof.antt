@@ -4,7 +4,7 @@ use borrow.Author.Needs.{needs}
 use native.Mathlib.Omega.{arith}
 use mathlib.Core.Path.{refl}
 use Rattle.builder_registry.proofs.Laws.{standing}
-use Rattle.builder_sums.proofs.Sums.{stopped}
+use Rattle.builder_nodes.proofs.Laws.{stopped}
 use Rattle.builder_switches.proofs.Marks.{block-in}
 use Rattle.builder_switches.proofs.Cases.{Ends, ended-at, case-ends, case-stops, case-done}
 use Rattle.builder_switches.proofs.put_case.Statement.{statement}

@@ -5,8 +5,8 @@ use native.Mathlib.Omega.{arith}
 use mathlib.Core.Path.{refl}
 use Prim.Native.Nat.{_-_}
 use Rattle.builder_registry.proofs.Laws.{standing}
-use Rattle.builder_sums.proofs.Sums.{stopped}
-use Rattle.builder_switches.proofs.Cases.{ends-at, Written, cases-begin, next-block, next-low, cases-stop, cases-more, cases-end}
+use Rattle.builder_nodes.proofs.Laws.{stopped, ends-at}
+use Rattle.builder_switches.proofs.Cases.{Written, cases-begin, next-block, next-low, cases-stop, cases-more, cases-end}
 use Rattle.builder_switches.proofs.put_cases.Statement.{statement}
 use Rattle.builder_switches.proofs.put_cases.Tie as tie
 

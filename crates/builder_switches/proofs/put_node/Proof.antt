@@ -2,9 +2,9 @@
 -- references the refusal is 11; a refusal of the sum is the node's.
 use borrow.Author.Needs.{needs}
 use native.Mathlib.Omega.{arith}
-use Rattle.builder_sums.proofs.Sums.{stopped}
+use Rattle.builder_nodes.proofs.Laws.{stopped, behind, ends-at}
 use Rattle.builder_switches.proofs.Tags.{owned}
-use Rattle.builder_switches.proofs.Cases.{below-60, behind, ends-at, paths-at, node-const, node-missing, node-stops, node-done}
+use Rattle.builder_switches.proofs.Cases.{below-60, paths-at, node-const, node-missing, node-stops, node-done}
 use Rattle.builder_switches.proofs.put_node.Statement.{statement}
 use Rattle.builder_switches.proofs.put_node.Tie as tie
 
