@@ -63,8 +63,8 @@ pub fn put_entry_part(s: &[u8], w: u64, out: &mut [u8], at: usize, kind: usize, 
     ensures { λ r. ⌜ Wrote (now (out .entry)) at (textFlag true (codeAt kind i) ++ write (name (entryName (now (s .entry)) w))) (now (out .exit)) r ⌝ }
     ensures { λ r. ⌜ (at ≤ r) × (r ≤ at + 514) ⌝ }
 {
-    let p = put_text_flag(out, at, kind, i, true);
-    builder_registry::put_entry_name(s, w, out, p)
+    let q = put_text_flag(out, at, kind, i, true);
+    builder_registry::put_entry_name(s, w, out, q)
 }
 
 // The count of a list, as part i of a node kind: its cases or arguments follow.

@@ -146,7 +146,7 @@ fn put_sum(
             number: l.number,
         };
     }
-    let m = put_ref(s, words, n, owner, chosen, k - 1, out, l.at);
+    let m = put_ref(s, words, l.count, owner, chosen, k - 1, out, l.at);
     if m.number != 0 {
         return Built {
             at,
@@ -157,7 +157,7 @@ fn put_sum(
     wire::close_block(out, at, m.at);
     Built {
         at: m.at,
-        count: n,
+        count: m.count,
         number: 0,
     }
 }

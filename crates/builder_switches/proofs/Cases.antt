@@ -13,14 +13,14 @@ use Rattle.errors.specs.Refusal.{_>>=_ as _andThen_}
 use Rattle.answers.specs.Answers.{Answers, AnswersIn}
 use Rattle.blocks.specs.Bytes.{bytes, le4, nameAt}
 use Rattle.blocks.specs.Name.{Name}
-use Rattle.blocks.specs.Tree.{Tree, name, num, block, nil, cons, view}
+use Rattle.blocks.specs.Tree.{Tree, num, nil, cons, view}
 use Rattle.blocks.specs.Write.{write}
 use Rattle.accepted.specs.Accepted.{Accepted, tree, Item, Listed}
 use Rattle.accepted.proofs.Laws.{block-entry}
 use Rattle.accepted.proofs.Lists.{Left, starts, steps, ended}
 use Rattle.resolved.specs.Resolved.{Owner, Size, fields, variants, get}
 use Rattle.resolved.specs.Set.{thingOf, fieldsIn, variantsIn}
-use Rattle.ir.specs.Ir.{IrNode, IrParameter, SwitchCases, unplaced}
+use Rattle.ir.specs.Ir.{IrNode, IrParameter, SwitchCases}
 use Rattle.ir.specs.Layout.{nodeTree, casesTree, caseCount, listTree, parameterTree}
 use Rattle.builder.specs.Registry.{Registry, Build, _>>=_, give, reads, owner-parameters}
 use Rattle.builder.specs.Nodes.{Alternative, enum-alternatives, union-alternatives, sized-alternatives, align-node, const-or-zero, sum-refs, build-alternative, build-cases}

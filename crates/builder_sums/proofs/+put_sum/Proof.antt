@@ -1,8 +1,10 @@
 -- `put_sum`: the sum of k references is the head of an Add, the sum of k - 1, the last reference, and the length patched in. It calls itself
 -- with k - 1, so k is the measure. `whole` says that the definition's sum of k is that Add; a refusal of either part is the whole's.
+use Rattle.builder_registry.proofs.Laws.{standing}
 use Rattle.builder_nodes.proofs.Laws.{stopped, widened}
 use Rattle.builder_sums.proofs.Sums.{sum-first, sum-stops, sum-stops-last, sum-done, sum-within}
 use borrow.Author.Needs.{needs}
+use mathlib.Core.Path.{refl}
 use native.Mathlib.Omega.{arith}
 use Prim.Native.Nat.{ℕ, _<_}
 use borrow.Fn.Kinds.{In}
@@ -125,8 +127,13 @@ sub-put-ref t c =
 put-ref-requires-2 : (t : ℕ) → walk.Need-put-ref-requires-2 (callees t) (entered t) self.Post
 put-ref-requires-2 t c κs =
     let at-put-sum = c .before .before .before .before .before in
-    let at-open-add = at-put-sum .before .before .before .before in (
-      at-start at-open-add .pre .1 .0,
+    let at-open-add = at-put-sum .before .before .before .before in
+    let known = at-start at-open-add .pre .1 .0 in (
+      record {
+        standing = standing (known .standing) refl (at-put-sum .put-sum .ensures .0 .count);
+        owned = known .owned;
+        list = known .list;
+      },
       omega (arith, at-start at-open-add .pre .1 .1, at-start at-open-add .pre .1 .2),
       omega (
         arith,
@@ -192,7 +199,6 @@ returns-4 t c =
     let at-open-add = at-put-sum .before .before .before .before in (
       sum-within
           (at-start at-open-add .pre .1 .2)
-          (at-start at-open-add .pre .1 .0 .standing .count)
           (at-open-add .open-add .ensures .1)
           (at-put-sum .put-sum .ensures .0)
           (at-put-ref2 .put-ref2 .ensures .0),
