@@ -64,11 +64,11 @@ alternativeOf t n s a = record { tag = t; name = n; size = s; alignment = a }
 module _ {s : List ℕ} {k q i : ℕ} {f : FieldParts} {h : TypeHead} (e : k ≡ 33) (p : (c : Accepted s 33 33 q) → FieldAt c f)
     (t : (a : Accepted s 1 7 (f .kind)) → HeadAt a h) where
   -- a field of a union, with its place as the tag
-  pub alt-union : (c : Accepted s k k q) → AltAt c i (record { tag = i; variable = h .variable; size = h .size; alignment = h .alignment })
+  pub alt-union : (c : Accepted s k k q) → AltAt c i (record { name = q + 6; tag = i; variable = h .variable; size = h .size; alignment = h .alignment })
   unfolding union-alternatives
   alt-union = rw e go
     where
-      go : (c : Accepted s 33 33 q) → AltAt c i (record { tag = i; variable = h .variable; size = h .size; alignment = h .alignment })
+      go : (c : Accepted s 33 33 q) → AltAt c i (record { name = q + 6; tag = i; variable = h .variable; size = h .size; alignment = h .alignment })
       go c =
           let x = p c in
           let y = t (x .type) in record {
@@ -79,7 +79,7 @@ module _ {s : List ℕ} {k q i : ℕ} {f : FieldParts} {h : TypeHead} (e : k ≡
 module _ {s : List ℕ} {k q i : ℕ} {v : VariantParts} {h : TypeHead} (p : (c : Accepted s k k q) → VariantAt c v)
     (t : (a : Accepted s 1 7 (v .kind)) → HeadAt a h) where
   -- a variant of an enum, with its number as the tag
-  pub alt-enum : k ≡ 34 → (c : Accepted s k k q) → AltAt c i (record { tag = v .number; variable = h .variable; size = h .size; alignment = h .alignment })
+  pub alt-enum : k ≡ 34 → (c : Accepted s k k q) → AltAt c i (record { name = q + 6; tag = v .number; variable = h .variable; size = h .size; alignment = h .alignment })
   unfolding enum-alternatives
   alt-enum e c =
       let x = p c in
@@ -90,7 +90,7 @@ module _ {s : List ℕ} {k q i : ℕ} {v : VariantParts} {h : TypeHead} (p : (c 
       }
 
   -- a variant of a size-discriminated union, with its expected size as tag and size
-  pub alt-sized : k ≡ 35 → (c : Accepted s k k q) → AltAt c i (record { tag = v .number; variable = false; size = v .number; alignment = h .alignment })
+  pub alt-sized : k ≡ 35 → (c : Accepted s k k q) → AltAt c i (record { name = q + 6; tag = v .number; variable = false; size = v .number; alignment = h .alignment })
   unfolding sized-alternatives
   alt-sized e c =
       let x = p c in
@@ -112,86 +112,83 @@ none-more k i = go (eqb k 33) (eqb k 34)
 
 -- ---- the node of an alternative
 
+-- references of a name that were found are accepted, and the definition's
+pub paths-found : {s : List ℕ} {n : Name} {os : List Owner} {f : Paths} {q : ℕ} → f ≡ At q → PathsFound s n os f →
+    (p : PathsAt s q) × (get n os ≡ some (textsOf (p .list .got .0)))
+paths-found {s} {n} {os} {q = q} e (PathsFound.at {q = u} p g) =
+    let i : u ≡ q = cc in
+    subst (λ (k : ℕ). (p : PathsAt s k) × (get n os ≡ some (textsOf (p .list .got .0)))) i (p, g)
+paths-found e (PathsFound.missing g) = let z : _≡_ {A = ℕ} 0 1 = cc in absurd (omega arith)
+
+-- where none were found, the definition has none
+pub paths-missing : {s : List ℕ} {n : Name} {os : List Owner} {f : Paths} → f ≡ Missing → PathsFound s n os f → get n os ≡ none
+paths-missing e (PathsFound.at p g) = let z : _≡_ {A = ℕ} 0 1 = cc in absurd (omega arith)
+paths-missing e (PathsFound.missing g) = g
+
 module _ {s : List ℕ} {references : ℕ} {f : Paths} {o : Name} (q : ℕ) (d : o ≡ nameAt s q)
     (p : (a : Accepted s 32 32 references) → PathsFound s o (ownersOf (tree a)) f) where
-  -- what was found is found by the name at q
-  named-paths : (a : Accepted s 32 32 references) → PathsFound s (nameAt s q) (ownersOf (tree a)) f
-  named-paths a = rw d at (p a)
-
   -- no references have the name
   no-paths : f ≡ Missing → (a : Accepted s 32 32 references) → get (nameAt s q) (ownersOf (tree a)) ≡ none
-  no-paths h a = go h (named-paths a)
-    where
-      go : {f : Paths} {os : List Owner} → f ≡ Missing → PathsFound s (nameAt s q) os f → get (nameAt s q) os ≡ none
-      go h (PathsFound.missing e) = e
-      go h (PathsFound.at b e) = let z : _≡_ {A = ℕ} 0 1 = cc in absurd (omega arith)
+  no-paths h a = paths-missing h (rw d at (p a))
 
   -- its references, accepted
   some-paths : {b : ℕ} → f ≡ At b → (a : Accepted s 32 32 references) →
       (y : PathsAt s b) × (get (nameAt s q) (ownersOf (tree a)) ≡ some (textsOf (y .list .got .0)))
-  some-paths {b} h a = go h (named-paths a)
-    where
-      go : {f : Paths} {os : List Owner} → f ≡ At b → PathsFound s (nameAt s q) os f →
-          (y : PathsAt s b) × (get (nameAt s q) os ≡ some (textsOf (y .list .got .0)))
-      go {os} h (PathsFound.at {q = j} y e) =
-          let z : j ≡ b = cc in
-          let w : (y : PathsAt s j) × (get (nameAt s q) os ≡ some (textsOf (y .list .got .0))) = (y, e) in
-          rw z at w
-      go h (PathsFound.missing e) = let z : _≡_ {A = ℕ} 0 1 = cc in absurd (omega arith)
+  some-paths h a = paths-found h (rw d at (p a))
 
   -- the same, as `sum_refs` asks for it
   pub paths-at : {b : ℕ} → f ≡ At b → Accepted s 32 32 references → PathsAt s b
   paths-at h a = some-paths h a .0
 
--- the definition's node of the alternative x, whose name stands at q
-abbrev nodeOf : {s : List ℕ} {references : ℕ} → Accepted s 32 32 references → ℕ → Choice → Registry → Outcome (IrNode × Registry)
-nodeOf {s} a q x g = build-alternative (ownersOf (tree a)) (nameAt s q) (sized (x .variable) (x .size)) (x .alignment) g
+-- the definition's node of the alternative x
+abbrev nodeOf : {s : List ℕ} {references : ℕ} → Accepted s 32 32 references → Choice → Build IrNode
+nodeOf {s} a x = build-alternative (ownersOf (tree a)) (nameAt s (x .name)) (sized (x .variable) (x .size)) (x .alignment)
 
-module _ {s xs ws : List ℕ} {at references : ℕ} (n q : ℕ) (x : Choice) where
+module _ {s xs ws : List ℕ} {at references : ℕ} (n : ℕ) (x : Choice) where
   -- of constant size: the constant was written
   pub node-const : {ys : List ℕ} {r : ℕ} → x .variable ≡ false →
       Wrote xs at (write (nodeTree (const-or-zero (x .size) (x .alignment)))) ys r → (a : Accepted s 32 32 references) →
-      Builds s xs at ws ys (record { at = r; count = n; number = 0 }) (nodeOf a q x (entriesOf s ws n))
+      Builds s xs at ws ys (record { at = r; count = n; number = 0 }) (nodeOf a x (entriesOf s ws n))
   unfolding build-alternative give
   node-const h w a = rw h (AnswersIn.made (const-or-zero (x .size) (x .alignment), entriesOf s ws n) refl (record { entries = refl; wrote = w }))
 
   -- of variable size: the name has no references
-  pub node-missing : {ys : List ℕ} {f : Paths} {o : Name} → x .variable ≡ true → o ≡ nameAt s q →
+  pub node-missing : {ys : List ℕ} {f : Paths} {o : Name} → x .variable ≡ true → o ≡ nameAt s (x .name) →
       ((a : Accepted s 32 32 references) → PathsFound s o (ownersOf (tree a)) f) → f ≡ Missing → (a : Accepted s 32 32 references) →
-      Builds s xs at ws ys (record { at = at; count = n; number = 11 }) (nodeOf a q x (entriesOf s ws n))
+      Builds s xs at ws ys (record { at = at; count = n; number = 11 }) (nodeOf a x (entriesOf s ws n))
   unfolding build-alternative
-  node-missing v d p h a = rw (v, need-none {o = get (nameAt s q) (ownersOf (tree a))} MissingDynamicRefs _ (entriesOf s ws n) (no-paths q d p h a)) (AnswersIn.not 11 refl (omega arith))
+  node-missing v d p h a = rw (v, need-none {o = get (nameAt s (x .name)) (ownersOf (tree a))} MissingDynamicRefs _ (entriesOf s ws n) (no-paths (x .name) d p h a)) (AnswersIn.not 11 refl (omega arith))
 
-  module _ {f : Paths} {o : Name} {zs y : List ℕ} {b t : ℕ} {r : Built} (v : x .variable ≡ true) (d : o ≡ nameAt s q)
+  module _ {f : Paths} {o : Name} {zs y : List ℕ} {b t : ℕ} {r : Built} (v : x .variable ≡ true) (d : o ≡ nameAt s (x .name))
       (p : (a : Accepted s 32 32 references) → PathsFound s o (ownersOf (tree a)) f) (h : f ≡ At b)
       (u : Wrote xs at (nodeStart 131 (x .alignment) ++ write (num 8 (x .alignment))) zs t)
       (m : (p : PathsAt s b) → Builds s zs t ws y r (sum-refs o (textsOf (p .list .got .0)) (entriesOf s ws n))) where
     -- the references of the name
     abbrev pathsOf : Accepted s 32 32 references → List Name
-    pathsOf a = textsOf (some-paths q d p h a .0 .list .got .0)
+    pathsOf a = textsOf (some-paths (x .name) d p h a .0 .list .got .0)
 
     -- the sum that was written is theirs
-    summed : (a : Accepted s 32 32 references) → Builds s zs t ws y r (sum-refs (nameAt s q) (pathsOf a) (entriesOf s ws n))
-    summed a = subst (λ (z : Name). Builds s zs t ws y r (sum-refs z (pathsOf a) (entriesOf s ws n))) d (m (some-paths q d p h a .0))
+    summed : (a : Accepted s 32 32 references) → Builds s zs t ws y r (sum-refs (nameAt s (x .name)) (pathsOf a) (entriesOf s ws n))
+    summed a = subst (λ (z : Name). Builds s zs t ws y r (sum-refs z (pathsOf a) (entriesOf s ws n))) d (m (some-paths (x .name) d p h a .0))
 
     -- the node is that sum, aligned
     is-sum : (a : Accepted s 32 32 references) →
-        nodeOf a q x (entriesOf s ws n) ≡ (sum-refs (nameAt s q) (pathsOf a) >>= (λ sum. give (align-node sum (x .alignment)))) (entriesOf s ws n)
+        nodeOf a x (entriesOf s ws n) ≡ (sum-refs (nameAt s (x .name)) (pathsOf a) >>= (λ sum. give (align-node sum (x .alignment)))) (entriesOf s ws n)
     unfolding build-alternative
-    is-sum a = rw v (need-some {o = get (nameAt s q) (ownersOf (tree a))} MissingDynamicRefs _ (entriesOf s ws n) (some-paths q d p h a .1))
+    is-sum a = rw v (need-some {o = get (nameAt s (x .name)) (ownersOf (tree a))} MissingDynamicRefs _ (entriesOf s ws n) (some-paths (x .name) d p h a .1))
 
     -- the sum was refused
     pub node-stops : {ys : List ℕ} {i : ℕ} → (r .number ≡ 0 → ⊥) → (a : Accepted s 32 32 references) →
-        Builds s xs at ws ys (record { at = at; count = i; number = r .number }) (nodeOf a q x (entriesOf s ws n))
-    node-stops z a = rw (is-sum a) (step-passes (sum-refs (nameAt s q) (pathsOf a)) _ (entriesOf s ws n) refl z (summed a))
+        Builds s xs at ws ys (record { at = at; count = i; number = r .number }) (nodeOf a x (entriesOf s ws n))
+    node-stops z a = rw (is-sum a) (step-passes (sum-refs (nameAt s (x .name)) (pathsOf a)) _ (entriesOf s ws n) refl z (summed a))
 
     -- the sum was written, and the length of its AlignUp is patched in
     pub node-done : {ys : List ℕ} {j : ℕ} → r .number ≡ 0 → Wrote y at (bytes 4 (r .at - at - 4)) ys j → (a : Accepted s 32 32 references) →
-        Builds s xs at ws ys r (nodeOf a q x (entriesOf s ws n))
+        Builds s xs at ws ys r (nodeOf a x (entriesOf s ws n))
     unfolding give
     node-done z c a =
         rw (is-sum a)
-        (step-goes (sum-refs (nameAt s q) (pathsOf a)) _ (entriesOf s ws n) z (summed a)
+        (step-goes (sum-refs (nameAt s (x .name)) (pathsOf a)) _ (entriesOf s ws n) z (summed a)
         (λ w e. AnswersIn.made (align-node (w .0) (x .alignment), w .1) z (record {
           entries = e .entries;
           wrote = align-closed (x .alignment) (w .0) u (e .wrote) c;
@@ -199,9 +196,9 @@ module _ {s xs ws : List ℕ} {at references : ℕ} (n q : ℕ) (x : Choice) whe
 
 -- ---- a case
 
--- the alternative at q, as the code read it
-abbrev alternativeAt : List ℕ → ℕ → Choice → Alternative
-alternativeAt s q x = alternativeOf (x .tag) (nameAt s (q + 6)) (sized (x .variable) (x .size)) (x .alignment)
+-- the alternative, as the code read it
+abbrev alternativeAt : List ℕ → Choice → Alternative
+alternativeAt s x = alternativeOf (x .tag) (nameAt s (x .name)) (sized (x .variable) (x .size)) (x .alignment)
 
 -- the bytes of a case
 case-write : {xs x₁ x₂ x₃ x₄ ys : List ℕ} {at b p r u j : ℕ} (v : ℕ) (n : IrNode) (ps : List IrParameter) → Wrote xs at (opened 163) x₁ b →
@@ -219,30 +216,26 @@ case-write {x₄} {u} v n ps w₁ w₂ w₃ w₄ w₅ =
 
 module _ {s xs ws x₁ x₂ x₃ : List ℕ} {k q i at b p references : ℕ} {x : Choice} {r : Built} (n : ℕ)
     (alt : (c : Accepted s k k q) → AltAt c i x) (w₁ : Wrote xs at (opened 163) x₁ b) (w₂ : Wrote x₁ b (bytes 8 (x .tag)) x₂ p)
-    (nd : (a : Accepted s 32 32 references) → Builds s x₂ p ws x₃ r (nodeOf a (q + 6) x (entriesOf s ws n))) where
-  -- the node of the case, as the definition builds it
-  abbrev nodeAt : Accepted s 32 32 references → Build IrNode
-  nodeAt a = build-alternative (ownersOf (tree a)) (nameAt s (q + 6)) (sized (x .variable) (x .size)) (x .alignment)
-
+    (nd : (a : Accepted s 32 32 references) → Builds s x₂ p ws x₃ r (nodeOf a x (entriesOf s ws n))) where
   -- the node of the case was refused
   pub case-stops : {ys : List ℕ} {j : ℕ} → (r .number ≡ 0 → ⊥) → (c : Accepted s k k q) (a : Accepted s 32 32 references) →
       CaseAt c i xs at ws ys (record { at = at; count = j; number = r .number }) (ownersOf (tree a)) (entriesOf s ws n)
   unfolding build-case
-  case-stops z c a = record { alternative = alternativeAt s q x; is = alt c .is; made = step-passes (nodeAt a) _ (entriesOf s ws n) refl z (nd a) }
+  case-stops z c a = record { alternative = alternativeAt s x; is = alt c .is; made = step-passes (nodeOf a x) _ (entriesOf s ws n) refl z (nd a) }
 
   -- the case was written
-  pub case-done : {ys x₄ : List ℕ} {u j : ℕ} {o : Name} → r .number ≡ 0 → o ≡ nameAt s (q + 6) →
+  pub case-done : {ys x₄ : List ℕ} {u j : ℕ} {o : Name} → r .number ≡ 0 → o ≡ nameAt s (x .name) →
       Wrote x₃ (r .at) (write (listTree parameterTree (owner-parameters o (entriesOf s ws (r .count))))) x₄ u →
       Wrote x₄ at (bytes 4 (u - at - 4)) ys j → (c : Accepted s k k q) (a : Accepted s 32 32 references) →
       CaseAt c i xs at ws ys (record { at = u; count = r .count; number = 0 }) (ownersOf (tree a)) (entriesOf s ws n)
   unfolding build-case give
   case-done z d w₃ w₄ c a = record {
-    alternative = alternativeAt s q x;
+    alternative = alternativeAt s x;
     is = alt c .is;
-    made = step-goes (nodeAt a) _ (entriesOf s ws n) z (nd a)
+    made = step-goes (nodeOf a x) _ (entriesOf s ws n) z (nd a)
         (λ y e.
-        let ps = owner-parameters (nameAt s (q + 6)) (y .1) in
-        rw (reads-then {B = IrNode × List IrParameter} (owner-parameters (nameAt s (q + 6))) (λ ps. give (y .0, ps)) (y .1))
+        let ps = owner-parameters (nameAt s (x .name)) (y .1) in
+        rw (reads-then {B = IrNode × List IrParameter} (owner-parameters (nameAt s (x .name))) (λ ps. give (y .0, ps)) (y .1))
         (AnswersIn.made ((y .0, ps), y .1) refl (record {
           entries = e .entries;
           wrote = case-write (x .tag) (y .0) ps w₁ w₂ (e .wrote) (rw (d, e .entries) at w₃) w₄;

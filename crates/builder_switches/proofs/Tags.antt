@@ -2,13 +2,11 @@
 use mathlib.Core.Path.{_≡_, refl, sym, ap, _∙_}
 use mathlib.Core.Bool.{Bool, true, false}
 use mathlib.Core.List.{List}
-use mathlib.Core.Option.{Option, some, none}
 use Prim.Native.Nat.{ℕ, _+_, _≤_, _<_}
 use native.Mathlib.Omega.{arith}
 use lib.ListN.{length, take}
 use lib.Dec.{leb, eqb}
 use borrow.Author.Tests.{leb-true, leb-false, eqb-true, eqb-false}
-use Rattle.errors.specs.Refusal.{Outcome, done, refused, plain, MissingParameter}
 use Rattle.errors.specs.Refusal.{_>>=_ as _andThen_}
 use Rattle.answers.specs.Answers.{AnswersIn}
 use Rattle.blocks.specs.Bytes.{le2, nameAt}
@@ -70,22 +68,9 @@ module _ {s ws : List ℕ} {n e m : ℕ} (owner : Name)
 
 -- ---- the tag
 
--- the tag of an entry that was found; refusal 12 where there is none
-abbrev tagOf : Option Name → Registry → Outcome (Name × Registry)
-tagOf none g = refused (plain MissingParameter)
-tagOf (some x) g = done (x, g)
-
--- the tag of a field reference is that of its path
-found-tag : (owner : Name) (path : List Name) (g : Registry) → enum-tag-parameter owner (ExprKind.FieldRef path) g ≡ tagOf (tag-lookup owner (join path) g) g
-unfolding enum-tag-parameter _>>=_ _andThen_ reads need give refuse
-found-tag owner path g = go (tag-lookup owner (join path) g)
-  where
-    go : (o : Option Name) → need o MissingParameter g ≡ tagOf o g
-    go none = refl
-    go (some x) = refl
-
 module _ {s ws : List ℕ} {n e : ℕ} {f : Found} (o owner : Name) (d : o ≡ owner) (k : le2 s (e + 4) ≡ 65)
-    (l₀ : (a : Accepted s 64 91 e) (path : List Name) → exprOf (tree a) ≡ ExprKind.FieldRef path → Looked s ws n f (tag-lookup o (join path) (entriesOf s ws n))) where
+    (l₀ : (a : Accepted s 64 91 e) (path : List Name) → exprOf (tree a) ≡ ExprKind.FieldRef path →
+    Looked s ws n f (tag-lookup o (join path) (entriesOf s ws n))) where
   -- the lookup, under the type's name
   l : (a : Accepted s 64 91 e) (path : List Name) → exprOf (tree a) ≡ ExprKind.FieldRef path → Looked s ws n f (tag-lookup owner (join path) (entriesOf s ws n))
   l a path x = rw d at (l₀ a path x)
@@ -93,26 +78,19 @@ module _ {s ws : List ℕ} {n e : ℕ} {f : Found} (o owner : Name) (d : o ≡ o
   -- the path has an entry
   pub tag-known : {i : ℕ} → f ≡ At i → (a : Accepted s 64 91 e) →
       Tags s ws (record { at = i; count = n; number = 0 }) (enum-tag-parameter owner (exprOf (tree a)) (entriesOf s ws n))
-  tag-known {i} h a =
+  unfolding enum-tag-parameter _>>=_ _andThen_ reads need give
+  tag-known h a =
       let p = field-ref-at a k in
-      let path = textsOf (p .list .got .0) in
-      rw (p .is, found-tag owner path (entriesOf s ws n)) (go (tag-lookup owner (join path) (entriesOf s ws n)) h (l a path (p .is)))
-    where
-      go : {f : Found} (o : Option Name) → f ≡ At i → Looked s ws n f o → Tags s ws (record { at = i; count = n; number = 0 }) (tagOf o (entriesOf s ws n))
-      go none d Looked.missing = let z : _≡_ {A = ℕ} 0 1 = cc in absurd (omega arith)
-      go (some x) d (Looked.at {i = j} h) = let z : j ≡ i = cc in rw (← z) (AnswersIn.made _ refl (record { named = refl; entries = refl; within = h }))
+      let found = looked-entry h (l a (textsOf (p .list .got .0)) (p .is)) in
+      rw (p .is, found .1) (AnswersIn.made _ refl (record { named = refl; entries = refl; within = found .0 }))
 
   -- it has none
   pub tag-unknown : f ≡ Missing → {i : ℕ} (a : Accepted s 64 91 e) →
       Tags s ws (record { at = i; count = n; number = 12 }) (enum-tag-parameter owner (exprOf (tree a)) (entriesOf s ws n))
-  tag-unknown h {i} a =
+  unfolding enum-tag-parameter _>>=_ _andThen_ reads need refuse
+  tag-unknown h a =
       let p = field-ref-at a k in
-      let path = textsOf (p .list .got .0) in
-      rw (p .is, found-tag owner path (entriesOf s ws n)) (go (tag-lookup owner (join path) (entriesOf s ws n)) h (l a path (p .is)))
-    where
-      go : {f : Found} (o : Option Name) → f ≡ Missing → Looked s ws n f o → Tags s ws (record { at = i; count = n; number = 12 }) (tagOf o (entriesOf s ws n))
-      go none d Looked.missing = AnswersIn.not 12 refl (omega arith)
-      go (some x) d (Looked.at h) = let z : _≡_ {A = ℕ} 0 1 = cc in absurd (omega arith)
+      rw (p .is, looked-missing h (l a (textsOf (p .list .got .0)) (p .is))) (AnswersIn.not 12 refl (omega arith))
 
 -- of any other expression the tag is made
 not-path : {s : List ℕ} {e : ℕ} (owner : Name) (g : Registry) (u : ℕ) → u ≡ le2 s (e + 4) → (u ≡ 65 → ⊥) → (a : Accepted s 64 91 e) →

@@ -44,9 +44,9 @@ pub record Listing (s : List ℕ) (k q : ℕ) : Type 0 where
 
 -- the alternative at place i, before others u
 pub record AltAt {s : List ℕ} {k q : ℕ} (c : Accepted s k k q) (i : ℕ) (r : Choice) : Type 0 where
-  pub named : Named s (q + 6)
+  pub named : Named s (r .name)
   pub is : (u : Tree) → alternatives k i (cons (tree c) u) ≡
-      record { tag = r .tag; name = nameAt s (q + 6); size = sized (r .variable) (r .size); alignment = r .alignment } ∷ alternatives k (suc i) u
+      record { tag = r .tag; name = nameAt s (r .name); size = sized (r .variable) (r .size); alignment = r .alignment } ∷ alternatives k (suc i) u
 
 -- one case, as `build-cases` makes it: the alternative's node and the parameters of its name
 unfoldable pub build-case : List Owner → Alternative → Build (IrNode × List IrParameter)

@@ -21,8 +21,10 @@ ghost use Rattle.builder_nodes.specs.Built.{Builds, Within};
 ghost use Rattle.builder_switches.specs.Cases.{alternatives, Listing, AltAt, Cases, CaseAt, Marking, Tagging, Choosing, Casing, Listed-cases, Switching, switchBy};
 ghost use Rattle.builder_switches.specs.Ready.{Ready};
 
-// A variant's tag, whether its size is variable, the constant size (0 where variable), and the alignment.
+// A variant: where its name stands, its tag, whether its size is variable, the constant size (0 where variable), and the
+// alignment.
 pub struct Choice {
+    pub name: usize,
     pub tag: u64,
     pub variable: bool,
     pub size: u64,
@@ -135,10 +137,12 @@ fn alternative(s: &[u8], k: usize, q: usize, i: usize) -> Choice
     requires { ⌜ Listing (now s) k q ⌝ }
     ensures { λ r. ⌜ ((c : Accepted (now (s .entry)) k k q) → AltAt c i r) ⌝ }
 {
+    let name = q + 6;
     if k == 33 {
         let f = resolved_parts::field_parts(s, q);
         let h = resolved_parts::type_head(s, f.kind);
         return Choice {
+            name,
             tag: i as u64,
             variable: h.variable,
             size: h.size,
@@ -149,6 +153,7 @@ fn alternative(s: &[u8], k: usize, q: usize, i: usize) -> Choice
     let h = resolved_parts::type_head(s, v.kind);
     if k == 34 {
         return Choice {
+            name,
             tag: v.number,
             variable: h.variable,
             size: h.size,
@@ -156,6 +161,7 @@ fn alternative(s: &[u8], k: usize, q: usize, i: usize) -> Choice
         };
     }
     Choice {
+        name,
         tag: v.number,
         variable: false,
         size: v.number,
@@ -163,23 +169,22 @@ fn alternative(s: &[u8], k: usize, q: usize, i: usize) -> Choice
     }
 }
 
-// The node of an alternative, whose name stands at q.
+// The node of an alternative.
 fn put_node(
     s: &[u8],
     words: &[u64],
     n: usize,
     references: usize,
-    q: usize,
     x: Choice,
     out: &mut [u8],
     at: usize,
 ) -> Built
-    requires { ⌜ Choosing (now s) (now words) n references q at ⌝ }
+    requires { ⌜ Choosing (now s) (now words) n references (x .name) at ⌝ }
     ensures { λ r. ⌜ Within at 131095 r ⌝ }
-    ensures { λ r. ⌜ ((a : Accepted (now (s .entry)) 32 32 references) → Builds (now (s .entry)) (now (out .entry)) at (now (words .entry)) (now (out .exit)) r (build-alternative (ownersOf (tree a)) (nameAt (now (s .entry)) q) (sized (x .variable) (x .size)) (x .alignment) (entriesOf (now (s .entry)) (now (words .entry)) n))) ⌝ }
+    ensures { λ r. ⌜ ((a : Accepted (now (s .entry)) 32 32 references) → Builds (now (s .entry)) (now (out .entry)) at (now (words .entry)) (now (out .exit)) r (build-alternative (ownersOf (tree a)) (nameAt (now (s .entry)) (x .name)) (sized (x .variable) (x .size)) (x .alignment) (entriesOf (now (s .entry)) (now (words .entry)) n))) ⌝ }
 {
     if x.variable {
-        let name = resolved_parts::name_at(s, q);
+        let name = resolved_parts::name_at(s, x.name);
         match resolved_parts::get(s, references, name) {
             Paths::At(paths) => {
                 let p = builder_nodes::open_align(out, at, x.alignment);
@@ -225,11 +230,11 @@ fn put_case(
     ensures { λ r. ⌜ Within at 540000 r ⌝ }
     ensures { λ r. ⌜ ((c : Accepted (now (s .entry)) (place .kind) (place .kind) (place .block)) (a : Accepted (now (s .entry)) 32 32 references) → CaseAt c (place .index) (now (out .entry)) at (now (words .entry)) (now (out .exit)) r (ownersOf (tree a)) (entriesOf (now (s .entry)) (now (words .entry)) n)) ⌝ }
 {
-    let q = place.block;
-    let x = alternative(s, place.kind, q, place.index);
+    let x = alternative(s, place.kind, place.block, place.index);
+    let name = x.name;
     let b = wire::open_block(out, at, 163);
     let p = wire::put_le(out, b, 8, x.tag);
-    let r = put_node(s, words, n, references, q + 6, x, out, p);
+    let r = put_node(s, words, n, references, x, out, p);
     if r.number != 0 {
         return Built {
             at,
@@ -241,7 +246,7 @@ fn put_case(
         s,
         words,
         r.count,
-        resolved_parts::name_at(s, q + 6),
+        resolved_parts::name_at(s, name),
         out,
         r.at,
     );

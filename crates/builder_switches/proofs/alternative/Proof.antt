@@ -1,9 +1,13 @@
 -- `alternative`: by the kind of the list, 33, 34 or 35, the laws `alt-..` say which tag, size and alignment the definition reads from the block.
 use borrow.Author.Needs.{needs}
 use native.Mathlib.Omega.{arith}
+use Rattle.builder_switches.proofs.Marks.{block-in}
 use Rattle.builder_switches.proofs.Cases.{at-kind, not-union, alt-union, alt-enum, alt-sized}
 use Rattle.builder_switches.proofs.alternative.Statement.{statement}
 use Rattle.builder_switches.proofs.alternative.Tie as tie
+
+add-name : tie.Need-add-name
+add-name c = omega (arith, block-in (c .before .pre .block))
 
 field-parts-requires : tie.Need-field-parts-requires
 field-parts-requires c κs = search (needs, at-kind (c .if1 .taken) (c .before .before .pre .block))
@@ -61,6 +65,7 @@ pub alternative-spec : {M : Type 1} → statement M
 alternative-spec =
     tie.close
     (tie.spec
+    add-name
     field-parts-requires
     type-head-requires
     returns

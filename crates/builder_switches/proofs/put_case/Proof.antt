@@ -5,7 +5,6 @@ use native.Mathlib.Omega.{arith}
 use mathlib.Core.Path.{refl}
 use Rattle.builder_registry.proofs.Laws.{standing}
 use Rattle.builder_nodes.proofs.Laws.{stopped}
-use Rattle.builder_switches.proofs.Marks.{block-in}
 use Rattle.builder_switches.proofs.Cases.{Ends, ended-at, case-ends, case-stops, case-done}
 use Rattle.builder_switches.proofs.put_case.Statement.{statement}
 use Rattle.builder_switches.proofs.put_case.Tie as tie
@@ -49,9 +48,6 @@ put-le-requires c κs =
     let at-start = at-open-block .before .before .before .before .before .before in
     omega (arith, at-start .pre .cursor, at-open-block .open-block .ensures .1)
 
-add-put-node : tie.Need-add-put-node
-add-put-node c = omega (arith, block-in (at-start (c .before .before) .pre .block))
-
 put-node-requires : tie.Need-put-node-requires
 put-node-requires c κs =
     let at-put-le = c .before .before .before in record {
@@ -82,11 +78,6 @@ returns c =
           (at-put-node .put-node .ensures .1)
           (c .if1 .taken) d a,
     )
-
-add-name-at : tie.Need-add-name-at
-add-name-at c =
-    let at-start = c .before .before .before .before .before .before .before .before .before .before .before .before .before .before .before .before .before .before in
-    omega (arith, block-in (at-start .pre .block))
 
 name-at-requires : tie.Need-name-at-requires
 name-at-requires c κs =
@@ -146,11 +137,9 @@ put-case-spec =
     alternative-requires
     open-block-requires
     put-le-requires
-    add-put-node
     put-node-requires
     same-length
     returns
-    add-name-at
     name-at-requires
     put-owner-parameters-requires
     close-block-requires

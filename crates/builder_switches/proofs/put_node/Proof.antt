@@ -57,7 +57,7 @@ returns c =
     let at-paths = at-open-align .before .before .before in
     let at-get = at-paths .before .before in (
       stopped (at-start at-get .pre .standing .count),
-      λ a. node-stops _ _
+      λ a. node-stops _
           (at-start at-get .args .x)
           (at-then1 at-get .if1 .taken)
           (at-name-at at-get .name-at .ensures)
@@ -100,7 +100,7 @@ returns-2 c =
           (at-open-align .open-align .ensures .1)
           (omega arith)
           (at-sum-refs .sum-refs .ensures .0),
-      λ a. node-done _ _
+      λ a. node-done _
           (at-start .args .x)
           (at-then1 .if1 .taken)
           (at-name-at .name-at .ensures)
@@ -119,7 +119,7 @@ returns-3 : tie.Need-returns-3
 returns-3 c =
     let at-get = c .before .before in (
       stopped (at-start at-get .pre .standing .count),
-      λ a. node-missing _ _
+      λ a. node-missing _
           (at-start at-get .args .x)
           (at-then1 at-get .if1 .taken)
           (at-name-at at-get .name-at .ensures)
@@ -144,7 +144,7 @@ returns-4 c =
           (at-put-const-or-zero .put-const-or-zero .ensures .1 .0)
           (omega (arith, at-put-const-or-zero .put-const-or-zero .ensures .1 .1))
           (at-start .pre .standing .count),
-      λ a. node-const _ _
+      λ a. node-const _
           (at-start .args .x)
           (at-else1 .if1 .left)
           (at-put-const-or-zero .put-const-or-zero .ensures .0) a,
