@@ -38,7 +38,7 @@ use Rattle.builder_nodes.specs.declared.Built.{Built}
 use Rattle.builder_nodes.specs.Built.{Builds, Within, nodeStart}
 use Rattle.builder_nodes.proofs.Laws.{node-closed}
 use Rattle.builder_expressions.specs.Ready.{Ready}
-use Rattle.builder_expressions.specs.Operation.{Operation}
+use Rattle.builder_expressions.specs.Operation.{Operation, Operates}
 
 -- ---- accepted expressions
 
@@ -144,20 +144,24 @@ module _ {s xs ws ys : List ℕ} {at : ℕ} {r : Built} where
   pub refuses : {x : Outcome (IrNode × Registry)} (k : ℕ) → r .number ≡ k → 0 < k → x ≡ refused (plain k) → Builds s xs at ws ys r x
   refuses k z l e = rw e (Builds.not k z l)
 
-module _ {s xs ws ys : List ℕ} {at expr n : ℕ} (owner : Name) (depth : ℕ) (k : le2 s (expr + 4) ≡ 64) {b : Bool} (neg : Negative s expr b) where
+-- what `build_literal` leaves: the same under every owner and prefix, and over every registry
+abbrev pub LeavesLiteral : (s xs : List ℕ) (at : ℕ) (ys : List ℕ) (r : Built) (expr n : ℕ) → Type 0
+LeavesLiteral s xs at ys r expr n =
+    (owner prefix : Name) (ws : List ℕ) (a : Accepted s 64 91 expr) → Builds s xs at ws ys r (build-expr-ir owner prefix (exprOf (tree a)) (entriesOf s ws n))
+
+module _ {s xs ys : List ℕ} {at expr n : ℕ} (k : le2 s (expr + 4) ≡ 64) {b : Bool} (neg : Negative s expr b) where
   -- the answer of `build_literal` for a negative literal
-  pub literal-stops : {u : ℕ} → b ≡ true → Leaves s xs at ws ys (record { at = u; count = n; number = 14 }) owner depth expr n
-  literal-stops t a =
+  pub literal-stops : {u : ℕ} → b ≡ true → LeavesLiteral s xs at ys (record { at = u; count = n; number = 14 }) expr n
+  literal-stops t owner prefix ws a =
       let p = literal-at a k in
-      refuses 14 refl (omega arith) (rw (p .is) (literal-refused owner (prefixOf depth) _ _ (neg a _ (p .is) ∙ rw t)))
+      refuses 14 refl (omega arith) (rw (p .is) (literal-refused owner prefix _ _ (neg a _ (p .is) ∙ rw t)))
 
   -- its answer else
   pub literal-made : {v u d : ℕ} → b ≡ false → v ≡ le8 s (expr + 7) → d ≡ default-alignment →
-      Wrote xs at (write (nodeTree (IrNode.Const unplaced (aligned d) v))) ys u →
-      Leaves s xs at ws ys (record { at = u; count = n; number = 0 }) owner depth expr n
-  literal-made t e f w a =
+      Wrote xs at (write (nodeTree (IrNode.Const unplaced (aligned d) v))) ys u → LeavesLiteral s xs at ys (record { at = u; count = n; number = 0 }) expr n
+  literal-made t e f w owner prefix ws a =
       let p = literal-at a k in
-      makes _ refl refl (rw (e, f) at w) (rw (p .is) (literal-gives owner (prefixOf depth) _ _ (neg a _ (p .is) ∙ rw t)))
+      makes _ refl refl (rw (e, f) at w) (rw (p .is) (literal-gives owner prefix _ _ (neg a _ (p .is) ∙ rw t)))
 
 -- ---- paths
 
@@ -273,44 +277,50 @@ module _ {s : List ℕ} {expr : ℕ} (k : le2 s (expr + 4) ≡ 65) where
 
 -- ---- operations
 
--- the operation of a kind from 68 to 72, and the kind of its node
-abbrev Low : ℕ → Type 0
-Low k = (operationOf k ≡ some (getD operations (k - 68) BinaryOp.AddChecked)) × (opKind (getD operations (k - 68) BinaryOp.AddChecked) ≡ k + 66)
+-- A kind of two operands becomes the node kind c above it; the operations of nodes begin with 134.
+abbrev Becomes : ℕ → ℕ → Type 0
+Becomes c k = (operationOf k ≡ some (getD operations (k + c - 134) BinaryOp.AddChecked)) × (opKind (getD operations (k + c - 134) BinaryOp.AddChecked) ≡ k + c)
 
--- the operation of a kind from 74 to 78, and the kind of its node
-abbrev High : ℕ → Type 0
-High k = (operationOf k ≡ some (getD operations (5 + (k - 74)) BinaryOp.AddChecked)) × (opKind (getD operations (5 + (k - 74)) BinaryOp.AddChecked) ≡ k + 65)
+-- such a kind has an operation
+operates : (c : ℕ) {k : ℕ} → 65 ≤ c → c ≤ 66 → 68 ≤ k → k ≤ 78 → Becomes c k → Operates k (k + c)
+operates c i j l h o = Operates.operation (record { low = l; high = h; op = _; is = o .0; node = o .1; least = omega arith; most = omega arith })
 
--- the kinds 68 to 72 have an operation
-pub low-operation : {k : ℕ} → 68 ≤ k → k < 73 → Operation k (k + 66)
+-- the kinds 68 to 72
+pub low-operates : {k : ℕ} → 68 ≤ k → k < 73 → Operates k (k + 66)
 unfolding operationOf operations
-low-operation {k} l h =
-    let o : Low k = each Low 5 68 ((refl, refl), ((refl, refl), ((refl, refl), ((refl, refl), ((refl, refl), tt))))) k l (omega arith) in
-    record { low = l; high = omega arith; op = _; is = o .0; node = o .1; least = omega arith; most = omega arith }
+low-operates {k} l h =
+    operates 66 (omega arith) (omega arith) l (omega arith)
+    (each (Becomes 66) 5 68 ((refl, refl), ((refl, refl), ((refl, refl), ((refl, refl), ((refl, refl), tt))))) k l (omega arith))
 
--- the kinds 74 to 78 have one
-pub high-operation : {k : ℕ} → 74 ≤ k → k < 79 → Operation k (k + 65)
+-- the kinds 74 to 78
+pub high-operates : {k : ℕ} → 74 ≤ k → k < 79 → Operates k (k + 65)
 unfolding operationOf operations
-high-operation {k} l h =
-    let o : High k = each High 5 74 ((refl, refl), ((refl, refl), ((refl, refl), ((refl, refl), ((refl, refl), tt))))) k l (omega arith) in
-    record { low = omega arith; high = omega arith; op = _; is = o .0; node = o .1; least = omega arith; most = omega arith }
+high-operates {k} l h =
+    operates 65 (omega arith) (omega arith) (omega arith) (omega arith)
+    (each (Becomes 65) 5 74 ((refl, refl), ((refl, refl), ((refl, refl), ((refl, refl), ((refl, refl), tt))))) k l (omega arith))
 
--- said of the kind as it is read
-pub of-kind : {k j m : ℕ} → k ≡ j → Operation k m → Operation j m
-of-kind {m} e o = subst (λ (i : ℕ). Operation i m) e o
+-- what the answer of `operation_kind` says of the kind that was read: it becomes a node of this kind
+pub is-operation : {j k kind : ℕ} → k ≡ j → (kind ≡ 0 → ⊥) → Operates k kind → Operation j kind
+is-operation e z (Operates.operation o) = rw (← e) o
+is-operation e z (Operates.other n) = absurd (z refl)
+
+-- or it becomes none
+pub no-operation : {j k kind : ℕ} → k ≡ j → kind ≡ 0 → Operates k kind → operationOf j ≡ none
+no-operation e z (Operates.operation o) = absurd (let y : ⊥ = omega (arith, o .least) in y)
+no-operation e z (Operates.other n) = rw (← e) n
 
 -- the other kinds have none
-none-low : {k : ℕ} → k < 68 → operationOf k ≡ none
+pub none-low : {k : ℕ} → k < 68 → operationOf k ≡ none
 unfolding operationOf
 none-low {k} h = let i : k < 74 = omega arith in rw (lt-leb 68 k h, lt-leb 74 k i)
 
 -- 73, the remainder
-none-between : {k : ℕ} → 73 ≤ k → k < 74 → operationOf k ≡ none
+pub none-between : {k : ℕ} → 73 ≤ k → k < 74 → operationOf k ≡ none
 unfolding operationOf
 none-between {k} l h = let i : 68 ≤ k = omega arith in let j : 72 < k = omega arith in rw (le-leb 68 k i, lt-leb k 72 j, lt-leb 74 k h)
 
 -- 79 and above
-none-high : {k : ℕ} → 79 ≤ k → operationOf k ≡ none
+pub none-high : {k : ℕ} → 79 ≤ k → operationOf k ≡ none
 unfolding operationOf
 none-high {k} l =
     let i : 68 ≤ k = omega arith in
@@ -366,22 +376,11 @@ module _ (owner prefix : Name) (g : Registry) where
       low true q = rw (sizeof-at a (eqb-true _ _ q)) (sizeof-refused _)
       low false q = next (eqb (le2 s (at + 4)) 67) refl (eqb-false _ _ q)
 
-module _ {s xs ws ys : List ℕ} {at expr : ℕ} (owner : Name) (depth n : ℕ) {k : ℕ} (e : k ≡ le2 s (expr + 4)) (x : k ≡ 64 → ⊥) (y : k ≡ 65 → ⊥) where
-  -- the answer of `build_expr_ir` for a kind that becomes no node
-  other-stops : {u : ℕ} → operationOf k ≡ none → Leaves s xs at ws ys (record { at = u; count = n; number = 14 }) owner depth expr n
-  other-stops z a = refuses 14 refl (omega arith) (other-refused owner (prefixOf depth) _ a (rw e at x) (rw e at y) (rw e at z))
-
-  -- such a kind is below 68
-  pub low-stops : {u : ℕ} → k < 68 → Leaves s xs at ws ys (record { at = u; count = n; number = 14 }) owner depth expr n
-  low-stops h = other-stops (none-low h)
-
-  -- or it is 73
-  pub between-stops : {u : ℕ} → 73 ≤ k → k < 74 → Leaves s xs at ws ys (record { at = u; count = n; number = 14 }) owner depth expr n
-  between-stops l h = other-stops (none-between l h)
-
-  -- or 79 and above
-  pub high-stops : {u : ℕ} → 79 ≤ k → Leaves s xs at ws ys (record { at = u; count = n; number = 14 }) owner depth expr n
-  high-stops h = other-stops (none-high h)
+-- the answer of `build_expr_ir` for a kind that becomes no node
+pub other-stops : {s xs ws ys : List ℕ} {at expr k kind u : ℕ} (owner : Name) (depth n : ℕ) → k ≡ le2 s (expr + 4) → (k ≡ 64 → ⊥) → (k ≡ 65 → ⊥) → kind ≡ 0 →
+    Operates k kind → Leaves s xs at ws ys (record { at = u; count = n; number = 14 }) owner depth expr n
+other-stops owner depth n e x y z o a =
+    refuses 14 refl (omega arith) (other-refused owner (prefixOf depth) _ a (rw e at x) (rw e at y) (no-operation e z o))
 
 -- ---- two operands
 

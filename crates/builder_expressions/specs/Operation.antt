@@ -1,7 +1,7 @@
 -- The expression kinds that become nodes of two operands.
 use Prim.Native.Nat.{ℕ, _≤_}
 use mathlib.Core.Path.{_≡_}
-use mathlib.Core.Option.{some}
+use mathlib.Core.Option.{some, none}
 use Rattle.ir.specs.Ir.{BinaryOp}
 use Rattle.ir.specs.Layout.{opKind}
 use Rattle.builder.specs.Nodes.{operationOf}
@@ -15,3 +15,8 @@ pub record Operation (k kind : ℕ) : Type 0 where
   pub node : opKind op ≡ kind
   pub least : 128 ≤ kind
   pub most : kind ≤ 144
+
+-- an expression kind and what it becomes: the node kind of its operation, or 0 where it has none
+pub data Operates (k : ℕ) : ℕ → Type 0 where
+  operation : {kind : ℕ} → Operation k kind → Operates k kind
+  other : operationOf k ≡ none → Operates k 0

@@ -5,8 +5,10 @@ use ir_nodes::NodeMetadata;
 ghost use mathlib.Core.Path.{_≡_};
 ghost use mathlib.Core.Bool.{cond};
 ghost use mathlib.Core.Option.{some, none};
-ghost use Prim.Native.Nat.{_+_, _*_, _^_, _<_};
+ghost use mathlib.Core.List.{List};
+ghost use Prim.Native.Nat.{ℕ, _+_, _*_, _^_, _≤_, _<_};
 ghost use Rattle.blocks.specs.Bytes.{le2, le4, le8};
+ghost use Rattle.blocks.specs.Name.{Name};
 ghost use Rattle.accepted.specs.Accepted.{Accepted, tree};
 ghost use Rattle.expr.specs.Expr.{ExprKind, LiteralExpr, literal-to-u64, exprOf};
 ghost use Rattle.builder.specs.Nodes.{build-path, build-expr-ir};
@@ -14,7 +16,20 @@ ghost use Rattle.builder_registry.specs.Words.{Standing, entriesOf};
 ghost use Rattle.builder_paths.specs.Joined.{prefixOf};
 ghost use Rattle.builder_nodes.specs.Built.{Builds, Within};
 ghost use Rattle.builder_expressions.specs.Ready.{Ready};
-ghost use Rattle.builder_expressions.specs.Operation.{Operation};
+ghost use Rattle.builder_expressions.specs.Operation.{Operation, Operates};
+
+// What stands at an offset of the set, inside so many arrays.
+pub struct Nested {
+    pub offset: usize,
+    pub depth: usize,
+}
+
+// An expression of two operands, with the kind of its node.
+struct Binary {
+    kind: usize,
+    offset: usize,
+    depth: usize,
+}
 
 // Whether a literal is negative: codes 4 to 7 are signed.
 fn is_negative(s: &[u8], expr: usize) -> bool
@@ -28,20 +43,11 @@ fn is_negative(s: &[u8], expr: usize) -> bool
     9223372036854775808 <= wire::read8(s, expr + 7)
 }
 
-// A literal: a Const node, unless it is negative.
-fn build_literal(
-    s: &[u8],
-    words: &[u64],
-    n: usize,
-    owner: &[u8],
-    depth: usize,
-    expr: usize,
-    out: &mut [u8],
-    at: usize,
-) -> Built
-    requires { ⌜ Ready (now s) (now words) n (now owner) depth expr at × (le2 (now s) (expr + 4) ≡ 64) ⌝ }
+// A literal: a Const node, unless it is negative. The registry stays as it is, whatever it holds.
+fn build_literal(s: &[u8], n: usize, expr: usize, out: &mut [u8], at: usize) -> Built
+    requires { ⌜ Accepted (now s) 64 91 expr × (le2 (now s) (expr + 4) ≡ 64) × (n ≤ 512) × (at < 2 ^ 58) ⌝ }
     ensures { λ r. ⌜ Within at 1000 r ⌝ }
-    ensures { λ r. ⌜ ((a : Accepted (now (s .entry)) 64 91 expr) → Builds (now (s .entry)) (now (out .entry)) at (now (words .entry)) (now (out .exit)) r (build-expr-ir (now (owner .entry)) (prefixOf depth) (exprOf (tree a)) (entriesOf (now (s .entry)) (now (words .entry)) n))) ⌝ }
+    ensures { λ r. ⌜ ((owner prefix : Name) (ws : List ℕ) (a : Accepted (now (s .entry)) 64 91 expr) → Builds (now (s .entry)) (now (out .entry)) at ws (now (out .exit)) r (build-expr-ir owner prefix (exprOf (tree a)) (entriesOf (now (s .entry)) ws n))) ⌝ }
 {
     if is_negative(s, expr) {
         return Built {
@@ -104,16 +110,15 @@ fn build_field_ref(
     words: &[u64],
     n: usize,
     owner: &[u8],
-    depth: usize,
-    expr: usize,
+    e: Nested,
     out: &mut [u8],
     at: usize,
 ) -> Built
-    requires { ⌜ Ready (now s) (now words) n (now owner) depth expr at × (le2 (now s) (expr + 4) ≡ 65) ⌝ }
+    requires { ⌜ Ready (now s) (now words) n (now owner) (e .depth) (e .offset) at × (le2 (now s) (e .offset + 4) ≡ 65) ⌝ }
     ensures { λ r. ⌜ Within at 1000 r ⌝ }
-    ensures { λ r. ⌜ ((a : Accepted (now (s .entry)) 64 91 expr) → Builds (now (s .entry)) (now (out .entry)) at (now (words .entry)) (now (out .exit)) r (build-expr-ir (now (owner .entry)) (prefixOf depth) (exprOf (tree a)) (entriesOf (now (s .entry)) (now (words .entry)) n))) ⌝ }
+    ensures { λ r. ⌜ ((a : Accepted (now (s .entry)) 64 91 (e .offset)) → Builds (now (s .entry)) (now (out .entry)) at (now (words .entry)) (now (out .exit)) r (build-expr-ir (now (owner .entry)) (prefixOf (e .depth)) (exprOf (tree a)) (entriesOf (now (s .entry)) (now (words .entry)) n))) ⌝ }
 {
-    if builder_paths::is_buffer_size(s, expr) {
+    if builder_paths::is_buffer_size(s, e.offset) {
         let u = builder_nodes::put_buffer_size(out, at);
         return Built {
             at: u,
@@ -121,7 +126,7 @@ fn build_field_ref(
             number: 0,
         };
     }
-    if 511 < builder_paths::joined_length(s, expr, depth) {
+    if 511 < builder_paths::joined_length(s, e.offset, e.depth) {
         return Built {
             at,
             count: n,
@@ -129,58 +134,82 @@ fn build_field_ref(
         };
     }
     let mut path = [0u8; 512];
-    let e = builder_paths::put_joined(s, expr, depth, &mut path);
-    build_path(s, words, n, owner, &path[..e], out, at)
+    let end = builder_paths::put_joined(s, e.offset, e.depth, &mut path);
+    build_path(s, words, n, owner, &path[..end], out, at)
 }
 
-// The node of the expression at `expr`, inside so many arrays: kinds 68 to 72 and 74 to 78 become nodes of two operands, the
-// rest are refused.
+// The node kind of an expression kind of two operands, or 0: kinds 68 to 72 and 74 to 78 become nodes.
+fn operation_kind(kind: usize) -> usize
+    ensures { λ r. ⌜ Operates kind r ⌝ }
+{
+    match kind {
+        68..=72 => kind + 66,
+        74..=78 => kind + 65,
+        _ => 0,
+    }
+}
+
+// The node of the expression e: a literal, a field reference, or a node of two operands; the rest are refused.
 pub fn build_expr_ir(
     s: &[u8],
     words: &[u64],
     n: usize,
     owner: &[u8],
-    depth: usize,
-    expr: usize,
+    e: Nested,
     out: &mut [u8],
     at: usize,
 ) -> Built
-    requires { ⌜ Ready (now s) (now words) n (now owner) depth expr at ⌝ }
-    ensures { λ r. ⌜ Within at (1024 * (4 + le4 (now (s .entry)) expr)) r ⌝ }
-    ensures { λ r. ⌜ ((a : Accepted (now (s .entry)) 64 91 expr) → Builds (now (s .entry)) (now (out .entry)) at (now (words .entry)) (now (out .exit)) r (build-expr-ir (now (owner .entry)) (prefixOf depth) (exprOf (tree a)) (entriesOf (now (s .entry)) (now (words .entry)) n))) ⌝ }
+    requires { ⌜ Ready (now s) (now words) n (now owner) (e .depth) (e .offset) at ⌝ }
+    ensures { λ r. ⌜ Within at (1024 * (4 + le4 (now (s .entry)) (e .offset))) r ⌝ }
+    ensures { λ r. ⌜ ((a : Accepted (now (s .entry)) 64 91 (e .offset)) → Builds (now (s .entry)) (now (out .entry)) at (now (words .entry)) (now (out .exit)) r (build-expr-ir (now (owner .entry)) (prefixOf (e .depth)) (exprOf (tree a)) (entriesOf (now (s .entry)) (now (words .entry)) n))) ⌝ }
 {
-    let kind = wire::read2(s, expr + 4);
-    match kind {
-        64 => build_literal(s, words, n, owner, depth, expr, out, at),
-        65 => build_field_ref(s, words, n, owner, depth, expr, out, at),
-        68..=72 => build_binary_expr_ir(s, words, n, owner, depth, expr, out, at, kind + 66),
-        74..=78 => build_binary_expr_ir(s, words, n, owner, depth, expr, out, at, kind + 65),
-        _ => Built {
+    let offset = e.offset;
+    let k = wire::read2(s, offset + 4);
+    if k == 64 {
+        return build_literal(s, n, offset, out, at);
+    }
+    if k == 65 {
+        return build_field_ref(s, words, n, owner, e, out, at);
+    }
+    let kind = operation_kind(k);
+    if kind == 0 {
+        return Built {
             at,
             count: n,
             number: 14,
-        },
+        };
     }
+    let depth = e.depth;
+    let b = Binary {
+        kind,
+        offset,
+        depth,
+    };
+    build_binary_expr_ir(s, words, n, owner, b, out, at)
 }
 
-// A node of two operands, of this node kind: left before right.
+// A node of two operands: left before right.
 fn build_binary_expr_ir(
     s: &[u8],
     words: &[u64],
     n: usize,
     owner: &[u8],
-    depth: usize,
-    expr: usize,
+    b: Binary,
     out: &mut [u8],
     at: usize,
-    kind: usize,
 ) -> Built
-    requires { ⌜ Ready (now s) (now words) n (now owner) depth expr at × Operation (le2 (now s) (expr + 4)) kind ⌝ }
-    ensures { λ r. ⌜ Within at (1024 * (4 + le4 (now (s .entry)) expr)) r ⌝ }
-    ensures { λ r. ⌜ ((a : Accepted (now (s .entry)) 64 91 expr) → Builds (now (s .entry)) (now (out .entry)) at (now (words .entry)) (now (out .exit)) r (build-expr-ir (now (owner .entry)) (prefixOf depth) (exprOf (tree a)) (entriesOf (now (s .entry)) (now (words .entry)) n))) ⌝ }
+    requires { ⌜ Ready (now s) (now words) n (now owner) (b .depth) (b .offset) at × Operation (le2 (now s) (b .offset + 4)) (b .kind) ⌝ }
+    ensures { λ r. ⌜ Within at (1024 * (4 + le4 (now (s .entry)) (b .offset))) r ⌝ }
+    ensures { λ r. ⌜ ((a : Accepted (now (s .entry)) 64 91 (b .offset)) → Builds (now (s .entry)) (now (out .entry)) at (now (words .entry)) (now (out .exit)) r (build-expr-ir (now (owner .entry)) (prefixOf (b .depth)) (exprOf (tree a)) (entriesOf (now (s .entry)) (now (words .entry)) n))) ⌝ }
 {
-    let p = builder_nodes::open_node(out, at, kind, NodeMetadata::default_alignment());
-    let left = build_expr_ir(s, words, n, owner, depth, expr + 6, out, p);
+    let depth = b.depth;
+    let first = b.offset + 6;
+    let p = builder_nodes::open_node(out, at, b.kind, NodeMetadata::default_alignment());
+    let one = Nested {
+        offset: first,
+        depth,
+    };
+    let left = build_expr_ir(s, words, n, owner, one, out, p);
     if left.number != 0 {
         return Built {
             at,
@@ -188,8 +217,12 @@ fn build_binary_expr_ir(
             number: left.number,
         };
     }
-    let q = expr + 10 + wire::read4(s, expr + 6);
-    let right = build_expr_ir(s, words, left.count, owner, depth, q, out, left.at);
+    let second = b.offset + 10 + wire::read4(s, first);
+    let two = Nested {
+        offset: second,
+        depth,
+    };
+    let right = build_expr_ir(s, words, left.count, owner, two, out, left.at);
     if right.number != 0 {
         return Built {
             at,

@@ -12,25 +12,25 @@ is-negative-requires c κs = search needs
 
 -- The places, each seen from a later one: what was known there.
 abbrev at-start : tie.Else1 → tie.Start
-at-start r = r .before .before .before .before .before .before
+at-start r = r .before .before .before .before
 
 returns : tie.Need-returns
 returns c =
-    let at-start = c .before .before .before .before .before .before in (
+    let at-start = c .before .before .before .before in (
       record { low = omega arith; high = omega arith; count = omega arith },
-      literal-stops _ _ (at-start .pre .1) (c .before .is-negative .ensures) (c .if1 .taken),
+      literal-stops (at-start .pre .1) (c .before .is-negative .ensures) (c .if1 .taken),
     )
 
 add-read8 : tie.Need-add-read8
 add-read8 c = omega (
   arith,
-  literal-at (at-start c .pre .0 .expression) (at-start c .pre .1) .inside,
+  literal-at (at-start c .pre .0) (at-start c .pre .1) .inside,
 )
 
 read8-requires : tie.Need-read8-requires
 read8-requires c κs = omega (
   arith,
-  literal-at (at-start c .pre .0 .expression) (at-start c .pre .1) .inside,
+  literal-at (at-start c .pre .0) (at-start c .pre .1) .inside,
 )
 
 default-alignment-requires : tie.Need-default-alignment-requires
@@ -49,9 +49,9 @@ returns-2 c =
     let at-read8 = at-default-alignment .before .before in
     let at-else1 = at-read8 .before in
     let at-is-negative = at-else1 .before in
-    let at-start = at-is-negative .before .before .before .before .before in (
+    let at-start = at-is-negative .before .before .before in (
       record { low = omega arith; high = omega arith; count = omega arith },
-      literal-made _ _
+      literal-made
           (at-start .pre .1)
           (at-is-negative .is-negative .ensures)
           (at-else1 .if1 .left)
