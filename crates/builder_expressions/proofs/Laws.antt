@@ -1,5 +1,4 @@
--- What building an expression rests on: the definition step by step, what a builder's answer tells, and what the code leaves,
--- place by place. Assumes nothing.
+-- What building an expression rests on: the definition step by step, and what the code leaves, place by place. Assumes nothing.
 use mathlib.Core.Path.{_≡_, refl, sym, _∙_, ap, subst}
 use mathlib.Core.Bool.{Bool, true, false, cond}
 use mathlib.Core.List.{List}
@@ -10,7 +9,9 @@ use lib.Dec.{leb, eqb}
 use lib.ListN.{length, getD, take, drop, length-take}
 use lib.Seq.{take-at}
 use borrow.Author.Tests.{eqb-true, eqb-false, leb-true, leb-false, le-leb, lt-leb, lt-ltb, le-ltb}
-use Rattle.errors.specs.Refusal.{Refusal, Outcome, done, refused, plain, UnsupportedExpression, MissingParameter}
+use Rattle.errors.specs.Refusal.{done, refused, plain, UnsupportedExpression, MissingParameter}
+use Rattle.answers.specs.Answers.{AnswersIn}
+use Rattle.answers.proofs.Laws.{makes, refuses}
 use Rattle.blocks.specs.Bytes.{bytes, le2, le4, le8}
 use Rattle.blocks.specs.Name.{Name, same}
 use Rattle.blocks.specs.Tree.{Tree, nil, cons}
@@ -25,7 +26,7 @@ use Rattle.ir.specs.Layout.{operations, opKind, nodeBlock, nodeTree}
 use Rattle.builder.specs.Names.{join, apply-path-prefix}
 use Rattle.builder.specs.Registry.{Registry, _>>=_, give, refuse, require, need, short, lookup-name}
 use Rattle.builder.specs.Nodes.{operationOf, buffer-size, build-path, build-expr-ir}
-use Rattle.builder.proofs.Steps.{step-done, step-refused, require-yes, require-no, need-some, need-none, reads-then}
+use Rattle.builder.proofs.Steps.{require-yes, require-no, need-some, need-none, reads-then}
 use Rattle.wire.specs.Poke.{Wrote}
 use Rattle.wire.proofs.Laws.{poke-length, poke-whole, parts, no-parts}
 use Rattle.resolved_parts.specs.Types.{textsOf}
@@ -36,7 +37,7 @@ use Rattle.builder_registry.proofs.Laws.{standing, looked-entry, looked-missing
 use Rattle.builder_paths.specs.Joined.{prefixOf, pathOf}
 use Rattle.builder_nodes.specs.declared.Built.{Built}
 use Rattle.builder_nodes.specs.Built.{Builds, Within, nodeStart}
-use Rattle.builder_nodes.proofs.Laws.{node-closed}
+use Rattle.builder_nodes.proofs.Laws.{node-closed, step-passes, step-goes}
 use Rattle.builder_expressions.specs.Ready.{Ready}
 use Rattle.builder_expressions.specs.Operation.{Operation, Operates}
 
@@ -45,28 +46,6 @@ use Rattle.builder_expressions.specs.Operation.{Operation, Operates}
 -- a block's header lies inside the bytes
 pub header-inside : {s : List ℕ} {lo hi at : ℕ} → Accepted s lo hi at → at + 6 ≤ length s
 header-inside a = let o = opened a refl refl in omega (arith, o .long, o .high, a .fits)
-
--- ---- what a builder's answer tells
-
-module _ {s xs us ys : List ℕ} {at : ℕ} {r : Built} where
-  -- an answer without a number: a node was made and written
-  pub built : {x : Outcome (IrNode × Registry)} → r .number ≡ 0 → Builds s xs at us ys r x →
-      (y : IrNode × Registry) × (x ≡ done y) × (entriesOf s us (r .count) ≡ y .1) × Wrote xs at (write (nodeTree (y .0))) ys (r .at)
-  built z (Builds.made y e g w) = (y, refl, g, w)
-  built z (Builds.not k e l) = absurd (let z : ⊥ = omega arith in z)
-
-  -- one with a number: that refusal
-  pub not-built : {x : Outcome (IrNode × Registry)} → (r .number ≡ 0 → ⊥) → Builds s xs at us ys r x → (x ≡ refused (plain (r .number))) × (0 < r .number)
-  not-built z (Builds.made y e g w) = absurd (z e)
-  not-built z (Builds.not k e l) = (ap (λ (q : ℕ). refused (plain q)) (sym e), omega arith)
-
--- a refusal moves no cursor
-pub stays : {at room n k : ℕ} → n ≤ 512 → Within at room (record { at = at; count = n; number = k })
-stays h = record { low = omega arith; high = omega arith; count = h }
-
--- less room is enough
-pub wider : {at k room : ℕ} {r : Built} → k ≤ room → Within at k r → Within at room r
-wider h w = record { low = w .low; high = omega (arith, w .high); count = w .count }
 
 -- ---- literals
 
@@ -133,17 +112,6 @@ abbrev pub Leaves : (s xs : List ℕ) (at : ℕ) (ws ys : List ℕ) (r : Built) 
 Leaves s xs at ws ys r owner depth expr n =
     (a : Accepted s 64 91 expr) → Builds s xs at ws ys r (build-expr-ir owner (prefixOf depth) (exprOf (tree a)) (entriesOf s ws n))
 
--- the same, from what the definition gives
-module _ {s xs ws ys : List ℕ} {at : ℕ} {r : Built} where
-  -- a node that was made and written
-  pub makes : {x : Outcome (IrNode × Registry)} {n : ℕ} (y : IrNode) → r .number ≡ 0 → r .count ≡ n →
-      Wrote xs at (write (nodeTree y)) ys (r .at) → x ≡ done (y, entriesOf s ws n) → Builds s xs at ws ys r x
-  makes {n} y z c w e = rw e (Builds.made (y, entriesOf s ws n) z (ap (entriesOf s ws) c) w)
-
-  -- a refusal
-  pub refuses : {x : Outcome (IrNode × Registry)} (k : ℕ) → r .number ≡ k → 0 < k → x ≡ refused (plain k) → Builds s xs at ws ys r x
-  refuses k z l e = rw e (Builds.not k z l)
-
 -- what `build_literal` leaves: the same under every owner and prefix, and over every registry
 abbrev pub LeavesLiteral : (s xs : List ℕ) (at : ℕ) (ys : List ℕ) (r : Built) (expr n : ℕ) → Type 0
 LeavesLiteral s xs at ys r expr n =
@@ -154,14 +122,14 @@ module _ {s xs ys : List ℕ} {at expr n : ℕ} (k : le2 s (expr + 4) ≡ 64) {b
   pub literal-stops : {u : ℕ} → b ≡ true → LeavesLiteral s xs at ys (record { at = u; count = n; number = 14 }) expr n
   literal-stops t owner prefix ws a =
       let p = literal-at a k in
-      refuses 14 refl (omega arith) (rw (p .is) (literal-refused owner prefix _ _ (neg a _ (p .is) ∙ rw t)))
+      refuses (omega arith) (rw (p .is) (literal-refused owner prefix _ _ (neg a _ (p .is) ∙ rw t)))
 
   -- its answer else
   pub literal-made : {v u d : ℕ} → b ≡ false → v ≡ le8 s (expr + 7) → d ≡ default-alignment →
       Wrote xs at (write (nodeTree (IrNode.Const unplaced (aligned d) v))) ys u → LeavesLiteral s xs at ys (record { at = u; count = n; number = 0 }) expr n
   literal-made t e f w owner prefix ws a =
       let p = literal-at a k in
-      makes _ refl refl (rw (e, f) at w) (rw (p .is) (literal-gives owner prefix _ _ (neg a _ (p .is) ∙ rw t)))
+      makes _ refl (rw (p .is) (literal-gives owner prefix _ _ (neg a _ (p .is) ∙ rw t))) (record { entries = refl; wrote = rw (e, f) at w })
 
 -- ---- paths
 
@@ -191,16 +159,16 @@ module _ {s xs ws ys : List ℕ} {at n : ℕ} (owner path : Name) {r : Found} (l
   pub ref-made : {i u : ℕ} → r ≡ At i → length path ≤ 255 →
       Wrote xs at (write (nodeTree (IrNode.FieldRef unplaced default-metadata path (some (entryName s (getD ws i 0)))))) ys u →
       Builds s xs at ws ys (record { at = u; count = n; number = 0 }) (build-path owner path (entriesOf s ws n))
-  ref-made e h w = makes _ refl refl w (path-gives owner path _ (looked-entry e l .1) h)
+  ref-made e h w = makes _ refl (path-gives owner path _ (looked-entry e l .1) h) (record { entries = refl; wrote = w })
 
   -- for a long one
   pub ref-long : {i u : ℕ} → r ≡ At i → 255 < length path →
       Builds s xs at ws ys (record { at = u; count = n; number = 17 }) (build-path owner path (entriesOf s ws n))
-  ref-long e h = refuses 17 refl (omega arith) (path-long owner path _ (looked-entry e l .1) h)
+  ref-long e h = refuses (omega arith) (path-long owner path _ (looked-entry e l .1) h)
 
   -- for one that is not found
   pub ref-missing : {u : ℕ} → r ≡ Missing → Builds s xs at ws ys (record { at = u; count = n; number = 12 }) (build-path owner path (entriesOf s ws n))
-  ref-missing e = refuses 12 refl (omega arith) (path-missing owner path _ (looked-missing e l))
+  ref-missing e = refuses (omega arith) (path-missing owner path _ (looked-missing e l))
 
 -- ---- field references
 
@@ -256,7 +224,7 @@ module _ {s : List ℕ} {expr : ℕ} (k : le2 s (expr + 4) ≡ 65) where
         Leaves s xs at ws ys (record { at = u; count = n; number = 0 }) owner depth expr n
     buffer-made t w a =
         let f = field-ref-at a k in
-        makes _ refl refl w (rw (f .is) (buffer-gives owner (prefixOf depth) _ _ (sym (is a _ (f .is)) ∙ t)))
+        makes _ refl (rw (f .is) (buffer-gives owner (prefixOf depth) _ _ (sym (is a _ (f .is)) ∙ t))) (record { entries = refl; wrote = w })
 
     -- longer than any path of the registry
     pub path-stops : {l u : ℕ} → Standing s ws n → length owner ≤ 255 → b ≡ false → Long s expr depth l → 511 < l →
@@ -264,7 +232,7 @@ module _ {s : List ℕ} {expr : ℕ} (k : le2 s (expr + 4) ≡ 65) where
     path-stops {l} st o t g h a =
         let f = field-ref-at a k in
         let m : 511 < length (pathOf depth (textsOf (f .list .got .0))) = rw (g a _ (f .is)) at h in
-        refuses 12 refl (omega arith)
+        refuses (omega arith)
         (rw (f .is) (path-is owner (prefixOf depth) _ _ (sym (is a _ (f .is)) ∙ t) ∙ path-missing owner _ _ (long-lookup st owner _ o m)))
 
     -- its answer for a path that was copied
@@ -380,28 +348,16 @@ module _ (owner prefix : Name) (g : Registry) where
 pub other-stops : {s xs ws ys : List ℕ} {at expr k kind u : ℕ} (owner : Name) (depth n : ℕ) → k ≡ le2 s (expr + 4) → (k ≡ 64 → ⊥) → (k ≡ 65 → ⊥) → kind ≡ 0 →
     Operates k kind → Leaves s xs at ws ys (record { at = u; count = n; number = 14 }) owner depth expr n
 other-stops owner depth n e x y z o a =
-    refuses 14 refl (omega arith) (other-refused owner (prefixOf depth) _ a (rw e at x) (rw e at y) (no-operation e z o))
+    refuses (omega arith) (other-refused owner (prefixOf depth) _ a (rw e at x) (rw e at y) (no-operation e z o))
 
 -- ---- two operands
 
-module _ (owner prefix : Name) (k : ℕ) (l r : ExprKind) (g : Registry) {op : BinaryOp} (e : operationOf k ≡ some op) where
-  -- the refusal of the first operand is that of the whole
-  first-refused : {q : Refusal} → build-expr-ir owner prefix l g ≡ refused q → build-expr-ir owner prefix (ExprKind.Binary k l r) g ≡ refused q
-  unfolding build-expr-ir
-  first-refused h = need-some UnsupportedExpression _ g e ∙ step-refused (build-expr-ir owner prefix l) _ g h
-
-  module _ {x : IrNode × Registry} (h : build-expr-ir owner prefix l g ≡ done x) where
-    -- so is that of the second, on the registry that the first left
-    second-refused : {q : Refusal} → build-expr-ir owner prefix r (x .1) ≡ refused q → build-expr-ir owner prefix (ExprKind.Binary k l r) g ≡ refused q
-    unfolding build-expr-ir
-    second-refused i =
-        need-some UnsupportedExpression _ g e ∙ step-done (build-expr-ir owner prefix l) _ g h ∙ step-refused (build-expr-ir owner prefix r) _ (x .1) i
-
-    -- both operands become one node
-    both-give : {y : IrNode × Registry} → build-expr-ir owner prefix r (x .1) ≡ done y →
-        build-expr-ir owner prefix (ExprKind.Binary k l r) g ≡ done (IrNode.Binary unplaced default-metadata op (x .0) (y .0), y .1)
-    unfolding build-expr-ir give
-    both-give i = need-some UnsupportedExpression _ g e ∙ step-done (build-expr-ir owner prefix l) _ g h ∙ step-done (build-expr-ir owner prefix r) _ (x .1) i
+-- the definition of a node of two operands: the first, then the second
+binary-steps : (owner prefix : Name) (k : ℕ) (l r : ExprKind) (g : Registry) {op : BinaryOp} → operationOf k ≡ some op →
+    build-expr-ir owner prefix (ExprKind.Binary k l r) g ≡
+    (build-expr-ir owner prefix l >>= (λ x. build-expr-ir owner prefix r >>= (λ y. give (IrNode.Binary unplaced default-metadata op x y)))) g
+unfolding build-expr-ir
+binary-steps owner prefix k l r g e = need-some UnsupportedExpression _ g e
 
 -- the offset of the second operand, as the code sums it
 pub summed : (x : ℕ) {y z : ℕ} → y ≡ z → x + y ≡ x + z
@@ -456,33 +412,31 @@ module _ {s ws : List ℕ} {kind : ℕ} (owner : Name) (depth n expr : ℕ) (o :
       Leaves s xs at ws ys (record { at = u; count = m; number = l .number }) owner depth expr n
   left-stops z a =
       let b = binary-at a (o .low) (o .high) in
-      let i = not-built z (f (b .left)) in
-      refuses (l .number) refl (i .1) (rw (b .is) (first-refused owner (prefixOf depth) _ _ _ _ (o .is) (i .0)))
+      rw (b .is, binary-steps owner (prefixOf depth) _ _ _ (entriesOf s ws n) (o .is)) (step-passes _ _ _ refl z (f (b .left)))
 
   module _ {q : ℕ} (z : l .number ≡ 0) (e : q ≡ expr + 10 + le4 s (expr + 6)) {x₃ : List ℕ} {r : Built}
       (g : Leaves s x₂ (l .at) ws x₃ r owner depth q (l .count)) where
-    -- what the second operand leaves, at the offset as the definition has it
-    right-leaves : Leaves s x₂ (l .at) ws x₃ r owner depth (expr + 10 + le4 s (expr + 6)) (l .count)
-    right-leaves = subst (λ (j : ℕ). Leaves s x₂ (l .at) ws x₃ r owner depth j (l .count)) e g
+    -- what the second operand leaves, at the offset as the definition has it, over the registry that the first left
+    right-leaves : {h : Registry} → entriesOf s ws (l .count) ≡ h → (a : Accepted s 64 91 (expr + 10 + le4 s (expr + 6))) →
+        Builds s x₂ (l .at) ws x₃ r (build-expr-ir owner (prefixOf depth) (exprOf (tree a)) h)
+    right-leaves i a = rw (← i) (subst (λ (j : ℕ). Leaves s x₂ (l .at) ws x₃ r owner depth j (l .count)) e g a)
 
     -- the second operand is refused
     pub right-stops : {xs ys : List ℕ} {at u m : ℕ} → (r .number ≡ 0 → ⊥) →
         Leaves s xs at ws ys (record { at = u; count = m; number = r .number }) owner depth expr n
     right-stops y a =
         let b = binary-at a (o .low) (o .high) in
-        let i = built z (f (b .left)) in
-        let j = not-built y (right-leaves (b .right)) in
-        refuses (r .number) refl (j .1) (rw (b .is) (second-refused owner (prefixOf depth) _ _ _ _ (o .is) (i .1) (rw (← i .2) (j .0))))
+        rw (b .is, binary-steps owner (prefixOf depth) _ _ _ (entriesOf s ws n) (o .is))
+        (step-goes _ _ _ z (f (b .left)) (λ _ m. step-passes _ _ _ refl y (right-leaves (m .entries) (b .right))))
 
     -- both were built
     pub both-made : {xs ys : List ℕ} {at d v : ℕ} → r .number ≡ 0 → d ≡ default-alignment → Wrote xs at (nodeStart kind d) x₁ p →
         Wrote x₃ at (bytes 4 (r .at - at - 4)) ys v →
         Leaves s xs at ws ys (record { at = r .at; count = r .count; number = 0 }) owner depth expr n
-    unfolding nodeTree
+    unfolding nodeTree give
     both-made y t w c a =
         let b = binary-at a (o .low) (o .high) in
-        let i = built z (f (b .left)) in
-        let j = built y (right-leaves (b .right)) in
-        let g : build-expr-ir owner (prefixOf depth) (exprOf (tree (b .right))) (i .0 .1) ≡ done (j .0) = rw (← i .2) (j .1) in
-        rw (b .is, both-give owner (prefixOf depth) _ _ _ _ (o .is) (i .1) g)
-        (Builds.made (IrNode.Binary unplaced default-metadata (o .op) (i .0 .0) (j .0 .0), j .0 .1) refl (j .2) (rw (o .node) (two-written _ _ _ _ (rw t at w) (i .3) (j .3) c)))
+        rw (b .is, binary-steps owner (prefixOf depth) _ _ _ (entriesOf s ws n) (o .is))
+        (step-goes _ _ _ z (f (b .left)) (λ _ m. step-goes _ _ _ y (right-leaves (m .entries) (b .right))
+        (λ _ k. AnswersIn.made _ refl
+        (record { entries = k .entries; wrote = rw (o .node) (two-written _ _ _ _ (rw t at w) (m .wrote) (k .wrote) c) }))))

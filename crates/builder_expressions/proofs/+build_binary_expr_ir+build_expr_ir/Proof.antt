@@ -1,7 +1,8 @@
 -- `build_expr_ir` meets its contract, with the node of two operands, each of which is a shorter block: the measure is twice the
 -- length of the expression's block, and one more before it is known that there are two operands.
 use Rattle.blocks.specs.Bytes.{le4}
-use Rattle.builder_expressions.proofs.Laws.{header-inside, summed, is-operation, stays, wider, other-stops, left-ready, right-ready, both-within, left-stops, right-stops, both-made}
+use Rattle.builder_expressions.proofs.Laws.{header-inside, summed, is-operation, other-stops, left-ready, right-ready, both-within, left-stops, right-stops, both-made}
+use Rattle.builder_nodes.proofs.Laws.{stopped, widened}
 use borrow.Author.Needs.{needs}
 use native.Mathlib.Omega.{arith}
 use Prim.Native.Nat.{ℕ, _<_, _+_, _*_}
@@ -114,7 +115,7 @@ binary-returns t c =
     let at-build-expr-ir = c .before .before .before .before in
     let at-open-node = binary-opened at-build-expr-ir in
     let at-start = binary-start at-open-node in (
-      stays (at-start .pre .1 .0 .standing .count),
+      stopped (at-start .pre .1 .0 .standing .count),
       left-stops _ _ _ _ (at-start .pre .1 .1) (at-build-expr-ir .build-expr-ir .ensures .1) (c .if1 .taken),
     )
 
@@ -166,7 +167,7 @@ binary-returns-2 t c =
     let at-build-expr-ir = binary-left at-read4 in
     let at-open-node = binary-opened at-build-expr-ir in
     let at-start = binary-start at-open-node in (
-      stays (at-start .pre .1 .0 .standing .count),
+      stopped (at-start .pre .1 .0 .standing .count),
       right-stops _ _ _ _
           (at-start .pre .1 .1)
           (at-build-expr-ir .build-expr-ir .ensures .1)
@@ -250,7 +251,7 @@ expr-same-length t c = search needs
 expr-returns : (t : ℕ) → expr-walk.Need-returns (expr-calls t) (expr-at t) expr.Post
 expr-returns t c =
     let at-build-literal = c .before .before in (
-      wider (omega arith) (at-build-literal .build-literal .ensures .0),
+      widened (omega arith) (at-build-literal .build-literal .ensures .0),
       at-build-literal .build-literal .ensures .1 _ _ _,
     )
 
@@ -263,7 +264,7 @@ expr-same-length-2 t c = search needs
 expr-returns-2 : (t : ℕ) → expr-walk.Need-returns-2 (expr-calls t) (expr-at t) expr.Post
 expr-returns-2 t c =
     let at-build-field-ref = c .before .before in (
-      wider (omega arith) (at-build-field-ref .build-field-ref .ensures .0),
+      widened (omega arith) (at-build-field-ref .build-field-ref .ensures .0),
       at-build-field-ref .build-field-ref .ensures .1,
     )
 
@@ -277,7 +278,7 @@ expr-returns-3 t c =
     let at-else1 = at-else2 .before in
     let at-read2 = at-else1 .before in
     let at-start = expr-start at-read2 in (
-      stays (at-start .pre .1 .standing .count),
+      stopped (at-start .pre .1 .standing .count),
       other-stops _ _ _
           (at-read2 .read2 .ensures .0)
           (at-else1 .if1 .left)
