@@ -1,8 +1,8 @@
 -- Collecting the arguments of a call: the definition step by step, and what one step behind another leaves.
-use mathlib.Core.Path.{_≡_, refl, sym, _∙_, ap}
+use mathlib.Core.Path.{_≡_, refl, sym, _∙_, ap, subst}
 use mathlib.Core.Bool.{Bool, true, false}
 use mathlib.Core.List.{List, [], _∷_, _++_, append-assoc, append-nil}
-use Prim.Native.Nat.{ℕ, _+_, _≤_, _<_}
+use Prim.Native.Nat.{ℕ, _+_, _-_, _≤_, _<_}
 use native.Mathlib.Omega.{arith}
 use lib.Dec.{leb, ltb}
 use lib.ListN.{length, length-append}
@@ -10,9 +10,15 @@ use borrow.Author.Tests.{le-leb, lt-leb}
 use Rattle.errors.specs.Refusal.{Outcome, done, refused, plain}
 use Rattle.errors.specs.Refusal.{_>>=_ as _andThen_}
 use Rattle.errors.proofs.Laws.{done-one, bound}
+use Rattle.answers.specs.Answers.{AnswersIn}
+use Rattle.answers.proofs.Laws.{passes, goes, reads-as}
 use Rattle.blocks.specs.Name.{Name}
+use Rattle.blocks.specs.Tree.{Tree, text, entries, nil, cons}
 use Rattle.blocks.specs.Write.{write}
+use Rattle.accepted.specs.Accepted.{Item, Entries}
+use Rattle.accepted.proofs.Laws.{After, none-left}
 use Rattle.resolved.specs.Resolved.{Owner}
+use Rattle.resolved.specs.Set.{ownerOf}
 use Rattle.ir.specs.Ir.{IrArgument}
 use Rattle.ir.specs.Layout.{entriesTree, argumentTree}
 use Rattle.builder.specs.Names.{canonical-name}
@@ -21,9 +27,9 @@ use Rattle.builder.specs.Nodes.{argument, collect-paths, collect-callee-argumen
 use Rattle.wire.specs.Poke.{Wrote}
 use Rattle.wire.proofs.Laws.{both, no-parts}
 use Rattle.builder_registry.specs.Words.{entriesOf}
-use Rattle.builder_calls.specs.declared.Collected.{Collected}
 use Rattle.builder_registry.proofs.Laws.{standing}
-use Rattle.builder_calls.specs.Collected.{pathsIn, Collects, Fills, Room}
+use Rattle.builder_calls.specs.declared.Collected.{Collected}
+use Rattle.builder_calls.specs.Collected.{pathsIn, CollectedIn, Collects, Behind, Fills, Room}
 
 -- ---- the definition
 
@@ -86,18 +92,6 @@ owners-count (o ∷ os) before g y h =
 
 -- ---- what collecting leaves
 
--- the definition, as a function of the arguments that are there: of the paths of an owner
-abbrev pub collectPaths : Name → List Name → Registry → List IrArgument → Outcome (List IrArgument × Registry)
-collectPaths o ps g before = collect-paths o ps before g
-
--- and of owners
-abbrev pub collectOwners : List Owner → Registry → List IrArgument → Outcome (List IrArgument × Registry)
-collectOwners os g before = collect-callee-arguments os before g
-
--- what is collected behind any arguments that are `made` in number
-abbrev pub Behind : List ℕ → List ℕ → ℕ → ℕ → List ℕ → List ℕ → Collected → (List IrArgument → Outcome (List IrArgument × Registry)) → Type 0
-Behind s xs at made us ys r x = (before : List IrArgument) → length before ≡ made → Collects s xs at before us ys r (x before)
-
 -- the bytes of arguments behind others
 entries-append : (as′ bs : List IrArgument) →
     write (entriesTree argumentTree (as′ ++ bs)) ≡ write (entriesTree argumentTree as′) ++ write (entriesTree argumentTree bs)
@@ -107,80 +101,75 @@ entries-append (a ∷ as′) bs =
     ap (λ (l : List ℕ). write (argumentTree a) ++ l) (entries-append as′ bs)
     ∙ sym (append-assoc (write (argumentTree a)) (write (entriesTree argumentTree as′)) (write (entriesTree argumentTree bs)))
 
-module _ {s xs us ys : List ℕ} {at : ℕ} {before : List IrArgument} {r : Collected} where
-  -- collecting succeeded
-  pub collected : {x : Outcome (List IrArgument × Registry)} (as′ : List IrArgument) (g : Registry) → x ≡ done (before ++ as′, g) →
-      r .number ≡ 0 → r .made ≡ length before + length as′ → entriesOf s us (r .count) ≡ g →
-      Wrote xs at (write (entriesTree argumentTree as′)) ys (r .at) → Collects s xs at before us ys r x
-  collected as′ g e z m h w = rw e (Collects.made as′ g z m h w)
-
-  -- collecting was refused
-  pub refusal : {x : Outcome (List IrArgument × Registry)} (k : ℕ) → x ≡ refused (plain k) → r .number ≡ k → 0 < k → Collects s xs at before us ys r x
-  refusal k e z l = rw e (Collects.not k z l)
-
-  -- a step that gave no refusal: its arguments, their bytes, and the registry behind it
-  pub collects-done : {x : Outcome (List IrArgument × Registry)} → r .number ≡ 0 → Collects s xs at before us ys r x →
-      (as′ : List IrArgument) × (x ≡ done (before ++ as′, entriesOf s us (r .count))) × (r .made ≡ length before + length as′) × Wrote xs at
-      (write (entriesTree argumentTree as′)) ys (r .at)
-  collects-done z (Collects.made as′ g e m h w) = (as′, ap (λ (l : Registry). done (before ++ as′, l)) (sym h), m, w)
-  collects-done z (Collects.not k e l) = absurd (let z : ⊥ = omega arith in z)
-
-  -- a step that gave one
-  pub collects-refused : {x : Outcome (List IrArgument × Registry)} → (r .number ≡ 0 → ⊥) → Collects s xs at before us ys r x →
-      (x ≡ refused (plain (r .number))) × (0 < r .number)
-  collects-refused z (Collects.made as′ g e m h w) = absurd (z e)
-  collects-refused z (Collects.not k e l) = (ap (λ (n : ℕ). refused (plain n)) (sym e), omega arith)
-
 -- nothing is collected
-pub collects-none : {s xs us : List ℕ} {at n made : ℕ} {before : List IrArgument} → length before ≡ made →
-    Collects s xs at before us xs (record { at = at; count = n; made = made; number = 0 }) (done (before, entriesOf s us n))
+collects-none : {s xs ws : List ℕ} {c : Collected} (before : List IrArgument) → c .number ≡ 0 → length before ≡ c .made →
+    Collects s xs c before ws xs c (done (before, entriesOf s ws (c .count)))
 unfolding entriesTree
-collects-none {s} {xs} {us} {at} {n} {before} e =
-    collected []
-    (entriesOf s us n)
-    (ap (λ (l : List IrArgument). done (l, entriesOf s us n)) (sym (append-nil before))) refl
-    (omega arith) refl
-    (no-parts xs at)
+collects-none {xs = xs} {c = c} before z e =
+    AnswersIn.made _ z (record { new = []; are = sym (append-nil before); made = sym e; entries = refl; bytes = no-parts xs (c .at) })
 
-module _ {s xs vs zs : List ℕ} {at : ℕ} {before : List IrArgument} {a : Collected} {x : Outcome (List IrArgument × Registry)}
-    (k : List IrArgument × Registry → Outcome (List IrArgument × Registry)) (f : Collects s xs at before vs zs a x) where
-  -- a step that refuses ends collecting
-  pub stopped : {us ys : List ℕ} → (a .number ≡ 0 → ⊥) → Collects s xs at before us ys a (_andThen_ x k)
-  unfolding _andThen_
-  stopped z = let d = collects-refused z f in refusal (a .number) (ap (λ (o : Outcome (List IrArgument × Registry)). _andThen_ o k) (d .0)) refl (d .1)
+-- arguments collected behind those of a first step are collected behind what was there before it
+behind-both : {s xs vs zs us ys : List ℕ} {c a r : Collected} {before : List IrArgument} {y x : List IrArgument × Registry} →
+    CollectedIn s xs c before vs zs a y → CollectedIn s zs a (y .0) us ys r x → CollectedIn s xs c before us ys r x
+behind-both {before} m v =
+    record {
+      new = m .new ++ v .new;
+      are = v .are ∙ ap (λ (l : List IrArgument). l ++ v .new) (m .are) ∙ append-assoc before (m .new) (v .new);
+      made = v .made;
+      entries = v .entries;
+      bytes = rw (entries-append (m .new) (v .new)) (both (m .bytes) (v .bytes));
+    }
 
-  -- one step behind another
-  pub joined : {us ys : List ℕ} {r : Collected} → a .number ≡ 0 →
-      ((b : List IrArgument) → length b ≡ a .made → Collects s zs (a .at) b us ys r (k (b, entriesOf s vs (a .count)))) →
-      Collects s xs at before us ys r (_andThen_ x k)
-  unfolding _andThen_
-  joined {us} {ys} {r} z h =
-      let d = collects-done z f in
-      let c = h (before ++ d .0) (omega (arith, length-append before (d .0), d .2)) in
-      rw (d .1) (go (d .0) (d .3) c)
-    where
-      go : (as′ : List IrArgument) {y : Outcome (List IrArgument × Registry)} →
-          Wrote xs at (write (entriesTree argumentTree as′)) zs (a .at) → Collects s zs (a .at) (before ++ as′) us ys r y →
-          Collects s xs at before us ys r y
-      go as′ w (Collects.made bs g e m h v) =
-          collected
-          (as′ ++ bs) g
-          (ap (λ (l : List IrArgument). done (l, g)) (append-assoc before as′ bs)) e
-          (omega (arith, m, length-append before as′, length-append as′ bs)) h
-          (rw (entries-append as′ bs) (both w v))
-      go as′ w (Collects.not k e l) = Collects.not k e l
+-- ---- a list, entry by entry
+
+-- Both walks over a list (the paths of an owner, the owners of a block) collect what `one` collects of the first entry, and then
+-- what `all` collects of those behind it.
+pub record Walk (one all : Tree → List IrArgument → Build (List IrArgument)) : Type 0 where
+  pub none : (before : List IrArgument) (g : Registry) → all nil before g ≡ done (before, g)
+  pub more : (t u : Tree) (before : List IrArgument) (g : Registry) → all (cons t u) before g ≡ _andThen_ (one t before g) (λ x. all u (x .0) (x .1))
+
+-- the paths of an owner
+pub paths-walk : (o : Name) → Walk (λ t. collect-paths o (text t ∷ [])) (λ u. collect-paths o (entries text u))
+unfolding collect-paths entries give
+paths-walk o = record { none = λ before g. refl; more = λ t u before g. paths-more o (text t) (entries text u) before g }
+
+-- owners, each with its paths
+pub owners-walk : Walk (λ t. collect-paths (ownerOf t .name) (ownerOf t .paths)) (λ u. collect-callee-arguments (entries ownerOf u))
+unfolding collect-callee-arguments entries give _>>=_
+owners-walk = record { none = λ before g. refl; more = λ t u before g. refl }
+
+module _ {one all : Tree → List IrArgument → Build (List IrArgument)} (w : Walk one all) where
+  -- no entry is left: nothing is collected
+  pub walk-none : {s xs ws : List ℕ} {i : Item} {left at : ℕ} {c : Collected} → Room s ws c → left ≡ 0 → (l : Entries s i left at) →
+      Behind s xs c ws ws xs c (all (l .got .0))
+  walk-none r z l = record { collects = λ before e. rw (none-left l (omega arith), w .none before _) (collects-none before (r .goes) e) }
+
+  module _ {s xs ws vs zs : List ℕ} {i : Item} {left at q : ℕ} {c a : Collected} {t : Tree} {l : Entries s i left at} (n : After l t q)
+      (f : Behind s xs c ws vs zs a (one t)) where
+    -- the first entry is refused
+    pub walk-stops : (a .number ≡ 0 → ⊥) → Behind s xs c ws vs zs a (all (l .got .0))
+    walk-stops z = record { collects = λ before e. rw (n .tree, w .more t (n .rest .got .0) before _) (passes _ refl z (f .collects before e)) }
+
+    -- what the first entry gives, then what the others give
+    pub walk-goes : {us ys : List ℕ} {r : Collected} → a .number ≡ 0 → Behind s zs a vs us ys r (all (n .rest .got .0)) →
+        Behind s xs c ws us ys r (all (l .got .0))
+    walk-goes {us} {ys} {r} z h =
+        record {
+          collects = λ before e. rw (n .tree, w .more t (n .rest .got .0) before _)
+              (goes _ z (f .collects before e) (λ y m. reads-as (λ x v. behind-both m v)
+              (subst (λ (g : Registry). Collects s zs a (y .0) us ys r (all (n .rest .got .0) (y .0) g)) (m .entries) (h .collects (y .0) (sym (m .made))))));
+        }
 
 -- ---- the cursor, and how many arguments there are
 
 -- nothing is collected
-pub fills-none : {s ws : List ℕ} {n made at no : ℕ} → Room s ws n made at → Fills at made (record { at = at; count = n; made = made; number = no })
+pub fills-none : {s ws : List ℕ} {c : Collected} {number : ℕ} → Room s ws c → Fills c (record { at = c .at; count = c .count; made = c .made; number = number })
 fills-none m = record { low = omega arith; high = omega arith; more = omega arith; most = m .most; count = m .standing .count }
 
 -- one step behind another
-pub fills-both : {at made : ℕ} {a r : Collected} → Fills at made a → Fills (a .at) (a .made) r → Fills at made r
+pub fills-both : {c a r : Collected} → Fills c a → Fills a r → Fills c r
 fills-both f g = record { low = omega arith; high = omega arith; more = omega arith; most = g .most; count = g .count }
 
 -- behind a step there is room for the next
-pub room-more : {s ws us : List ℕ} {n made at : ℕ} {r : Collected} → Room s ws n made at → length us ≡ length ws → Fills at made r →
-    Room s us (r .count) (r .made) (r .at)
-room-more m e f = record { standing = standing (m .standing) e (f .count); most = f .most; cursor = omega (arith, m .cursor, f .high) }
+pub room-more : {s ws us : List ℕ} {c r : Collected} → Room s ws c → length us ≡ length ws → r .number ≡ 0 → Fills c r → Room s us r
+room-more m e z f = record { standing = standing (m .standing) e (f .count); most = f .most; cursor = omega (arith, m .cursor, f .high); goes = z }

@@ -1,14 +1,17 @@
 -- What the code leaves, place by place.
-use mathlib.Core.Path.{_≡_, refl, _∙_, ap, subst}
-use mathlib.Core.List.{List, [], _∷_}
+use mathlib.Core.Path.{_≡_, refl, sym, _∙_, ap, subst}
+use mathlib.Core.Bool.{true}
+use mathlib.Core.List.{List, [], _∷_, _++_}
 use mathlib.Core.Option.{some, none}
 use Prim.Native.Nat.{ℕ, zero, suc, _+_, _-_, _^_, _≤_, _<_}
 use native.Mathlib.Numerals.{sub-one}
 use native.Mathlib.Omega.{arith}
-use lib.ListN.{length}
+use lib.ListN.{length, length-append}
 use borrow.Author.Tests.{lt-ltb, le-ltb}
-use Rattle.errors.specs.Refusal.{Outcome, done, refused, plain}
+use Rattle.errors.specs.Refusal.{done, refused, plain}
 use Rattle.errors.specs.Refusal.{_>>=_ as _andThen_}
+use Rattle.answers.specs.Answers.{AnswersIn}
+use Rattle.answers.proofs.Laws.{answered, refuses, makes, passes, goes}
 use Rattle.blocks.specs.Bytes.{le2, le4, bytes}
 use Rattle.blocks.specs.Name.{Name}
 use Rattle.blocks.specs.Grammar.{partsOf, findRow, grammar, nodeTable}
@@ -24,11 +27,12 @@ use Rattle.lookup.specs.declared.Found.{Found}
 use Rattle.lookup.specs.declared.Found.the-variants.{At, Missing}
 use Rattle.lookup.specs.Found.{TypeFound}
 use Rattle.ir.specs.Ir.{IrNode, IrArgument, aligned, unplaced}
+use Rattle.ir_nodes.specs.Codes.{codeAt}
 use Rattle.ir.specs.Layout.{entriesTree, argumentTree, nodeTree, listTree}
 use Rattle.builder.specs.Names.{canonical-name}
-use Rattle.builder.specs.Registry.{Registry, _>>=_, give, refuse, require, ensure}
+use Rattle.builder.specs.Registry.{Registry, give, ensure}
 use Rattle.builder.specs.Nodes.{argument, collect-paths, collect-callee-arguments, build-typeref-node}
-use Rattle.builder.proofs.Steps.{step-done, step-refused, need-some, need-none}
+use Rattle.builder.proofs.Steps.{step-done, require-yes, require-no, need-some, need-none}
 use Rattle.wire.specs.Poke.{Wrote, opened}
 use Rattle.wire.proofs.Laws.{both, parts, no-parts, closed}
 use Rattle.resolved_parts.specs.declared.TypeHead.{TypeHead}
@@ -39,13 +43,13 @@ use Rattle.builder_registry.proofs.Laws.{held-name}
 use Rattle.builder_registry.proofs.Keys.{held-bound}
 use Rattle.resolved_parts.proofs.Laws.{entry-named}
 use Rattle.builder_nodes.specs.declared.Built.{Built}
-use Rattle.builder_nodes.specs.Built.{Builds, Within, nodeStart}
-use Rattle.builder_nodes.proofs.Laws.{node-closed}
+use Rattle.builder_nodes.specs.Built.{Builds, Within, nodeStart, textFlag, countPart}
+use Rattle.builder_nodes.proofs.Laws.{node-closed, step-passes}
+use Rattle.builder_nodes.proofs.Parts.{call-name, call-count}
 use Rattle.builder_calls.specs.declared.Collected.{Collected}
-use Rattle.builder_calls.specs.Collected.{pathsIn, Collects, Fills}
+use Rattle.builder_calls.specs.Collected.{pathsIn, Collects, Behind, Fills}
 use Rattle.builder_calls.specs.Call.{callOf}
-use Rattle.builder_calls.proofs.Collecting.{Behind, collectPaths, collectOwners, entered, one-long, one-short, paths-more}
-use Rattle.builder_calls.proofs.Collecting.{owners-count, refusal, collects-done, collects-refused, collects-none, stopped, joined}
+use Rattle.builder_calls.proofs.Collecting.{entered, one-long, one-short, owners-count, paths-walk, owners-walk, walk-stops, walk-goes}
 
 -- ---- an argument
 
@@ -54,8 +58,8 @@ pub short-name : {s o : List ℕ} (owner : ℕ) → o ≡ nameAt s owner → Nam
 short-name {s} owner e n = rw (e, ← held-name n) (held-bound s owner refl)
 
 -- where an argument ends: the head of its block has 6 bytes, and its name stands there twice, each behind its length
-pub argument-ends : {at b u v m k made n : ℕ} → b ≡ at + 6 → u ≡ b + (2 + k) → v ≡ u + (2 + k) → m ≡ k → m ≤ 255 → made < 512 → n ≤ 512 →
-    Fills at made (record { at = v; count = n; made = made + 1; number = 0 })
+pub argument-ends : {c : Collected} {b u v m k n : ℕ} → b ≡ c .at + 6 → u ≡ b + (2 + k) → v ≡ u + (2 + k) → m ≡ k → m ≤ 255 → c .made < 512 → n ≤ 512 →
+    Fills c (record { at = v; count = n; made = c .made + 1; number = 0 })
 argument-ends eb eu ev e l f h = record { low = omega arith; high = omega arith; more = omega arith; most = omega arith; count = h }
 
 -- the bytes of an argument
@@ -68,162 +72,111 @@ argument-puts {ys} {v} n w₁ w₂ w₃ w₄ =
     (closed 0 164 (cons (name n) (cons (name n) nil)) (both w₁ (parts (name n) (cons (name n) nil) w₂ (parts (name n) nil w₃ (no-parts _ _)))) w₄)
     (no-parts ys v)
 
-module _ (s xs : List ℕ) (at owner path made : ℕ) (o p : List ℕ) (g₀ : Registry) (eo : o ≡ nameAt s owner) (ep : p ≡ nameAt s path) where
+module _ (s xs ws : List ℕ) (c : Collected) (owner path : ℕ) {o p : List ℕ} (eo : o ≡ nameAt s owner) (ep : p ≡ nameAt s path) where
   -- what is said of the two names is said of their offsets
-  renamed : {us ys : List ℕ} {r : Collected} → Behind s xs at made us ys r (collectPaths o (p ∷ []) g₀) →
-      Behind s xs at made us ys r (collectPaths (nameAt s owner) (nameAt s path ∷ []) g₀)
-  renamed h before e = rw (← eo, ← ep) (h before e)
+  renamed : {us ys : List ℕ} {r : Collected} → Behind s xs c ws us ys r (collect-paths o (p ∷ [])) →
+      Behind s xs c ws us ys r (collect-paths (nameAt s owner) (nameAt s path ∷ []))
+  renamed h = rw (← eo, ← ep) h
 
   -- the canonical name is too long
-  pub argument-long : {us ys : List ℕ} {m q c k : ℕ} → m ≡ length (canonical-name o p) → 255 < m →
-      Behind s xs at made us ys (record { at = q; count = c; made = k; number = 17 }) (collectPaths (nameAt s owner) (nameAt s path ∷ []) g₀)
-  argument-long el h = renamed (λ before e. refusal 17 (one-long o p before g₀ (omega (arith, el))) refl (omega arith))
+  pub argument-long : {us ys : List ℕ} {m at n k : ℕ} → m ≡ length (canonical-name o p) → 255 < m →
+      Behind s xs c ws us ys (record { at = at; count = n; made = k; number = 17 }) (collect-paths (nameAt s owner) (nameAt s path ∷ []))
+  argument-long el h = renamed (record { collects = λ before e. refuses (omega arith) (one-long o p before _ (omega (arith, el))) })
 
-  module _ (us : List ℕ) (m : ℕ) (h : Held) (no : Named s owner) (np : Named s path) (el : m ≡ length (canonical-name o p)) (l : m ≤ 255)
-      (k : Kept s us h (ensure (held s owner) (held s path) g₀)) where
+  module _ {us : List ℕ} {m : ℕ} {h : Held} (no : Named s owner) (np : Named s path) (el : m ≡ length (canonical-name o p)) (l : m ≤ 255)
+      (k : Kept s us h (ensure (held s owner) (held s path) (entriesOf s ws (c .count)))) where
     -- what is entered, by the names
-    kept-names : Kept s us h (ensure o p g₀)
+    kept-names : Kept s us h (ensure o p (entriesOf s ws (c .count)))
     kept-names = rw (eo, ← held-name no, ep, ← held-name np) k
 
-    -- what the outcome of entering the path decides
-    abbrev Entered : List ℕ → Collected → Type 0
-    Entered ys r = (before : List IrArgument) → length before ≡ made → (x : Outcome (Unit {0} × Registry)) → Kept s us h x →
-        Collects s xs at before us ys r (_andThen_ x (entered o p before g₀))
+    -- what follows where the path is entered
+    abbrev Follows : List ℕ → Collected → Type 0
+    Follows ys r = (before : List IrArgument) → length before ≡ c .made → Collects s xs c before us ys r
+        (_andThen_ (ensure o p (entriesOf s ws (c .count))) (entered o p before (entriesOf s ws (c .count))))
 
-    -- a path of this length, once it is entered
-    after-entry : {ys : List ℕ} {r : Collected} → Entered ys r → Behind s xs at made us ys r (collectPaths (nameAt s owner) (nameAt s path ∷ []) g₀)
-    after-entry f = renamed (λ before e. rw (one-short o p before g₀ (omega (arith, el))) (f before e (ensure o p g₀) kept-names))
+    -- a path of this length is entered first
+    after-entry : {ys : List ℕ} {r : Collected} → Follows ys r → Behind s xs c ws us ys r (collect-paths (nameAt s owner) (nameAt s path ∷ []))
+    after-entry f = renamed (record { collects = λ before e. rw (one-short o p before (entriesOf s ws (c .count)) (omega (arith, el))) (f before e) })
 
     -- the registry is full
-    pub argument-full : {ys : List ℕ} {q c j : ℕ} → (h .number ≡ 0 → ⊥) →
-        Behind s xs at made us ys (record { at = q; count = c; made = j; number = h .number }) (collectPaths (nameAt s owner) (nameAt s path ∷ []) g₀)
-    unfolding _andThen_
-    argument-full {ys} {q} {c} {j} z = after-entry go
-      where
-        go : Entered ys (record { at = q; count = c; made = j; number = h .number })
-        go before e _ (Kept.kept g y w) = absurd (z y)
-        go before e _ (Kept.not i y w) = Collects.not i y w
+    pub argument-full : {ys : List ℕ} {at n j : ℕ} → (h .number ≡ 0 → ⊥) →
+        Behind s xs c ws us ys (record { at = at; count = n; made = j; number = h .number }) (collect-paths (nameAt s owner) (nameAt s path ∷ []))
+    argument-full z = after-entry (λ before e. passes _ refl z kept-names)
 
-    -- there are 512 arguments already
-    pub argument-many : {ys : List ℕ} {q c j : ℕ} → h .number ≡ 0 → 512 ≤ made →
-        Behind s xs at made us ys (record { at = q; count = c; made = j; number = 17 }) (collectPaths (nameAt s owner) (nameAt s path ∷ []) g₀)
-    unfolding _andThen_ _>>=_ require refuse
-    argument-many {ys} {q} {c} {j} z f = after-entry go
-      where
-        go : Entered ys (record { at = q; count = c; made = j; number = 17 })
-        go before e _ (Kept.kept g y w) = rw (le-ltb (length before) 512 (omega arith)) (Collects.not 17 refl (omega arith))
-        go before e _ (Kept.not i y w) = absurd (let u : ⊥ = omega arith in u)
+    module _ (z : h .number ≡ 0) where
+      -- there are 512 arguments already
+      pub argument-many : {ys : List ℕ} {at n j : ℕ} → 512 ≤ c .made →
+          Behind s xs c ws us ys (record { at = at; count = n; made = j; number = 17 }) (collect-paths (nameAt s owner) (nameAt s path ∷ []))
+      argument-many f =
+          after-entry (λ before e. goes _ z kept-names (λ y m. refuses (omega arith) (require-no 17 _ (y .1) (le-ltb (length before) 512 (omega arith)))))
 
-    -- the argument was written
-    pub argument-done : {x₁ x₂ x₃ ys : List ℕ} {b u v q : ℕ} → h .number ≡ 0 → made < 512 → Wrote xs at (opened 164) x₁ b →
-        Wrote x₁ b (write (name (canonical-name o p))) x₂ u → Wrote x₂ u (write (name (canonical-name o p))) x₃ v →
-        Wrote x₃ at (bytes 4 (v - at - 4)) ys q →
-        Behind s xs at made us ys (record { at = v; count = h .count; made = made + 1; number = 0 }) (collectPaths (nameAt s owner) (nameAt s path ∷ []) g₀)
-    unfolding _andThen_ _>>=_ require give
-    argument-done {ys} {v} z f w₁ w₂ w₃ w₄ = after-entry go
-      where
-        go : Entered ys (record { at = v; count = h .count; made = made + 1; number = 0 })
-        go before e _ (Kept.kept g y w) =
-            rw (lt-ltb (length before) 512 (omega arith))
-            (Collects.made (argument (canonical-name o p) ∷ []) g refl (omega arith) w (argument-puts (canonical-name o p) w₁ w₂ w₃ w₄))
-        go before e _ (Kept.not i y w) = absurd (let u : ⊥ = omega arith in u)
+      -- the argument was written
+      pub argument-done : {x₁ x₂ x₃ ys : List ℕ} {b u v q : ℕ} → c .made < 512 → Wrote xs (c .at) (opened 164) x₁ b →
+          Wrote x₁ b (write (name (canonical-name o p))) x₂ u → Wrote x₂ u (write (name (canonical-name o p))) x₃ v →
+          Wrote x₃ (c .at) (bytes 4 (v - c .at - 4)) ys q →
+          Behind s xs c ws us ys (record { at = v; count = h .count; made = c .made + 1; number = 0 }) (collect-paths (nameAt s owner) (nameAt s path ∷ []))
+      unfolding give
+      argument-done f w₁ w₂ w₃ w₄ =
+          after-entry (λ before e. goes _ z kept-names (λ y m. makes _ refl (require-yes 17 _ (y .1) (lt-ltb (length before) 512 (omega arith)))
+          (record {
+            new = argument (canonical-name o p) ∷ [];
+            are = refl;
+            made = omega (arith, length-append before (argument (canonical-name o p) ∷ []));
+            entries = m .entries;
+            bytes = argument-puts (canonical-name o p) w₁ w₂ w₃ w₄;
+          })))
 
 -- ---- the paths of an owner
 
-module _ {s : List ℕ} {left path : ℕ} (z : left ≡ 0 → ⊥) (l : Entries s Item.names left path) where
-  -- the next path, and the list behind it
-  next-path : After l (name (nameAt s path)) (path + 2 + le2 s path)
-  next-path = name-entry l (omega arith) .2
+-- a count that is not 0
+pub above : {n : ℕ} → (n ≡ 0 → ⊥) → 0 < n
+above z = omega arith
 
-  -- it is a name inside the set
-  pub path-named : Named s path
-  path-named = entry-named l (omega arith)
+-- the next path, and the list behind it
+abbrev pub next-path : {s : List ℕ} {left path : ℕ} → 0 < left → (l : Entries s Item.names left path) → After l (name (nameAt s path)) (path + 2 + le2 s path)
+next-path z l = name-entry l z .2
 
-  -- the list behind it, where the code goes on
-  pub path-rest : {u : ℕ} → u ≡ le2 s path → Entries s Item.names (left - 1) (path + 2 + u)
-  path-rest e = rw e (next-path .rest)
-
-  -- the definition on the list: the first path, then the others
-  first-path : (o : Name) (before : List IrArgument) (g : Registry) → collect-paths o (textsOf (l .got .0)) before g ≡
-      _andThen_ (collect-paths o (nameAt s path ∷ []) before g) (λ x. collect-paths o (textsOf (next-path .rest .got .0)) (x .0) (x .1))
-  unfolding entries
-  first-path o before g =
-      ap (λ (t : Tree). collect-paths o (textsOf t) before g) (next-path .tree)
-      ∙ paths-more o (nameAt s path) (textsOf (next-path .rest .got .0)) before g
-
--- no path is left
-pub paths-none : {s xs ws : List ℕ} {at n left path made : ℕ} (o : Name) → left ≡ 0 → (l : Entries s Item.names left path) →
-    Behind s xs at made ws xs (record { at = at; count = n; made = made; number = 0 }) (collectPaths o (textsOf (l .got .0)) (entriesOf s ws n))
-unfolding entries collect-paths give
-paths-none o z l before e = rw (none-left l (omega arith)) (collects-none e)
-
-module _ {s xs vs zs : List ℕ} {at left path made : ℕ} {a : Collected} (o : Name) (g : Registry) (z : left ≡ 0 → ⊥)
-    (f : Behind s xs at made vs zs a (collectPaths o (nameAt s path ∷ []) g)) where
+module _ {s xs ws vs zs : List ℕ} {left path : ℕ} {c a : Collected} (o : Name) (z : 0 < left) (f : Behind s xs c ws vs zs a (collect-paths o (nameAt s path ∷ []))) where
   -- the first path was refused
-  pub paths-stop : (a .number ≡ 0 → ⊥) → (l : Entries s Item.names left path) → Behind s xs at made vs zs a (collectPaths o (textsOf (l .got .0)) g)
-  paths-stop y l before e = rw (first-path z l o before g) (stopped _ (f before e) y)
+  pub paths-stop : (a .number ≡ 0 → ⊥) → (l : Entries s Item.names left path) → Behind s xs c ws vs zs a (collect-paths o (textsOf (l .got .0)))
+  paths-stop y l = walk-stops (paths-walk o) (next-path z l) f y
 
   -- the first path's argument, then those of the others
-  pub paths-go : {us ys : List ℕ} {u : ℕ} {r : Collected} → a .number ≡ 0 → u ≡ le2 s path →
-      ((l : Entries s Item.names (left - 1) (path + 2 + u)) → Behind s zs (a .at) (a .made) us ys r (collectPaths o (textsOf (l .got .0)) (entriesOf s vs (a .count)))) →
-      (l : Entries s Item.names left path) → Behind s xs at made us ys r (collectPaths o (textsOf (l .got .0)) g)
-  paths-go y eu h l before e = rw (first-path z l o before g) (joined _ (f before e) y ((rw eu at h) (next-path z l .rest)))
+  pub paths-go : {us ys : List ℕ} {q : ℕ} {r : Collected} → a .number ≡ 0 → q ≡ path + 2 + le2 s path →
+      ((l : Entries s Item.names (left - 1) q) → Behind s zs a vs us ys r (collect-paths o (textsOf (l .got .0)))) →
+      (l : Entries s Item.names left path) → Behind s xs c ws us ys r (collect-paths o (textsOf (l .got .0)))
+  paths-go y e h l = walk-goes (paths-walk o) (next-path z l) f y ((rw e at h) (next-path z l .rest))
 
 -- ---- owners
 
-module _ {s : List ℕ} {left owner : ℕ} (z : left ≡ 0 → ⊥) (l : Listed s 37 37 left owner) where
+module _ {s : List ℕ} {left owner : ℕ} (z : 0 < left) (l : Listed s 37 37 left owner) where
   -- the next owner
   abbrev pub owner-here : Accepted s 37 37 owner
-  owner-here = block-entry l (omega arith) .child
+  owner-here = block-entry l z .child
+
+  -- the list behind it
+  abbrev pub next-owner : After l (tree owner-here) (owner + 4 + le4 s owner)
+  next-owner = block-entry l z .after
 
   -- it lies inside the set
   pub owner-inside : owner + 4 + le4 s owner ≤ length s
-  owner-inside = omega (arith, block-entry l (omega arith) .after .inside, l .fits)
+  owner-inside = omega (arith, next-owner .inside, l .fits)
 
-  -- the list behind it
-  owner-next : After l (tree owner-here) (owner + 4 + le4 s owner)
-  owner-next = block-entry l (omega arith) .after
-
-  -- the same, where the code goes on
-  pub owner-rest : {u : ℕ} → u ≡ le4 s owner → Listed s 37 37 (left - 1) (owner + 4 + u)
-  owner-rest e = rw e (owner-next .rest)
-
-  -- the definition on the list: the first owner, then the others
-  first-owner : {q : ℕ} (w : OwnerAt owner-here q) (before : List IrArgument) (g : Registry) →
-      collect-callee-arguments (entries ownerOf (l .got .0)) before g ≡
-      _andThen_ (collect-paths (nameAt s (owner + 6)) (textsOf (w .paths .list .got .0)) before g) (λ x. collect-callee-arguments (entries ownerOf (owner-next .rest .got .0)) (x .0) (x .1))
-  unfolding entries collect-callee-arguments _>>=_
-  first-owner w before g =
-      ap (λ (t : Tree). collect-callee-arguments (entries ownerOf t) before g) (owner-next .tree)
-      ∙ ap (λ (o : Owner). _andThen_
-      (collect-paths (o .name) (o .paths) before g)
-      (λ x. collect-callee-arguments (entries ownerOf (owner-next .rest .got .0)) (x .0) (x .1)))
-      (w .is)
-
--- no owner is left
-pub owners-none : {s xs ws : List ℕ} {at n left owner made : ℕ} → left ≡ 0 → (l : Listed s 37 37 left owner) →
-    Behind s xs at made ws xs (record { at = at; count = n; made = made; number = 0 }) (collectOwners (entries ownerOf (l .got .0)) (entriesOf s ws n))
-unfolding entries collect-callee-arguments give
-owners-none z l before e = rw (none-left l (omega arith)) (collects-none e)
-
-module _ {s xs vs zs : List ℕ} {at left owner q count made : ℕ} {a : Collected} (g : Registry) (z : left ≡ 0 → ⊥)
-    (w : (b : Accepted s 37 37 owner) → OwnerAt b q) (ef : count ≡ le2 s q)
-    (f : (l : Entries s Item.names count (q + 2)) → Behind s xs at made vs zs a (collectPaths (nameAt s (owner + 6)) (textsOf (l .got .0)) g)) where
+module _ {s xs ws vs zs : List ℕ} {left owner q count : ℕ} {c a : Collected} (z : 0 < left) (w : (b : Accepted s 37 37 owner) → OwnerAt b q) (ec : count ≡ le2 s q)
+    (f : (l : Entries s Item.names count (q + 2)) → Behind s xs c ws vs zs a (collect-paths (nameAt s (owner + 6)) (textsOf (l .got .0)))) where
   -- the arguments of the first owner
-  of-owner : (l : Listed s 37 37 left owner) →
-      Behind s xs at made vs zs a (collectPaths (nameAt s (owner + 6)) (textsOf (w (owner-here z l) .paths .list .got .0)) g)
-  of-owner l = (rw ef at f) (w (owner-here z l) .paths .list)
+  of-owner : (b : Accepted s 37 37 owner) → Behind s xs c ws vs zs a (collect-paths (ownerOf (tree b) .name) (ownerOf (tree b) .paths))
+  of-owner b = subst (λ (o : Owner). Behind s xs c ws vs zs a (collect-paths (o .name) (o .paths))) (sym (w b .is)) ((rw ec at f) (w b .paths .list))
 
   -- the first owner was refused
-  pub owners-stop : (a .number ≡ 0 → ⊥) → (l : Listed s 37 37 left owner) → Behind s xs at made vs zs a (collectOwners (entries ownerOf (l .got .0)) g)
-  owners-stop y l before e = rw (first-owner z l (w (owner-here z l)) before g) (stopped _ (of-owner l before e) y)
+  pub owners-stop : (a .number ≡ 0 → ⊥) → (l : Listed s 37 37 left owner) → Behind s xs c ws vs zs a (collect-callee-arguments (entries ownerOf (l .got .0)))
+  owners-stop y l = walk-stops owners-walk (next-owner z l) (of-owner (owner-here z l)) y
 
   -- the first owner's arguments, then those of the others
-  pub owners-go : {us ys : List ℕ} {u : ℕ} {r : Collected} → a .number ≡ 0 → u ≡ le4 s owner →
-      ((l : Listed s 37 37 (left - 1) (owner + 4 + u)) → Behind s zs (a .at) (a .made) us ys r (collectOwners (entries ownerOf (l .got .0)) (entriesOf s vs (a .count)))) →
-      (l : Listed s 37 37 left owner) → Behind s xs at made us ys r (collectOwners (entries ownerOf (l .got .0)) g)
-  owners-go y eu h l before e =
-      rw (first-owner z l (w (owner-here z l)) before g) (joined _ (of-owner l before e) y ((rw eu at h) (owner-next z l .rest)))
+  pub owners-go : {us ys : List ℕ} {p : ℕ} {r : Collected} → a .number ≡ 0 → p ≡ owner + 4 + le4 s owner →
+      ((l : Listed s 37 37 (left - 1) p) → Behind s zs a vs us ys r (collect-callee-arguments (entries ownerOf (l .got .0)))) →
+      (l : Listed s 37 37 left owner) → Behind s xs c ws us ys r (collect-callee-arguments (entries ownerOf (l .got .0)))
+  owners-go y e h l = walk-goes owners-walk (next-owner z l) (of-owner (owner-here z l)) y ((rw e at h) (next-owner z l .rest))
 
 -- ---- counting
 
@@ -269,26 +222,17 @@ pub count-begin : {s : List ℕ} (b : ℕ) {left : ℕ} → Accepted s 32 32 b �
 count-begin b a e = rw e (starts (λ t. record { is = omega arith }) (owners-list a))
 
 module _ {s : List ℕ} (b : ℕ) {left at n : ℕ} where
-  -- the next owner
-  pub count-here : 0 < left → Count s b left at n → Accepted s 37 37 at
-  count-here h c = block-entry (c .here) h .child
-
-  -- it lies inside the set
-  pub count-inside : 0 < left → Count s b left at n → at + 4 + le4 s at ≤ length s
-  count-inside h c = omega (arith, block-entry (c .here) h .after .inside, c .here .fits)
-
   -- its paths are counted
-  pub count-next : {q u v : ℕ} → 0 < left → ((a : Accepted s 37 37 at) → OwnerAt a q) → u ≡ le2 s q → v ≡ le4 s at → Count s b left at n →
-      Count s b (left - 1) (at + 4 + v) (n + u)
+  pub count-next : {p q u : ℕ} → 0 < left → ((a : Accepted s 37 37 at) → OwnerAt a q) → u ≡ le2 s q → p ≡ at + 4 + le4 s at → Count s b left at n →
+      Count s b (left - 1) p (n + u)
   unfolding entries pathsIn
-  count-next {q} {u} {v} h w eu ev c =
-      rw ev (steps (λ r. tree (block-entry r h .child)) (λ r. block-entry r h .after) (λ r x y p. record { is = p .is ∙ one r y }) c)
+  count-next {p} {q} {u} h w eu ep c =
+      rw ep (steps (λ r. tree (owner-here h r)) (λ r. next-owner h r) (λ r x y p. record { is = p .is ∙ one r y }) c)
     where
-      one : (r : Listed s 37 37 left at) (y : Tree) →
-          n + pathsIn (entries ownerOf (cons (tree (block-entry r h .child)) y)) ≡ n + u + pathsIn (entries ownerOf y)
+      one : (r : Listed s 37 37 left at) (y : Tree) → n + pathsIn (entries ownerOf (cons (tree (owner-here h r)) y)) ≡ n + u + pathsIn (entries ownerOf y)
       one r y =
-          let o = w (block-entry r h .child) in
-          let l : length (ownerOf (tree (block-entry r h .child)) .paths) ≡ le2 s q = ap (λ (z : Owner). length (z .paths)) (o .is)
+          let o = w (owner-here h r) in
+          let l : length (ownerOf (tree (owner-here h r)) .paths) ≡ le2 s q = ap (λ (z : Owner). length (z .paths)) (o .is)
           ∙ texts-count (o .paths .list) in
           omega (arith, l, eu)
 
@@ -307,57 +251,54 @@ paths-list e p = rw e (p .list)
 pub owners-at : {s : List ℕ} {q left : ℕ} → left ≡ le2 s (q + 6) → Accepted s 32 32 q → Listed s 37 37 left (q + 6 + 2)
 owners-at e a = rw e (owners-list a)
 
-module _ {s x₃ x₄ us : List ℕ} {v callee left : ℕ} {h : TypeHead} {r : Collected} (g : Registry)
+module _ {s x₃ x₄ ws us : List ℕ} {callee left : ℕ} {h : TypeHead} {c r : Collected} (m : c .made ≡ 0)
     (hd : (a : Accepted s 1 7 callee) → HeadAt a h) (el : left ≡ le2 s (h .references + 6))
-    (f : (l : Listed s 37 37 left (h .references + 6 + 2)) → Behind s x₃ v 0 us x₄ r (collectOwners (entries ownerOf (l .got .0)) g)) where
+    (f : (l : Listed s 37 37 left (h .references + 6 + 2)) → Behind s x₃ c ws us x₄ r (collect-callee-arguments (entries ownerOf (l .got .0)))) where
   -- the arguments of a call are those of its type's references
-  call-arguments : (a : Accepted s 1 7 callee) → Collects s x₃ v [] us x₄ r (collect-callee-arguments (head (typeOf (tree a)) .dynamic-params) [] g)
+  call-arguments : (a : Accepted s 1 7 callee) →
+      Collects s x₃ c [] us x₄ r (collect-callee-arguments (head (typeOf (tree a)) .dynamic-params) [] (entriesOf s ws (c .count)))
   call-arguments a =
-      rw (hd a .owners, owners-are (hd a .references)) ((rw el at f) (owners-list (hd a .references)) [] refl)
+      rw (hd a .owners, owners-are (hd a .references)) ((rw el at f) (owners-list (hd a .references)) .collects [] (sym m))
 
   module _ {xs ys : List ℕ} {at : ℕ} (nm : List ℕ) (alignment : ℕ) where
     -- an argument was refused
-    pub call-stop : {q c : ℕ} → (r .number ≡ 0 → ⊥) → (a : Accepted s 1 7 callee) →
-        Builds s xs at us ys (record { at = q; count = c; number = r .number }) (callOf (typeOf (tree a)) nm alignment g)
+    pub call-stop : {q n : ℕ} → (r .number ≡ 0 → ⊥) → (a : Accepted s 1 7 callee) →
+        Builds s xs at us ys (record { at = q; count = n; number = r .number }) (callOf (typeOf (tree a)) nm alignment (entriesOf s ws (c .count)))
     unfolding callOf
-    call-stop z a =
-        let d = collects-refused z (call-arguments a) in
-        rw (step-refused _ _ g (d .0)) (Builds.not (r .number) refl (d .1))
+    call-stop z a = step-passes _ _ _ refl z (call-arguments a)
 
     -- the bytes of the call
     call-puts : {x₁ x₂ : List ℕ} {p u q : ℕ} (count : ℕ) (as′ : List IrArgument) → count ≡ length as′ →
-        Wrote xs at (nodeStart 133 alignment) x₁ p → Wrote x₁ p (write (name nm)) x₂ u → Wrote x₂ u (bytes 2 count) x₃ v →
-        Wrote x₃ v (write (entriesTree argumentTree as′)) x₄ (r .at) → Wrote x₄ at (bytes 4 (r .at - at - 4)) ys q →
+        Wrote xs at (nodeStart 133 alignment) x₁ p → Wrote x₁ p (textFlag true (codeAt 133 2) ++ write (name nm)) x₂ u →
+        Wrote x₂ u (countPart (codeAt 133 3) count) x₃ (c .at) → Wrote x₃ (c .at) (write (entriesTree argumentTree as′)) x₄ (r .at) →
+        Wrote x₄ at (bytes 4 (r .at - at - 4)) ys q →
         Wrote xs at (write (nodeTree (IrNode.CallNested unplaced (aligned alignment) nm as′))) ys (r .at)
-    unfolding nodeTree write
+    unfolding nodeTree
     call-puts {x₂} {u} count as′ e w₁ w₂ w₃ w₄ w₅ =
-        let w : Wrote x₂ u (bytes 2 (length as′)) x₃ v = subst (λ (k : ℕ). Wrote x₂ u (bytes 2 k) x₃ v) e w₃ in
         node-closed 133 alignment
         (cons (name nm) (cons (listTree argumentTree as′) nil)) w₁
-        (parts
-        (name nm)
-        (cons (listTree argumentTree as′) nil) w₂
-        (parts (listTree argumentTree as′) nil (parts (num 2 (length as′)) (entriesTree argumentTree as′) w w₄) (no-parts x₄ (r .at)))) w₅
+        (parts (name nm) (cons (listTree argumentTree as′) nil) (call-name nm w₂)
+        (parts (listTree argumentTree as′) nil
+        (parts (num 2 (length as′)) (entriesTree argumentTree as′) (call-count (length as′) (rw e at w₃)) w₄) (no-parts x₄ (r .at)))) w₅
 
     -- the call was written
     pub call-done : {x₁ x₂ : List ℕ} {p u q : ℕ} (count : ℕ) →
         ((a : Accepted s 32 32 (h .references)) → count ≡ pathsIn (ownersOf (tree a))) → Wrote xs at (nodeStart 133 alignment) x₁ p →
-        Wrote x₁ p (write (name nm)) x₂ u → Wrote x₂ u (bytes 2 count) x₃ v → r .number ≡ 0 → Wrote x₄ at (bytes 4 (r .at - at - 4)) ys q →
-        (a : Accepted s 1 7 callee) →
-        Builds s xs at us ys (record { at = r .at; count = r .count; number = 0 }) (callOf (typeOf (tree a)) nm alignment g)
+        Wrote x₁ p (textFlag true (codeAt 133 2) ++ write (name nm)) x₂ u → Wrote x₂ u (countPart (codeAt 133 3) count) x₃ (c .at) →
+        r .number ≡ 0 → Wrote x₄ at (bytes 4 (r .at - at - 4)) ys q → (a : Accepted s 1 7 callee) →
+        Builds s xs at us ys (record { at = r .at; count = r .count; number = 0 }) (callOf (typeOf (tree a)) nm alignment (entriesOf s ws (c .count)))
     unfolding callOf give
     call-done count ef w₁ w₂ w₃ z w₅ a =
-        let d = collects-done z (call-arguments a) in
-        let m = owners-count (head (typeOf (tree a)) .dynamic-params) [] g _ (d .1) in
-        let e : count ≡ length (d .0) = omega (arith, m, ef (hd a .references), ap pathsIn (hd a .owners)) in
-        rw (step-done _ _ g (d .1))
-        (Builds.made (IrNode.CallNested unplaced (aligned alignment) nm (d .0), entriesOf s us (r .count)) refl refl
-        (call-puts count (d .0) e w₁ w₂ w₃ (d .3) w₅))
+        let (y, d, k) = answered z (call-arguments a) in
+        let i = owners-count (head (typeOf (tree a)) .dynamic-params) [] (entriesOf s ws (c .count)) y d in
+        let e : count ≡ length (k .new) = omega (arith, i, ef (hd a .references), ap pathsIn (hd a .owners), ap length (k .are)) in
+        rw (step-done _ _ (entriesOf s ws (c .count)) d, k .are)
+        (AnswersIn.made _ refl (record { entries = k .entries; wrote = call-puts count (k .new) e w₁ w₂ w₃ (k .bytes) w₅ }))
 
 -- where a call ends: the head of its node, the name, the count of arguments, and the arguments
-pub call-ends : {at p u v k : ℕ} {r : Collected} → p ≡ at + 15 → u ≡ p + (2 + k) → v ≡ u + 2 → k ≤ 255 → Fills v 0 r →
+pub call-ends : {at p u k : ℕ} {c r : Collected} → p ≡ at + 15 → (p ≤ u) × (u ≤ p + 3 + k) → (u ≤ c .at) × (c .at ≤ u + 2) → k ≤ 255 → c .made ≡ 0 → Fills c r →
     Within at (2 ^ 19) (record { at = r .at; count = r .count; number = 0 })
-call-ends ep eu ev h f = record { low = omega arith; high = omega arith; count = f .count }
+call-ends ep eu ev h m f = record { low = omega (arith, f .low); high = omega (arith, f .high, f .most); count = f .count }
 
 -- ---- a type reference
 
@@ -402,7 +343,7 @@ module _ {s : List ℕ} {kind q : ℕ} {nm : List ℕ} {f : Found} (g : Registry
       readSet s ≡ done t → kindOf (typeOf (tree a)) ≡ ResolvedTypeKind.TypeRef target →
       Builds s xs at us ys (record { at = p; count = c; number = 15 }) (build-typeref-node (typesOf t) (head (typeOf (tree a))) target g)
   typeref-missing e t a target d i =
-      rw (← target-is a i, typeref-none (typesOf t) (head (typeOf (tree a))) nm g (found-none e (k t d))) (Builds.not 15 refl (omega arith))
+      rw (← target-is a i, typeref-none (typesOf t) (head (typeOf (tree a))) nm g (found-none e (k t d))) (AnswersIn.not 15 refl (omega arith))
 
   -- the call of the type that was found
   pub typeref-done : {xs us ys : List ℕ} {at : ℕ} {h : TypeHead} {callee : ℕ} {r : Built} → ((a : Accepted s 1 7 kind) → HeadAt a h) →

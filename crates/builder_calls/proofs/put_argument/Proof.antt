@@ -8,131 +8,130 @@ use Rattle.builder_calls.proofs.Laws.{argument-ends, argument-long, arg
 use Rattle.builder_calls.proofs.put_argument.Statement.{statement}
 use Rattle.builder_calls.proofs.put_argument.Tie as tie
 
-name-at-requires : tie.Need-name-at-requires
-name-at-requires c κs = search needs
-
-name-at-requires-2 : tie.Need-name-at-requires-2
-name-at-requires-2 c κs = search needs
-
-canonical-length-requires : tie.Need-canonical-length-requires
-canonical-length-requires c κs = search needs
-
 -- The places, each seen from a later one: what was known there.
-abbrev at-canonical-length : tie.Else1 → tie.After-canonical-length
-at-canonical-length r = r .before
+abbrev start : tie.After-name-at → tie.Start
+start r = r .before .before .before .before
 
-abbrev at-name-at2 : tie.Else1 → tie.After-name-at2
-at-name-at2 r = at-canonical-length r .before
+abbrev first-name : tie.After-canonical-length → tie.After-name-at
+first-name r = r .before .before
 
-abbrev at-name-at : tie.Else1 → tie.After-name-at
-at-name-at r = at-name-at2 r .before
+abbrev measured : tie.After-ensure → tie.After-canonical-length
+measured r = r .before .before .before
 
-abbrev at-start : tie.Else1 → tie.Start
-at-start r = at-name-at r .before .before .before .before
+abbrev entered : tie.After-open-block → tie.After-ensure
+entered r = r .before .before .before .before .before .before .before .before
 
 returns : tie.Need-returns
 returns c =
-    let at-name-at2 = c .before .before in
-    let at-name-at = at-name-at2 .before in
-    let at-start = at-name-at .before .before .before .before in (
+    let at-canonical-length = c .before in
+    let at-name-at2 = at-canonical-length .before in
+    let at-name-at = first-name at-canonical-length in
+    let at-start = start at-name-at in (
       fills-none (at-start .pre .room),
-      argument-long _ _ _ _ _ _ _ _ _
+      argument-long _ _ _ _ _ _
           (at-name-at .name-at .ensures)
           (at-name-at2 .name-at2 .ensures)
-          (c .before .canonical-length .ensures)
+          (at-canonical-length .canonical-length .ensures)
           (c .if1 .taken),
     )
 
 ensure-requires : tie.Need-ensure-requires
 ensure-requires c κs =
-    let at-else1 = c .before in (
-      at-start at-else1 .pre .room .standing,
-      omega (
-        arith,
-        at-start at-else1 .pre .owned .inside,
-        at-start at-else1 .pre .room .standing .size,
-      ),
-      omega (
-        arith,
-        at-start at-else1 .pre .named .inside,
-        at-start at-else1 .pre .room .standing .size,
-      ),
+    let at-canonical-length = c .before .before in
+    let at-name-at = first-name at-canonical-length in
+    let at-start = start at-name-at in (
+      at-start .pre .room .standing,
+      omega (arith, at-start .pre .owned .inside, at-start .pre .room .standing .size),
+      omega (arith, at-start .pre .named .inside, at-start .pre .room .standing .size),
     )
-
-same-length : tie.Need-same-length
-same-length c = search needs
 
 returns-2 : tie.Need-returns-2
 returns-2 c =
     let at-ensure = c .before .before .before .before in
-    let at-else1 = at-ensure .before .before in (
-      fills-none (at-start at-else1 .pre .room),
-      argument-full _ _ _ _ _ _ _ _ _
-          (at-name-at at-else1 .name-at .ensures)
-          (at-name-at2 at-else1 .name-at2 .ensures) _ _ _
-          (at-start at-else1 .pre .owned)
-          (at-start at-else1 .pre .named)
-          (at-canonical-length at-else1 .canonical-length .ensures)
+    let at-else1 = at-ensure .before .before in
+    let at-canonical-length = measured at-ensure in
+    let at-name-at2 = at-canonical-length .before in
+    let at-name-at = first-name at-canonical-length in
+    let at-start = start at-name-at in (
+      fills-none (at-start .pre .room),
+      argument-full _ _ _ _ _ _
+          (at-name-at .name-at .ensures)
+          (at-name-at2 .name-at2 .ensures)
+          (at-start .pre .owned)
+          (at-start .pre .named)
+          (at-canonical-length .canonical-length .ensures)
           (at-else1 .if1 .left)
           (at-ensure .ensure .ensures .1)
           (c .if2 .taken),
     )
 
-same-length-2 : tie.Need-same-length-2
-same-length-2 c = search needs
-
 returns-3 : tie.Need-returns-3
 returns-3 c =
-    let at-ensure = c .before .before .before .before .before in
-    let at-else1 = at-ensure .before .before in (
-      fills-none (at-start at-else1 .pre .room),
-      argument-many _ _ _ _ _ _ _ _ _
-          (at-name-at at-else1 .name-at .ensures)
-          (at-name-at2 at-else1 .name-at2 .ensures) _ _ _
-          (at-start at-else1 .pre .owned)
-          (at-start at-else1 .pre .named)
-          (at-canonical-length at-else1 .canonical-length .ensures)
+    let at-else2 = c .before .before in
+    let at-ensure = at-else2 .before .before .before .before in
+    let at-else1 = at-ensure .before .before in
+    let at-canonical-length = measured at-ensure in
+    let at-name-at2 = at-canonical-length .before in
+    let at-name-at = first-name at-canonical-length in
+    let at-start = start at-name-at in (
+      fills-none (at-start .pre .room),
+      argument-many _ _ _ _ _ _
+          (at-name-at .name-at .ensures)
+          (at-name-at2 .name-at2 .ensures)
+          (at-start .pre .owned)
+          (at-start .pre .named)
+          (at-canonical-length .canonical-length .ensures)
           (at-else1 .if1 .left)
           (at-ensure .ensure .ensures .1)
-          (c .before .if2 .left)
+          (at-else2 .if2 .left)
           (c .if3 .taken),
     )
 
 open-block-requires : tie.Need-open-block-requires
 open-block-requires c κs =
-    let at-else1 = c .before .before .before .before .before .before .before .before in
-    omega (arith, at-start at-else1 .pre .room .cursor, at-start at-else1 .pre .room .most)
+    let at-ensure = c .before .before .before .before .before .before .before in
+    let at-canonical-length = measured at-ensure in
+    let at-name-at = first-name at-canonical-length in
+    let at-start = start at-name-at in
+    omega (arith, at-start .pre .room .cursor, at-start .pre .room .most)
 
 put-canonical-name-requires : tie.Need-put-canonical-name-requires
 put-canonical-name-requires c κs =
     let at-open-block = c .before .before .before in
-    let at-else1 = at-open-block .before .before .before .before .before .before .before .before .before in
-    let known = at-start at-else1 .pre in
+    let at-ensure = entered at-open-block in
+    let at-canonical-length = measured at-ensure in
+    let at-name-at2 = at-canonical-length .before in
+    let at-name-at = first-name at-canonical-length in
+    let at-start = start at-name-at in
     omega (
       arith,
       at-open-block .open-block .ensures .1,
-      known .room .cursor,
-      known .room .most,
-      short-name _ (at-name-at at-else1 .name-at .ensures) (known .owned),
-      short-name _ (at-name-at2 at-else1 .name-at2 .ensures) (known .named),
+      at-start .pre .room .cursor,
+      at-start .pre .room .most,
+      short-name _ (at-name-at .name-at .ensures) (at-start .pre .owned),
+      short-name _ (at-name-at2 .name-at2 .ensures) (at-start .pre .named),
     )
 
 put-canonical-name-requires-2 : tie.Need-put-canonical-name-requires-2
 put-canonical-name-requires-2 c κs =
     let at-put-canonical-name = c .before .before .before in
     let at-open-block = at-put-canonical-name .before .before .before .before in
-    let at-else1 = at-open-block .before .before .before .before .before .before .before .before .before in
-    let known = at-start at-else1 .pre in
+    let at-ensure = entered at-open-block in
+    let at-else1 = at-ensure .before .before in
+    let at-canonical-length = measured at-ensure in
+    let at-name-at2 = at-canonical-length .before in
+    let at-name-at = first-name at-canonical-length in
+    let at-start = start at-name-at in
     omega (
       arith,
       at-put-canonical-name .put-canonical-name .ensures .1,
-      at-canonical-length at-else1 .canonical-length .ensures,
+      at-canonical-length .canonical-length .ensures,
       at-else1 .if1 .left,
       at-open-block .open-block .ensures .1,
-      known .room .cursor,
-      known .room .most,
-      short-name _ (at-name-at at-else1 .name-at .ensures) (known .owned),
-      short-name _ (at-name-at2 at-else1 .name-at2 .ensures) (known .named),
+      at-start .pre .room .cursor,
+      at-start .pre .room .most,
+      short-name _ (at-name-at .name-at .ensures) (at-start .pre .owned),
+      short-name _ (at-name-at2 .name-at2 .ensures) (at-start .pre .named),
     )
 
 close-block-requires : tie.Need-close-block-requires
@@ -141,13 +140,16 @@ close-block-requires c κs =
     let at-put-canonical-name = at-put-canonical-name2 .before .before .before .before in
     let at-open-block = at-put-canonical-name .before .before .before .before in
     let at-else3 = at-open-block .before .before in
-    let at-ensure = at-else3 .before .before .before .before .before in
+    let at-ensure = entered at-open-block in
     let at-else1 = at-ensure .before .before in
-    let ends = argument-ends
+    let at-canonical-length = measured at-ensure in
+    let at-name-at = first-name at-canonical-length in
+    let at-start = start at-name-at in
+    let ends = argument-ends {c = at-start .args .c}
     (at-open-block .open-block .ensures .1)
     (at-put-canonical-name .put-canonical-name .ensures .1)
     (at-put-canonical-name2 .put-canonical-name2 .ensures .1)
-    (at-canonical-length at-else1 .canonical-length .ensures)
+    (at-canonical-length .canonical-length .ensures)
     (at-else1 .if1 .left)
     (at-else3 .if3 .left)
     (at-ensure .ensure .ensures .0) in (
@@ -157,47 +159,72 @@ close-block-requires c κs =
         at-put-canonical-name .put-canonical-name .ensures .1,
         at-open-block .open-block .ensures .1,
       ),
-      omega (arith, ends .high, at-start at-else1 .pre .room .cursor, at-start at-else1 .pre .room .most),
+      omega (arith, ends .high, at-start .pre .room .cursor, at-start .pre .room .most),
     )
 
-add-t15 : tie.Need-add-t15
-add-t15 c =
-    let at-else3 = c .before .before .before .before .before .before .before .before .before .before .before .before .before .before .before .before in
+add-t13 : tie.Need-add-t13
+add-t13 c =
+    let at-else3 = c .before .before .before .before .before .before .before .before .before .before .before .before .before .before .before .before .before in
     omega (arith, at-else3 .if3 .left)
+
+returns-4 : tie.Need-returns-4
+returns-4 c =
+    let at-close-block = c .before .before .before in
+    let at-put-canonical-name2 = at-close-block .before .before .before .before in
+    let at-put-canonical-name = at-put-canonical-name2 .before .before .before .before in
+    let at-open-block = at-put-canonical-name .before .before .before .before in
+    let at-else3 = at-open-block .before .before in
+    let at-else2 = at-else3 .before .before in
+    let at-ensure = entered at-open-block in
+    let at-else1 = at-ensure .before .before in
+    let at-canonical-length = measured at-ensure in
+    let at-name-at2 = at-canonical-length .before in
+    let at-name-at = first-name at-canonical-length in
+    let at-start = start at-name-at in (
+      argument-ends
+          (at-open-block .open-block .ensures .1)
+          (at-put-canonical-name .put-canonical-name .ensures .1)
+          (at-put-canonical-name2 .put-canonical-name2 .ensures .1)
+          (at-canonical-length .canonical-length .ensures)
+          (at-else1 .if1 .left)
+          (at-else3 .if3 .left)
+          (at-ensure .ensure .ensures .0),
+      argument-done _ _ _ _ _ _
+          (at-name-at .name-at .ensures)
+          (at-name-at2 .name-at2 .ensures)
+          (at-start .pre .owned)
+          (at-start .pre .named)
+          (at-canonical-length .canonical-length .ensures)
+          (at-else1 .if1 .left)
+          (at-ensure .ensure .ensures .1)
+          (at-else2 .if2 .left)
+          (at-else3 .if3 .left)
+          (at-open-block .open-block .ensures .0)
+          (at-put-canonical-name .put-canonical-name .ensures .0)
+          (at-put-canonical-name2 .put-canonical-name2 .ensures .0)
+          (at-close-block .close-block .ensures .0),
+    )
+
+name-at-requires : tie.Need-name-at-requires
+name-at-requires c κs = search needs
+
+name-at-requires-2 : tie.Need-name-at-requires-2
+name-at-requires-2 c κs = search needs
+
+canonical-length-requires : tie.Need-canonical-length-requires
+canonical-length-requires c κs = search needs
+
+same-length : tie.Need-same-length
+same-length c = search needs
+
+same-length-2 : tie.Need-same-length-2
+same-length-2 c = search needs
 
 same-length-3 : tie.Need-same-length-3
 same-length-3 c = search needs
 
 same-length-4 : tie.Need-same-length-4
 same-length-4 c = search needs
-
-returns-4 : tie.Need-returns-4
-returns-4 c =
-    let at-close-block = c .before .before in
-    let at-put-canonical-name2 = at-close-block .before .before .before .before in
-    let at-put-canonical-name = at-put-canonical-name2 .before .before .before .before in
-    let at-open-block = at-put-canonical-name .before .before .before .before in
-    let at-else3 = at-open-block .before .before in
-    let at-else2 = at-else3 .before in
-    let at-ensure = at-else2 .before .before .before .before in
-    let at-else1 = at-ensure .before .before in (
-      argument-ends
-          (at-open-block .open-block .ensures .1)
-          (at-put-canonical-name .put-canonical-name .ensures .1)
-          (at-put-canonical-name2 .put-canonical-name2 .ensures .1)
-          (at-canonical-length at-else1 .canonical-length .ensures)
-          (at-else1 .if1 .left)
-          (at-else3 .if3 .left)
-          (at-ensure .ensure .ensures .0),
-      argument-done _ _ _ _ _ _ _ _ _ (at-name-at at-else1 .name-at .ensures)
-          (at-name-at2 at-else1 .name-at2 .ensures) _ _ _ (at-start at-else1 .pre .owned)
-          (at-start at-else1 .pre .named) (at-canonical-length at-else1 .canonical-length .ensures)
-          (at-else1 .if1 .left) (at-ensure .ensure .ensures .1) (at-else2 .if2 .left)
-          (at-else3 .if3 .left) (at-open-block .open-block .ensures .0)
-          (at-put-canonical-name .put-canonical-name .ensures .0)
-          (at-put-canonical-name2 .put-canonical-name2 .ensures .0)
-          (at-close-block .close-block .ensures .0),
-    )
 
 pub put-argument-spec : {M : Type 1} → statement M
 put-argument-spec =
@@ -216,7 +243,7 @@ put-argument-spec =
     put-canonical-name-requires
     put-canonical-name-requires-2
     close-block-requires
-    add-t15
+    add-t13
     same-length-3
     same-length-4
     returns-4)

@@ -2,111 +2,134 @@
 -- that of the paths, found in a pass before; where collecting succeeds there is an argument for each path (`owners-count`), so it fits.
 use borrow.Author.Needs.{needs}
 use native.Mathlib.Omega.{arith}
+use mathlib.Core.Path.{refl}
 use Rattle.accepted.specs.Accepted.{Accepted}
 use Rattle.resolved_parts.proofs.Owners.{references-inside}
+use Rattle.builder_nodes.proofs.Laws.{stopped}
 use Rattle.builder_calls.proofs.Laws.{owners-at, call-ends, call-stop, call-done}
 use Rattle.builder_calls.proofs.put_call.Statement.{statement}
 use Rattle.builder_calls.proofs.put_call.Tie as tie
 
-type-head-requires : tie.Need-type-head-requires
-type-head-requires c κs = search needs
-
 -- The places, each seen from a later one: what was known there.
-abbrev at-open-node : tie.After-put-name → tie.After-open-node
-at-open-node r = r .before .before .before .before
+abbrev start : tie.After-type-head → tie.Start
+start r = r .before .before .before .before .before
 
-abbrev at-read2 : tie.After-put-name → tie.After-read2
-at-read2 r = at-open-node r .before .before
+abbrev head-read : tie.After-open-node → tie.After-type-head
+head-read r = r .before .before .before .before
 
-abbrev at-count-paths : tie.After-put-name → tie.After-count-paths
-at-count-paths r = at-read2 r .before
+abbrev node-open : tie.After-put-text-part → tie.After-open-node
+node-open r = r .before .before .before .before
 
-abbrev at-type-head : tie.After-put-name → tie.After-type-head
-at-type-head r = at-count-paths r .before
+abbrev name-put : tie.After-put-count-part → tie.After-put-text-part
+name-put r = r .before .before .before .before
 
-abbrev at-start : tie.After-put-name → tie.Start
-at-start r = at-type-head r .before .before .before .before .before
+abbrev count-put : tie.After-put-owners → tie.After-put-count-part
+count-put r = r .before .before .before .before .before
 
--- the references of the type that is called, and their count, which lies inside the set
-references : (r : tie.After-type-head) → Accepted (r .before .before .before .before .before .args .s .now) 32 32 (r .type-head .result .references)
-references r = r .type-head .ensures (r .before .before .before .before .before .pre .type-at) .references
+-- the references of the type that is called
+references : (r : tie.After-type-head) → Accepted (start r .args .s .now) 32 32 (r .type-head .result .references)
+references r = r .type-head .ensures (start r .pre .type-at) .references
 
 count-paths-requires : tie.Need-count-paths-requires
-count-paths-requires c κs = references c
+count-paths-requires c κs =
+    let at-start = start c in
+    (references c, at-start .pre .standing .size)
 
 add-read2 : tie.Need-add-read2
-add-read2 c = omega (arith, references-inside (references (c .before)))
+add-read2 c =
+    let at-type-head = c .before in
+    omega (arith, references-inside (references at-type-head))
 
 read2-requires : tie.Need-read2-requires
-read2-requires c κs = omega (arith, references-inside (references (c .before)))
+read2-requires c κs =
+    let at-type-head = c .before in
+    omega (arith, references-inside (references at-type-head))
 
-open-node-requires : tie.Need-open-node-requires
-open-node-requires c κs = search needs
-
-put-name-requires : tie.Need-put-name-requires
-put-name-requires c κs =
+put-text-part-requires : tie.Need-put-text-part-requires
+put-text-part-requires c κs =
     let at-open-node = c .before .before .before in
-    let at-start = at-open-node .before .before .before .before .before .before .before .before .before in
-    omega (arith, at-open-node .open-node .ensures .1, at-start .pre .cursor, at-start .pre .short)
+    let at-type-head = head-read at-open-node in
+    let at-start = start at-type-head in (
+      omega (arith, at-open-node .open-node .ensures .1, at-start .pre .cursor, at-start .pre .short),
+      omega arith,
+      omega arith,
+      omega arith,
+    )
 
-put-le-requires : tie.Need-put-le-requires
-put-le-requires c κs =
-    let at-put-name = c .before .before .before in
-    omega (
-      arith,
-      at-put-name .put-name .ensures .1,
-      at-open-node at-put-name .open-node .ensures .1,
-      at-start at-put-name .pre .cursor,
-      at-start at-put-name .pre .short,
+put-count-part-requires : tie.Need-put-count-part-requires
+put-count-part-requires c κs =
+    let at-put-text-part = c .before .before .before in
+    let at-open-node = node-open at-put-text-part in
+    let at-type-head = head-read at-open-node in
+    let at-start = start at-type-head in (
+      omega (
+        arith,
+        at-put-text-part .put-text-part .ensures .1 .1,
+        at-open-node .open-node .ensures .1,
+        at-start .pre .cursor,
+        at-start .pre .short,
+      ),
+      omega arith,
+      omega arith,
+      omega arith,
     )
 
 add-put-owners : tie.Need-add-put-owners
 add-put-owners c =
-    let at-type-head = c .before .before .before .before .before .before .before .before .before .before .before .before .before .before .before in
-    omega (arith, references-inside (references at-type-head))
+    let at-put-count-part = c .before .before .before in
+    let at-put-text-part = name-put at-put-count-part in
+    let at-open-node = node-open at-put-text-part in
+    let at-type-head = head-read at-open-node in
+    let at-start = start at-type-head in
+    omega (arith, references-inside (references at-type-head), at-start .pre .standing .size)
 
 add-put-owners-2 : tie.Need-add-put-owners-2
 add-put-owners-2 c =
-    let at-type-head = c .before .before .before .before .before .before .before .before .before .before .before .before .before .before .before in
-    omega (arith, references-inside (references at-type-head))
+    let at-put-count-part = c .before .before .before in
+    let at-put-text-part = name-put at-put-count-part in
+    let at-open-node = node-open at-put-text-part in
+    let at-type-head = head-read at-open-node in
+    let at-start = start at-type-head in
+    omega (arith, references-inside (references at-type-head), at-start .pre .standing .size)
 
 put-owners-requires : tie.Need-put-owners-requires
 put-owners-requires c κs =
-    let at-put-le = c .before .before .before .before in
-    let at-put-name = at-put-le .before .before .before .before in record {
+    let at-put-count-part = c .before .before .before .before in
+    let at-put-text-part = name-put at-put-count-part in
+    let at-open-node = node-open at-put-text-part in
+    let at-read2 = at-open-node .before .before in
+    let at-type-head = head-read at-open-node in
+    let at-start = start at-type-head in
+    record {
       room = record {
-        standing = at-start at-put-name .pre .standing;
+        standing = at-start .pre .standing;
         most = omega arith;
         cursor = omega (
           arith,
-          at-put-le .put-le .ensures .1,
-          at-put-name .put-name .ensures .1,
-          at-open-node at-put-name .open-node .ensures .1,
-          at-start at-put-name .pre .cursor,
-          at-start at-put-name .pre .short,
+          at-put-count-part .put-count-part .ensures .1 .1,
+          at-put-text-part .put-text-part .ensures .1 .1,
+          at-open-node .open-node .ensures .1,
+          at-start .pre .cursor,
+          at-start .pre .short,
         );
+        goes = refl;
       };
-      list = owners-at (at-read2 at-put-name .read2 .ensures .0) (references (at-type-head at-put-name));
+      list = owners-at (at-read2 .read2 .ensures .0) (references at-type-head);
     }
-
-same-length : tie.Need-same-length
-same-length c = search needs
-
-same-length-2 : tie.Need-same-length-2
-same-length-2 c = search needs
 
 returns : tie.Need-returns
 returns c =
     let at-put-owners = c .before .before .before .before .before .before in
-    let at-put-name = at-put-owners .before .before .before .before .before .before .before .before .before in (
-      record {
-        low = omega arith;
-        high = omega arith;
-        count = at-start at-put-name .pre .standing .count;
-      },
-      call-stop _
-          (at-type-head at-put-name .type-head .ensures)
-          (at-read2 at-put-name .read2 .ensures .0)
+    let at-put-count-part = count-put at-put-owners in
+    let at-put-text-part = name-put at-put-count-part in
+    let at-open-node = node-open at-put-text-part in
+    let at-read2 = at-open-node .before .before in
+    let at-type-head = head-read at-open-node in
+    let at-start = start at-type-head in (
+      stopped (at-start .pre .standing .count),
+      call-stop refl
+          (at-type-head .type-head .ensures)
+          (at-read2 .read2 .ensures .0)
           (at-put-owners .put-owners .ensures .1) _ _
           (c .if1 .taken),
     )
@@ -114,54 +137,74 @@ returns c =
 close-block-requires : tie.Need-close-block-requires
 close-block-requires c κs =
     let at-put-owners = c .before .before .before .before .before .before .before in
-    let at-put-le = at-put-owners .before .before .before .before .before in
-    let at-put-name = at-put-le .before .before .before .before in
+    let at-put-count-part = count-put at-put-owners in
+    let at-put-text-part = name-put at-put-count-part in
+    let at-open-node = node-open at-put-text-part in
+    let at-type-head = head-read at-open-node in
+    let at-start = start at-type-head in
     let ends = call-ends
-    (at-open-node at-put-name .open-node .ensures .1)
-    (at-put-name .put-name .ensures .1)
-    (at-put-le .put-le .ensures .1)
-    (at-start at-put-name .pre .short)
+    (at-open-node .open-node .ensures .1)
+    (at-put-text-part .put-text-part .ensures .1)
+    (at-put-count-part .put-count-part .ensures .1)
+    (at-start .pre .short) refl
     (at-put-owners .put-owners .ensures .0) in (
       omega (
         arith,
         at-put-owners .put-owners .ensures .0 .low,
-        at-put-le .put-le .ensures .1,
-        at-put-name .put-name .ensures .1,
-        at-open-node at-put-name .open-node .ensures .1,
+        at-put-count-part .put-count-part .ensures .1 .0,
+        at-put-text-part .put-text-part .ensures .1 .0,
+        at-open-node .open-node .ensures .1,
       ),
-      omega (arith, ends .high, at-start at-put-name .pre .cursor),
+      omega (arith, ends .high, at-start .pre .cursor),
     )
-
-same-length-3 : tie.Need-same-length-3
-same-length-3 c = search needs
-
-same-length-4 : tie.Need-same-length-4
-same-length-4 c = search needs
 
 returns-2 : tie.Need-returns-2
 returns-2 c =
     let at-close-block = c .before .before in
     let at-else1 = at-close-block .before .before in
     let at-put-owners = at-else1 .before .before .before .before .before .before in
-    let at-put-le = at-put-owners .before .before .before .before .before in
-    let at-put-name = at-put-le .before .before .before .before in (
+    let at-put-count-part = count-put at-put-owners in
+    let at-put-text-part = name-put at-put-count-part in
+    let at-open-node = node-open at-put-text-part in
+    let at-read2 = at-open-node .before .before in
+    let at-count-paths = at-read2 .before in
+    let at-type-head = head-read at-open-node in
+    let at-start = start at-type-head in (
       call-ends
-          (at-open-node at-put-name .open-node .ensures .1)
-          (at-put-name .put-name .ensures .1)
-          (at-put-le .put-le .ensures .1)
-          (at-start at-put-name .pre .short)
+          (at-open-node .open-node .ensures .1)
+          (at-put-text-part .put-text-part .ensures .1)
+          (at-put-count-part .put-count-part .ensures .1)
+          (at-start .pre .short) refl
           (at-put-owners .put-owners .ensures .0),
-      call-done _
-          (at-type-head at-put-name .type-head .ensures)
-          (at-read2 at-put-name .read2 .ensures .0)
+      call-done refl
+          (at-type-head .type-head .ensures)
+          (at-read2 .read2 .ensures .0)
           (at-put-owners .put-owners .ensures .1) _ _ _
-          (at-count-paths at-put-name .count-paths .ensures .1)
-          (at-open-node at-put-name .open-node .ensures .0)
-          (at-put-name .put-name .ensures .0)
-          (at-put-le .put-le .ensures .0)
+          (at-count-paths .count-paths .ensures .1)
+          (at-open-node .open-node .ensures .0)
+          (at-put-text-part .put-text-part .ensures .0)
+          (at-put-count-part .put-count-part .ensures .0)
           (at-else1 .if1 .left)
           (at-close-block .close-block .ensures .0),
     )
+
+type-head-requires : tie.Need-type-head-requires
+type-head-requires c κs = search needs
+
+open-node-requires : tie.Need-open-node-requires
+open-node-requires c κs = search needs
+
+same-length : tie.Need-same-length
+same-length c = search needs
+
+same-length-2 : tie.Need-same-length-2
+same-length-2 c = search needs
+
+same-length-3 : tie.Need-same-length-3
+same-length-3 c = search needs
+
+same-length-4 : tie.Need-same-length-4
+same-length-4 c = search needs
 
 pub put-call-spec : {M : Type 1} → statement M
 put-call-spec =
@@ -172,8 +215,8 @@ put-call-spec =
     add-read2
     read2-requires
     open-node-requires
-    put-name-requires
-    put-le-requires
+    put-text-part-requires
+    put-count-part-requires
     add-put-owners
     add-put-owners-2
     put-owners-requires
