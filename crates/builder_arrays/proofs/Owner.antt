@@ -7,14 +7,15 @@ use Prim.Native.Nat.{ℕ, _+_, _-_, _≤_, _<_}
 use native.Mathlib.Omega.{arith}
 use lib.ListN.{length, take, drop, length-drop}
 use lib.Seq.{take-all}
-use Rattle.errors.specs.Refusal.{refused, plain, MissingDynamicRefs}
+use Rattle.errors.specs.Refusal.{MissingDynamicRefs}
+use Rattle.answers.specs.Answers.{AnswersIn}
 use Rattle.blocks.specs.Bytes.{le2}
 use Rattle.blocks.specs.Name.{Name, ascii}
 use Rattle.blocks.specs.Grammar.{partsOf, findRow, grammar, nodeTable}
 use Rattle.blocks.specs.Tree.{Tree, rest, entries}
 use Rattle.accepted.specs.Accepted.{Accepted, tree, nameAt, Counted}
 use Rattle.accepted.proofs.Laws.{sole, block-entry, none-left}
-use Rattle.resolved.specs.Resolved.{Owner, Head, ResolvedType, head}
+use Rattle.resolved.specs.Resolved.{Owner, Head, head}
 use Rattle.resolved.specs.Set.{ownerOf, typeOf}
 use Rattle.builder.specs.Names.{rsplit-once}
 use Rattle.builder.specs.Registry.{Registry}
@@ -33,7 +34,7 @@ use Rattle.builder_paths.specs.Joined.{prefixOf}
 use Rattle.builder_nodes.specs.declared.Built.{Built}
 use Rattle.builder_nodes.specs.Built.{Builds}
 use Rattle.builder_arrays.specs.Ready.{Ready, ReadyInside}
-use Rattle.builder_arrays.specs.Owner.{RootReady, first-owner, owner-among, owner-under}
+use Rattle.builder_arrays.specs.Owner.{SomeOwner, first-owner, owner-under}
 
 -- ---- what the calls stand on
 
@@ -61,38 +62,26 @@ first-is {s} {b} g h =
 
 -- ---- in the code's form
 
--- built under this owner
-abbrev pub Under : (s xs us ys : List ℕ) (array at : ℕ) (r : Built) → Registry → Name → Type 0
-Under s xs us ys array at r es owner = (a : Accepted s 1 7 array) → Builds s xs at us ys r (build-array-node-with-prefix owner (prefixOf 0) (typeOf (tree a)) es)
-
-module _ {s xs us ys : List ℕ} {array at : ℕ} {r : Built} (es : Registry) where
-  -- the same under an equal name
-  under : {o o′ : Name} → o ≡ o′ → Under s xs us ys array at r es o → Under s xs us ys array at r es o′
-  under e b = subst (Under s xs us ys array at r es) e b
-
+module _ {s : List ℕ} {b : ℕ} {key : Name} (name : Name) {x : Paths} (f : (g : Accepted s 32 32 b) → PathsFound s key (ownersOf (tree g)) x) where
   -- the key is an owner
-  pub key-yes : {x : Paths} {b : ℕ} {key : Name} (name : Name) {q : ℕ} → ((g : Accepted s 32 32 b) → PathsFound s key (ownersOf (tree g)) x) → x ≡ At q → Under s xs us ys array at r es key →
-      (g : Accepted s 32 32 b) → Under s xs us ys array at r es (owner-under key name (ownersOf (tree g)))
-  key-yes {key} name f e b g = let h : has key (ownersOf (tree g)) ≡ true = found-has (f g) e in under (rw h refl) b
+  pub under-key : {q : ℕ} → x ≡ At q → (g : Accepted s 32 32 b) → key ≡ owner-under key name (ownersOf (tree g))
+  under-key e g = let h : has key (ownersOf (tree g)) ≡ true = found-has (f g) e in rw h refl
 
-  -- the key is no owner
-  pub key-no : {x : Paths} {b : ℕ} {key : Name} (name : Name) → ((g : Accepted s 32 32 b) → PathsFound s key (ownersOf (tree g)) x) → x ≡ Missing →
-      ((g : Accepted s 32 32 b) → Under s xs us ys array at r es (owner-among name (ownersOf (tree g)))) → (g : Accepted s 32 32 b) →
-      Under s xs us ys array at r es (owner-under key name (ownersOf (tree g)))
-  key-no {key} name f e b g = let h : has key (ownersOf (tree g)) ≡ false = found-not (f g) e in under (rw h refl) (b g)
+  module _ {y : Paths} (e : x ≡ Missing) (k : (g : Accepted s 32 32 b) → PathsFound s name (ownersOf (tree g)) y) where
+    -- it is none, but the type's name is one
+    pub under-name : {q : ℕ} → y ≡ At q → (g : Accepted s 32 32 b) → name ≡ owner-under key name (ownersOf (tree g))
+    under-name d g =
+        let h : has key (ownersOf (tree g)) ≡ false = found-not (f g) e in
+        let i : has name (ownersOf (tree g)) ≡ true = found-has (k g) d in
+        rw (h, i) refl
 
-  -- the type's name is one
-  pub name-yes : {x : Paths} {b : ℕ} {o : Name} (name : Name) {q : ℕ} → o ≡ name → ((g : Accepted s 32 32 b) → PathsFound s o (ownersOf (tree g)) x) → x ≡ At q → Under s xs us ys array at r es o →
-      (g : Accepted s 32 32 b) → Under s xs us ys array at r es (owner-among name (ownersOf (tree g)))
-  name-yes {o} name d f e b g = let h : has name (ownersOf (tree g)) ≡ true = subst (λ (z : Name). has z (ownersOf (tree g)) ≡ true) d (found-has (f g) e) in under (d ∙ rw h refl) b
-
-  -- the type's name is no owner either: the first owner
-  pub name-no : {x : Paths} {b : ℕ} {o f₁ : Name} (name : Name) → 0 < le2 s (b + 6) → o ≡ name → ((g : Accepted s 32 32 b) → PathsFound s o (ownersOf (tree g)) x) →
-      x ≡ Missing → f₁ ≡ nameAt s (b + 6 + 2 + 6) → Under s xs us ys array at r es f₁ →
-      (g : Accepted s 32 32 b) → Under s xs us ys array at r es (owner-among name (ownersOf (tree g)))
-  name-no {o} name p d f e k b g =
-      let h : has name (ownersOf (tree g)) ≡ false = subst (λ (z : Name). has z (ownersOf (tree g)) ≡ false) d (found-not (f g) e) in
-      under (k ∙ sym (first-is g p .1) ∙ rw h refl) b
+    -- neither is: the first owner
+    pub under-first : {o : Name} → y ≡ Missing → 0 < le2 s (b + 6) → o ≡ nameAt s (b + 6 + 2 + 6) → (g : Accepted s 32 32 b) →
+        o ≡ owner-under key name (ownersOf (tree g))
+    under-first d p q g =
+        let h : has key (ownersOf (tree g)) ≡ false = found-not (f g) e in
+        let i : has name (ownersOf (tree g)) ≡ false = found-not (k g) d in
+        q ∙ sym (first-is g p .1) ∙ rw (h, i) refl
 
 -- ---- at the root
 
@@ -121,42 +110,40 @@ selected h o os = go (has (fieldKey (rsplit-once (h .name))) (o ∷ os)) (has (h
     go false true = refl
     go false false = refl
 
--- without an owner building is refused: 11
-none-there : (t : ResolvedType) (es : Registry) → head t .dynamic-params ≡ [] → build-array-node t es ≡ refused (plain MissingDynamicRefs)
-unfolding build-array-node select-array-owner
-none-there t es e = need-none MissingDynamicRefs _ es (rw e refl)
-
--- with an owner the array is built under the selected one
-one-there : (t : ResolvedType) (es : Registry) (os : List Owner) (o : Owner) (rest : List Owner) → head t .dynamic-params ≡ os → os ≡ o ∷ rest →
-    build-array-node t es ≡ build-array-node-with-prefix (owner-under (fieldKey (rsplit-once (head t .name))) (head t .name) os) (prefixOf 0) t es
-unfolding build-array-node prefixOf
-one-there t es os o more e d = need-some MissingDynamicRefs _ es (rw (e, d) (selected (head t) o more))
+-- what `select_array_owner` answers, where the key in the name is known
+pub selects : {s : List ℕ} {b : ℕ} {nm key r : Name} → 0 < le2 s (b + 6) → fieldKey (rsplit-once nm) ≡ key →
+    ((g : Accepted s 32 32 b) → r ≡ owner-under key nm (ownersOf (tree g))) →
+    (g : Accepted s 32 32 b) (h : Head) → h .name ≡ nm → select-array-owner h (ownersOf (tree g)) ≡ some r
+selects {nm} {key} {r} p k f g h e =
+    let (o, os, d) = an-owner g p in
+    let i : r ≡ owner-under (fieldKey (rsplit-once (h .name))) (h .name) (ownersOf (tree g)) = rw (e, k) (f g) in
+    ap (select-array-owner h) d ∙ selected h o os
+    ∙ ap (λ (l : List Owner). some (owner-under (fieldKey (rsplit-once (h .name))) (h .name) l)) (sym d) ∙ ap (λ (l : Name). some l) (sym i)
 
 module _ {s : List ℕ} {array at : ℕ} {h : TypeHead} (f : (a : Accepted s 1 7 array) → HeadAt a h) where
-  -- what building under a selected owner stands on
-  pub root-ready : {ws : List ℕ} {n c : ℕ} → Ready s ws n array at → c ≡ le2 s (h .references + 6) → (c ≡ 0 → ⊥) → RootReady s ws n (h .references) array at
-  root-ready r e z = record { ready = r; owners = f (r .type) .references; some-owner = omega arith; named = f (r .type) .named }
+  -- what selecting an owner stands on
+  pub root-ready : {ws : List ℕ} {n c : ℕ} → Ready s ws n array at → c ≡ le2 s (h .references + 6) → (c ≡ 0 → ⊥) → SomeOwner s (h .references)
+  root-ready r e z = record { owners = f (r .type) .references; some-owner = omega arith; size = r .standing .size }
 
   module _ {xs us ys : List ℕ} {r : Built} (es : Registry) where
-    -- there is no owner
+    -- there is no owner: 11
     pub root-none : {c : ℕ} → c ≡ le2 s (h .references + 6) → c ≡ 0 → r .number ≡ 11 → (a : Accepted s 1 7 array) → Builds s xs at us ys r (build-array-node (typeOf (tree a)) es)
+    unfolding build-array-node select-array-owner
     root-none e z k a =
-        let g = f a .references in
-        subst (Builds s xs at us ys r) (sym (none-there (typeOf (tree a)) es (f a .owners ∙ no-owners g (omega (arith, e, z))))) (Builds.not 11 k (omega arith))
+        let o : head (typeOf (tree a)) .dynamic-params ≡ [] = f a .owners ∙ no-owners (f a .references) (omega (arith, e, z)) in
+        rw (need-none MissingDynamicRefs (λ owner. build-array-node-with-prefix owner [] (typeOf (tree a))) es
+        (ap (select-array-owner (head (typeOf (tree a)))) o)) (AnswersIn.not 11 k (omega arith))
 
-    -- the owner is selected
-    pub root-is : (key : Name) → fieldKey (rsplit-once (nameAt s (array + 6))) ≡ key → 0 < le2 s (h .references + 6) →
-        ((g : Accepted s 32 32 (h .references)) → Under s xs us ys array at r es (owner-under key (nameAt s (array + 6)) (ownersOf (tree g)))) →
+    -- the array is built under the owner that is selected
+    pub root-is : {nm owner : Name} → nm ≡ nameAt s (array + 6) →
+        ((g : Accepted s 32 32 (h .references)) (d : Head) → d .name ≡ nm → select-array-owner d (ownersOf (tree g)) ≡ some owner) →
+        ((a : Accepted s 1 7 array) → Builds s xs at us ys r (build-array-node-with-prefix owner (prefixOf 0) (typeOf (tree a)) es)) →
         (a : Accepted s 1 7 array) → Builds s xs at us ys r (build-array-node (typeOf (tree a)) es)
-    root-is key k p b a =
-        let g = f a .references in
-        let (o, os, d) = an-owner g p in
-        subst (Builds s xs at us ys r) (sym (one-there (typeOf (tree a)) es (ownersOf (tree g)) o os (f a .owners) d ∙ renamed (typeOf (tree a)) (f a .name) (ownersOf (tree g)))) (b g a)
-      where
-        renamed : (t : ResolvedType) → head t .name ≡ nameAt s (array + 6) → (os : List Owner) →
-            build-array-node-with-prefix (owner-under (fieldKey (rsplit-once (head t .name))) (head t .name) os) (prefixOf 0) t es ≡
-            build-array-node-with-prefix (owner-under key (nameAt s (array + 6)) os) (prefixOf 0) t es
-        renamed t e os = rw (e, k) refl
+    unfolding build-array-node prefixOf
+    root-is e k b a =
+        let o = k (f a .references) (head (typeOf (tree a))) (f a .name ∙ sym e) in
+        rw (need-some MissingDynamicRefs (λ owner. build-array-node-with-prefix owner [] (typeOf (tree a))) es
+        (ap (select-array-owner (head (typeOf (tree a)))) (f a .owners) ∙ o)) (b a)
 
 -- ---- the key in a name
 
@@ -173,9 +160,13 @@ pub behind-short : (nm : Name) (j : ℕ) → length nm ≤ 255 → length (take 
 behind-short nm j h = rw (behind-whole nm j, length-drop) (omega arith)
 
 -- the key is what stands behind the last `::`
-pub key-behind : (nm name : Name) {r : Split} {i : ℕ} → nm ≡ name → Split-parts nm r → r ≡ SplitAt i → fieldKey (rsplit-once name) ≡ take (length nm - (i + 2)) (drop (i + 2) nm)
-key-behind nm name {i} e p k = ap (λ (z : Name). fieldKey (rsplit-once z)) (sym e) ∙ ap fieldKey ((subst (Split-parts nm) k p) .1) ∙ sym (behind-whole nm (i + 2))
+pub key-behind : (nm : Name) {r : Split} {i : ℕ} → Split-parts nm r → r ≡ SplitAt i → fieldKey (rsplit-once nm) ≡ take (length nm - (i + 2)) (drop (i + 2) nm)
+key-behind nm {i} p k = ap fieldKey ((subst (Split-parts nm) k p) .1) ∙ sym (behind-whole nm (i + 2))
 
 -- without `::` the key is `array`
-pub key-array : (nm name : Name) {r : Split} → nm ≡ name → Split-parts nm r → r ≡ SplitNone → fieldKey (rsplit-once name) ≡ ascii "array"
-key-array nm name e p k = ap (λ (z : Name). fieldKey (rsplit-once z)) (sym e) ∙ ap fieldKey (subst (Split-parts nm) k p)
+pub key-array : (nm : Name) {r : Split} → Split-parts nm r → r ≡ SplitNone → fieldKey (rsplit-once nm) ≡ ascii "array"
+key-array nm p k = ap fieldKey (subst (Split-parts nm) k p)
+
+-- which is short
+pub array-short : {key : Name} → key ≡ ascii "array" → length key ≤ 255
+array-short e = rw e (omega arith)

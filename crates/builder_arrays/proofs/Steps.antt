@@ -8,7 +8,7 @@ use native.Mathlib.Numerals.{add-one}
 use native.Mathlib.Omega.{arith}
 use lib.Dec.{leb}
 use borrow.Author.Tests.{leb-true, leb-false}
-use Rattle.errors.specs.Refusal.{Refusal, Outcome, done, refused, plain, UnsupportedArrayElement}
+use Rattle.errors.specs.Refusal.{Outcome, done, refused, plain, UnsupportedArrayElement}
 use Rattle.blocks.specs.Bytes.{le2}
 use Rattle.blocks.specs.Name.{Name}
 use Rattle.blocks.specs.Tree.{Tree, block, view, flag, part}
@@ -20,10 +20,10 @@ use Rattle.resolved.specs.Set.{typeOf, thingOf, makeThing, formOf}
 use Rattle.ir.specs.Ir.{IrNode, aligned, unplaced}
 use Rattle.builder.specs.Names.{extend-element-prefix}
 use Rattle.builder.specs.Registry.{Registry, Build, _>>=_, give, extend-with}
-use Rattle.builder.specs.Nodes.{align-node, product, isVariable, build-expr-ir, sum-over-array, build-element, build-elements, build-array-node-with-prefix, build-array-kind}
+use Rattle.builder.specs.Nodes.{product, isVariable, build-expr-ir, build-element, build-elements, build-array-node-with-prefix, build-array-kind}
 use Rattle.builder.proofs.Steps.{step-done, step-refused, need-some, need-none}
 use Rattle.builder_paths.specs.Joined.{prefixOf}
-use Rattle.builder_arrays.specs.Begun.{counted, summed}
+use Rattle.builder_arrays.specs.Array.{counted, summed}
 
 -- ---- actions
 
@@ -98,25 +98,6 @@ module _ (inside : Build IrNode) (a : ℕ) (k : ResolvedTypeKind) (g : Registry)
 pub deeper : (depth : ℕ) → prefixOf (depth + 1) ≡ extend-element-prefix (prefixOf depth)
 unfolding prefixOf
 deeper depth = rw (add-one depth)
-
--- ---- a sum
-
-module _ (h : Head) (owner prefix : Name) (x : ExprKind) (k : ResolvedTypeKind) (g : Registry) where
-  -- the count was refused
-  pub sum-stops : {q : Refusal} → build-expr-ir owner prefix x g ≡ refused q → summed h owner prefix x k g ≡ refused q
-  unfolding summed
-  sum-stops e = step-refused (build-expr-ir owner prefix x) _ g e
-
-  -- the element is no type reference: 13
-  pub sum-refused : {y : IrNode × Registry} → build-expr-ir owner prefix x g ≡ done y → targetOf k ≡ none → summed h owner prefix x k g ≡ refused (plain 13)
-  unfolding summed sum-over-array
-  sum-refused e f = step-done (build-expr-ir owner prefix x) _ g e ∙ need-none UnsupportedArrayElement _ _ f
-
-  -- the element is a type reference: a SumOverArray node, aligned
-  pub sum-gives : {y : IrNode × Registry} {t : Name} → build-expr-ir owner prefix x g ≡ done y → targetOf k ≡ some t →
-      summed h owner prefix x k g ≡ done (align-node (IrNode.SumOverArray unplaced (aligned (h .alignment)) (y .0) t owner) (h .alignment), y .1)
-  unfolding summed sum-over-array give
-  sum-gives e f = step-done (build-expr-ir owner prefix x) _ g e ∙ need-some UnsupportedArrayElement _ _ f
 
 -- ---- the kinds of types
 

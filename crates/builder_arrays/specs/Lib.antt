@@ -1,4 +1,4 @@
 pub mod Ready
-pub mod Begun
+pub mod Array
 pub mod Shapes
 pub mod Owner

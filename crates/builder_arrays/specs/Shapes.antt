@@ -11,8 +11,10 @@ use Rattle.resolved.specs.Set.{typeOf}
 use Rattle.resolved_parts.specs.Types.{sized, ownersOf}
 use Rattle.builder_arrays.specs.declared.Shape.{Shape}
 
--- its parts are accepted and shorter than the array, and its numbers are those of the array's head and of its element's
-pub record ShapeAt {s : List ℕ} {at : ℕ} (a : Accepted s 1 7 at) (r : Shape) : Type 0 where
+-- it stands inside so many arrays, its parts are accepted and shorter than the array, and its numbers are those of the array's
+-- head and of its element's
+pub record ShapeAt {s : List ℕ} {at : ℕ} (a : Accepted s 1 7 at) (depth : ℕ) (r : Shape) : Type 0 where
+  pub inside : r .depth ≡ depth
   pub element : Accepted s 1 7 (r .element)
   pub size : Accepted s 64 91 (r .size)
   pub references : Accepted s 32 32 (r .references)

@@ -1,5 +1,5 @@
 -- `finish` meets its contract: an array whose last part was built is closed, any other is refused as that part was.
-use Rattle.builder_arrays.specs.Begun.{Finished}
+use Rattle.builder_arrays.specs.Array.{Finished}
 use borrow.Author.Needs.{needs}
 use Rattle.builder_arrays.proofs.finish.Statement.{statement}
 use Rattle.builder_arrays.proofs.finish.Tie as tie

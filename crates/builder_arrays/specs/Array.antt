@@ -1,8 +1,7 @@
 -- An array's node, part by part.
-use Prim.Native.Nat.{ℕ, _+_, _-_, _<_}
+use Prim.Native.Nat.{ℕ, _+_, _-_}
 use mathlib.Core.Path.{_≡_}
 use mathlib.Core.List.{List, _++_}
-use Rattle.errors.specs.Refusal.{Outcome, done, refused, plain}
 use Rattle.blocks.specs.Bytes.{bytes}
 use Rattle.blocks.specs.Name.{Name}
 use Rattle.blocks.specs.Tree.{num}
@@ -10,27 +9,17 @@ use Rattle.blocks.specs.Write.{write}
 use Rattle.expr.specs.Expr.{ExprKind}
 use Rattle.resolved.specs.Resolved.{Owner, Head, ResolvedTypeKind}
 use Rattle.ir.specs.Ir.{IrNode}
-use Rattle.ir.specs.Layout.{nodeTree}
-use Rattle.builder.specs.Registry.{Registry, Build, _>>=_, give, extend-with}
+use Rattle.builder.specs.Registry.{Build, _>>=_, give, extend-with}
 use Rattle.builder.specs.Nodes.{build-expr-ir, sum-over-array}
 use Rattle.wire.specs.Poke.{Wrote}
-use Rattle.builder_registry.specs.Words.{entriesOf}
 use Rattle.builder_nodes.specs.declared.Built.{Built}
 use Rattle.builder_nodes.specs.Built.{nodeStart}
 
--- An AlignUp node and in it a node of a kind, both as far as their metadata, and the count.
-pub record Begun (xs : List ℕ) (at kind alignment : ℕ) (x : IrNode) (ys : List ℕ) (u : ℕ) : Type 0 where
+-- An AlignUp node and in it a node of a kind, both as far as their metadata.
+pub record Opened (xs : List ℕ) (at kind alignment : ℕ) (ys : List ℕ) (q : ℕ) : Type 0 where
   pub one : List ℕ
-  pub two : List ℕ
-  pub q : ℕ
   pub align : Wrote xs at (nodeStart 131 alignment ++ write (num 8 alignment)) one (at + 23)
-  pub node : Wrote one (at + 23) (nodeStart kind alignment) two q
-  pub count : Wrote two q (write (nodeTree x)) ys u
-
--- what is left by that: the same and the entries in the words us, or the refusal
-pub data Begins (s xs : List ℕ) (at : ℕ) (us : List ℕ) (kind alignment : ℕ) (ys : List ℕ) (r : Built) : Outcome (IrNode × Registry) → Type 0 where
-  begun : (x : IrNode × Registry) → r .number ≡ 0 → entriesOf s us (r .count) ≡ x .1 → Begun xs at kind alignment (x .0) ys (r .at) → Begins s xs at us kind alignment ys r (done x)
-  not : (k : ℕ) → r .number ≡ k → 0 < k → Begins s xs at us kind alignment ys r (refused (plain k))
+  pub node : Wrote one (at + 23) (nodeStart kind alignment) ys q
 
 -- the count, and then the element's references entered
 unfoldable pub counted : Name → Name → ExprKind → List Owner → Build IrNode
