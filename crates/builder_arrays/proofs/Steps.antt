@@ -15,7 +15,7 @@ use Rattle.blocks.specs.Tree.{Tree, block, view, flag, part}
 use Rattle.accepted.specs.Accepted.{Accepted, tree}
 use Rattle.accepted.proofs.Laws.{opened, each}
 use Rattle.expr.specs.Expr.{ExprKind}
-use Rattle.resolved.specs.Resolved.{Size, Head, ResolvedType, ResolvedTypeKind, head, kindOf, targetOf, jaggedOf}
+use Rattle.resolved.specs.Resolved.{Size, ResolvedType, ResolvedTypeKind, head, kindOf, targetOf, jaggedOf}
 use Rattle.resolved.specs.Set.{typeOf, thingOf, makeThing, formOf}
 use Rattle.ir.specs.Ir.{IrNode, aligned, unplaced}
 use Rattle.builder.specs.Names.{extend-element-prefix}

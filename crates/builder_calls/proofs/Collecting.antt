@@ -2,7 +2,7 @@
 use mathlib.Core.Path.{_≡_, refl, sym, _∙_, ap, subst}
 use mathlib.Core.Bool.{Bool, true, false}
 use mathlib.Core.List.{List, [], _∷_, _++_, append-assoc, append-nil}
-use Prim.Native.Nat.{ℕ, _+_, _-_, _≤_, _<_}
+use Prim.Native.Nat.{ℕ, _+_, _≤_, _<_}
 use native.Mathlib.Omega.{arith}
 use lib.Dec.{leb, ltb}
 use lib.ListN.{length, length-append}
@@ -24,7 +24,6 @@ use Rattle.ir.specs.Layout.{entriesTree, argumentTree}
 use Rattle.builder.specs.Names.{canonical-name}
 use Rattle.builder.specs.Registry.{Registry, Build, _>>=_, give, refuse, require, ensure}
 use Rattle.builder.specs.Nodes.{argument, collect-paths, collect-callee-arguments}
-use Rattle.wire.specs.Poke.{Wrote}
 use Rattle.wire.proofs.Laws.{both, no-parts}
 use Rattle.builder_registry.specs.Words.{entriesOf}
 use Rattle.builder_registry.proofs.Laws.{standing}

@@ -41,7 +41,6 @@ use Rattle.builder_registry.specs.declared.Held.{Held}
 use Rattle.builder_registry.specs.Words.{Kept, held, entriesOf}
 use Rattle.builder_registry.proofs.Laws.{held-name}
 use Rattle.builder_registry.proofs.Keys.{held-bound}
-use Rattle.resolved_parts.proofs.Laws.{entry-named}
 use Rattle.builder_nodes.specs.declared.Built.{Built}
 use Rattle.builder_nodes.specs.Built.{Builds, Within, nodeStart, textFlag, countPart}
 use Rattle.builder_nodes.proofs.Laws.{node-closed, step-passes}
@@ -58,9 +57,9 @@ pub short-name : {s o : List ℕ} (owner : ℕ) → o ≡ nameAt s owner → Nam
 short-name {s} owner e n = rw (e, ← held-name n) (held-bound s owner refl)
 
 -- where an argument ends: the head of its block has 6 bytes, and its name stands there twice, each behind its length
-pub argument-ends : {c : Collected} {b u v m k n : ℕ} → b ≡ c .at + 6 → u ≡ b + (2 + k) → v ≡ u + (2 + k) → m ≡ k → m ≤ 255 → c .made < 512 → n ≤ 512 →
+pub argument-ends : (c : Collected) {b u v m k n : ℕ} → b ≡ c .at + 6 → u ≡ b + (2 + k) → v ≡ u + (2 + k) → m ≡ k → m ≤ 255 → c .made < 512 → n ≤ 512 →
     Fills c (record { at = v; count = n; made = c .made + 1; number = 0 })
-argument-ends eb eu ev e l f h = record { low = omega arith; high = omega arith; more = omega arith; most = omega arith; count = h }
+argument-ends c eb eu ev e l f h = record { low = omega arith; high = omega arith; more = omega arith; most = omega arith; count = h }
 
 -- the bytes of an argument
 argument-puts : {xs x₁ x₂ x₃ ys : List ℕ} {at b u v q : ℕ} (n : Name) → Wrote xs at (opened 164) x₁ b → Wrote x₁ b (write (name n)) x₂ u →
@@ -72,59 +71,68 @@ argument-puts {ys} {v} n w₁ w₂ w₃ w₄ =
     (closed 0 164 (cons (name n) (cons (name n) nil)) (both w₁ (parts (name n) (cons (name n) nil) w₂ (parts (name n) nil w₃ (no-parts _ _)))) w₄)
     (no-parts ys v)
 
-module _ (s xs ws : List ℕ) (c : Collected) (owner path : ℕ) {o p : List ℕ} (eo : o ≡ nameAt s owner) (ep : p ≡ nameAt s path) where
-  -- what is said of the two names is said of their offsets
-  renamed : {us ys : List ℕ} {r : Collected} → Behind s xs c ws us ys r (collect-paths o (p ∷ [])) →
+-- what is said of the names o and p is said of their offsets
+renamed : {s xs ws us ys : List ℕ} {c r : Collected} (owner path : ℕ) {o p : List ℕ} → o ≡ nameAt s owner → p ≡ nameAt s path →
+    Behind s xs c ws us ys r (collect-paths o (p ∷ [])) → Behind s xs c ws us ys r (collect-paths (nameAt s owner) (nameAt s path ∷ []))
+renamed owner path eo ep h = rw (← eo, ← ep) h
+
+-- the canonical name is too long
+pub argument-long : {s xs ws us ys : List ℕ} {c : Collected} {m at n k : ℕ} (owner path : ℕ) (o p : List ℕ) → o ≡ nameAt s owner → p ≡ nameAt s path →
+    m ≡ length (canonical-name o p) → 255 < m →
+    Behind s xs c ws us ys (record { at = at; count = n; made = k; number = 17 }) (collect-paths (nameAt s owner) (nameAt s path ∷ []))
+argument-long owner path o p eo ep el h =
+    renamed owner path eo ep (record { collects = λ before e. refuses (omega arith) (one-long o p before _ (omega (arith, el))) })
+
+-- the names o and p of an owner and of a path stand at these offsets, and their canonical name is short enough
+pub record Names (s : List ℕ) (owner path : ℕ) (o p : List ℕ) : Type 0 where
+  pub owner-is : o ≡ nameAt s owner
+  pub path-is : p ≡ nameAt s path
+  pub owned : Named s owner
+  pub named : Named s path
+  pub short : length (canonical-name o p) ≤ 255
+
+-- what was entered, by the names
+by-names : {s us : List ℕ} {h : Held} {owner path : ℕ} {o p : List ℕ} (g : Registry) → Names s owner path o p →
+    Kept s us h (ensure (held s owner) (held s path) g) → Kept s us h (ensure o p g)
+by-names g n k = rw (n .owner-is, ← held-name (n .owned), n .path-is, ← held-name (n .named)) k
+
+module _ {s xs ws us : List ℕ} {c : Collected} {h : Held} {owner path : ℕ} {o p : List ℕ} (n : Names s owner path o p)
+    (k : Kept s us h (ensure (held s owner) (held s path) (entriesOf s ws (c .count)))) where
+  -- what follows where the path is entered
+  after-entry : {ys : List ℕ} {r : Collected} → ((before : List IrArgument) → length before ≡ c .made →
+      Collects s xs c before us ys r (_andThen_ (ensure o p (entriesOf s ws (c .count))) (entered o p before (entriesOf s ws (c .count))))) →
       Behind s xs c ws us ys r (collect-paths (nameAt s owner) (nameAt s path ∷ []))
-  renamed h = rw (← eo, ← ep) h
+  after-entry f =
+      renamed owner path (n .owner-is) (n .path-is)
+      (record { collects = λ before e. rw (one-short o p before (entriesOf s ws (c .count)) (n .short)) (f before e) })
 
-  -- the canonical name is too long
-  pub argument-long : {us ys : List ℕ} {m at n k : ℕ} → m ≡ length (canonical-name o p) → 255 < m →
-      Behind s xs c ws us ys (record { at = at; count = n; made = k; number = 17 }) (collect-paths (nameAt s owner) (nameAt s path ∷ []))
-  argument-long el h = renamed (record { collects = λ before e. refuses (omega arith) (one-long o p before _ (omega (arith, el))) })
+  -- the registry is full
+  pub argument-full : {ys : List ℕ} {at m j : ℕ} → (h .number ≡ 0 → ⊥) →
+      Behind s xs c ws us ys (record { at = at; count = m; made = j; number = h .number }) (collect-paths (nameAt s owner) (nameAt s path ∷ []))
+  argument-full z = after-entry (λ before e. passes _ refl z (by-names _ n k))
 
-  module _ {us : List ℕ} {m : ℕ} {h : Held} (no : Named s owner) (np : Named s path) (el : m ≡ length (canonical-name o p)) (l : m ≤ 255)
-      (k : Kept s us h (ensure (held s owner) (held s path) (entriesOf s ws (c .count)))) where
-    -- what is entered, by the names
-    kept-names : Kept s us h (ensure o p (entriesOf s ws (c .count)))
-    kept-names = rw (eo, ← held-name no, ep, ← held-name np) k
+  module _ (z : h .number ≡ 0) where
+    -- there are 512 arguments already
+    pub argument-many : {ys : List ℕ} {at m j : ℕ} → 512 ≤ c .made →
+        Behind s xs c ws us ys (record { at = at; count = m; made = j; number = 17 }) (collect-paths (nameAt s owner) (nameAt s path ∷ []))
+    argument-many f =
+        after-entry (λ before e. goes _ z (by-names _ n k) (λ y m. refuses (omega arith) (require-no 17 _ (y .1) (le-ltb (length before) 512 (omega arith)))))
 
-    -- what follows where the path is entered
-    abbrev Follows : List ℕ → Collected → Type 0
-    Follows ys r = (before : List IrArgument) → length before ≡ c .made → Collects s xs c before us ys r
-        (_andThen_ (ensure o p (entriesOf s ws (c .count))) (entered o p before (entriesOf s ws (c .count))))
-
-    -- a path of this length is entered first
-    after-entry : {ys : List ℕ} {r : Collected} → Follows ys r → Behind s xs c ws us ys r (collect-paths (nameAt s owner) (nameAt s path ∷ []))
-    after-entry f = renamed (record { collects = λ before e. rw (one-short o p before (entriesOf s ws (c .count)) (omega (arith, el))) (f before e) })
-
-    -- the registry is full
-    pub argument-full : {ys : List ℕ} {at n j : ℕ} → (h .number ≡ 0 → ⊥) →
-        Behind s xs c ws us ys (record { at = at; count = n; made = j; number = h .number }) (collect-paths (nameAt s owner) (nameAt s path ∷ []))
-    argument-full z = after-entry (λ before e. passes _ refl z kept-names)
-
-    module _ (z : h .number ≡ 0) where
-      -- there are 512 arguments already
-      pub argument-many : {ys : List ℕ} {at n j : ℕ} → 512 ≤ c .made →
-          Behind s xs c ws us ys (record { at = at; count = n; made = j; number = 17 }) (collect-paths (nameAt s owner) (nameAt s path ∷ []))
-      argument-many f =
-          after-entry (λ before e. goes _ z kept-names (λ y m. refuses (omega arith) (require-no 17 _ (y .1) (le-ltb (length before) 512 (omega arith)))))
-
-      -- the argument was written
-      pub argument-done : {x₁ x₂ x₃ ys : List ℕ} {b u v q : ℕ} → c .made < 512 → Wrote xs (c .at) (opened 164) x₁ b →
-          Wrote x₁ b (write (name (canonical-name o p))) x₂ u → Wrote x₂ u (write (name (canonical-name o p))) x₃ v →
-          Wrote x₃ (c .at) (bytes 4 (v - c .at - 4)) ys q →
-          Behind s xs c ws us ys (record { at = v; count = h .count; made = c .made + 1; number = 0 }) (collect-paths (nameAt s owner) (nameAt s path ∷ []))
-      unfolding give
-      argument-done f w₁ w₂ w₃ w₄ =
-          after-entry (λ before e. goes _ z kept-names (λ y m. makes _ refl (require-yes 17 _ (y .1) (lt-ltb (length before) 512 (omega arith)))
-          (record {
-            new = argument (canonical-name o p) ∷ [];
-            are = refl;
-            made = omega (arith, length-append before (argument (canonical-name o p) ∷ []));
-            entries = m .entries;
-            bytes = argument-puts (canonical-name o p) w₁ w₂ w₃ w₄;
-          })))
+    -- the argument was written
+    pub argument-done : {x₁ x₂ x₃ ys : List ℕ} {b u v q : ℕ} → c .made < 512 → Wrote xs (c .at) (opened 164) x₁ b →
+        Wrote x₁ b (write (name (canonical-name o p))) x₂ u → Wrote x₂ u (write (name (canonical-name o p))) x₃ v →
+        Wrote x₃ (c .at) (bytes 4 (v - c .at - 4)) ys q →
+        Behind s xs c ws us ys (record { at = v; count = h .count; made = c .made + 1; number = 0 }) (collect-paths (nameAt s owner) (nameAt s path ∷ []))
+    unfolding give
+    argument-done f w₁ w₂ w₃ w₄ =
+        after-entry (λ before e. goes _ z (by-names _ n k) (λ y m. makes _ refl (require-yes 17 _ (y .1) (lt-ltb (length before) 512 (omega arith)))
+        (record {
+          new = argument (canonical-name o p) ∷ [];
+          are = refl;
+          made = omega (arith, length-append before (argument (canonical-name o p) ∷ []));
+          entries = m .entries;
+          bytes = argument-puts (canonical-name o p) w₁ w₂ w₃ w₄;
+        })))
 
 -- ---- the paths of an owner
 

@@ -62,7 +62,8 @@ owner-at r = r .owner-paths .ensures (here (r .before))
 
 returns : (t : ℕ) → walk.Need-returns (callees t) (entered t) self.Post
 returns t c =
-    let at-start = c .before .before .before .before in (
+    let at-start = c .before .before .before .before in
+    (
       fills-none (at-start .pre .1 .room),
       walk-none owners-walk (at-start .pre .1 .room) (c .if1 .taken),
     )
@@ -101,7 +102,8 @@ returns-2 t c =
     let at-put-arguments = c .before .before .before .before .before .before in
     let at-read2 = first-read at-put-arguments in
     let at-owner-paths = at-read2 .before in
-    let at-else1 = at-owner-paths .before in (
+    let at-else1 = at-owner-paths .before in
+    (
       at-put-arguments .put-arguments .ensures .0,
       owners-stop
           (above (at-else1 .if1 .left))
@@ -128,7 +130,8 @@ put-owners-requires t c κs =
     let at-else2 = at-next-block .before in
     let at-put-arguments = at-else2 .before .before .before .before .before .before in
     let at-else1 = at-put-arguments .before .before .before .before .before in
-    let at-start = start at-else1 in (
+    let at-start = start at-else1 in
+    (
       omega (arith, at-start .pre .0, at-else1 .if1 .left),
       record {
         room = room-more (at-start .pre .1 .room) (search needs) (at-else2 .if2 .left) (at-put-arguments .put-arguments .ensures .0);
@@ -144,7 +147,8 @@ returns-3 t c =
     let at-put-arguments = at-else2 .before .before .before .before .before .before in
     let at-read2 = first-read at-put-arguments in
     let at-owner-paths = at-read2 .before in
-    let at-else1 = at-owner-paths .before in (
+    let at-else1 = at-owner-paths .before in
+    (
       fills-both (at-put-arguments .put-arguments .ensures .0) (at-put-owners .put-owners .ensures .0),
       owners-go
           (above (at-else1 .if1 .left))
@@ -171,4 +175,7 @@ same-length-4 t c = search needs
 pub +put-owners-spec : {M : Type 1} → statement M
 +put-owners-spec =
     close μ
-    (λ t. walk.spec (callees t) (entered t) self.Post (returns t) (owner-paths-requires t) (read2-requires t) (add-name t) (add-first t) (put-arguments-requires t) (same-length t) (same-length-2 t) (returns-2 t) (next-block-requires t) (sub-put-owners t) (put-owners-requires t) (same-length-3 t) (same-length-4 t) (returns-3 t))
+    (λ t. walk.spec (callees t) (entered t) self.Post (returns t) (owner-paths-requires t) (read2-requires t)
+    (add-name t) (add-first t) (put-arguments-requires t) (same-length t) (same-length-2 t) (returns-2 t)
+    (next-block-requires t) (sub-put-owners t) (put-owners-requires t) (same-length-3 t) (same-length-4 t)
+    (returns-3 t))

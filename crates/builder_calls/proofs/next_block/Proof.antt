@@ -1,5 +1,4 @@
 -- `next_block` meets its contract: the length at the block's start tells where the next begins; the set has at most 65,536 bytes.
-use borrow.Author.Needs.{needs}
 use native.Mathlib.Omega.{arith}
 use Rattle.builder_calls.proofs.next_block.Statement.{statement}
 use Rattle.builder_calls.proofs.next_block.Tie as tie
