@@ -6,7 +6,6 @@ use Prim.Native.Nat.{ℕ, _+_, _*_, _^_, _≤_, _<_}
 use native.Mathlib.Omega.{arith}
 use lib.ListN.{length, length-take}
 use Rattle.errors.specs.Refusal.{Outcome, refused, plain, UnsupportedArrayElement}
-use Rattle.errors.specs.Refusal.{_>>=_ as _andThen_}
 use Rattle.answers.specs.Answers.{AnswersIn}
 use Rattle.answers.proofs.Laws.{refuses, makes}
 use Rattle.blocks.specs.Bytes.{le2, le4}
@@ -34,7 +33,7 @@ use Rattle.builder_registry.proofs.Laws.{standing}
 use Rattle.builder_paths.specs.Joined.{prefixOf}
 use Rattle.builder_nodes.specs.declared.Built.{Built}
 use Rattle.builder_nodes.specs.Built.{Builds, Within, nodeStart, textFlag}
-use Rattle.builder_nodes.proofs.Laws.{node-closed, align-closed, step-passes, step-goes, stopped, widened}
+use Rattle.builder_nodes.proofs.Laws.{node-closed, align-closed, step-passes, step-goes, step-then, stopped, widened}
 use Rattle.builder_nodes.proofs.Parts.{sum-element, sum-field}
 use Rattle.builder_expressions.specs.Ready.{Ready as ReadyCount}
 use Rattle.builder_expressions.proofs.Laws.{two-written}
@@ -47,8 +46,19 @@ use Rattle.builder_arrays.proofs.Steps.{elementOf, array-sums, array-mu
 -- ---- the shape of an array
 
 -- the shape that the code reads says what the array and its element are
-pub shaped : {s : List ℕ} {at : ℕ} {a : Accepted s 1 7 at} {h e : TypeHead} {p : ArrayParts} {b : Bool} (depth : ℕ) → HeadAt a h → (q : ArrayAt a p) → HeadAt (q .element) e → b ≡ (p .jagged && e .variable) →
-    ShapeAt a depth (record { depth = depth; sums = b; alignment = h .alignment; size = p .size; element = p .element; variable = e .variable; constant = e .size; inner = e .alignment; references = e .references })
+pub shaped : {s : List ℕ} {at : ℕ} {a : Accepted s 1 7 at} {h e : TypeHead} {p : ArrayParts} {b : Bool} (depth : ℕ) → HeadAt a h →
+    (q : ArrayAt a p) → HeadAt (q .element) e → b ≡ (p .jagged && e .variable) →
+    ShapeAt a depth (record {
+      depth = depth;
+      sums = b;
+      alignment = h .alignment;
+      size = p .size;
+      element = p .element;
+      variable = e .variable;
+      constant = e .size;
+      inner = e .alignment;
+      references = e .references;
+    })
 shaped {p} depth h q i x =
     record {
       inside = refl;
@@ -87,14 +97,10 @@ module _ {s xs ws y₁ us : List ℕ} {at : ℕ} {c : Built} (owner prefix : Nam
   -- the count was built, and the element's references enter or are refused
   pub count-goes : {k : Held} → c .number ≡ 0 → Kept s us k (extend-with os (entriesOf s ws (c .count))) →
       Builds s xs at us y₁ (record { at = c .at; count = k .count; number = k .number }) (counted owner prefix x os g)
-  unfolding counted give _>>=_ _andThen_
-  count-goes {k} z h =
-      step-goes (build-expr-ir owner prefix x) (λ count. extend-with os >>= (λ _. give count)) g z b (λ y m. entered (y .0) (m .wrote) (rw (m .entries) at h))
-    where
-      entered : (y : IrNode) {o : Outcome (Unit {0} × Registry)} → Wrote xs at (write (nodeTree y)) y₁ (c .at) → Kept s us k o →
-          Builds s xs at us y₁ (record { at = c .at; count = k .count; number = k .number }) (_andThen_ o (λ (z : Unit {0} × Registry). give y (z .1)))
-      entered y w (AnswersIn.made z e m) = AnswersIn.made _ e (record { entries = m .entries; wrote = w })
-      entered y w (AnswersIn.not q e l) = AnswersIn.not q e l
+  unfolding counted give
+  count-goes z h =
+      step-goes _ _ g z b (λ y m. step-then (extend-with os) (λ _. give (y .0)) (y .1) (rw (m .entries) at h)
+      (λ x e k. AnswersIn.made _ e (record { entries = k .entries; wrote = m .wrote })))
 
 -- ---- the end of an array
 
@@ -165,7 +171,8 @@ module _ {s : List ℕ} {array : ℕ} {p : Shape} (owner : Name) (depth : ℕ) (
   sums-as a = rw (sh a .inner-size, variable-as (p .variable) (p .constant)) (sym (sh a .sums))
 
   -- a jagged array of variable elements is what `sum_over_array` leaves
-  pub sums-leave : {xs us ys : List ℕ} {at : ℕ} {r : Built} → p .sums ≡ true → SumLeft s xs at us ys r owner (p .depth) (p .alignment) (p .size) (p .element) g → Leaves s xs at us ys r owner depth array g
+  pub sums-leave : {xs us ys : List ℕ} {at : ℕ} {r : Built} → p .sums ≡ true →
+      SumLeft s xs at us ys r owner (p .depth) (p .alignment) (p .size) (p .element) g → Leaves s xs at us ys r owner depth array g
   sums-leave t b a =
       let q = sh a in
       rw (← q .inside, array-sums owner (prefixOf (p .depth)) (typeOf (tree a)) _ _ _ g (q .is) (sums-as a ∙ t)) (b (q .size) (q .element) (head (typeOf (tree a))) (q .alignment))
@@ -193,7 +200,8 @@ module _ {s : List ℕ} {array : ℕ} {p : Shape} (owner : Name) (depth : ℕ) (
 
     module _ (z : c .number ≡ 0) where
       -- an element of variable size that is no array
-      pub element-stops : {us ys : List ℕ} {u v : ℕ} → p .variable ≡ true → (le2 s (p .element + 4) ≡ 5 → ⊥) → Leaves s xs at us ys (record { at = u; count = v; number = 13 }) owner depth array g
+      pub element-stops : {us ys : List ℕ} {u v : ℕ} → p .variable ≡ true → (le2 s (p .element + 4) ≡ 5 → ⊥) →
+          Leaves s xs at us ys (record { at = u; count = v; number = 13 }) owner depth array g
       element-stops e f a =
           let q = sh a in
           rw (multiplied a)
@@ -245,6 +253,12 @@ module _ {s xs y₀ ws y₁ : List ℕ} {at q : ℕ} {c : Built} (owner : Name) 
     sum-made x y a b f e t h d =
         step-goes _ _ g z (k e) (λ n m. makes _ refl (need-some UnsupportedArrayElement _ (n .1) (ap targetOf (x t .is)))
         (record { entries = m .entries; wrote = sum-written h (n .0) d (m .wrote) _ owner o (rw y at a) b f }))
+
+-- where a sum ends: the two nodes' heads, the count, and two names
+pub sum-ends : {at q u v i j room : ℕ} {c : Built} → q ≡ at + 38 → Within q room c → (c .at ≤ u) × (u ≤ c .at + 3 + i) → (u ≤ v) × (v ≤ u + 3 + j) →
+    i ≤ 255 → j ≤ 255 → (at + 38 ≤ v) × Within at (2048 + room) (record { at = v; count = c .count; number = 0 })
+sum-ends e w f g h k =
+    (omega (arith, w .low), record { low = omega (arith, w .low); high = omega (arith, w .high); count = w .count })
 
 -- a name of the set is short
 pub named-short : {s n : List ℕ} {q : ℕ} → Named s q → n ≡ nameAt s q → length n ≤ 255

@@ -9,6 +9,7 @@ use native.Mathlib.Omega.{arith}
 use lib.Dec.{leb}
 use borrow.Author.Tests.{leb-true, leb-false}
 use Rattle.errors.specs.Refusal.{Outcome, done, refused, plain, UnsupportedArrayElement}
+use Rattle.errors.specs.Refusal.{_>>=_ as _andThen_}
 use Rattle.blocks.specs.Bytes.{le2}
 use Rattle.blocks.specs.Name.{Name}
 use Rattle.blocks.specs.Tree.{Tree, block, view, flag, part}
@@ -21,8 +22,9 @@ use Rattle.ir.specs.Ir.{IrNode, aligned, unplaced}
 use Rattle.builder.specs.Names.{extend-element-prefix}
 use Rattle.builder.specs.Registry.{Registry, Build, _>>=_, give, extend-with}
 use Rattle.builder.specs.Nodes.{product, isVariable, build-expr-ir, build-element, build-elements, build-array-node-with-prefix, build-array-kind}
-use Rattle.builder.proofs.Steps.{step-done, step-refused, need-some, need-none}
+use Rattle.builder.proofs.Steps.{need-some, need-none}
 use Rattle.builder_paths.specs.Joined.{prefixOf}
+use Rattle.builder_nodes.proofs.Laws.{step-assoc, step-same}
 use Rattle.builder_arrays.specs.Array.{counted, summed}
 
 -- ---- actions
@@ -31,16 +33,10 @@ use Rattle.builder_arrays.specs.Array.{counted, summed}
 module _ {A B : Type 0} (m : Build A) (x : Build Unit) (k : A → Build B) where
   -- the action comes before what is done with the value: first all of it, then that
   pub between : (g : Registry) → (m >>= (λ a. x >>= (λ _. k a))) g ≡ ((m >>= (λ a. x >>= (λ _. give a))) >>= k) g
-  unfolding give
-  between g = first (m g) refl
-    where
-      second : {a : A} {h : Registry} → m g ≡ done (a, h) → (o : Outcome (Unit × Registry)) → x h ≡ o → (m >>= (λ b. x >>= (λ _. k b))) g ≡ ((m >>= (λ b. x >>= (λ _. give b))) >>= k) g
-      second e (refused q) f = step-done m _ g e ∙ step-refused x _ _ f ∙ sym (step-refused (m >>= (λ b. x >>= (λ _. give b))) k g (step-done m _ g e ∙ step-refused x _ _ f))
-      second e (done u) f = step-done m _ g e ∙ step-done x _ _ f ∙ sym (step-done (m >>= (λ b. x >>= (λ _. give b))) k g (step-done m _ g e ∙ step-done x _ _ f))
-
-      first : (o : Outcome (A × Registry)) → m g ≡ o → (m >>= (λ a. x >>= (λ _. k a))) g ≡ ((m >>= (λ a. x >>= (λ _. give a))) >>= k) g
-      first (refused q) e = step-refused m _ g e ∙ sym (step-refused (m >>= (λ a. x >>= (λ _. give a))) k g (step-refused m _ g e))
-      first (done u) e = second e (x (u .1)) refl
+  unfolding _>>=_ _andThen_ give
+  between g =
+      step-same m g (λ a. x >>= (λ _. k a)) (λ a. (x >>= (λ _. give a)) >>= k) (λ a h. sym (step-assoc x h (λ _. give a) k))
+      ∙ sym (step-assoc m g (λ a. x >>= (λ _. give a)) k)
 
 -- ---- an array
 
@@ -56,7 +52,9 @@ module _ (owner prefix : Name) (t e : ResolvedType) (x : ExprKind) (j : Bool) (g
 
   -- the count, then the elements, which sum or multiply
   abbrev steps : Bool → Outcome (IrNode × Registry)
-  steps b = (build-expr-ir owner prefix x >>= (λ count. build-elements (build-array-node-with-prefix owner (extend-element-prefix prefix) e) (head t) owner count b (head e) (kindOf e))) g
+  steps b =
+      (build-expr-ir owner prefix x >>= (λ count. build-elements (build-array-node-with-prefix owner (extend-element-prefix prefix) e)
+      (head t) owner count b (head e) (kindOf e))) g
 
   -- the definition of an array, in these steps
   array-steps : build-array-node-with-prefix owner prefix t g ≡ steps (j && isVariable (head e .size))
@@ -70,7 +68,8 @@ module _ (owner prefix : Name) (t e : ResolvedType) (x : ExprKind) (j : Bool) (g
 
   -- every other array
   pub array-multiplies : (j && isVariable (head e .size)) ≡ false →
-      build-array-node-with-prefix owner prefix t g ≡ (counted owner prefix x (head e .dynamic-params) >>= (λ count. elementOf owner prefix e >>= (λ element. give (product (head t) count element)))) g
+      build-array-node-with-prefix owner prefix t g ≡
+      (counted owner prefix x (head e .dynamic-params) >>= (λ count. elementOf owner prefix e >>= (λ element. give (product (head t) count element)))) g
   unfolding build-elements counted
   array-multiplies b =
       array-steps ∙ ap steps b

@@ -6,7 +6,8 @@ use Rattle.blocks.specs.Bytes.{le4}
 use Rattle.builder_nodes.proofs.Laws.{stopped, ends-at}
 use Rattle.builder_expressions.proofs.Laws.{header-inside}
 use Rattle.builder_arrays.specs.Shapes.{ShapeAt}
-use Rattle.builder_arrays.proofs.Laws.{sums-leave, counted-stops, element-stops, element-nests, element-made, count-at, count-ready, sum-within, nested-ready, constant-cursor, finish-ready, finish-within}
+use Rattle.builder_arrays.proofs.Laws.{sums-leave, counted-stops, element-stops, element-nests, element-made}
+use Rattle.builder_arrays.proofs.Laws.{count-at, count-ready, sum-within, nested-ready, constant-cursor, finish-ready, finish-within}
 use borrow.Author.Needs.{needs}
 use native.Mathlib.Omega.{arith}
 use Prim.Native.Nat.{ℕ, _<_}
@@ -339,4 +340,9 @@ same-length-10 t c = search needs
 pub +build-array-node-with-prefix-spec : {M : Type 1} → statement M
 +build-array-node-with-prefix-spec =
     close μ
-    (λ t. lts.spec (calls t) (within t) reads.Post (read-shape-requires t) (sum-over-array-requires t) (same-length t) (same-length-2 t) (returns t) (open-array-requires t) (build-counted-requires t) (same-length-3 t) (same-length-4 t) (returns-2 t) (add-read2 t) (read2-requires t) (same-length-5 t) (same-length-6 t) (returns-3 t) (add-depth t) (build-array-node-with-prefix-requires t) (finish-requires t) (same-length-7 t) (same-length-8 t) (returns-4 t) (put-const-requires t) (finish-requires-2 t) (same-length-9 t) (same-length-10 t) (returns-5 t))
+    (λ t. lts.spec (calls t) (within t) reads.Post (read-shape-requires t) (sum-over-array-requires t)
+    (same-length t) (same-length-2 t) (returns t) (open-array-requires t) (build-counted-requires t)
+    (same-length-3 t) (same-length-4 t) (returns-2 t) (add-read2 t) (read2-requires t) (same-length-5 t)
+    (same-length-6 t) (returns-3 t) (add-depth t) (build-array-node-with-prefix-requires t)
+    (finish-requires t) (same-length-7 t) (same-length-8 t) (returns-4 t) (put-const-requires t)
+    (finish-requires-2 t) (same-length-9 t) (same-length-10 t) (returns-5 t))

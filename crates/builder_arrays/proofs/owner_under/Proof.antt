@@ -1,6 +1,8 @@
 -- `owner_under` meets its contract: the key where it is an owner, else the type's name where that is one, else the first owner, which
 -- there is.
+use Prim.Native.Nat.{_+_}
 use native.Mathlib.Omega.{arith}
+use Rattle.resolved_parts.specs.Types.{Named}
 use Rattle.builder_arrays.proofs.Laws.{named-short}
 use Rattle.builder_arrays.proofs.Owner.{first-is, under-key, under-name, under-first}
 use borrow.Author.Needs.{needs}
@@ -13,6 +15,10 @@ start r = r .before .before .before .before
 
 abbrev key-sought : tie.After-enum-told4 → tie.After-get
 key-sought r = r .before .before .before .before .before
+
+-- there is a first owner, and its name
+first : (r : tie.After-enum-told4) → Named (start (key-sought r) .args .s .now) (start (key-sought r) .args .references + 6 + 2 + 6)
+first r = first-is (start (key-sought r) .pre .0 .owners) (start (key-sought r) .pre .0 .some-owner) .0
 
 returns : tie.Need-returns
 returns c =
@@ -38,25 +44,22 @@ add-name-at : tie.Need-add-name-at
 add-name-at c =
     let at-get = key-sought c in
     let at-start = start at-get in
-    omega (arith, first-is (at-start .pre .0 .owners) (at-start .pre .0 .some-owner) .0 .inside, at-start .pre .0 .size)
+    omega (arith, first c .inside, at-start .pre .0 .size)
 
 add-name-at-2 : tie.Need-add-name-at-2
 add-name-at-2 c =
     let at-get = key-sought c in
     let at-start = start at-get in
-    omega (arith, first-is (at-start .pre .0 .owners) (at-start .pre .0 .some-owner) .0 .inside, at-start .pre .0 .size)
+    omega (arith, first c .inside, at-start .pre .0 .size)
 
 add-name-at-3 : tie.Need-add-name-at-3
 add-name-at-3 c =
     let at-get = key-sought c in
     let at-start = start at-get in
-    omega (arith, first-is (at-start .pre .0 .owners) (at-start .pre .0 .some-owner) .0 .inside, at-start .pre .0 .size)
+    omega (arith, first c .inside, at-start .pre .0 .size)
 
 name-at-requires : tie.Need-name-at-requires
-name-at-requires c κs =
-    let at-get = key-sought c in
-    let at-start = start at-get in
-    first-is (at-start .pre .0 .owners) (at-start .pre .0 .some-owner) .0
+name-at-requires c κs = first c
 
 returns-3 : tie.Need-returns-3
 returns-3 c =
@@ -65,7 +68,7 @@ returns-3 c =
     let at-enum-told2 = at-get2 .before in
     let at-get = key-sought at-enum-told4 in
     let at-start = start at-get in (
-      named-short (first-is (at-start .pre .0 .owners) (at-start .pre .0 .some-owner) .0) (c .name-at .ensures),
+      named-short (first at-enum-told4) (c .name-at .ensures),
       under-first _
           (at-get .get .ensures .0)
           (at-enum-told2 .enum-told2 .given .1)

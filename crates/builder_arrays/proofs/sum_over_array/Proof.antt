@@ -3,7 +3,7 @@
 use native.Mathlib.Omega.{arith}
 use Rattle.builder_nodes.proofs.Laws.{stopped}
 use Rattle.builder_expressions.proofs.Laws.{header-inside}
-use Rattle.builder_arrays.proofs.Laws.{count-at, named-short, sum-count-stops, sum-element-stops, sum-made}
+use Rattle.builder_arrays.proofs.Laws.{count-at, named-short, sum-ends, sum-count-stops, sum-element-stops, sum-made}
 use borrow.Author.Needs.{needs}
 use Rattle.builder_arrays.proofs.sum_over_array.Statement.{statement}
 use Rattle.builder_arrays.proofs.sum_over_array.Tie as tie
@@ -129,25 +129,15 @@ close-array-requires c κs =
     let at-read2 = at-target .before .before in
     let at-build-expr-ir = counted at-read2 in
     let at-open-array = nodes-open at-build-expr-ir in
-    let at-start = start at-open-array in (
-      omega (
-        arith,
-        at-build-expr-ir .build-expr-ir .ensures .0 .low,
-        at-open-array .open-array .ensures .1,
-        at-put-text-part .put-text-part .ensures .1 .0,
-        at-put-text-part2 .put-text-part2 .ensures .1 .0,
-      ),
-      omega (
-        arith,
-        at-build-expr-ir .build-expr-ir .ensures .0 .high,
-        at-open-array .open-array .ensures .1,
-        at-start .pre .0 .cursor,
-        at-start .pre .0 .owned,
-        named-short (at-target .target .ensures (at-start .pre .1) .named) (at-name-at .name-at .ensures),
-        at-put-text-part .put-text-part .ensures .1 .1,
-        at-put-text-part2 .put-text-part2 .ensures .1 .1,
-      ),
-    )
+    let at-start = start at-open-array in
+    let ends = sum-ends
+    (at-open-array .open-array .ensures .1)
+    (at-build-expr-ir .build-expr-ir .ensures .0)
+    (at-put-text-part .put-text-part .ensures .1)
+    (at-put-text-part2 .put-text-part2 .ensures .1)
+    (named-short (at-target .target .ensures (at-start .pre .1) .named) (at-name-at .name-at .ensures))
+    (at-start .pre .0 .owned) in
+    (ends .0, omega (arith, ends .1 .high, at-start .pre .0 .cursor))
 
 returns-3 : tie.Need-returns-3
 returns-3 c =
@@ -161,25 +151,13 @@ returns-3 c =
     let at-build-expr-ir = counted at-read2 in
     let at-open-array = nodes-open at-build-expr-ir in
     let at-start = start at-open-array in (
-      record {
-        low = omega (
-          arith,
-          at-build-expr-ir .build-expr-ir .ensures .0 .low,
-          at-open-array .open-array .ensures .1,
-          at-put-text-part .put-text-part .ensures .1 .0,
-          at-put-text-part2 .put-text-part2 .ensures .1 .0,
-        );
-        high = omega (
-          arith,
-          at-build-expr-ir .build-expr-ir .ensures .0 .high,
-          at-open-array .open-array .ensures .1,
-          at-start .pre .0 .owned,
-          named-short (at-target .target .ensures (at-start .pre .1) .named) (at-name-at .name-at .ensures),
-          at-put-text-part .put-text-part .ensures .1 .1,
-          at-put-text-part2 .put-text-part2 .ensures .1 .1,
-        );
-        count = at-build-expr-ir .build-expr-ir .ensures .0 .count;
-      },
+      sum-ends
+          (at-open-array .open-array .ensures .1)
+          (at-build-expr-ir .build-expr-ir .ensures .0)
+          (at-put-text-part .put-text-part .ensures .1)
+          (at-put-text-part2 .put-text-part2 .ensures .1)
+          (named-short (at-target .target .ensures (at-start .pre .1) .named) (at-name-at .name-at .ensures))
+          (at-start .pre .0 .owned) .1,
       sum-made _ _ _
           (at-open-array .open-array .ensures .0)
           (at-build-expr-ir .build-expr-ir .ensures .1)

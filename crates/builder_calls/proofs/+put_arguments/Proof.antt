@@ -53,8 +53,7 @@ path-here r = entry-named (start r .pre .1 .list) (above (r .if1 .left))
 
 returns : (t : ℕ) → walk.Need-returns (callees t) (entered t) self.Post
 returns t c =
-    let at-start = c .before .before .before .before in
-    (
+    let at-start = c .before .before .before .before in (
       fills-none (at-start .pre .1 .room),
       walk-none (paths-walk _) (at-start .pre .1 .room) (c .if1 .taken),
     )
@@ -68,8 +67,7 @@ put-argument-requires t c κs =
 returns-2 : (t : ℕ) → walk.Need-returns-2 (callees t) (entered t) self.Post
 returns-2 t c =
     let at-put-argument = c .before .before .before .before .before .before in
-    let at-else1 = left at-put-argument in
-    (
+    let at-else1 = left at-put-argument in (
       at-put-argument .put-argument .ensures .0,
       paths-stop _ (above (at-else1 .if1 .left)) (at-put-argument .put-argument .ensures .1) (c .if2 .taken),
     )
@@ -92,8 +90,7 @@ put-arguments-requires t c κs =
     let at-else2 = at-next-name .before in
     let at-put-argument = at-else2 .before .before .before .before .before .before in
     let at-else1 = left at-put-argument in
-    let at-start = start at-else1 in
-    (
+    let at-start = start at-else1 in (
       omega (arith, at-start .pre .0, at-else1 .if1 .left),
       record {
         room = room-more (at-start .pre .1 .room) (search needs) (at-else2 .if2 .left) (at-put-argument .put-argument .ensures .0);
@@ -108,8 +105,7 @@ returns-3 t c =
     let at-next-name = at-put-arguments .before .before .before in
     let at-else2 = at-next-name .before in
     let at-put-argument = at-else2 .before .before .before .before .before .before in
-    let at-else1 = left at-put-argument in
-    (
+    let at-else1 = left at-put-argument in (
       fills-both (at-put-argument .put-argument .ensures .0) (at-put-arguments .put-arguments .ensures .0),
       paths-go _
           (above (at-else1 .if1 .left))

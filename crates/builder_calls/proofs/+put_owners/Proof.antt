@@ -62,8 +62,7 @@ owner-at r = r .owner-paths .ensures (here (r .before))
 
 returns : (t : ℕ) → walk.Need-returns (callees t) (entered t) self.Post
 returns t c =
-    let at-start = c .before .before .before .before in
-    (
+    let at-start = c .before .before .before .before in (
       fills-none (at-start .pre .1 .room),
       walk-none owners-walk (at-start .pre .1 .room) (c .if1 .taken),
     )
@@ -102,8 +101,7 @@ returns-2 t c =
     let at-put-arguments = c .before .before .before .before .before .before in
     let at-read2 = first-read at-put-arguments in
     let at-owner-paths = at-read2 .before in
-    let at-else1 = at-owner-paths .before in
-    (
+    let at-else1 = at-owner-paths .before in (
       at-put-arguments .put-arguments .ensures .0,
       owners-stop
           (above (at-else1 .if1 .left))
@@ -130,8 +128,7 @@ put-owners-requires t c κs =
     let at-else2 = at-next-block .before in
     let at-put-arguments = at-else2 .before .before .before .before .before .before in
     let at-else1 = at-put-arguments .before .before .before .before .before in
-    let at-start = start at-else1 in
-    (
+    let at-start = start at-else1 in (
       omega (arith, at-start .pre .0, at-else1 .if1 .left),
       record {
         room = room-more (at-start .pre .1 .room) (search needs) (at-else2 .if2 .left) (at-put-arguments .put-arguments .ensures .0);
@@ -147,8 +144,7 @@ returns-3 t c =
     let at-put-arguments = at-else2 .before .before .before .before .before .before in
     let at-read2 = first-read at-put-arguments in
     let at-owner-paths = at-read2 .before in
-    let at-else1 = at-owner-paths .before in
-    (
+    let at-else1 = at-owner-paths .before in (
       fills-both (at-put-arguments .put-arguments .ensures .0) (at-put-owners .put-owners .ensures .0),
       owners-go
           (above (at-else1 .if1 .left))

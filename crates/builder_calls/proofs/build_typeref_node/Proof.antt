@@ -38,8 +38,7 @@ returns c =
     let at-get-type-info = at-offset .before .before in
     let at-type-head = at-get-type-info .before in
     let at-name-at = at-type-head .before in
-    let at-target = targeted at-get-type-info in
-    (
+    let at-target = targeted at-get-type-info in (
       at-put-call .put-call .ensures .0,
       typeref-done _
           (at-target .target .ensures)
@@ -55,8 +54,7 @@ returns-2 c =
     let at-get-type-info = c .before .before in
     let at-name-at = at-get-type-info .before .before in
     let at-target = targeted at-get-type-info in
-    let at-start = start at-target in
-    (
+    let at-start = start at-target in (
       stopped (at-start .pre .standing .count),
       typeref-missing _
           (at-target .target .ensures)

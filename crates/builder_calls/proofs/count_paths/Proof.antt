@@ -39,8 +39,7 @@ add-at-2 c =
 
 loop-holds : tie.Need-loop-holds Inv-loop μ-loop
 loop-holds c =
-    let at-start = c .before .before in
-    (
+    let at-start = c .before .before in (
       omega (arith, owners-most (at-start .pre .0), c .read2 .ensures .0),
       count-begin _ (at-start .pre .0) (c .read2 .ensures .0),
     )
@@ -91,8 +90,7 @@ loop-again c =
     let at-read22 = c .before in
     let at-owner-paths = at-read22 .before in
     let in-loop = at-owner-paths .before in
-    let at-loop = in-loop .before in
-    (
+    let at-loop = in-loop .before in (
       omega (
         arith,
         at-read22 .read22 .ensures .0,
@@ -110,8 +108,7 @@ loop-again c =
 
 returns : tie.Need-returns Inv-loop μ-loop
 returns c =
-    let at-loop = c .before in
-    (
+    let at-loop = c .before in (
       omega (arith, at-loop .loop .inv .0),
       count-end _ (c .loop-test .left) (at-loop .loop .inv .1),
     )

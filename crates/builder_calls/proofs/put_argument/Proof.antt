@@ -49,8 +49,7 @@ returns c =
     let at-canonical-length = c .before in
     let at-name-at2 = at-canonical-length .before in
     let at-name-at = first-name at-canonical-length in
-    let at-start = start at-name-at in
-    (
+    let at-start = start at-name-at in (
       fills-none (at-start .pre .room),
       argument-long _ _ _ _
           (at-name-at .name-at .ensures)
@@ -63,8 +62,7 @@ ensure-requires : tie.Need-ensure-requires
 ensure-requires c κs =
     let at-canonical-length = c .before .before in
     let at-name-at = first-name at-canonical-length in
-    let at-start = start at-name-at in
-    (
+    let at-start = start at-name-at in (
       at-start .pre .room .standing,
       omega (arith, at-start .pre .owned .inside, at-start .pre .room .standing .size),
       omega (arith, at-start .pre .named .inside, at-start .pre .room .standing .size),
@@ -76,8 +74,7 @@ returns-2 c =
     let at-else1 = measured at-ensure in
     let at-canonical-length = at-else1 .before in
     let at-name-at = first-name at-canonical-length in
-    let at-start = start at-name-at in
-    (
+    let at-start = start at-name-at in (
       fills-none (at-start .pre .room),
       argument-full (names at-else1) (at-ensure .ensure .ensures .1) (c .if2 .taken),
     )
@@ -89,8 +86,7 @@ returns-3 c =
     let at-else1 = measured at-ensure in
     let at-canonical-length = at-else1 .before in
     let at-name-at = first-name at-canonical-length in
-    let at-start = start at-name-at in
-    (
+    let at-start = start at-name-at in (
       fills-none (at-start .pre .room),
       argument-many (names at-else1) (at-ensure .ensure .ensures .1) (at-else2 .if2 .left) (c .if3 .taken),
     )
@@ -183,8 +179,7 @@ returns-4 c =
     let at-else2 = at-else3 .before .before in
     let at-ensure = entered at-open-block in
     let at-else1 = measured at-ensure in
-    let at-canonical-length = at-else1 .before in
-    (
+    let at-canonical-length = at-else1 .before in (
       argument-ends _
           (at-open-block .open-block .ensures .1)
           (at-put-canonical-name .put-canonical-name .ensures .1)

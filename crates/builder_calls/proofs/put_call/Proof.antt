@@ -49,8 +49,7 @@ put-text-part-requires : tie.Need-put-text-part-requires
 put-text-part-requires c κs =
     let at-open-node = c .before .before .before in
     let at-type-head = head-read at-open-node in
-    let at-start = start at-type-head in
-    (
+    let at-start = start at-type-head in (
       omega (arith, at-open-node .open-node .ensures .1, at-start .pre .cursor, at-start .pre .short),
       omega arith,
       omega arith,
@@ -62,8 +61,7 @@ put-count-part-requires c κs =
     let at-put-text-part = c .before .before .before in
     let at-open-node = node-open at-put-text-part in
     let at-type-head = head-read at-open-node in
-    let at-start = start at-type-head in
-    (
+    let at-start = start at-type-head in (
       omega (
         arith,
         at-put-text-part .put-text-part .ensures .1 .1,
@@ -127,8 +125,7 @@ returns c =
     let at-open-node = node-open at-put-text-part in
     let at-read2 = at-open-node .before .before in
     let at-type-head = head-read at-open-node in
-    let at-start = start at-type-head in
-    (
+    let at-start = start at-type-head in (
       stopped (at-start .pre .standing .count),
       call-stop refl
           (at-type-head .type-head .ensures)
@@ -172,8 +169,7 @@ returns-2 c =
     let at-read2 = at-open-node .before .before in
     let at-count-paths = at-read2 .before in
     let at-type-head = head-read at-open-node in
-    let at-start = start at-type-head in
-    (
+    let at-start = start at-type-head in (
       call-ends
           (at-open-node .open-node .ensures .1)
           (at-put-text-part .put-text-part .ensures .1)
