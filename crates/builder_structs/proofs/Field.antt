@@ -22,7 +22,7 @@ use Rattle.ir.specs.Ir.{IrNode}
 use Rattle.ir.specs.Layout.{nodeTree}
 use Rattle.builder.specs.Names.{orElse}
 use Rattle.builder.specs.Registry.{Registry, Build, _>>=_, give, extend-with}
-use Rattle.builder.specs.Nodes.{align-node, const-or-zero, sum-refs, payload-paths, build-enum-node, build-size-discriminated-union-node, build-array-node-with-prefix, build-typeref-node, build-field-enum, build-field-refs, build-variable-field, build-field}
+use Rattle.builder.specs.Nodes.{align-node, const-or-zero, sum-refs, payload-paths, build-enum-node, build-size-discriminated-union-node, build-array-node-with-prefix, build-typeref-node, build-field-enum, build-field-refs, build-variable-field, build-field, build-variable}
 use Rattle.builder.proofs.Steps.{step-done, step-refused, need-some, need-none}
 use Rattle.wire.specs.Poke.{Wrote}
 use Rattle.resolved_parts.specs.declared.TypeHead.{TypeHead}
@@ -40,7 +40,8 @@ use Rattle.builder_nodes.proofs.Laws.{align-closed}
 use Rattle.builder_sums.specs.Ready.{someName}
 use Rattle.builder_expressions.proofs.Laws.{makes, refuses}
 use Rattle.builder_arrays.proofs.Steps.{between}
-use Rattle.builder_structs.specs.Field.{withOwn, withAlign, sumOf, payloadOf, EntersOwn, ClosesAligned}
+use Rattle.builder_structs.specs.Field.{withOwn, withAlign, inner, sumOf, payloadOf, EntersOwn, ClosesAligned}
+use Rattle.builder_structs.specs.Ready.{ReadyType, ReadyInner}
 
 -- ---- what callees leave
 
@@ -126,15 +127,6 @@ module _ {s xs x₁ x₂ ys : List ℕ} {at p kind : ℕ} {t : TypeHead} {e r : 
   aligned-at : {us : List ℕ} (a : Accepted s 1 7 kind) (m : Build IrNode) → Builds s x₁ p us x₂ e (m g) → Builds s xs at us ys r (withAlign (head (typeOf (tree a)) .alignment) m g)
   aligned-at {us} a m b = subst (λ (z : ℕ). Builds s xs at us ys r (withAlign z m g)) (sym (hd a .alignment)) (c s us xs x₁ p (t .alignment) m g w b)
 
-  -- the same where the references of the type entered in between
-  own-aligned : {ws us : List ℕ} {node : Built} (a : Accepted s 1 7 kind) (m : Build IrNode) → EntersOwn s ws node (head (typeOf (tree a))) us e → Builds s x₁ p ws x₂ node (m g) →
-      Builds s xs at us ys r ((m >>= (λ n. extend-with (head (typeOf (tree a)) .dynamic-params) >>= (λ _. give (align-node n (head (typeOf (tree a)) .alignment))))) g)
-  unfolding withOwn withAlign
-  own-aligned {us} a m k b =
-      let h = head (typeOf (tree a)) in
-      subst (Builds s xs at us ys r) (sym (between m (extend-with (h .dynamic-params)) (λ n. give (align-node n (h .alignment))) g))
-      (aligned-at a (withOwn h m) (k x₁ x₂ p m g b))
-
 -- ---- a type's own references
 
 -- as the definition has them, by the head that was read
@@ -149,17 +141,16 @@ own-entered {s} {us} {r} g hd k a = subst (λ (os : List Owner). Kept s us r (ex
 abbrev OwnLeft : (s ws : List ℕ) (node : Built) (kind : ℕ) (us : List ℕ) (r : Built) → Type 0
 OwnLeft s ws node kind us r = (a : Accepted s 1 7 kind) → EntersOwn s ws node (head (typeOf (tree a))) us r
 
--- an enum as a switch
-abbrev SwitchLeft : (s xs : List ℕ) (at : ℕ) (us ys : List ℕ) (r : Built) (kind : ℕ) (g : Registry) → Type 0
-SwitchLeft s xs at us ys r kind g =
-    (name : Name) (a : Accepted s 1 7 kind) (e : ExprKind) (vs : Variants) → kindOf (typeOf (tree a)) ≡ ResolvedTypeKind.Enum e vs →
-    Builds s xs at us ys r (build-field-enum [] name (head (typeOf (tree a))) e vs g)
+-- the node inside its AlignUp node
+abbrev InnerLeft : (s xs : List ℕ) (at : ℕ) (us ys : List ℕ) (r : Built) (kind : ℕ) (g : Registry) → Type 0
+InnerLeft s xs at us ys r kind g =
+    (t : Tree) (a : Accepted s 1 7 kind) → readSet s ≡ done t → Builds s xs at us ys r (inner (typesOf t) (head (typeOf (tree a))) (kindOf (typeOf (tree a))) g)
 
--- a field of variable size that asks neither for its name nor for the struct's references
-abbrev UnnamedLeft : (s xs : List ℕ) (at : ℕ) (us ys : List ℕ) (r : Built) (kind : ℕ) (g : Registry) → Type 0
-UnnamedLeft s xs at us ys r kind g =
-    (t : Tree) (refs : List Owner) (name : Name) (a : Accepted s 1 7 kind) → readSet s ≡ done t →
-    Builds s xs at us ys r (build-variable-field (typesOf t) refs name (head (typeOf (tree a))) (kindOf (typeOf (tree a))) g)
+-- that node, aligned
+abbrev AlignedLeft : (s xs : List ℕ) (at : ℕ) (us ys : List ℕ) (r : Built) (kind : ℕ) (g : Registry) → Type 0
+AlignedLeft s xs at us ys r kind g =
+    (t : Tree) (a : Accepted s 1 7 kind) → readSet s ≡ done t →
+    Builds s xs at us ys r (withAlign (head (typeOf (tree a)) .alignment) (inner (typesOf t) (head (typeOf (tree a))) (kindOf (typeOf (tree a)))) g)
 
 -- a field of variable size
 abbrev VariableLeft : (s xs : List ℕ) (at : ℕ) (us ys : List ℕ) (r : Built) (references name kind : ℕ) (g : Registry) → Type 0
@@ -192,6 +183,77 @@ module _ {s ws x₁ x₂ : List ℕ} {p paths kind : ℕ} {o : List ℕ} {node :
   payload-built {xs} {ys} {at} {r} b hd w c q a =
       subst (λ (z : Name). Builds s xs at ws ys r (payloadOf z (head (typeOf (tree a))) (textsOf (q .list .got .0)) g)) eo
       (aligned-at g hd w c a (sum-refs o (payload-paths (textsOf (q .list .got .0)))) (b q))
+
+-- ---- the node inside an AlignUp node
+
+-- what it stands on, from what its field stands on
+pub inner-ready : {s ws : List ℕ} {n type k at : ℕ} → ReadyType s ws n type at → le2 s (type + 4) ≡ k → 4 ≤ k → (k ≡ 5 → ⊥) → ReadyInner s ws n type k (at + 23)
+inner-ready a e l n = record {
+  standing = a .standing;
+  set = a .set;
+  type-at = a .type-at;
+  kind-is = e;
+  from-enum = l;
+  no-array = n;
+  cursor = omega (arith, a .cursor);
+}
+
+module _ {s xs us ys : List ℕ} {at kind : ℕ} {r : Built} (g : Registry) where
+  -- by the kind of the type
+  inner-at : (t : Tree) (a : Accepted s 1 7 kind) {z : ResolvedTypeKind} → kindOf (typeOf (tree a)) ≡ z →
+      Builds s xs at us ys r (inner (typesOf t) (head (typeOf (tree a))) z g) → Builds s xs at us ys r (inner (typesOf t) (head (typeOf (tree a))) (kindOf (typeOf (tree a))) g)
+  inner-at t a i b = subst (λ (z : ResolvedTypeKind). Builds s xs at us ys r (inner (typesOf t) (head (typeOf (tree a))) z g)) (sym i) b
+
+  -- the switch of an enum, and what enters behind it
+  pub enum-inner : {ws : List ℕ} {node : Built} → le2 s (kind + 4) ≡ 4 →
+      ((a : Accepted s 1 7 kind) (e : ExprKind) (vs : Variants) → kindOf (typeOf (tree a)) ≡ ResolvedTypeKind.Enum e vs → Builds s xs at ws ys node (build-enum-node (head (typeOf (tree a))) e vs g)) →
+      OwnLeft s ws node kind us r → InnerLeft s xs at us ys r kind g
+  unfolding inner build-variable
+  enum-inner ek b k t a q =
+      let i = enum-at ek refl refl refl a .is in
+      inner-at t a i (k a xs ys at (build-enum-node (head (typeOf (tree a))) _ _) g (b a _ _ i))
+
+  -- the switch of a size-discriminated union, and what enters behind it
+  pub sized-inner : {ws : List ℕ} {node : Built} → le2 s (kind + 4) ≡ 6 →
+      ((a : Accepted s 1 7 kind) (vs : Variants) → kindOf (typeOf (tree a)) ≡ ResolvedTypeKind.SizeDiscriminatedUnion vs →
+      Builds s xs at ws ys node (build-size-discriminated-union-node (head (typeOf (tree a))) vs g)) →
+      OwnLeft s ws node kind us r → InnerLeft s xs at us ys r kind g
+  unfolding inner build-variable
+  sized-inner ek b k t a q =
+      let i = sized-at refl refl ek a .is in
+      inner-at t a i (k a xs ys at (build-size-discriminated-union-node (head (typeOf (tree a))) _) g (b a _ i))
+
+  -- the call of a type reference, which enters none of its own references
+  pub call-inner : le2 s (kind + 4) ≡ 7 →
+      ((t : Tree) (a : Accepted s 1 7 kind) (target : Name) → readSet s ≡ done t → kindOf (typeOf (tree a)) ≡ ResolvedTypeKind.TypeRef target →
+      Builds s xs at us ys r (build-typeref-node (typesOf t) (head (typeOf (tree a))) target g)) → InnerLeft s xs at us ys r kind g
+  unfolding inner
+  call-inner ek b t a q =
+      let i = target-at refl ek a .is in
+      inner-at t a i (b t a _ q i)
+
+-- that node, aligned, as the code leaves it
+pub inner-aligned : {s xs x₁ x₂ us ys : List ℕ} {at p kind : ℕ} {h : TypeHead} {e r : Built} (g : Registry) → ((a : Accepted s 1 7 kind) → HeadAt a h) → Opened xs at h x₁ p →
+    ClosesAligned x₂ at e ys r → InnerLeft s x₁ p us x₂ e kind g → AlignedLeft s xs at us ys r kind g
+inner-aligned g hd w c b t a q = aligned-at g hd w c a (inner (typesOf t) (head (typeOf (tree a))) (kindOf (typeOf (tree a)))) (b t a q)
+
+module _ (types : List ResolvedType) (n : Name) (h : Head) (g : Registry) where
+  -- an enum without a payload is that node, aligned
+  enum-aligned : (e : ExprKind) (vs : Variants) → build-field-enum [] n h e vs g ≡ withAlign (h .alignment) (inner types h (ResolvedTypeKind.Enum e vs)) g
+  unfolding build-field-enum inner build-variable withOwn withAlign
+  enum-aligned e vs = between (build-enum-node h e vs) (extend-with (h .dynamic-params)) (λ m. give (align-node m (h .alignment))) g
+
+  -- so is a size-discriminated union
+  sized-aligned : (refs : List Owner) (vs : Variants) →
+      build-variable-field types refs n h (ResolvedTypeKind.SizeDiscriminatedUnion vs) g ≡ withAlign (h .alignment) (inner types h (ResolvedTypeKind.SizeDiscriminatedUnion vs)) g
+  unfolding build-variable-field inner build-variable withOwn withAlign
+  sized-aligned refs vs = between (build-size-discriminated-union-node h vs) (extend-with (h .dynamic-params)) (λ m. give (align-node m (h .alignment))) g
+
+  -- and a type reference
+  call-aligned : (refs : List Owner) (target : Name) →
+      build-variable-field types refs n h (ResolvedTypeKind.TypeRef target) g ≡ withAlign (h .alignment) (inner types h (ResolvedTypeKind.TypeRef target)) g
+  unfolding build-variable-field inner withAlign
+  call-aligned refs target = refl
 
 -- ---- the struct's references for a field
 
@@ -254,6 +316,13 @@ module _ {s : List ℕ} {references : ℕ} {o : List ℕ} {f : Paths} (kind name
     no-payload [] h e vs y = refl
     no-payload (p ∷ ps) h e vs y = let z : _≡_ {A = ℕ} 0 1 = cc in absurd (omega arith)
 
+    -- that switch is the node inside, aligned
+    switch-is : (types : List ResolvedType) (a : Accepted s 1 7 kind) {e : ExprKind} {vs : Variants} → kindOf (typeOf (tree a)) ≡ ResolvedTypeKind.Enum e vs →
+        build-field-enum [] (nameAt s name) (head (typeOf (tree a))) e vs g ≡ withAlign (head (typeOf (tree a)) .alignment) (inner types (head (typeOf (tree a))) (kindOf (typeOf (tree a)))) g
+    switch-is types a i =
+        enum-aligned types (nameAt s name) (head (typeOf (tree a))) g _ _
+        ∙ ap (λ (z : ResolvedTypeKind). withAlign (head (typeOf (tree a)) .alignment) (inner types (head (typeOf (tree a))) z) g) (sym i)
+
     module _ {xs us ys : List ℕ} {at q : ℕ} {v : Bool} {r : Built} where
       -- an enum, where a path of the struct's references for it ends in `.payload_size`
       pub enum-payload : f ≡ At q → ((p : PathsAt s q) → v ≡ someName (payload-paths (textsOf (p .list .got .0)))) → v ≡ true →
@@ -269,58 +338,25 @@ module _ {s : List ℕ} {references : ℕ} {o : List ℕ} {f : Paths} (kind name
 
       -- an enum, where no path does
       pub enum-plain : f ≡ At q → ((p : PathsAt s q) → v ≡ someName (payload-paths (textsOf (p .list .got .0)))) → v ≡ false →
-          (SwitchLeft s xs at us ys r kind g) →
-          VariableLeft s xs at us ys r references name kind g
+          AlignedLeft s xs at us ys r kind g → VariableLeft s xs at us ys r references name kind g
       enum-plain e has y h t b a d =
           let w = found-at e (refs-named b) in
           let T : List Name = textsOf (w .0 .list .got .0) in
           let i = enum-at ek refl refl refl a .is in
           subst (Builds s xs at us ys r)
-          (sym (enum-is (typesOf t) (ownersOf (tree b)) a T (ap (orElse []) (w .1)) i ∙ no-payload (payload-paths T) (head (typeOf (tree a))) _ _ (sym (has (w .0)) ∙ y))) (h (nameAt s name) a _ _ i)
+          (sym (enum-is (typesOf t) (ownersOf (tree b)) a T (ap (orElse []) (w .1)) i ∙ no-payload (payload-paths T) (head (typeOf (tree a))) _ _ (sym (has (w .0)) ∙ y)
+          ∙ switch-is (typesOf t) a i)) (h t a d)
 
     -- an enum for which the struct has no references
     pub enum-missing : {xs us ys : List ℕ} {at : ℕ} {r : Built} → f ≡ Missing →
-        (SwitchLeft s xs at us ys r kind g) →
-        VariableLeft s xs at us ys r references name kind g
+        AlignedLeft s xs at us ys r kind g → VariableLeft s xs at us ys r references name kind g
     unfolding payload-paths
     enum-missing {xs} {us} {ys} {at} {r} e h t b a d =
         let i = enum-at ek refl refl refl a .is in
-        subst (Builds s xs at us ys r) (sym (enum-is (typesOf t) (ownersOf (tree b)) a [] (ap (orElse []) (found-none e (refs-named b))) i)) (h (nameAt s name) a _ _ i)
+        subst (Builds s xs at us ys r)
+        (sym (enum-is (typesOf t) (ownersOf (tree b)) a [] (ap (orElse []) (found-none e (refs-named b))) i ∙ switch-is (typesOf t) a i)) (h t a d)
 
--- ---- a switch, an array, a call
-
-module _ {s xs x₁ x₂ us ys : List ℕ} {at p kind : ℕ} {h : TypeHead} {e r : Built} (g : Registry)
-    (hd : (a : Accepted s 1 7 kind) → HeadAt a h) (w : Opened xs at h x₁ p) (c : ClosesAligned x₂ at e ys r) where
-  -- an enum as a switch
-  pub switch-built : {ws : List ℕ} {node : Built} →
-      ((a : Accepted s 1 7 kind) (e : ExprKind) (vs : Variants) → kindOf (typeOf (tree a)) ≡ ResolvedTypeKind.Enum e vs → Builds s x₁ p ws x₂ node (build-enum-node (head (typeOf (tree a))) e vs g)) →
-      OwnLeft s ws node kind us e →
-      SwitchLeft s xs at us ys r kind g
-  unfolding build-field-enum
-  switch-built b k name a x vs i = own-aligned g hd w c a (build-enum-node (head (typeOf (tree a))) x vs) (k a) (b a x vs i)
-
-  -- a size-discriminated union
-  pub sized-built : {ws : List ℕ} {node : Built} → le2 s (kind + 4) ≡ 6 →
-      ((a : Accepted s 1 7 kind) (vs : Variants) → kindOf (typeOf (tree a)) ≡ ResolvedTypeKind.SizeDiscriminatedUnion vs →
-      Builds s x₁ p ws x₂ node (build-size-discriminated-union-node (head (typeOf (tree a))) vs g)) →
-      OwnLeft s ws node kind us e →
-      UnnamedLeft s xs at us ys r kind g
-  unfolding build-variable-field
-  sized-built ek b k t refs name a q =
-      let i = sized-at refl refl ek a .is in
-      subst (λ (z : ResolvedTypeKind). Builds s xs at us ys r (build-variable-field (typesOf t) refs name (head (typeOf (tree a))) z g)) (sym i)
-      (own-aligned g hd w c a (build-size-discriminated-union-node (head (typeOf (tree a))) _) (k a) (b a _ i))
-
-  -- a type reference, which enters none of its own references
-  pub call-built : le2 s (kind + 4) ≡ 7 →
-      ((t : Tree) (a : Accepted s 1 7 kind) (target : Name) → readSet s ≡ done t → kindOf (typeOf (tree a)) ≡ ResolvedTypeKind.TypeRef target →
-      Builds s x₁ p us x₂ e (build-typeref-node (typesOf t) (head (typeOf (tree a))) target g)) →
-      UnnamedLeft s xs at us ys r kind g
-  unfolding build-variable-field withAlign
-  call-built ek b t refs name a q =
-      let i = target-at refl ek a .is in
-      subst (λ (z : ResolvedTypeKind). Builds s xs at us ys r (build-variable-field (typesOf t) refs name (head (typeOf (tree a))) z g)) (sym i)
-      (aligned-at g hd w c a (build-typeref-node (typesOf t) (head (typeOf (tree a))) _) (b t a _ q i))
+-- ---- arrays
 
 -- what the definition says of a field that is an array
 array-of : (types : List ResolvedType) (refs : List Owner) (n : Name) (g : Registry) (t : ResolvedType) {x : ResolvedType} {e : ExprKind} {j : Bool} → kindOf t ≡ ResolvedTypeKind.Array x e j →
@@ -347,31 +383,49 @@ array-built {s} {xs} {ws} {us} {ys} {at} {node} {r} name g ek eo b k t refs a q 
 pub kind-inside : {s : List ℕ} {kind : ℕ} → Accepted s 1 7 kind → kind + 4 + 2 ≤ length s
 kind-inside a = omega (arith, inside a, long a)
 
--- a kind that is none of the others
-three : {n : ℕ} (k : ℕ) → 1 ≤ n → n ≤ 7 → k ≡ n → (k ≡ 1 → ⊥) → (k ≡ 2 → ⊥) → (k ≡ 4 → ⊥) → (k ≡ 5 → ⊥) → (k ≡ 6 → ⊥) → (k ≡ 7 → ⊥) → n ≡ 3
-three k lo hi e n₁ n₂ n₄ n₅ n₆ n₇ = omega arith
+module _ {s xs us ys : List ℕ} {at references kind k : ℕ} {r : Built} (name : ℕ) (g : Registry) (ek : k ≡ le2 s (kind + 4)) where
+  -- what was built is the field's node, by the kind of its type
+  by-kind : (t : Tree) (b : Accepted s 32 32 references) (a : Accepted s 1 7 kind) (z : ResolvedTypeKind) {m : Outcome (IrNode × Registry)} → kindOf (typeOf (tree a)) ≡ z →
+      build-variable-field (typesOf t) (ownersOf (tree b)) (nameAt s name) (head (typeOf (tree a))) z g ≡ m → Builds s xs at us ys r m →
+      Builds s xs at us ys r (build-variable-field (typesOf t) (ownersOf (tree b)) (nameAt s name) (head (typeOf (tree a))) (kindOf (typeOf (tree a))) g)
+  by-kind t b a z i e h = subst (Builds s xs at us ys r) (sym (ap (λ (z : ResolvedTypeKind). build-variable-field (typesOf t) (ownersOf (tree b)) (nameAt s name) (head (typeOf (tree a))) z g) i ∙ e)) h
 
--- a primitive type, a struct or a union is the sum of the struct's references for it
-pub refs-kind : {s xs us ys : List ℕ} {at references kind k : ℕ} {r : Built} (name : ℕ) (g : Registry) → k ≡ le2 s (kind + 4) → (k ≡ 4 → ⊥) → (k ≡ 5 → ⊥) → (k ≡ 6 → ⊥) → (k ≡ 7 → ⊥) →
-    ((b : Accepted s 32 32 references) (a : Accepted s 1 7 kind) → Builds s xs at us ys r (build-field-refs (ownersOf (tree b)) (nameAt s name) (head (typeOf (tree a))) g)) →
-    VariableLeft s xs at us ys r references name kind g
-unfolding build-variable-field
-refs-kind {s} {xs} {us} {ys} {at} {kind} {k} {r} name g ek n₄ n₅ n₆ n₇ h t b a d = go (eqb k 1) refl (eqb k 2) refl
-  where
-    by : (z : ResolvedTypeKind) → kindOf (typeOf (tree a)) ≡ z →
-        build-variable-field (typesOf t) (ownersOf (tree b)) (nameAt s name) (head (typeOf (tree a))) z g ≡ build-field-refs (ownersOf (tree b)) (nameAt s name) (head (typeOf (tree a))) g →
-        Builds s xs at us ys r (build-variable-field (typesOf t) (ownersOf (tree b)) (nameAt s name) (head (typeOf (tree a))) (kindOf (typeOf (tree a))) g)
-    by z i e = subst (Builds s xs at us ys r) (sym (ap (λ (z : ResolvedTypeKind). build-variable-field (typesOf t) (ownersOf (tree b)) (nameAt s name) (head (typeOf (tree a))) z g) i ∙ e)) (h b a)
+  -- a primitive type, a struct or a union is the sum of the struct's references for it
+  pub refs-kind : k < 4 →
+      ((b : Accepted s 32 32 references) (a : Accepted s 1 7 kind) → Builds s xs at us ys r (build-field-refs (ownersOf (tree b)) (nameAt s name) (head (typeOf (tree a))) g)) →
+      VariableLeft s xs at us ys r references name kind g
+  unfolding build-variable-field
+  refs-kind l h t b a d = go (eqb k 1) refl (eqb k 2) refl
+    where
+      go : (x : Bool) → eqb k 1 ≡ x → (y : Bool) → eqb k 2 ≡ y →
+          Builds s xs at us ys r (build-variable-field (typesOf t) (ownersOf (tree b)) (nameAt s name) (head (typeOf (tree a))) (kindOf (typeOf (tree a))) g)
+      go true e y f = by-kind t b a _ (primitive a (sym ek ∙ eqb-true k 1 e)) refl (h b a)
+      go false e true f = let w = eqb-true k 2 f in by-kind t b a _ (fields-at refl refl (omega arith) (omega arith) a .struct (sym ek ∙ w)) refl (h b a)
+      go false e false f =
+          let u = eqb-false k 1 e in
+          let v = eqb-false k 2 f in
+          let w : le2 s (kind + 4) ≡ 3 = omega (arith, kind-of a .0) in
+          by-kind t b a _ (fields-at refl refl (omega arith) (omega arith) a .union w) refl (h b a)
 
-    go : (x : Bool) → eqb k 1 ≡ x → (y : Bool) → eqb k 2 ≡ y →
-        Builds s xs at us ys r (build-variable-field (typesOf t) (ownersOf (tree b)) (nameAt s name) (head (typeOf (tree a))) (kindOf (typeOf (tree a))) g)
-    go true e y f = by _ (primitive a (sym ek ∙ eqb-true k 1 e)) refl
-    go false e true f = let w = eqb-true k 2 f in by _ (fields-at refl refl (omega arith) (omega arith) a .struct (sym ek ∙ w)) refl
-    go false e false f =
-        let u = eqb-false k 1 e in
-        let v = eqb-false k 2 f in
-        let w : le2 s (kind + 4) ≡ 3 = three k (kind-of a .0) (kind-of a .1) ek u v n₄ n₅ n₆ n₇ in
-        by _ (fields-at refl refl (omega arith) (omega arith) a .union w) refl
+  -- a size-discriminated union or a type reference is the node inside, aligned
+  pub aligned-kind : 4 ≤ k → (k ≡ 4 → ⊥) → (k ≡ 5 → ⊥) → AlignedLeft s xs at us ys r kind g → VariableLeft s xs at us ys r references name kind g
+  aligned-kind l n₄ n₅ h t b a d = go (eqb k 6) refl
+    where
+      inside-is : {z : ResolvedTypeKind} → kindOf (typeOf (tree a)) ≡ z →
+          withAlign (head (typeOf (tree a)) .alignment) (inner (typesOf t) (head (typeOf (tree a))) z) g ≡
+          withAlign (head (typeOf (tree a)) .alignment) (inner (typesOf t) (head (typeOf (tree a))) (kindOf (typeOf (tree a)))) g
+      inside-is i = ap (λ (z : ResolvedTypeKind). withAlign (head (typeOf (tree a)) .alignment) (inner (typesOf t) (head (typeOf (tree a))) z) g) (sym i)
+
+      go : (x : Bool) → eqb k 6 ≡ x →
+          Builds s xs at us ys r (build-variable-field (typesOf t) (ownersOf (tree b)) (nameAt s name) (head (typeOf (tree a))) (kindOf (typeOf (tree a))) g)
+      go true e =
+          let i = sized-at refl refl (sym ek ∙ eqb-true k 6 e) a .is in
+          by-kind t b a _ i (sized-aligned (typesOf t) (nameAt s name) (head (typeOf (tree a))) g (ownersOf (tree b)) _ ∙ inside-is i) (h t a d)
+      go false e =
+          let n₆ = eqb-false k 6 e in
+          let w : le2 s (kind + 4) ≡ 7 = omega (arith, kind-of a .1) in
+          let i = target-at refl w a .is in
+          by-kind t b a _ i (call-aligned (typesOf t) (nameAt s name) (head (typeOf (tree a))) g (ownersOf (tree b)) _ ∙ inside-is i) (h t a d)
 
 module _ {s : List ℕ} {kind : ℕ} {h : TypeHead} (references name : ℕ) (g : Registry) (hd : (a : Accepted s 1 7 kind) → HeadAt a h) where
   -- the field's node, by its size

@@ -10,6 +10,8 @@ use lib.ListN.{length}
 use borrow.Author.Tests.{lt-ltb, le-ltb}
 use Rattle.errors.specs.Refusal.{Outcome, done, refused, plain}
 use Rattle.errors.specs.Refusal.{_>>=_ as _andThen_}
+use Rattle.answers.specs.Answers.{AnswersIn}
+use Rattle.answers.proofs.Laws.{refuses, makes, passes, goes}
 use Rattle.blocks.specs.Bytes.{le2, le4, bytes}
 use Rattle.blocks.specs.Tree.{Tree, nil, cons, view}
 use Rattle.blocks.specs.Read.{readSet}
@@ -33,14 +35,15 @@ use Rattle.builder_registry.specs.Words.{entriesOf}
 use Rattle.builder_nodes.specs.declared.Built.{Built}
 use Rattle.builder_nodes.specs.Built.{Builds, nodeStart}
 use Rattle.builder_nodes.proofs.Laws.{node-closed}
-use Rattle.builder_expressions.proofs.Laws.{refuses}
+use Rattle.builder_expressions.proofs.Laws.{refuses as not-built}
 use Rattle.builder_structs.specs.declared.End.{End}
 use Rattle.builder_structs.specs.declared.End.the-variants.{At, Over}
+use Rattle.builder_structs.specs.declared.Rest.{Rest}
 use Rattle.builder_structs.specs.declared.Run.{Run}
 use Rattle.builder_structs.specs.Fold.{upTo, combine, summed}
-use Rattle.builder_structs.specs.Next.{fieldsOf, padSize, prefixEnd, endOf, State, stateOf, fieldNode, nextOf, next, nodesOf, countOf}
+use Rattle.builder_structs.specs.Next.{fieldsOf, padSize, prefixEnd, endOf, State, stateOf, stateAt, fieldNode, nextOf, next, nodesOf, countOf}
 use Rattle.builder_structs.specs.Field.{withAlign, ClosesAligned}
-use Rattle.builder_structs.specs.Ready.{Ran, Goes}
+use Rattle.builder_structs.specs.Ready.{RanIn, Ran, Goes}
 use Rattle.builder_structs.proofs.Fold.{sumNode, plus, more, summed-one, summed-at}
 use Rattle.builder_structs.proofs.Next.{struct-is}
 use Rattle.builder_structs.proofs.Field.{builds-done, builds-refused, Opened}
@@ -121,29 +124,6 @@ NextLeft s xs at us ys r references left field g end half =
     (t : Tree) (d : Accepted s 32 32 references) (l : Listed s 33 33 left field) → readSet s ≡ done t →
     Ran s xs at us ys r (next (typesOf t) (ownersOf (tree d)) (stateOf g (fieldsOf (l .got .0)) end half))
 
-module _ {s xs us ys : List ℕ} {at : ℕ} {r : Run} where
-  -- a refusal of this number
-  ran-stops : {x : Outcome (State × IrNode)} → x ≡ refused (plain (r .number)) → 0 < r .number → Ran s xs at us ys r x
-  ran-stops e l = subst (Ran s xs at us ys r) (sym e) (Ran.not (r .number) refl l)
-
-  -- this node, and this state behind it
-  ran-makes : {x : Outcome (State × IrNode)} (l : Listed s 33 33 (r .left) (r .field)) (n : IrNode) →
-      x ≡ done (stateOf (entriesOf s us (r .count)) (fieldsOf (l .got .0)) (r .end) (r .half), n) → r .number ≡ 0 →
-      Wrote xs at (write (nodeTree n)) ys (r .at) → Ran s xs at us ys r x
-  ran-makes l n e z w = subst (Ran s xs at us ys r) (sym e) (Ran.ran l n z w)
-
--- a node that was made: what the definition gives, and the bytes
-pub ran-done : {s xs us ys : List ℕ} {at : ℕ} {r : Run} {x : Outcome (State × IrNode)} → r .number ≡ 0 → Ran s xs at us ys r x →
-    (l : Listed s 33 33 (r .left) (r .field)) × (n : IrNode) × (x ≡ done (stateOf (entriesOf s us (r .count)) (fieldsOf (l .got .0)) (r .end) (r .half), n)) ×
-    Wrote xs at (write (nodeTree n)) ys (r .at)
-ran-done z (Ran.ran l n e w) = (l, n, refl, w)
-ran-done z (Ran.not k e l) = absurd (let z : ⊥ = omega arith in z)
-
--- a node that was refused: the definition refuses it with the same number
-pub ran-refused : {s xs us ys : List ℕ} {at : ℕ} {r : Run} {x : Outcome (State × IrNode)} → (r .number ≡ 0 → ⊥) → Ran s xs at us ys r x → (x ≡ refused (plain (r .number))) × (0 < r .number)
-ran-refused z (Ran.ran l n e w) = absurd (z e)
-ran-refused z (Ran.not k e l) = (ap (λ (n : ℕ). refused (plain n)) (sym e), omega arith)
-
 module _ {s : List ℕ} {left field : ℕ} (h : 0 < left) where
   -- the next field is accepted
   pub field-here : Listed s 33 33 left field → Accepted s 33 33 field
@@ -221,43 +201,45 @@ module _ {s : List ℕ} {left field : ℕ} {f : FieldParts} (h : 0 < left) (fp :
   -- what the code leaves of it
   module _ {references : ℕ} (g : Registry) (end : ℕ) {v : End} (pe : EndIs s f end v) where
     -- 16, as the code leaves it
-    pub over-left : {xs us ys : List ℕ} {at u c i j : ℕ} {b : Bool} → v ≡ Over →
-        NextLeft s xs at us ys (record { at = u; count = c; field = i; left = j; end = end; half = b; number = 16 }) references left field g end true
-    over-left e t d l q = ran-stops (node-over (typesOf t) (ownersOf (tree d)) g end pe e l) (omega arith)
+    pub over-left : {xs us ys : List ℕ} {at u : ℕ} {x : Rest} → v ≡ Over →
+        NextLeft s xs at us ys (record { at = u; rest = x; number = 16 }) references left field g end true
+    over-left e t d l q = refuses (omega arith) (node-over (typesOf t) (ownersOf (tree d)) g end pe e l)
 
     module _ {xs us ys : List ℕ} {at n : ℕ} {r : Built} (e : v ≡ At n)
         (b : (t : Tree) (d : Accepted s 32 32 references) (a : Accepted s 1 7 (f .kind)) → readSet s ≡ done t →
         Builds s xs at us ys r (build-field (typesOf t) (ownersOf (tree d)) (nameAt s (field + 6)) (head (typeOf (tree a)) .size) (head (typeOf (tree a))) (kindOf (typeOf (tree a))) g)) where
       -- the field was refused
-      pub node-stopped : {u c i j m : ℕ} {x : Bool} → (r .number ≡ 0 → ⊥) →
-          NextLeft s xs at us ys (record { at = u; count = c; field = i; left = j; end = m; half = x; number = r .number }) references left field g end true
+      pub node-stopped : {u : ℕ} {x : Rest} → (r .number ≡ 0 → ⊥) →
+          NextLeft s xs at us ys (record { at = u; rest = x; number = r .number }) references left field g end true
       unfolding _andThen_
       node-stopped z t d l q =
           let w = builds-refused z (b t d (kindAt l) q) in
-          ran-stops
+          refuses (w .1)
           (node-at (typesOf t) (ownersOf (tree d)) g end pe e l
-          ∙ ap (λ (o : Outcome (IrNode × Registry)). _andThen_ o (nodeOf (typesOf t) (ownersOf (tree d)) g end n (fieldsOf (restAt l .got .0)))) (w .0)) (w .1)
+          ∙ ap (λ (o : Outcome (IrNode × Registry)). _andThen_ o (nodeOf (typesOf t) (ownersOf (tree d)) g end n (fieldsOf (restAt l .got .0)))) (w .0))
 
       -- the field was built: the next is the one behind it
       pub node-left : {u : ℕ} → r .number ≡ 0 → u ≡ le4 s field →
-          NextLeft s xs at us ys (record { at = r .at; count = r .count; field = field + 4 + u; left = left - 1; end = n; half = false; number = 0 }) references left field g end true
+          NextLeft s xs at us ys (record { at = r .at; rest = record { count = r .count; field = field + 4 + u; left = left - 1; end = n; half = false }; number = 0 })
+          references left field g end true
       unfolding _andThen_
       node-left z eu t d l q =
           let w = builds-done z (b t d (kindAt l) q) in
           subst (λ (k : ℕ).
-          Ran s xs at us ys (record { at = r .at; count = r .count; field = field + 4 + k; left = left - 1; end = n; half = false; number = 0 })
+          Ran s xs at us ys (record { at = r .at; rest = record { count = r .count; field = field + 4 + k; left = left - 1; end = n; half = false }; number = 0 })
           (next (typesOf t) (ownersOf (tree d)) (stateOf g (fieldsOf (l .got .0)) end true))) (sym eu)
-          (ran-makes (restAt l) (w .0)
+          (makes _ refl
           (node-at (typesOf t) (ownersOf (tree d)) g end pe e l
-          ∙ ap (λ (o : Outcome (IrNode × Registry)). _andThen_ o (nodeOf (typesOf t) (ownersOf (tree d)) g end n (fieldsOf (restAt l .got .0)))) (w .1)) refl (w .2))
+          ∙ ap (λ (o : Outcome (IrNode × Registry)). _andThen_ o (nodeOf (typesOf t) (ownersOf (tree d)) g end n (fieldsOf (restAt l .got .0)))) (w .1))
+          (record { list = restAt l; state = refl; wrote = w .2 }))
 
 -- ---- padding, or the field
 
 -- no field is left: 11
-pub child-none : {s xs us ys : List ℕ} {at u c i j m references left field : ℕ} {x : Bool} (g : Registry) (end : ℕ) (half : Bool) → left ≡ 0 →
-    NextLeft s xs at us ys (record { at = u; count = c; field = i; left = j; end = m; half = x; number = 11 }) references left field g end half
+pub child-none : {s xs us ys : List ℕ} {at u references left field : ℕ} {x : Rest} (g : Registry) (end : ℕ) (half : Bool) → left ≡ 0 →
+    NextLeft s xs at us ys (record { at = u; rest = x; number = 11 }) references left field g end half
 unfolding nextOf fields fieldsIn view
-child-none g end half z t d l q = ran-stops (ap (λ (y : Tree × ℕ). nextOf (typesOf t) (ownersOf (tree d)) (fieldsOf (y .0)) end half g) (none-left l (omega arith))) (omega arith)
+child-none g end half z t d l q = refuses (omega arith) (ap (λ (y : Tree × ℕ). nextOf (typesOf t) (ownersOf (tree d)) (fieldsOf (y .0)) end half g) (none-left l (omega arith)))
 
 module _ {s xs us ys : List ℕ} {at references left field : ℕ} {r : Run} (g : Registry) (end : ℕ) (half : Bool)
     (k : NextLeft s xs at us ys r references left field g end true) where
@@ -276,12 +258,12 @@ module _ {s xs us ys : List ℕ} {at references left field : ℕ} {r : Run} (g :
 pub child-pad : {s xs ws ys : List ℕ} {at u n references left field end v : ℕ} {half : Bool} {f : FieldParts} → half ≡ false → 0 < left →
     ((a : Accepted s 33 33 field) → FieldAt a f) → v ≡ padSize end (offsetOf (f .placed) (f .offset)) → (v ≡ 0 → ⊥) →
     Wrote xs at (write (nodeTree (const-or-zero v 1))) ys u →
-    NextLeft s xs at ws ys (record { at = u; count = n; field = field; left = left; end = end; half = true; number = 0 }) references left field (entriesOf s ws n) end half
+    NextLeft s xs at ws ys (record { at = u; rest = record { count = n; field = field; left = left; end = end; half = true }; number = 0 }) references left field (entriesOf s ws n) end half
 child-pad {s} {xs} {ws} {ys} {at} {u} {n} {left} {field} {end} {v} e h fp ev z w t d l q =
     subst (λ (b : Bool).
-    Ran s xs at ws ys (record { at = u; count = n; field = field; left = left; end = end; half = true; number = 0 })
+    Ran s xs at ws ys (record { at = u; rest = record { count = n; field = field; left = left; end = end; half = true }; number = 0 })
     (next (typesOf t) (ownersOf (tree d)) (stateOf (entriesOf s ws n) (fieldsOf (l .got .0)) end b))) (sym e)
-    (ran-makes l (const-or-zero v 1) (next-pad h fp (typesOf t) (ownersOf (tree d)) (entriesOf s ws n) end ev z l) refl w)
+    (makes _ refl (next-pad h fp (typesOf t) (ownersOf (tree d)) (entriesOf s ws n) end ev z l) (record { list = l; state = refl; wrote = w }))
 
 -- ---- sums
 
@@ -299,38 +281,25 @@ sum-one {s} {xs} {us} {ys} {at} {r} nx st z g = subst (Ran s xs at us ys r) (sym
 module _ {s x₁ x₂ us : List ℕ} {k p : ℕ} {a : Run} (nx : State → Outcome (State × IrNode)) (st : State) (z₀ : k ≡ 0 → ⊥) (z₁ : k ≡ 1 → ⊥) (g : Ran s x₁ p us x₂ a (summed nx (k - 1) st)) where
   -- the sum of the first was refused
   pub sum-stops : {xs vs ys : List ℕ} {at : ℕ} → (a .number ≡ 0 → ⊥) → Ran s xs at vs ys a (summed nx k st)
-  unfolding _andThen_
-  sum-stops z = let d = ran-refused z g in ran-stops (summed-at nx k st z₀ z₁ ∙ ap (λ (o : Outcome (State × IrNode)). _andThen_ o (more nx)) (d .0)) (d .1)
+  sum-stops {xs} {vs} {ys} {at} z = subst (Ran s xs at vs ys a) (sym (summed-at nx k st z₀ z₁)) (passes (more nx) refl z g)
 
   -- the sum of the first, then the last
-  module _ {x₃ vs : List ℕ} {r : Run} (y : a .number ≡ 0)
-      (f : (l : Listed s 33 33 (a .left) (a .field)) → Ran s x₂ (a .at) vs x₃ r (nx (stateOf (entriesOf s us (a .count)) (fieldsOf (l .got .0)) (a .end) (a .half)))) where
-    -- the sum, by the sum of the first and the last
-    sum-last : (n : IrNode) (l : Listed s 33 33 (a .left) (a .field)) →
-        summed nx (k - 1) st ≡ done (stateOf (entriesOf s us (a .count)) (fieldsOf (l .got .0)) (a .end) (a .half), n) → {o : Outcome (State × IrNode)} →
-        nx (stateOf (entriesOf s us (a .count)) (fieldsOf (l .got .0)) (a .end) (a .half)) ≡ o →
-        summed nx k st ≡ _andThen_ o (plus (stateOf (entriesOf s us (a .count)) (fieldsOf (l .got .0)) (a .end) (a .half), n))
-    unfolding _andThen_
-    sum-last n l e i =
-        summed-at nx k st z₀ z₁ ∙ ap (λ (o : Outcome (State × IrNode)). _andThen_ o (more nx)) e
-        ∙ ap (λ (o : Outcome (State × IrNode)). _andThen_ o (plus (stateOf (entriesOf s us (a .count)) (fieldsOf (l .got .0)) (a .end) (a .half), n))) i
+  module _ {x₃ vs : List ℕ} {r : Run} (y : a .number ≡ 0) (f : (l : Listed s 33 33 (a .rest .left) (a .rest .field)) → Ran s x₂ (a .at) vs x₃ r (nx (stateAt s us (a .rest) l))) where
+    -- the last, from the state behind the first
+    last : (x : State × IrNode) → RanIn s x₁ p us x₂ a x → Ran s x₂ (a .at) vs x₃ r (nx (x .0))
+    last x m = subst (λ (c : State). Ran s x₂ (a .at) vs x₃ r (nx c)) (sym (m .state)) (f (m .list))
 
     -- the last was refused
     pub sum-stops-last : {xs ws ys : List ℕ} {at : ℕ} → (r .number ≡ 0 → ⊥) → Ran s xs at ws ys r (summed nx k st)
-    unfolding _andThen_
-    sum-stops-last z =
-        let d = ran-done y g in
-        let o = ran-refused z (f (d .0)) in
-        ran-stops (sum-last (d .1) (d .0) (d .2) (o .0)) (o .1)
+    sum-stops-last {xs} {ws} {ys} {at} z = subst (Ran s xs at ws ys r) (sym (summed-at nx k st z₀ z₁)) (goes (more nx) y g (λ x m. passes (plus x) refl z (last x m)))
 
     -- both were made: the Add node is closed
     pub sum-done : {xs ys : List ℕ} {at q : ℕ} → Wrote xs at (nodeStart 134 1) x₁ p → r .number ≡ 0 → Wrote x₃ at (bytes 4 (r .at - at - 4)) ys q →
         Ran s xs at vs ys r (summed nx k st)
-    unfolding _andThen_
-    sum-done w z c =
-        let d = ran-done y g in
-        let o = ran-done z (f (d .0)) in
-        ran-makes (o .0) (sumNode (d .1) (o .1)) (sum-last (d .1) (d .0) (d .2) (o .2)) z (sum-puts (d .1) (o .1) w (d .3) (o .3) c)
+    sum-done {xs} {ys} {at} w z c =
+        subst (Ran s xs at vs ys r) (sym (summed-at nx k st z₀ z₁))
+        (goes (more nx) y g (λ x m.
+        goes (plus x) z (last x m) (λ o q. AnswersIn.made _ z (record { list = q .list; state = q .state; wrote = sum-puts (x .1) (o .1) w (m .wrote) (q .wrote) c }))))
 
 -- where an Add node ends, how many entries there are, and the fields behind it: a sum of k - 1 nodes, then one more
 pub sum-goes : {s : List ℕ} {at p : ℕ} (k : ℕ) {a r : Run} → p ≡ at + 15 → 0 < k → Goes s p (2 ^ 29 * (k - 1)) a → Goes s (a .at) (2 ^ 28) r → Goes s at (2 ^ 29 * k) r
@@ -398,10 +367,10 @@ nodeOut y = done (y .1, y .0 .registry)
 
 -- what was built of a sum of nodes, without the fields that are left
 ran-built : {s xs us ys : List ℕ} {at : ℕ} {r : Run} {x : Outcome (State × IrNode)} → Ran s xs at us ys r x →
-    Builds s xs at us ys (record { at = r .at; count = r .count; number = r .number }) (_andThen_ x nodeOut)
+    Builds s xs at us ys (record { at = r .at; count = r .rest .count; number = r .number }) (_andThen_ x nodeOut)
 unfolding _andThen_
-ran-built {s} {us} {r} (Ran.ran l n z w) = Builds.made (n, entriesOf s us (r .count)) z refl w
-ran-built (Ran.not k z l) = Builds.not k z l
+ran-built (AnswersIn.made y z m) = Builds.made (y .1, y .0 .registry) z (ap (λ (c : State). c .registry) (sym (m .state))) (m .wrote)
+ran-built (AnswersIn.not k z l) = Builds.not k z l
 
 -- that node, aligned
 up-is : (a : ℕ) (g : Registry) (x : Outcome (State × IrNode)) → _andThen_ x (λ y. done (align-node (y .1) a, y .0 .registry)) ≡ withAlign a (λ _. _andThen_ x nodeOut) g
@@ -439,7 +408,7 @@ module _ {s : List ℕ} {kind k : ℕ} {h : TypeHead} {f : ListParts} (g : Regis
       Builds s xs at us ys (record { at = u; count = c; number = 11 }) (build-variable-struct (typesOf t) (head (typeOf (tree a))) fs g)
   unfolding summed upTo combine _andThen_
   struct-none z t a fs q e =
-      refuses 11 refl (omega arith)
+      not-built 11 refl (omega arith)
       (sum-is (typesOf t) a e
       ∙ ap (λ (n : ℕ). _andThen_ (summed (next (typesOf t) (ownersOf (tree (hd a .references)))) n (stateOf g (fieldsOf (fl a .list .got .0)) 0 false)) (up (h .alignment))) z)
 
@@ -447,7 +416,7 @@ module _ {s : List ℕ} {kind k : ℕ} {h : TypeHead} {f : ListParts} (g : Regis
   pub struct-built : {us xs x₁ x₂ ys : List ℕ} {at p : ℕ} {r : Run} {b : Built} →
       ((t : Tree) (d : Accepted s 32 32 (h .references)) (l : Listed s 33 33 (f .count) (f .first)) → readSet s ≡ done t →
       Ran s x₁ p us x₂ r (summed (next (typesOf t) (ownersOf (tree d))) k (stateOf g (fieldsOf (l .got .0)) 0 false))) →
-      Opened xs at h x₁ p → ClosesAligned x₂ at (record { at = r .at; count = r .count; number = r .number }) ys b →
+      Opened xs at h x₁ p → ClosesAligned x₂ at (record { at = r .at; count = r .rest .count; number = r .number }) ys b →
       (t : Tree) (a : Accepted s 1 7 kind) (fs : Fields) → readSet s ≡ done t → kindOf (typeOf (tree a)) ≡ ResolvedTypeKind.Struct fs →
       Builds s xs at us ys b (build-variable-struct (typesOf t) (head (typeOf (tree a))) fs g)
   struct-built {us} {xs} {x₁} {ys} {at} {p} {b} sm w c t a fs q e =

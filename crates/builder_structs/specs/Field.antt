@@ -1,13 +1,14 @@
 -- A field's node and what follows it: its type's own references enter, and it is aligned.
 use Prim.Native.Nat.{ℕ}
 use mathlib.Core.List.{List, _++_}
+use mathlib.Core.Option.{some, none}
 use Rattle.blocks.specs.Name.{Name}
 use Rattle.blocks.specs.Tree.{num}
 use Rattle.blocks.specs.Write.{write}
-use Rattle.resolved.specs.Resolved.{Head}
+use Rattle.resolved.specs.Resolved.{Head, ResolvedType, ResolvedTypeKind, targetOf}
 use Rattle.ir.specs.Ir.{IrNode}
 use Rattle.builder.specs.Registry.{Registry, Build, _>>=_, give, extend-with}
-use Rattle.builder.specs.Nodes.{align-node, payload-paths, sum-refs}
+use Rattle.builder.specs.Nodes.{align-node, payload-paths, sum-refs, build-typeref-node, build-variable}
 use Rattle.wire.specs.Poke.{Wrote}
 use Rattle.builder_nodes.specs.declared.Built.{Built}
 use Rattle.builder_nodes.specs.Built.{Builds, nodeStart}
@@ -24,6 +25,10 @@ unfoldable pub withAlign : ℕ → Build IrNode → Build IrNode
 withAlign a node = do
   n ← node
   give (align-node n a)
+
+-- the node inside the AlignUp node of a field: only a type reference enters none of its own references
+unfoldable pub inner : List ResolvedType → Head → ResolvedTypeKind → Build IrNode
+inner types h k = elim (targetOf k) [ none ↦ withOwn h (build-variable types h k) | some target ↦ build-typeref-node types h target ]
 
 -- the sum of a field's paths, where the field enters its own references
 abbrev pub sumOf : Name → Head → List Name → Build IrNode

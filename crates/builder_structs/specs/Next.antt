@@ -7,13 +7,16 @@ use lib.Dec.{ltb}
 use Rattle.errors.specs.Refusal.{Outcome, done, refused, plain, MissingDynamicRefs}
 use Rattle.errors.specs.Refusal.{_>>=_ as _andThen_}
 use Rattle.blocks.specs.Tree.{Tree, view}
+use Rattle.accepted.specs.Accepted.{Listed}
 use Rattle.resolved.specs.Resolved.{Owner, Size, ResolvedType, ResolvedField, head, kindOf, fields}
 use Rattle.resolved.specs.Set.{thingOf, fieldsIn}
 use Rattle.ir.specs.Ir.{IrNode}
 use Rattle.builder.specs.Registry.{Registry, need}
 use Rattle.builder.specs.Nodes.{const-or-zero, build-field}
+use Rattle.builder_registry.specs.Words.{entriesOf}
 use Rattle.builder_structs.specs.declared.End.{End}
 use Rattle.builder_structs.specs.declared.End.the-variants.{At, Over}
+use Rattle.builder_structs.specs.declared.Rest.{Rest}
 
 -- the fields of a list of blocks 33
 abbrev pub fieldsOf : Tree → List ResolvedField
@@ -49,6 +52,10 @@ pub record State : Type 0 where
 -- a state, by its parts
 abbrev pub stateOf : Registry → List ResolvedField → ℕ → Bool → State
 stateOf g fs e h = record { registry = g; left = fs; end = e; half = h }
+
+-- the same as the code has it: the entries in the words ws, and the fields from where the next one stands
+abbrev pub stateAt : (s ws : List ℕ) (x : Rest) → Listed s 33 33 (x .left) (x .field) → State
+stateAt s ws x l = stateOf (entriesOf s ws (x .count)) (fieldsOf (l .got .0)) (x .end) (x .half)
 
 -- the node of a field, once its padding is made
 unfoldable pub fieldNode : List ResolvedType → List Owner → ResolvedField → List ResolvedField → ℕ → Registry → Outcome (State × IrNode)

@@ -3,26 +3,24 @@ use builder_nodes::Built;
 use builder_registry::Held;
 ghost use mathlib.Core.Path.{_≡_};
 ghost use mathlib.Core.Bool.{true};
-ghost use mathlib.Core.List.{List, []};
+ghost use mathlib.Core.List.{List};
 ghost use Prim.Native.Nat.{_+_, _*_, _^_, _≤_, _<_};
 ghost use Rattle.errors.specs.Refusal.{done};
-ghost use Rattle.blocks.specs.Name.{Name};
 ghost use Rattle.blocks.specs.Tree.{Tree};
 ghost use Rattle.blocks.specs.Read.{readSet};
 ghost use Rattle.accepted.specs.Accepted.{Accepted, Listed, tree, nameAt};
-ghost use Rattle.expr.specs.Expr.{ExprKind};
-ghost use Rattle.resolved.specs.Resolved.{Owner, ResolvedTypeKind, Fields, Variants, head, kindOf};
+ghost use Rattle.resolved.specs.Resolved.{Owner, ResolvedTypeKind, Fields, head, kindOf};
 ghost use Rattle.resolved.specs.Set.{typeOf, typesOf};
 ghost use Rattle.builder.specs.Registry.{extend-with};
-ghost use Rattle.builder.specs.Nodes.{build-field-enum, build-field-refs, build-variable-field, build-field, build-variable-struct};
+ghost use Rattle.builder.specs.Nodes.{build-field-refs, build-variable-field, build-field, build-variable-struct};
 ghost use Rattle.resolved_parts.specs.Types.{PathsAt, ownersOf, textsOf, offsetOf};
 ghost use Rattle.builder_registry.specs.Words.{Standing, Kept, entriesOf};
 ghost use Rattle.builder_nodes.specs.Built.{Builds, Within};
 ghost use Rattle.builder_calls.specs.Ready.{Ready};
 ghost use Rattle.builder_structs.specs.Fold.{summed};
-ghost use Rattle.builder_structs.specs.Next.{padSize, prefixEnd, endOf, stateOf, fieldsOf, next, nodesOf, countOf};
-ghost use Rattle.builder_structs.specs.Field.{sumOf, payloadOf, EntersOwn, ClosesAligned};
-ghost use Rattle.builder_structs.specs.Ready.{ReadyKind, ReadyArray, ReadyPaths, ReadyField, ReadyEnum, ReadyNext, ReadySum, Ran, Goes};
+ghost use Rattle.builder_structs.specs.Next.{padSize, prefixEnd, endOf, stateOf, stateAt, fieldsOf, next, nodesOf, countOf};
+ghost use Rattle.builder_structs.specs.Field.{inner, withAlign, sumOf, payloadOf, EntersOwn, ClosesAligned};
+ghost use Rattle.builder_structs.specs.Ready.{ReadyInner, ReadyArray, ReadyPaths, ReadyField, ReadyEnum, ReadyNext, ReadySum, Ran, Goes};
 
 // The end of the prefix behind a field, unless it is 2^64 or more.
 pub enum End {
@@ -30,15 +28,27 @@ pub enum End {
     Over,
 }
 
-// The next cursor, how many entries the registry has, the next field and how many are left, the end of the prefix, whether
-// that field's padding is made, and the number of a refusal or 0.
-pub struct Run {
-    pub at: usize,
+// A field: where the struct's references, the field's name and its type stand.
+struct Member {
+    references: usize,
+    name: usize,
+    kind: usize,
+}
+
+// What is left of a struct: how many entries the registry has, the next field and how many are left, the end of the prefix,
+// and whether that field's padding is made.
+pub struct Rest {
     pub count: usize,
     pub field: usize,
     pub left: usize,
     pub end: u64,
     pub half: bool,
+}
+
+// The next cursor, what is left behind it, and the number of a refusal or 0.
+pub struct Run {
+    pub at: usize,
+    pub rest: Rest,
     pub number: u64,
 }
 
@@ -89,39 +99,29 @@ fn put_sum(
     s: &[u8],
     words: &mut [u64],
     n: usize,
-    name: usize,
-    kind: usize,
+    f: Member,
     paths: usize,
     out: &mut [u8],
     at: usize,
 ) -> Built
-    requires { ⌜ ReadyPaths (now s) (now words) n name kind paths at ⌝ }
+    requires { ⌜ ReadyPaths (now s) (now words) n (f .name) (f .kind) paths at ⌝ }
     ensures { λ r. ⌜ Within at (2 ^ 28) r ⌝ }
-    ensures { λ r. ⌜ ((p : PathsAt (now (s .entry)) paths) (a : Accepted (now (s .entry)) 1 7 kind) → Builds (now (s .entry)) (now (out .entry)) at (now (words .exit)) (now (out .exit)) r (sumOf (nameAt (now (s .entry)) name) (head (typeOf (tree a))) (textsOf (p .list .got .0)) (entriesOf (now (s .entry)) (now (words .entry)) n))) ⌝ }
+    ensures { λ r. ⌜ ((p : PathsAt (now (s .entry)) paths) (a : Accepted (now (s .entry)) 1 7 (f .kind)) → Builds (now (s .entry)) (now (out .entry)) at (now (words .exit)) (now (out .exit)) r (sumOf (nameAt (now (s .entry)) (f .name)) (head (typeOf (tree a))) (textsOf (p .list .got .0)) (entriesOf (now (s .entry)) (now (words .entry)) n))) ⌝ }
 {
-    let owner = resolved_parts::name_at(s, name);
+    let owner = resolved_parts::name_at(s, f.name);
     let r = builder_sums::sum_refs(s, words, n, owner, false, paths, out, at);
-    enter_behind(s, words, kind, r)
+    enter_behind(s, words, f.kind, r)
 }
 
 // A field whose sum is that of the struct's references for it.
-fn field_refs(
-    s: &[u8],
-    words: &mut [u64],
-    n: usize,
-    references: usize,
-    name: usize,
-    kind: usize,
-    out: &mut [u8],
-    at: usize,
-) -> Built
-    requires { ⌜ ReadyField (now s) (now words) n references name kind at ⌝ }
+fn field_refs(s: &[u8], words: &mut [u64], n: usize, f: Member, out: &mut [u8], at: usize) -> Built
+    requires { ⌜ ReadyField (now s) (now words) n (f .references) (f .name) (f .kind) at ⌝ }
     ensures { λ r. ⌜ Within at (2 ^ 28) r ⌝ }
-    ensures { λ r. ⌜ ((b : Accepted (now (s .entry)) 32 32 references) (a : Accepted (now (s .entry)) 1 7 kind) → Builds (now (s .entry)) (now (out .entry)) at (now (words .exit)) (now (out .exit)) r (build-field-refs (ownersOf (tree b)) (nameAt (now (s .entry)) name) (head (typeOf (tree a))) (entriesOf (now (s .entry)) (now (words .entry)) n))) ⌝ }
+    ensures { λ r. ⌜ ((b : Accepted (now (s .entry)) 32 32 (f .references)) (a : Accepted (now (s .entry)) 1 7 (f .kind)) → Builds (now (s .entry)) (now (out .entry)) at (now (words .exit)) (now (out .exit)) r (build-field-refs (ownersOf (tree b)) (nameAt (now (s .entry)) (f .name)) (head (typeOf (tree a))) (entriesOf (now (s .entry)) (now (words .entry)) n))) ⌝ }
 {
-    let owner = resolved_parts::name_at(s, name);
-    match resolved_parts::get(s, references, owner) {
-        resolved_parts::Paths::At(paths) => put_sum(s, words, n, name, kind, paths, out, at),
+    let owner = resolved_parts::name_at(s, f.name);
+    match resolved_parts::get(s, f.references, owner) {
+        resolved_parts::Paths::At(paths) => put_sum(s, words, n, f, paths, out, at),
         resolved_parts::Paths::Missing => Built {
             at,
             count: n,
@@ -135,67 +135,83 @@ fn put_payload(
     s: &[u8],
     words: &[u64],
     n: usize,
-    name: usize,
-    kind: usize,
+    f: Member,
     paths: usize,
     out: &mut [u8],
     at: usize,
 ) -> Built
-    requires { ⌜ ReadyPaths (now s) (now words) n name kind paths at ⌝ }
+    requires { ⌜ ReadyPaths (now s) (now words) n (f .name) (f .kind) paths at ⌝ }
     ensures { λ r. ⌜ Within at (2 ^ 28) r ⌝ }
-    ensures { λ r. ⌜ ((p : PathsAt (now (s .entry)) paths) (a : Accepted (now (s .entry)) 1 7 kind) → Builds (now (s .entry)) (now (out .entry)) at (now (words .entry)) (now (out .exit)) r (payloadOf (nameAt (now (s .entry)) name) (head (typeOf (tree a))) (textsOf (p .list .got .0)) (entriesOf (now (s .entry)) (now (words .entry)) n))) ⌝ }
+    ensures { λ r. ⌜ ((p : PathsAt (now (s .entry)) paths) (a : Accepted (now (s .entry)) 1 7 (f .kind)) → Builds (now (s .entry)) (now (out .entry)) at (now (words .entry)) (now (out .exit)) r (payloadOf (nameAt (now (s .entry)) (f .name)) (head (typeOf (tree a))) (textsOf (p .list .got .0)) (entriesOf (now (s .entry)) (now (words .entry)) n))) ⌝ }
 {
-    let owner = resolved_parts::name_at(s, name);
-    let alignment = resolved_parts::type_head(s, kind).alignment;
+    let owner = resolved_parts::name_at(s, f.name);
+    let alignment = resolved_parts::type_head(s, f.kind).alignment;
     let p = builder_nodes::open_align(out, at, alignment);
     let r = builder_sums::sum_refs(s, words, n, owner, true, paths, out, p);
     close_aligned(out, at, r)
 }
 
-// An enum as a switch, aligned.
-fn field_switch(
+// The node inside the AlignUp node of a field whose type is of kind k: the switch of an enum (4) or of a size-discriminated
+// union (6), behind which its own references enter, or the call of a type reference (7), which enters none.
+fn inner_node(
     s: &[u8],
     words: &mut [u64],
     n: usize,
     kind: usize,
+    k: usize,
     out: &mut [u8],
     at: usize,
 ) -> Built
-    requires { ⌜ ReadyKind (now s) (now words) n kind 4 at ⌝ }
+    requires { ⌜ ReadyInner (now s) (now words) n kind k at ⌝ }
+    ensures { λ r. ⌜ Within at (2 ^ 27) r ⌝ }
+    ensures { λ r. ⌜ ((t : Tree) (a : Accepted (now (s .entry)) 1 7 kind) → readSet (now (s .entry)) ≡ done t → Builds (now (s .entry)) (now (out .entry)) at (now (words .exit)) (now (out .exit)) r (inner (typesOf t) (head (typeOf (tree a))) (kindOf (typeOf (tree a))) (entriesOf (now (s .entry)) (now (words .entry)) n))) ⌝ }
+{
+    if k == 4 {
+        let r = builder_switches::build_enum_node(s, words, n, kind, out, at);
+        return enter_behind(s, words, kind, r);
+    }
+    if k == 6 {
+        let r = builder_switches::build_size_discriminated_union_node(s, words, n, kind, out, at);
+        return enter_behind(s, words, kind, r);
+    }
+    builder_calls::build_typeref_node(s, words, n, kind, out, at)
+}
+
+// That node, aligned.
+fn field_aligned(
+    s: &[u8],
+    words: &mut [u64],
+    n: usize,
+    kind: usize,
+    k: usize,
+    out: &mut [u8],
+    at: usize,
+) -> Built
+    requires { ⌜ ReadyInner (now s) (now words) n kind k (at + 23) ⌝ }
     ensures { λ r. ⌜ Within at (2 ^ 28) r ⌝ }
-    ensures { λ r. ⌜ ((name : Name) (a : Accepted (now (s .entry)) 1 7 kind) (e : ExprKind) (vs : Variants) → kindOf (typeOf (tree a)) ≡ ResolvedTypeKind.Enum e vs → Builds (now (s .entry)) (now (out .entry)) at (now (words .exit)) (now (out .exit)) r (build-field-enum [] name (head (typeOf (tree a))) e vs (entriesOf (now (s .entry)) (now (words .entry)) n))) ⌝ }
+    ensures { λ r. ⌜ ((t : Tree) (a : Accepted (now (s .entry)) 1 7 kind) → readSet (now (s .entry)) ≡ done t → Builds (now (s .entry)) (now (out .entry)) at (now (words .exit)) (now (out .exit)) r (withAlign (head (typeOf (tree a)) .alignment) (inner (typesOf t) (head (typeOf (tree a))) (kindOf (typeOf (tree a)))) (entriesOf (now (s .entry)) (now (words .entry)) n))) ⌝ }
 {
     let alignment = resolved_parts::type_head(s, kind).alignment;
     let p = builder_nodes::open_align(out, at, alignment);
-    let r = builder_switches::build_enum_node(s, words, n, kind, out, p);
-    let e = enter_behind(s, words, kind, r);
-    close_aligned(out, at, e)
+    let r = inner_node(s, words, n, kind, k, out, p);
+    close_aligned(out, at, r)
 }
 
-// An enum: its payload, where the struct's references for it have one.
-fn field_enum(
-    s: &[u8],
-    words: &mut [u64],
-    n: usize,
-    references: usize,
-    name: usize,
-    kind: usize,
-    out: &mut [u8],
-    at: usize,
-) -> Built
-    requires { ⌜ ReadyEnum (now s) (now words) n references name kind at ⌝ }
+// An enum: its payload, where the struct's references for it have one, else a switch.
+fn field_enum(s: &[u8], words: &mut [u64], n: usize, f: Member, out: &mut [u8], at: usize) -> Built
+    requires { ⌜ ReadyEnum (now s) (now words) n (f .references) (f .name) (f .kind) at ⌝ }
     ensures { λ r. ⌜ Within at (2 ^ 28) r ⌝ }
-    ensures { λ r. ⌜ ((t : Tree) (b : Accepted (now (s .entry)) 32 32 references) (a : Accepted (now (s .entry)) 1 7 kind) → readSet (now (s .entry)) ≡ done t → Builds (now (s .entry)) (now (out .entry)) at (now (words .exit)) (now (out .exit)) r (build-variable-field (typesOf t) (ownersOf (tree b)) (nameAt (now (s .entry)) name) (head (typeOf (tree a))) (kindOf (typeOf (tree a))) (entriesOf (now (s .entry)) (now (words .entry)) n))) ⌝ }
+    ensures { λ r. ⌜ ((t : Tree) (b : Accepted (now (s .entry)) 32 32 (f .references)) (a : Accepted (now (s .entry)) 1 7 (f .kind)) → readSet (now (s .entry)) ≡ done t → Builds (now (s .entry)) (now (out .entry)) at (now (words .exit)) (now (out .exit)) r (build-variable-field (typesOf t) (ownersOf (tree b)) (nameAt (now (s .entry)) (f .name)) (head (typeOf (tree a))) (kindOf (typeOf (tree a))) (entriesOf (now (s .entry)) (now (words .entry)) n))) ⌝ }
 {
-    let owner = resolved_parts::name_at(s, name);
-    match resolved_parts::get(s, references, owner) {
+    let owner = resolved_parts::name_at(s, f.name);
+    match resolved_parts::get(s, f.references, owner) {
         resolved_parts::Paths::At(paths) => {
             if builder_sums::has_payload(s, paths) {
-                return put_payload(s, words, n, name, kind, paths, out, at);
+                return put_payload(s, words, n, f, paths, out, at);
             }
-            field_switch(s, words, n, kind, out, at)
+            field_aligned(s, words, n, f.kind, 4, out, at)
         }
-        resolved_parts::Paths::Missing => field_switch(s, words, n, kind, out, at),
+        resolved_parts::Paths::Missing => field_aligned(s, words, n, f.kind, 4, out, at),
     }
 }
 
@@ -218,96 +234,43 @@ fn field_array(
     enter_behind(s, words, kind, r)
 }
 
-// A size-discriminated union, aligned.
-fn field_sized(
-    s: &[u8],
-    words: &mut [u64],
-    n: usize,
-    kind: usize,
-    out: &mut [u8],
-    at: usize,
-) -> Built
-    requires { ⌜ ReadyKind (now s) (now words) n kind 6 at ⌝ }
-    ensures { λ r. ⌜ Within at (2 ^ 28) r ⌝ }
-    ensures { λ r. ⌜ ((t : Tree) (refs : List Owner) (name : Name) (a : Accepted (now (s .entry)) 1 7 kind) → readSet (now (s .entry)) ≡ done t → Builds (now (s .entry)) (now (out .entry)) at (now (words .exit)) (now (out .exit)) r (build-variable-field (typesOf t) refs name (head (typeOf (tree a))) (kindOf (typeOf (tree a))) (entriesOf (now (s .entry)) (now (words .entry)) n))) ⌝ }
-{
-    let alignment = resolved_parts::type_head(s, kind).alignment;
-    let p = builder_nodes::open_align(out, at, alignment);
-    let r = builder_switches::build_size_discriminated_union_node(s, words, n, kind, out, p);
-    let e = enter_behind(s, words, kind, r);
-    close_aligned(out, at, e)
-}
-
-// A type reference, aligned; it enters none of its own references.
-fn field_call(
-    s: &[u8],
-    words: &mut [u64],
-    n: usize,
-    kind: usize,
-    out: &mut [u8],
-    at: usize,
-) -> Built
-    requires { ⌜ ReadyKind (now s) (now words) n kind 7 at ⌝ }
-    ensures { λ r. ⌜ Within at (2 ^ 28) r ⌝ }
-    ensures { λ r. ⌜ ((t : Tree) (refs : List Owner) (name : Name) (a : Accepted (now (s .entry)) 1 7 kind) → readSet (now (s .entry)) ≡ done t → Builds (now (s .entry)) (now (out .entry)) at (now (words .exit)) (now (out .exit)) r (build-variable-field (typesOf t) refs name (head (typeOf (tree a))) (kindOf (typeOf (tree a))) (entriesOf (now (s .entry)) (now (words .entry)) n))) ⌝ }
-{
-    let alignment = resolved_parts::type_head(s, kind).alignment;
-    let p = builder_nodes::open_align(out, at, alignment);
-    let r = builder_calls::build_typeref_node(s, words, n, kind, out, p);
-    close_aligned(out, at, r)
-}
-
 // A field of variable size, by the kind of its type.
 fn variable_field(
     s: &[u8],
     words: &mut [u64],
     n: usize,
-    references: usize,
-    name: usize,
-    kind: usize,
+    f: Member,
     out: &mut [u8],
     at: usize,
 ) -> Built
-    requires { ⌜ ReadyField (now s) (now words) n references name kind at ⌝ }
+    requires { ⌜ ReadyField (now s) (now words) n (f .references) (f .name) (f .kind) at ⌝ }
     ensures { λ r. ⌜ Within at (2 ^ 28) r ⌝ }
-    ensures { λ r. ⌜ ((t : Tree) (b : Accepted (now (s .entry)) 32 32 references) (a : Accepted (now (s .entry)) 1 7 kind) → readSet (now (s .entry)) ≡ done t → Builds (now (s .entry)) (now (out .entry)) at (now (words .exit)) (now (out .exit)) r (build-variable-field (typesOf t) (ownersOf (tree b)) (nameAt (now (s .entry)) name) (head (typeOf (tree a))) (kindOf (typeOf (tree a))) (entriesOf (now (s .entry)) (now (words .entry)) n))) ⌝ }
+    ensures { λ r. ⌜ ((t : Tree) (b : Accepted (now (s .entry)) 32 32 (f .references)) (a : Accepted (now (s .entry)) 1 7 (f .kind)) → readSet (now (s .entry)) ≡ done t → Builds (now (s .entry)) (now (out .entry)) at (now (words .exit)) (now (out .exit)) r (build-variable-field (typesOf t) (ownersOf (tree b)) (nameAt (now (s .entry)) (f .name)) (head (typeOf (tree a))) (kindOf (typeOf (tree a))) (entriesOf (now (s .entry)) (now (words .entry)) n))) ⌝ }
 {
-    let k = wire::read2(s, kind + 4);
+    let k = wire::read2(s, f.kind + 4);
+    if k < 4 {
+        return field_refs(s, words, n, f, out, at);
+    }
     if k == 4 {
-        return field_enum(s, words, n, references, name, kind, out, at);
+        return field_enum(s, words, n, f, out, at);
     }
     if k == 5 {
-        return field_array(s, words, n, name, kind, out, at);
+        return field_array(s, words, n, f.name, f.kind, out, at);
     }
-    if k == 6 {
-        return field_sized(s, words, n, kind, out, at);
-    }
-    if k == 7 {
-        return field_call(s, words, n, kind, out, at);
-    }
-    field_refs(s, words, n, references, name, kind, out, at)
+    field_aligned(s, words, n, f.kind, k, out, at)
 }
 
 // A field: of constant size it is a constant.
-fn build_field(
-    s: &[u8],
-    words: &mut [u64],
-    n: usize,
-    references: usize,
-    name: usize,
-    kind: usize,
-    out: &mut [u8],
-    at: usize,
-) -> Built
-    requires { ⌜ ReadyField (now s) (now words) n references name kind at ⌝ }
+fn build_field(s: &[u8], words: &mut [u64], n: usize, f: Member, out: &mut [u8], at: usize) -> Built
+    requires { ⌜ ReadyField (now s) (now words) n (f .references) (f .name) (f .kind) at ⌝ }
     ensures { λ r. ⌜ Within at (2 ^ 28) r ⌝ }
-    ensures { λ r. ⌜ ((t : Tree) (b : Accepted (now (s .entry)) 32 32 references) (a : Accepted (now (s .entry)) 1 7 kind) → readSet (now (s .entry)) ≡ done t → Builds (now (s .entry)) (now (out .entry)) at (now (words .exit)) (now (out .exit)) r (build-field (typesOf t) (ownersOf (tree b)) (nameAt (now (s .entry)) name) (head (typeOf (tree a)) .size) (head (typeOf (tree a))) (kindOf (typeOf (tree a))) (entriesOf (now (s .entry)) (now (words .entry)) n))) ⌝ }
+    ensures { λ r. ⌜ ((t : Tree) (b : Accepted (now (s .entry)) 32 32 (f .references)) (a : Accepted (now (s .entry)) 1 7 (f .kind)) → readSet (now (s .entry)) ≡ done t → Builds (now (s .entry)) (now (out .entry)) at (now (words .exit)) (now (out .exit)) r (build-field (typesOf t) (ownersOf (tree b)) (nameAt (now (s .entry)) (f .name)) (head (typeOf (tree a)) .size) (head (typeOf (tree a))) (kindOf (typeOf (tree a))) (entriesOf (now (s .entry)) (now (words .entry)) n))) ⌝ }
 {
-    let t = resolved_parts::type_head(s, kind);
+    let t = resolved_parts::type_head(s, f.kind);
     if t.variable {
-        return variable_field(s, words, n, references, name, kind, out, at);
+        return variable_field(s, words, n, f, out, at);
     }
-    let h = enter_own(s, words, n, kind);
+    let h = enter_own(s, words, n, f.kind);
     if h.number != 0 {
         return Built {
             at,
@@ -359,51 +322,49 @@ fn prefix_after(s: &[u8], kind: usize, placed: bool, offset: u64, end: u64) -> E
 fn field_node(
     s: &[u8],
     words: &mut [u64],
-    n: usize,
     references: usize,
-    field: usize,
-    left: usize,
-    end: u64,
+    from: Rest,
     out: &mut [u8],
     at: usize,
 ) -> Run
-    requires { ⌜ ReadyNext (now s) (now words) n references field left at × (0 < left) ⌝ }
+    requires { ⌜ ReadyNext (now s) (now words) references from at × (0 < from .left) ⌝ }
     ensures { λ r. ⌜ Goes (now (s .entry)) at (2 ^ 28) r ⌝ }
-    ensures { λ r. ⌜ ((t : Tree) (b : Accepted (now (s .entry)) 32 32 references) (l : Listed (now (s .entry)) 33 33 left field) → readSet (now (s .entry)) ≡ done t → Ran (now (s .entry)) (now (out .entry)) at (now (words .exit)) (now (out .exit)) r (next (typesOf t) (ownersOf (tree b)) (stateOf (entriesOf (now (s .entry)) (now (words .entry)) n) (fieldsOf (l .got .0)) end true))) ⌝ }
+    ensures { λ r. ⌜ ((t : Tree) (b : Accepted (now (s .entry)) 32 32 references) (l : Listed (now (s .entry)) 33 33 (from .left) (from .field)) → readSet (now (s .entry)) ≡ done t → Ran (now (s .entry)) (now (out .entry)) at (now (words .exit)) (now (out .exit)) r (next (typesOf t) (ownersOf (tree b)) (stateOf (entriesOf (now (s .entry)) (now (words .entry)) (from .count)) (fieldsOf (l .got .0)) (from .end) true))) ⌝ }
 {
-    let f = resolved_parts::field_parts(s, field);
-    let kind = f.kind;
-    match prefix_after(s, kind, f.placed, f.offset, end) {
+    let field = from.field;
+    let p = resolved_parts::field_parts(s, field);
+    let kind = p.kind;
+    match prefix_after(s, kind, p.placed, p.offset, from.end) {
         End::At(after) => {
-            let r = build_field(s, words, n, references, field + 6, kind, out, at);
+            let f = Member {
+                references,
+                name: field + 6,
+                kind,
+            };
+            let r = build_field(s, words, from.count, f, out, at);
             if r.number != 0 {
                 return Run {
                     at,
-                    count: n,
-                    field,
-                    left,
-                    end,
-                    half: true,
+                    rest: from,
                     number: r.number,
                 };
             }
-            Run {
-                at: r.at,
+            let rest = Rest {
                 count: r.count,
                 field: field + 4 + wire::read4(s, field),
-                left: left - 1,
+                left: from.left - 1,
                 end: after,
                 half: false,
+            };
+            Run {
+                at: r.at,
+                rest,
                 number: 0,
             }
         }
         End::Over => Run {
             at,
-            count: n,
-            field,
-            left,
-            end,
-            half: true,
+            rest: from,
             number: 16,
         },
     }
@@ -413,46 +374,41 @@ fn field_node(
 fn child(
     s: &[u8],
     words: &mut [u64],
-    n: usize,
     references: usize,
-    field: usize,
-    left: usize,
-    end: u64,
-    half: bool,
+    from: Rest,
     out: &mut [u8],
     at: usize,
 ) -> Run
-    requires { ⌜ ReadyNext (now s) (now words) n references field left at ⌝ }
+    requires { ⌜ ReadyNext (now s) (now words) references from at ⌝ }
     ensures { λ r. ⌜ Goes (now (s .entry)) at (2 ^ 28) r ⌝ }
-    ensures { λ r. ⌜ ((t : Tree) (b : Accepted (now (s .entry)) 32 32 references) (l : Listed (now (s .entry)) 33 33 left field) → readSet (now (s .entry)) ≡ done t → Ran (now (s .entry)) (now (out .entry)) at (now (words .exit)) (now (out .exit)) r (next (typesOf t) (ownersOf (tree b)) (stateOf (entriesOf (now (s .entry)) (now (words .entry)) n) (fieldsOf (l .got .0)) end half))) ⌝ }
+    ensures { λ r. ⌜ ((t : Tree) (b : Accepted (now (s .entry)) 32 32 references) (l : Listed (now (s .entry)) 33 33 (from .left) (from .field)) → readSet (now (s .entry)) ≡ done t → Ran (now (s .entry)) (now (out .entry)) at (now (words .exit)) (now (out .exit)) r (next (typesOf t) (ownersOf (tree b)) (stateAt (now (s .entry)) (now (words .entry)) from l))) ⌝ }
 {
-    if left == 0 {
+    if from.left == 0 {
         return Run {
             at,
-            count: n,
-            field,
-            left,
-            end,
-            half,
+            rest: from,
             number: 11,
         };
     }
-    if half {
-        return field_node(s, words, n, references, field, left, end, out, at);
+    if from.half {
+        return field_node(s, words, references, from, out, at);
     }
-    let f = resolved_parts::field_parts(s, field);
-    let pad = padding(f.placed, f.offset, end);
+    let f = resolved_parts::field_parts(s, from.field);
+    let pad = padding(f.placed, f.offset, from.end);
     if pad == 0 {
-        return field_node(s, words, n, references, field, left, end, out, at);
+        return field_node(s, words, references, from, out, at);
     }
     let u = builder_nodes::put_const_or_zero(out, at, pad, 1);
+    let rest = Rest {
+        count: from.count,
+        field: from.field,
+        left: from.left,
+        end: from.end,
+        half: true,
+    };
     Run {
         at: u,
-        count: n,
-        field,
-        left,
-        end,
-        half: true,
+        rest,
         number: 0,
     }
 }
@@ -461,52 +417,25 @@ fn child(
 fn sum(
     s: &[u8],
     words: &mut [u64],
-    n: usize,
     references: usize,
-    field: usize,
-    left: usize,
-    end: u64,
-    half: bool,
+    from: Rest,
     k: usize,
     out: &mut [u8],
     at: usize,
 ) -> Run
-    requires { ⌜ ReadySum (now s) (now words) n references field left k at ⌝ }
+    requires { ⌜ ReadySum (now s) (now words) references from k at ⌝ }
     ensures { λ r. ⌜ Goes (now (s .entry)) at (2 ^ 29 * k) r ⌝ }
-    ensures { λ r. ⌜ ((t : Tree) (b : Accepted (now (s .entry)) 32 32 references) (l : Listed (now (s .entry)) 33 33 left field) → readSet (now (s .entry)) ≡ done t → Ran (now (s .entry)) (now (out .entry)) at (now (words .exit)) (now (out .exit)) r (summed (next (typesOf t) (ownersOf (tree b))) k (stateOf (entriesOf (now (s .entry)) (now (words .entry)) n) (fieldsOf (l .got .0)) end half))) ⌝ }
+    ensures { λ r. ⌜ ((t : Tree) (b : Accepted (now (s .entry)) 32 32 references) (l : Listed (now (s .entry)) 33 33 (from .left) (from .field)) → readSet (now (s .entry)) ≡ done t → Ran (now (s .entry)) (now (out .entry)) at (now (words .exit)) (now (out .exit)) r (summed (next (typesOf t) (ownersOf (tree b))) k (stateAt (now (s .entry)) (now (words .entry)) from l))) ⌝ }
 {
     if k == 1 {
-        return child(s, words, n, references, field, left, end, half, out, at);
+        return child(s, words, references, from, out, at);
     }
     let p = builder_nodes::open_add(out, at);
-    let a = sum(
-        s,
-        words,
-        n,
-        references,
-        field,
-        left,
-        end,
-        half,
-        k - 1,
-        out,
-        p,
-    );
+    let a = sum(s, words, references, from, k - 1, out, p);
     if a.number != 0 {
         return a;
     }
-    let r = child(
-        s,
-        words,
-        a.count,
-        references,
-        a.field,
-        a.left,
-        a.end,
-        a.half,
-        out,
-        a.at,
-    );
+    let r = child(s, words, references, a.rest, out, a.at);
     if r.number != 0 {
         return r;
     }
@@ -566,9 +495,7 @@ pub fn build_variable_struct(
     let h = resolved_parts::type_head(s, kind);
     let references = h.references;
     let list = resolved_parts::field_list(s, kind);
-    let field = list.first;
-    let left = list.count;
-    let k = count_nodes(s, field, left);
+    let k = count_nodes(s, list.first, list.count);
     if k == 0 {
         return Built {
             at,
@@ -577,10 +504,17 @@ pub fn build_variable_struct(
         };
     }
     let p = builder_nodes::open_align(out, at, h.alignment);
-    let r = sum(s, words, n, references, field, left, 0, false, k, out, p);
+    let from = Rest {
+        count: n,
+        field: list.first,
+        left: list.count,
+        end: 0,
+        half: false,
+    };
+    let r = sum(s, words, references, from, k, out, p);
     let b = Built {
         at: r.at,
-        count: r.count,
+        count: r.rest.count,
         number: r.number,
     };
     close_aligned(out, at, b)

@@ -17,7 +17,7 @@ use Rattle.builder_structs.proofs.+sum.{statement}
 use Rattle.builder_structs.proofs.+sum.Tie.{close}
 
 abbrev μ : Measures 3 kinds.ps ℕ
-μ κs a = a .1 .1 .1 .1 .1 .1 .1 .1 .0
+μ κs a = a .1 .1 .1 .1 .0
 
 abbrev within : ℕ → In 3 kinds.ps
 within t = and 3 kinds.ps (is 3 kinds.ps μ t) reads.Pre

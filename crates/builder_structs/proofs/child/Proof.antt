@@ -8,11 +8,11 @@ use Rattle.builder_structs.proofs.child.Tie as tie
 
 -- The places, each seen from a later one: what was known there.
 abbrev at-start : tie.Else1 → tie.Start
-at-start r = r .before .before .before .before
+at-start r = r .before .before .before .before .before
 
 returns : tie.Need-returns
 returns c =
-    let at-start = c .before .before .before .before in (
+    let at-start = c .before .before .before .before .before in (
       record {
         low = omega arith;
         high = omega arith;
@@ -43,7 +43,7 @@ returns-2 c =
 
 field-parts-requires : tie.Need-field-parts-requires
 field-parts-requires c κs =
-    let at-start = c .before .before .before .before .before in
+    let at-start = c .before .before .before .before .before .before in
     field-here (omega (arith, c .before .if1 .left)) (at-start .pre .list)
 
 padding-requires : tie.Need-padding-requires
@@ -92,7 +92,7 @@ returns-4 c =
     let at-field-parts = at-padding .before in
     let at-else2 = at-field-parts .before in
     let at-else1 = at-else2 .before in
-    let at-start = at-else1 .before .before .before .before in (
+    let at-start = at-else1 .before .before .before .before .before in (
       record {
         low = omega (arith, at-put-const-or-zero .put-const-or-zero .ensures .1);
         high = omega (arith, at-put-const-or-zero .put-const-or-zero .ensures .1);

@@ -1,6 +1,7 @@
 -- `field_enum` meets its contract: the struct's references for the field decide whether it is the sum of its payload or a switch.
 use borrow.Author.Needs.{needs}
-use Rattle.builder_structs.proofs.Field.{paths-found, enum-payload, enum-plain, enum-missing}
+use native.Mathlib.Omega.{arith}
+use Rattle.builder_structs.proofs.Field.{inner-ready, paths-found, enum-payload, enum-plain, enum-missing}
 use Rattle.builder_structs.proofs.field_enum.Statement.{statement}
 use Rattle.builder_structs.proofs.field_enum.Tie as tie
 
@@ -69,22 +70,18 @@ returns c =
           (at-put-payload .put-payload .ensures .1),
     )
 
-field-switch-requires : tie.Need-field-switch-requires
-field-switch-requires c κs =
-    let at-get = c .before .before .before .before .before .before .before in record {
-      base = at-start at-get .pre .field .field .base;
-      kind-is = at-start at-get .pre .kind-is;
-    }
+field-aligned-requires : tie.Need-field-aligned-requires
+field-aligned-requires c κs =
+    let at-get = c .before .before .before .before .before .before .before in
+    inner-ready (at-start at-get .pre .field .field .base) (at-start at-get .pre .kind-is) (omega arith) (λ e. omega arith)
 
 enum-told : tie.Need-enum-told
 enum-told c = search needs
 
-field-switch-requires-2 : tie.Need-field-switch-requires-2
-field-switch-requires-2 c κs =
-    let at-get = c .before .before .before .before in record {
-      base = at-start at-get .pre .field .field .base;
-      kind-is = at-start at-get .pre .kind-is;
-    }
+field-aligned-requires-2 : tie.Need-field-aligned-requires-2
+field-aligned-requires-2 c κs =
+    let at-get = c .before .before .before .before in
+    inner-ready (at-start at-get .pre .field .field .base) (at-start at-get .pre .kind-is) (omega arith) (λ e. omega arith)
 
 same-length-3 : tie.Need-same-length-3
 same-length-3 c = search needs
@@ -94,12 +91,12 @@ same-length-4 c = search needs
 
 returns-2 : tie.Need-returns-2
 returns-2 c =
-    let at-field-switch = c .before .before .before .before in
-    let at-else1 = at-field-switch .before .before .before in
+    let at-field-aligned = c .before .before .before .before in
+    let at-else1 = at-field-aligned .before .before .before in
     let at-has-payload = at-else1 .before in
     let at-paths = at-has-payload .before .before in
     let at-get = at-paths .before .before in (
-      at-field-switch .field-switch .ensures .0,
+      at-field-aligned .field-aligned .ensures .0,
       enum-plain _ _ _
           (at-name-at at-get .name-at .ensures)
           (at-get .get .ensures .0)
@@ -107,7 +104,7 @@ returns-2 c =
           (at-paths .paths .given .1)
           (at-has-payload .has-payload .ensures)
           (at-else1 .if1 .left)
-          (at-field-switch .field-switch .ensures .1),
+          (at-field-aligned .field-aligned .ensures .1),
     )
 
 same-length-5 : tie.Need-same-length-5
@@ -118,22 +115,22 @@ same-length-6 c = search needs
 
 returns-3 : tie.Need-returns-3
 returns-3 c =
-    let at-field-switch2 = c .before .before .before .before in
-    let at-enum-told = at-field-switch2 .before .before .before in
+    let at-field-aligned2 = c .before .before .before .before in
+    let at-enum-told = at-field-aligned2 .before .before .before in
     let at-get = at-enum-told .before .before in (
-      at-field-switch2 .field-switch2 .ensures .0,
+      at-field-aligned2 .field-aligned2 .ensures .0,
       enum-missing _ _ _
           (at-name-at at-get .name-at .ensures)
           (at-get .get .ensures .0)
           (at-start at-get .pre .kind-is)
           (at-enum-told .enum-told .given .1)
-          (at-field-switch2 .field-switch2 .ensures .1),
+          (at-field-aligned2 .field-aligned2 .ensures .1),
     )
 
 pub field-enum-spec : {M : Type 1} → statement M
 field-enum-spec =
     tie.close
     (tie.spec name-at-requires get-requires enum-known-paths has-payload-requires
-    put-payload-requires same-length same-length-2 returns field-switch-requires enum-told
-    field-switch-requires-2 same-length-3 same-length-4 returns-2 same-length-5 same-length-6
+    put-payload-requires same-length same-length-2 returns field-aligned-requires enum-told
+    field-aligned-requires-2 same-length-3 same-length-4 returns-2 same-length-5 same-length-6
     returns-3)

@@ -6,20 +6,23 @@ use Rattle.builder_structs.proofs.field_node.Statement.{statement}
 use Rattle.builder_structs.proofs.field_node.Tie as tie
 
 -- The places, each seen from a later one: what was known there.
-abbrev at-build-field : tie.After-out → tie.After-build-field
-at-build-field r = r .before .before .before
+abbrev at-start : tie.After-field-parts → tie.Start
+at-start r = r .before .before .before .before
 
-abbrev at-after : tie.After-out → tie.After-after
-at-after r = at-build-field r .before .before .before .before
+abbrev at-prefix-after : tie.After-after → tie.After-prefix-after
+at-prefix-after r = r .before .before
 
-abbrev at-prefix-after : tie.After-out → tie.After-prefix-after
-at-prefix-after r = at-after r .before .before
-
-abbrev at-field-parts : tie.After-out → tie.After-field-parts
+abbrev at-field-parts : tie.After-after → tie.After-field-parts
 at-field-parts r = at-prefix-after r .before
 
-abbrev at-start : tie.After-out → tie.Start
-at-start r = at-field-parts r .before .before .before .before
+abbrev at-after : tie.After-build-field → tie.After-after
+at-after r = r .before .before .before .before
+
+abbrev at-build-field : tie.After-struct-known → tie.After-build-field
+at-build-field r = r .before .before .before .before .before
+
+abbrev begun : tie.After-struct-known → tie.Start
+begun r = at-start (at-field-parts (at-after (at-build-field r)))
 
 field-parts-requires : tie.Need-field-parts-requires
 field-parts-requires c κs =
@@ -27,38 +30,31 @@ field-parts-requires c κs =
     field-here (at-start .pre .1) (at-start .pre .0 .list)
 
 prefix-after-requires : tie.Need-prefix-after-requires
-prefix-after-requires c κs =
-    let at-start = c .before .before .before .before in
-    c .field-parts .ensures (field-here (at-start .pre .1) (at-start .pre .0 .list)) .type
+prefix-after-requires c κs = c .field-parts .ensures (field-here (at-start c .pre .1) (at-start c .pre .0 .list)) .type
 
 enum-known-after : tie.Need-enum-known-after
 enum-known-after c = search needs
 
-add-build-field : tie.Need-add-build-field
-add-build-field c =
-    let at-start = c .before .before .before .before .before .before .before .before .before in
-    omega (
-      arith,
-      field-inside (at-start .pre .1) (at-start .pre .0 .list),
-      at-start .pre .0 .standing .size,
-    )
+add-t16 : tie.Need-add-t16
+add-t16 c =
+    let ready = at-start (at-field-parts (c .before)) .pre in
+    omega (arith, field-inside (ready .1) (ready .0 .list), ready .0 .standing .size)
 
 build-field-requires : tie.Need-build-field-requires
 build-field-requires c κs =
-    let at-field-parts = c .before .before .before .before .before .before in
-    let at-start = at-field-parts .before .before .before .before in record {
+    let parts = at-field-parts (c .before .before .before) in
+    let ready = at-start parts .pre in
+    let here = parts .field-parts .ensures (field-here (ready .1) (ready .0 .list)) in record {
       field = record {
         base = record {
-          standing = at-start .pre .0 .standing;
-          set = at-start .pre .0 .set;
-          type-at = at-field-parts .field-parts .ensures
-              (field-here (at-start .pre .1) (at-start .pre .0 .list)) .type;
-          cursor = at-start .pre .0 .cursor;
+          standing = ready .0 .standing;
+          set = ready .0 .set;
+          type-at = here .type;
+          cursor = ready .0 .cursor;
         };
-        named = at-field-parts .field-parts .ensures
-            (field-here (at-start .pre .1) (at-start .pre .0 .list)) .named;
+        named = here .named;
       };
-      refs = at-start .pre .0 .refs;
+      refs = ready .0 .refs;
     }
 
 same-length : tie.Need-same-length
@@ -69,50 +65,43 @@ same-length-2 c = search needs
 
 returns : tie.Need-returns
 returns c =
-    let at-out = c .before .before .before in (
+    let built = at-build-field (c .before) in
+    let after = at-after built in
+    let ready = begun (c .before) .pre in (
       record {
         low = omega arith;
         high = omega arith;
-        count = at-start at-out .pre .0 .standing .count;
-        list = at-start at-out .pre .0 .list;
+        count = ready .0 .standing .count;
+        list = ready .0 .list;
       },
       node-stopped
-          (at-start at-out .pre .1)
-          (at-field-parts at-out .field-parts .ensures) _ _
-          (at-prefix-after at-out .prefix-after .ensures)
-          (at-after at-out .after .given .1)
-          (at-build-field at-out .build-field .ensures .1)
+          (ready .1)
+          (at-field-parts after .field-parts .ensures) _ _
+          (at-prefix-after after .prefix-after .ensures)
+          (after .after .given .1)
+          (built .build-field .ensures .1)
           (c .if1 .taken),
     )
 
-add-t18 : tie.Need-add-t18
-add-t18 c =
-    let at-out = c .before .before .before in
-    omega (
-      arith,
-      field-inside (at-start at-out .pre .1) (at-start at-out .pre .0 .list),
-      at-start at-out .pre .0 .standing .size,
-    )
+add-t16-2 : tie.Need-add-t16-2
+add-t16-2 c =
+    let ready = begun (c .before) .pre in
+    omega (arith, field-inside (ready .1) (ready .0 .list), ready .0 .standing .size)
 
 read4-requires : tie.Need-read4-requires
 read4-requires c κs =
-    let at-out = c .before .before .before in
-    omega (arith, field-inside (at-start at-out .pre .1) (at-start at-out .pre .0 .list))
+    let ready = begun (c .before) .pre in
+    omega (arith, field-inside (ready .1) (ready .0 .list))
 
 add-t23 : tie.Need-add-t23
 add-t23 c =
-    let at-out = c .before .before .before .before in
-    omega (
-      arith,
-      c .read4 .ensures .0,
-      field-inside (at-start at-out .pre .1) (at-start at-out .pre .0 .list),
-      at-start at-out .pre .0 .standing .size,
-    )
+    let ready = begun (c .before .before) .pre in
+    omega (arith, c .read4 .ensures .0, field-inside (ready .1) (ready .0 .list), ready .0 .standing .size)
 
 sub-t24 : tie.Need-sub-t24
 sub-t24 c =
-    let at-out = c .before .before .before .before in
-    omega (arith, at-start at-out .pre .1)
+    let ready = begun (c .before .before .before) .pre in
+    omega (arith, ready .1)
 
 enum-told : tie.Need-enum-told
 enum-told c = search needs
@@ -125,39 +114,40 @@ same-length-4 c = search needs
 
 returns-2 : tie.Need-returns-2
 returns-2 c =
-    let at-out = c .before .before .before .before in (
+    let at-read4 = c .before in
+    let at-else1 = at-read4 .before in
+    let built = at-build-field (at-else1 .before) in
+    let after = at-after built in
+    let ready = begun (at-else1 .before) .pre in (
       record {
-        low = at-build-field at-out .build-field .ensures .0 .low;
-        high = at-build-field at-out .build-field .ensures .0 .high;
-        count = at-build-field at-out .build-field .ensures .0 .count;
-        list = field-rest
-            (at-start at-out .pre .1)
-            (c .read4 .ensures .0)
-            (at-start at-out .pre .0 .list);
+        low = built .build-field .ensures .0 .low;
+        high = built .build-field .ensures .0 .high;
+        count = built .build-field .ensures .0 .count;
+        list = field-rest (ready .1) (at-read4 .read4 .ensures .0) (ready .0 .list);
       },
       node-left
-          (at-start at-out .pre .1)
-          (at-field-parts at-out .field-parts .ensures) _ _
-          (at-prefix-after at-out .prefix-after .ensures)
-          (at-after at-out .after .given .1)
-          (at-build-field at-out .build-field .ensures .1)
-          (c .before .if1 .left)
-          (c .read4 .ensures .0),
+          (ready .1)
+          (at-field-parts after .field-parts .ensures) _ _
+          (at-prefix-after after .prefix-after .ensures)
+          (after .after .given .1)
+          (built .build-field .ensures .1)
+          (at-else1 .if1 .left)
+          (at-read4 .read4 .ensures .0),
     )
 
 returns-3 : tie.Need-returns-3
 returns-3 c =
     let at-prefix-after = c .before .before in
     let at-field-parts = at-prefix-after .before in
-    let at-start = at-field-parts .before .before .before .before in (
+    let ready = at-start at-field-parts .pre in (
       record {
         low = omega arith;
         high = omega arith;
-        count = at-start .pre .0 .standing .count;
-        list = at-start .pre .0 .list;
+        count = ready .0 .standing .count;
+        list = ready .0 .list;
       },
       over-left
-          (at-start .pre .1)
+          (ready .1)
           (at-field-parts .field-parts .ensures) _ _
           (at-prefix-after .prefix-after .ensures)
           (c .enum-told .given .1),
@@ -166,6 +156,6 @@ returns-3 c =
 pub field-node-spec : {M : Type 1} → statement M
 field-node-spec =
     tie.close
-    (tie.spec field-parts-requires prefix-after-requires enum-known-after add-build-field
-    build-field-requires same-length same-length-2 returns add-t18 read4-requires add-t23 sub-t24
-    enum-told same-length-3 same-length-4 returns-2 returns-3)
+    (tie.spec field-parts-requires prefix-after-requires enum-known-after add-t16 build-field-requires
+    same-length same-length-2 returns add-t16-2 read4-requires add-t23 sub-t24 enum-told same-length-3
+    same-length-4 returns-2 returns-3)

@@ -1,28 +1,30 @@
--- `field_call` meets its contract: the call, and the AlignUp node around it.
+-- `field_aligned` meets its contract: the AlignUp node around what `inner_node` leaves.
 use borrow.Author.Needs.{needs}
 use mathlib.Core.Path.{refl}
 use native.Mathlib.Omega.{arith}
-use Rattle.builder_structs.proofs.Field.{close-ready, aligned-within, call-built}
-use Rattle.builder_structs.proofs.field_call.Statement.{statement}
-use Rattle.builder_structs.proofs.field_call.Tie as tie
+use Rattle.builder_structs.proofs.Field.{close-ready, aligned-within, inner-aligned}
+use Rattle.builder_structs.proofs.field_aligned.Statement.{statement}
+use Rattle.builder_structs.proofs.field_aligned.Tie as tie
 
 type-head-requires : tie.Need-type-head-requires
 type-head-requires c κs =
     let at-start = c .before .before .before in
-    at-start .pre .base .type-at
+    at-start .pre .type-at
 
 open-align-requires : tie.Need-open-align-requires
 open-align-requires c κs = search needs
 
-build-typeref-node-requires : tie.Need-build-typeref-node-requires
-build-typeref-node-requires c κs =
+inner-node-requires : tie.Need-inner-node-requires
+inner-node-requires c κs =
     let at-open-align = c .before .before .before .before in
     let at-start = at-open-align .before .before .before .before .before .before in record {
-      standing = at-start .pre .base .standing;
-      set = at-start .pre .base .set;
-      type-at = at-start .pre .base .type-at;
+      standing = at-start .pre .standing;
+      set = at-start .pre .set;
+      type-at = at-start .pre .type-at;
       kind-is = at-start .pre .kind-is;
-      cursor = omega (arith, at-open-align .open-align .ensures .1, at-start .pre .base .cursor);
+      from-enum = at-start .pre .from-enum;
+      no-array = at-start .pre .no-array;
+      cursor = omega (arith, at-open-align .open-align .ensures .1, at-start .pre .cursor);
     }
 
 close-aligned-requires : tie.Need-close-aligned-requires
@@ -32,9 +34,9 @@ close-aligned-requires c κs =
     let at-start = at-open-align .before .before .before .before .before .before in
     close-ready _
     (at-open-align .open-align .ensures .1)
-    (at-node .build-typeref-node .ensures .0)
+    (at-node .inner-node .ensures .0)
     refl
-    (omega (arith, at-start .pre .base .cursor))
+    (omega (arith, at-start .pre .cursor))
 
 same-length : tie.Need-same-length
 same-length c = search needs
@@ -47,21 +49,19 @@ returns c =
     let at-close-aligned = c .before .before in
     let at-node = at-close-aligned .before .before .before .before .before .before in
     let at-open-align = at-node .before .before .before .before .before in
-    let at-type-head = at-open-align .before .before in
-    let at-start = at-type-head .before .before .before .before in (
+    let at-type-head = at-open-align .before .before in (
       aligned-within
           (at-open-align .open-align .ensures .1)
-          (at-node .build-typeref-node .ensures .0)
-          (refl, at-node .build-typeref-node .ensures .0 .count)
+          (at-node .inner-node .ensures .0)
+          (refl, at-node .inner-node .ensures .0 .count)
           (at-close-aligned .close-aligned .ensures .0)
           (omega arith),
-      call-built _
+      inner-aligned _
           (at-type-head .type-head .ensures)
           (at-open-align .open-align .ensures .0)
           (at-close-aligned .close-aligned .ensures .1)
-          (at-start .pre .kind-is)
-          (at-node .build-typeref-node .ensures .1),
+          (at-node .inner-node .ensures .1),
     )
 
-pub field-call-spec : {M : Type 1} → statement M
-field-call-spec = tie.close (tie.spec type-head-requires open-align-requires build-typeref-node-requires close-aligned-requires same-length same-length-2 returns)
+pub field-aligned-spec : {M : Type 1} → statement M
+field-aligned-spec = tie.close (tie.spec type-head-requires open-align-requires inner-node-requires close-aligned-requires same-length same-length-2 returns)
