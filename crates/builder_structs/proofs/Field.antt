@@ -8,7 +8,9 @@ use native.Mathlib.Omega.{arith}
 use lib.Dec.{eqb}
 use lib.ListN.{length}
 use borrow.Author.Tests.{eqb-true, eqb-false}
-use Rattle.errors.specs.Refusal.{Outcome, done, refused, plain}
+use Rattle.errors.specs.Refusal.{Outcome, done}
+use Rattle.answers.specs.Answers.{AnswersIn}
+use Rattle.answers.proofs.Laws.{refuses}
 use Rattle.blocks.specs.Bytes.{le2, bytes}
 use Rattle.blocks.specs.Name.{Name}
 use Rattle.blocks.specs.Tree.{Tree, num}
@@ -23,7 +25,7 @@ use Rattle.ir.specs.Layout.{nodeTree}
 use Rattle.builder.specs.Names.{orElse}
 use Rattle.builder.specs.Registry.{Registry, Build, _>>=_, give, extend-with}
 use Rattle.builder.specs.Nodes.{align-node, const-or-zero, sum-refs, payload-paths, build-enum-node, build-size-discriminated-union-node, build-array-node-with-prefix, build-typeref-node, build-field-enum, build-field-refs, build-variable-field, build-field, build-variable}
-use Rattle.builder.proofs.Steps.{step-done, step-refused, need-some, need-none}
+use Rattle.builder.proofs.Steps.{need-some, need-none}
 use Rattle.wire.specs.Poke.{Wrote}
 use Rattle.resolved_parts.specs.declared.TypeHead.{TypeHead}
 use Rattle.resolved_parts.specs.declared.Paths.{Paths}
@@ -36,86 +38,50 @@ use Rattle.builder_registry.specs.Words.{Kept, entriesOf}
 use Rattle.builder_paths.specs.Joined.{prefixOf}
 use Rattle.builder_nodes.specs.declared.Built.{Built}
 use Rattle.builder_nodes.specs.Built.{Builds, Within, nodeStart}
-use Rattle.builder_nodes.proofs.Laws.{align-closed}
+use Rattle.builder_nodes.proofs.Laws.{align-closed, step-passes, step-goes, step-then}
 use Rattle.builder_sums.specs.Ready.{someName}
-use Rattle.builder_expressions.proofs.Laws.{makes, refuses}
 use Rattle.builder_arrays.proofs.Steps.{between}
 use Rattle.builder_structs.specs.Field.{withOwn, withAlign, inner, sumOf, payloadOf, EntersOwn, ClosesAligned}
 use Rattle.builder_structs.specs.Ready.{ReadyType, ReadyInner}
-
--- ---- what callees leave
-
--- a node that was built: what the definition gives, and the bytes
-pub builds-done : {s xs us ys : List ℕ} {at : ℕ} {r : Built} {x : Outcome (IrNode × Registry)} → r .number ≡ 0 → Builds s xs at us ys r x →
-    (n : IrNode) × (x ≡ done (n, entriesOf s us (r .count))) × Wrote xs at (write (nodeTree n)) ys (r .at)
-builds-done z (Builds.made x e h w) = (x .0, ap (λ (g : Registry). done (x .0, g)) (sym h), w)
-builds-done z (Builds.not k e l) = absurd (let z : ⊥ = omega arith in z)
-
--- a node that was refused: the definition refuses it with the same number
-pub builds-refused : {s xs us ys : List ℕ} {at : ℕ} {r : Built} {x : Outcome (IrNode × Registry)} → (r .number ≡ 0 → ⊥) → Builds s xs at us ys r x →
-    (x ≡ refused (plain (r .number))) × (0 < r .number)
-builds-refused z (Builds.made x e h w) = absurd (z e)
-builds-refused z (Builds.not k e l) = (ap (λ (n : ℕ). refused (plain n)) (sym e), omega arith)
-
--- references that entered: what the definition gives
-pub kept-done : {s us : List ℕ} {r : Held} {x : Outcome (Unit {0} × Registry)} → r .number ≡ 0 → Kept s us r x → x ≡ done (tt, entriesOf s us (r .count))
-kept-done z (Kept.kept g e h) = ap (λ (l : Registry). done (tt, l)) (sym h)
-kept-done z (Kept.not k e l) = absurd (let z : ⊥ = omega arith in z)
-
--- references that were refused: the definition refuses them with the same number
-pub kept-refused : {s us : List ℕ} {r : Held} {x : Outcome (Unit {0} × Registry)} → (r .number ≡ 0 → ⊥) → Kept s us r x → (x ≡ refused (plain (r .number))) × (0 < r .number)
-kept-refused z (Kept.kept g e h) = absurd (z e)
-kept-refused z (Kept.not k e l) = (ap (λ (n : ℕ). refused (plain n)) (sym e), omega arith)
 
 -- ---- what follows a field's node
 
 -- behind a node that was refused nothing enters
 pub own-stops : {s ws us : List ℕ} {node : Built} (h : Head) → (node .number ≡ 0 → ⊥) → EntersOwn s ws node h us node
 unfolding withOwn
-own-stops h z xs ys at m g b =
-    let d = builds-refused z b in
-    refuses _ refl (d .1) (step-refused m _ g (d .0))
-
--- what entering leaves, by cases of it
-own-kept : {s xs ys us : List ℕ} {at u : ℕ} {k : Held} (h : Head) (m : Build IrNode) (g : Registry) (n : IrNode) (l : Registry) {o : Outcome (Unit {0} × Registry)} →
-    m g ≡ done (n, l) → Wrote xs at (write (nodeTree n)) ys u → extend-with (h .dynamic-params) l ≡ o → Kept s us k o →
-    Builds s xs at us ys (record { at = u; count = k .count; number = k .number }) (withOwn h m g)
-unfolding withOwn give
-own-kept h m g n l e w f (Kept.kept r z i) = rw (step-done m _ g e, step-done (extend-with (h .dynamic-params)) _ l f) (Builds.made (n, r) z i w)
-own-kept h m g n l e w f (Kept.not q z i) = rw (step-done m _ g e, step-refused (extend-with (h .dynamic-params)) _ l f) (Builds.not q z i)
+own-stops h z xs ys at m g b = step-passes m _ g refl z b
 
 -- behind a node that was built the references of its type enter
 pub own-enters : {s ws us : List ℕ} {node : Built} {k : Held} (h : Head) → node .number ≡ 0 → Kept s us k (extend-with (h .dynamic-params) (entriesOf s ws (node .count))) →
     EntersOwn s ws node h us (record { at = node .at; count = k .count; number = k .number })
-own-enters h z k xs ys at m g b =
-    let d = builds-done z b in
-    own-kept h m g (d .0) _ (d .1) (d .2) refl k
+unfolding withOwn give
+own-enters {s} {us} {k} h z e xs ys at m g b =
+    step-goes m _ g z b (λ x n.
+    step-then (extend-with (h .dynamic-params)) _ (x .1) (subst (λ (l : Registry). Kept s us k (extend-with (h .dynamic-params) l)) (n .entries) e) (λ y i q.
+    AnswersIn.made (x .0, y .1) i (record { entries = q .entries; wrote = n .wrote })))
 
 -- around a node that was refused nothing is closed
 pub aligned-stops : {ys zs : List ℕ} {at : ℕ} {node : Built} → (node .number ≡ 0 → ⊥) → ClosesAligned ys at node zs node
 unfolding withAlign
-aligned-stops z s us xs x₁ p a m g w b =
-    let d = builds-refused z b in
-    refuses _ refl (d .1) (step-refused m _ g (d .0))
+aligned-stops z s us xs x₁ p a m g w b = step-passes m _ g refl z b
 
 -- around a node that was built the length of the AlignUp node is written
 pub aligned-closes : {ys zs : List ℕ} {at q : ℕ} {node : Built} → node .number ≡ 0 → Wrote ys at (bytes 4 (node .at - at - 4)) zs q → ClosesAligned ys at node zs node
 unfolding withAlign give
 aligned-closes z c s us xs x₁ p a m g w b =
-    let d = builds-done z b in
-    makes (align-node (d .0) a) z refl (align-closed a (d .0) w (d .2) c) (step-done m _ g (d .1))
+    step-goes m _ g z b (λ x n. AnswersIn.made (align-node (x .0) a, x .1) z (record { entries = n .entries; wrote = align-closed a (x .0) w (n .wrote) c }))
 
 -- a node with the references of its type ends where it ended
 pub own-within : {at room : ℕ} {node r : Built} → Within at room node → (r .at ≡ node .at) × (r .count ≤ 512) → Within at room r
 own-within w e = record { low = omega (arith, w .low, e .0); high = omega (arith, w .high, e .0); count = e .1 }
 
--- what closing an AlignUp node stands on: its beginning has 23 bytes, and the node in it ends at u
-pub close-ready : (at : ℕ) {p room u : ℕ} {node : Built} → p ≡ at + 23 → Within p room node → u ≡ node .at → at + room < 2 ^ 60 → (at + 4 ≤ u) × (u < 2 ^ 61)
-close-ready at e w f h = (omega (arith, w .low), omega (arith, w .high))
+-- what closing an AlignUp node stands on: its beginning has 23 bytes
+pub close-ready : (at : ℕ) {p room : ℕ} {node : Built} → p ≡ at + 23 → Within p room node → at + room < 2 ^ 60 → (at + 4 ≤ node .at) × (node .at < 2 ^ 61)
+close-ready at e w h = (omega (arith, w .low), omega (arith, w .high))
 
--- an AlignUp node has as many bytes more than the node in it, which ends at u with c entries
-pub aligned-within : {at p k room u c : ℕ} {node r : Built} → p ≡ at + 23 → Within p k node → (u ≡ node .at) × (c ≤ 512) → (r .at ≡ u) × (r .count ≡ c) → 23 + k ≤ room → Within at room r
-aligned-within e w d f h = record { low = omega (arith, w .low, d .0, f .0); high = omega (arith, w .high, d .0, f .0); count = omega (arith, d .1, f .1) }
+-- an AlignUp node has as many bytes more than the node in it
+pub aligned-within : {at p k room : ℕ} {node r : Built} → p ≡ at + 23 → Within p k node → (r .at ≡ node .at) × (r .count ≡ node .count) → 23 + k ≤ room → Within at room r
+aligned-within e w f h = record { low = omega (arith, w .low, f .0); high = omega (arith, w .high, f .0); count = omega (arith, w .count, f .1) }
 
 -- the beginning of an AlignUp node of a type
 abbrev pub Opened : List ℕ → ℕ → TypeHead → List ℕ → ℕ → Type 0
@@ -282,7 +248,7 @@ module _ {s : List ℕ} {references : ℕ} {o : List ℕ} {f : Paths} (kind name
   pub refs-missing : {xs us ys : List ℕ} {at u c : ℕ} → f ≡ Missing → (b : Accepted s 32 32 references) (a : Accepted s 1 7 kind) →
       Builds s xs at us ys (record { at = u; count = c; number = 11 }) (build-field-refs (ownersOf (tree b)) (nameAt s name) (head (typeOf (tree a))) g)
   unfolding build-field-refs
-  refs-missing e b a = refuses 11 refl (omega arith) (need-none 11 _ g (found-none e (refs-named b)))
+  refs-missing e b a = refuses (omega arith) (need-none 11 _ g (found-none e (refs-named b)))
 
   -- it has: the sum of their paths
   pub refs-found : {xs us ys : List ℕ} {at q : ℕ} {r : Built} → f ≡ At q →
@@ -445,15 +411,15 @@ module _ {s : List ℕ} {kind : ℕ} {h : TypeHead} (references name : ℕ) (g :
     -- the references of a constant field were refused
     pub field-stops : {xs ys : List ℕ} {at u c : ℕ} → (e .number ≡ 0 → ⊥) → FieldLeft s xs at us ys (record { at = u; count = c; number = e .number }) references name kind g
     unfolding build-field
-    field-stops z t b a d =
-        let w = kept-refused z (k a) in
-        refuses (e .number) refl (w .1) (size-is (typesOf t) (ownersOf (tree b)) a false v ∙ step-refused (extend-with (head (typeOf (tree a)) .dynamic-params)) _ g (w .0))
+    field-stops {xs} {ys} {at} {u} {c} z t b a d =
+        subst (Builds s xs at us ys (record { at = u; count = c; number = e .number })) (sym (size-is (typesOf t) (ownersOf (tree b)) a false v))
+        (step-passes (extend-with (head (typeOf (tree a)) .dynamic-params)) _ g refl z (k a))
 
     -- a constant field: its references enter, and it is a constant
     pub field-done : {xs ys : List ℕ} {at u : ℕ} → e .number ≡ 0 → Wrote xs at (write (nodeTree (const-or-zero (h .size) (h .alignment)))) ys u →
         FieldLeft s xs at us ys (record { at = u; count = e .count; number = 0 }) references name kind g
     unfolding build-field give
-    field-done z w t b a d =
-        makes (const-or-zero (h .size) (h .alignment)) refl refl w
-        (size-is (typesOf t) (ownersOf (tree b)) a false v ∙ step-done (extend-with (head (typeOf (tree a)) .dynamic-params)) _ g (kept-done z (k a))
-        ∙ ap (λ (m : ℕ). done (const-or-zero (h .size) m, entriesOf s us (e .count))) (hd a .alignment))
+    field-done {xs} {ys} {at} {u} z w t b a d =
+        let w′ = subst (λ (m : ℕ). Wrote xs at (write (nodeTree (const-or-zero (h .size) m))) ys u) (sym (hd a .alignment)) w in
+        subst (Builds s xs at us ys (record { at = u; count = e .count; number = 0 })) (sym (size-is (typesOf t) (ownersOf (tree b)) a false v))
+        (step-goes (extend-with (head (typeOf (tree a)) .dynamic-params)) _ g z (k a) (λ x n. AnswersIn.made _ refl (record { entries = n .entries; wrote = w′ })))

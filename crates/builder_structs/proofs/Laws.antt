@@ -32,10 +32,10 @@ use Rattle.resolved_parts.specs.declared.FieldParts.{FieldParts}
 use Rattle.resolved_parts.specs.declared.ListParts.{ListParts}
 use Rattle.resolved_parts.specs.Types.{HeadAt, FieldAt, FieldsAt, ownersOf, offsetOf}
 use Rattle.builder_registry.specs.Words.{entriesOf}
+use Rattle.builder_registry.proofs.Laws.{standing}
 use Rattle.builder_nodes.specs.declared.Built.{Built}
 use Rattle.builder_nodes.specs.Built.{Builds, nodeStart}
 use Rattle.builder_nodes.proofs.Laws.{node-closed}
-use Rattle.builder_expressions.proofs.Laws.{refuses as not-built}
 use Rattle.builder_structs.specs.declared.End.{End}
 use Rattle.builder_structs.specs.declared.End.the-variants.{At, Over}
 use Rattle.builder_structs.specs.declared.Rest.{Rest}
@@ -43,10 +43,10 @@ use Rattle.builder_structs.specs.declared.Run.{Run}
 use Rattle.builder_structs.specs.Fold.{upTo, combine, summed}
 use Rattle.builder_structs.specs.Next.{fieldsOf, padSize, prefixEnd, endOf, State, stateOf, stateAt, fieldNode, nextOf, next, nodesOf, countOf}
 use Rattle.builder_structs.specs.Field.{withAlign, ClosesAligned}
-use Rattle.builder_structs.specs.Ready.{RanIn, Ran, Goes}
+use Rattle.builder_structs.specs.Ready.{ReadyNext, ReadySum, RanIn, Ran, Goes}
 use Rattle.builder_structs.proofs.Fold.{sumNode, plus, more, summed-one, summed-at}
 use Rattle.builder_structs.proofs.Next.{struct-is}
-use Rattle.builder_structs.proofs.Field.{builds-done, builds-refused, Opened}
+use Rattle.builder_structs.proofs.Field.{Opened}
 
 -- ---- padding
 
@@ -137,6 +137,10 @@ module _ {s : List ℕ} {left field : ℕ} (h : 0 < left) where
   pub field-rest : {u : ℕ} → u ≡ le4 s field → Listed s 33 33 left field → Listed s 33 33 (left - 1) (field + 4 + u)
   field-rest e l = subst (λ (k : ℕ). Listed s 33 33 (left - 1) (field + 4 + k)) (sym e) (block-entry l h .after .rest)
 
+-- a field's node and the state behind it, where the prefix ends at n and these fields are left
+abbrev nodeOf : ℕ → List ResolvedField → IrNode × Registry → Outcome (State × IrNode)
+nodeOf n fs y = done (stateOf (y .1) fs n false, y .0)
+
 module _ {s : List ℕ} {left field : ℕ} {f : FieldParts} (h : 0 < left) (fp : (a : Accepted s 33 33 field) → FieldAt a f) where
   -- the type of the field
   abbrev kindAt : Listed s 33 33 left field → Accepted s 1 7 (f .kind)
@@ -186,10 +190,6 @@ module _ {s : List ℕ} {left field : ℕ} {f : FieldParts} (h : 0 < left) (fp :
     unfolding fieldNode _andThen_ need refuse
     node-over pe e l = let q : prefixEnd end (offsetOf (f .placed) (f .offset)) (head (typeOf (tree (kindAt l))) .size) ≡ none = ended-over (pe (kindAt l)) e in next-node l ∙ rw q
 
-    -- once the end of the prefix is known
-    abbrev nodeOf : ℕ → List ResolvedField → IrNode × Registry → Outcome (State × IrNode)
-    nodeOf n fs y = done (stateOf (y .1) fs n false, y .0)
-
     -- the field's node, and the state behind it
     node-at : {v : End} {n : ℕ} → EndIs s f end v → v ≡ At n → (l : Listed s 33 33 left field) →
         next types refs (stateOf g (fieldsOf (l .got .0)) end true) ≡
@@ -211,27 +211,22 @@ module _ {s : List ℕ} {left field : ℕ} {f : FieldParts} (h : 0 < left) (fp :
       -- the field was refused
       pub node-stopped : {u : ℕ} {x : Rest} → (r .number ≡ 0 → ⊥) →
           NextLeft s xs at us ys (record { at = u; rest = x; number = r .number }) references left field g end true
-      unfolding _andThen_
-      node-stopped z t d l q =
-          let w = builds-refused z (b t d (kindAt l) q) in
-          refuses (w .1)
-          (node-at (typesOf t) (ownersOf (tree d)) g end pe e l
-          ∙ ap (λ (o : Outcome (IrNode × Registry)). _andThen_ o (nodeOf (typesOf t) (ownersOf (tree d)) g end n (fieldsOf (restAt l .got .0)))) (w .0))
+      node-stopped {u} {x} z t d l q =
+          subst (Ran s xs at us ys (record { at = u; rest = x; number = r .number })) (sym (node-at (typesOf t) (ownersOf (tree d)) g end pe e l))
+          (passes (nodeOf n (fieldsOf (restAt l .got .0))) refl z (b t d (kindAt l) q))
 
       -- the field was built: the next is the one behind it
       pub node-left : {u : ℕ} → r .number ≡ 0 → u ≡ le4 s field →
           NextLeft s xs at us ys (record { at = r .at; rest = record { count = r .count; field = field + 4 + u; left = left - 1; end = n; half = false }; number = 0 })
           references left field g end true
-      unfolding _andThen_
       node-left z eu t d l q =
-          let w = builds-done z (b t d (kindAt l) q) in
+          let fs = fieldsOf (restAt l .got .0) in
           subst (λ (k : ℕ).
           Ran s xs at us ys (record { at = r .at; rest = record { count = r .count; field = field + 4 + k; left = left - 1; end = n; half = false }; number = 0 })
           (next (typesOf t) (ownersOf (tree d)) (stateOf g (fieldsOf (l .got .0)) end true))) (sym eu)
-          (makes _ refl
-          (node-at (typesOf t) (ownersOf (tree d)) g end pe e l
-          ∙ ap (λ (o : Outcome (IrNode × Registry)). _andThen_ o (nodeOf (typesOf t) (ownersOf (tree d)) g end n (fieldsOf (restAt l .got .0)))) (w .1))
-          (record { list = restAt l; state = refl; wrote = w .2 }))
+          (rw (node-at (typesOf t) (ownersOf (tree d)) g end pe e l)
+          (goes (nodeOf n fs) z (b t d (kindAt l) q) (λ x m.
+          AnswersIn.made _ refl (record { list = restAt l; state = ap (λ (w : Registry). stateOf w fs n false) (sym (m .entries)); wrote = m .wrote }))))
 
 -- ---- padding, or the field
 
@@ -278,10 +273,14 @@ sum-puts {x₃} {v} a b w₁ w₂ w₃ w₄ = node-closed 134 1 (cons (nodeTree 
 pub sum-one : {s xs us ys : List ℕ} {at k : ℕ} {r : Run} (nx : State → Outcome (State × IrNode)) (st : State) → k ≡ 1 → Ran s xs at us ys r (nx st) → Ran s xs at us ys r (summed nx k st)
 sum-one {s} {xs} {us} {ys} {at} {r} nx st z g = subst (Ran s xs at us ys r) (sym (ap (λ (k : ℕ). summed nx k st) z ∙ summed-one nx st)) g
 
-module _ {s x₁ x₂ us : List ℕ} {k p : ℕ} {a : Run} (nx : State → Outcome (State × IrNode)) (st : State) (z₀ : k ≡ 0 → ⊥) (z₁ : k ≡ 1 → ⊥) (g : Ran s x₁ p us x₂ a (summed nx (k - 1) st)) where
+module _ {s x₁ x₂ us : List ℕ} {k p : ℕ} {a : Run} (nx : State → Outcome (State × IrNode)) (st : State) (h : 0 < k) (z : k ≡ 1 → ⊥) (g : Ran s x₁ p us x₂ a (summed nx (k - 1) st)) where
+  -- the sum, by the sum of the first
+  sum-is : summed nx k st ≡ _andThen_ (summed nx (k - 1) st) (more nx)
+  sum-is = summed-at nx k st (λ e. omega arith) z
+
   -- the sum of the first was refused
   pub sum-stops : {xs vs ys : List ℕ} {at : ℕ} → (a .number ≡ 0 → ⊥) → Ran s xs at vs ys a (summed nx k st)
-  sum-stops {xs} {vs} {ys} {at} z = subst (Ran s xs at vs ys a) (sym (summed-at nx k st z₀ z₁)) (passes (more nx) refl z g)
+  sum-stops {xs} {vs} {ys} {at} z = subst (Ran s xs at vs ys a) (sym sum-is) (passes (more nx) refl z g)
 
   -- the sum of the first, then the last
   module _ {x₃ vs : List ℕ} {r : Run} (y : a .number ≡ 0) (f : (l : Listed s 33 33 (a .rest .left) (a .rest .field)) → Ran s x₂ (a .at) vs x₃ r (nx (stateAt s us (a .rest) l))) where
@@ -291,19 +290,38 @@ module _ {s x₁ x₂ us : List ℕ} {k p : ℕ} {a : Run} (nx : State → Outco
 
     -- the last was refused
     pub sum-stops-last : {xs ws ys : List ℕ} {at : ℕ} → (r .number ≡ 0 → ⊥) → Ran s xs at ws ys r (summed nx k st)
-    sum-stops-last {xs} {ws} {ys} {at} z = subst (Ran s xs at ws ys r) (sym (summed-at nx k st z₀ z₁)) (goes (more nx) y g (λ x m. passes (plus x) refl z (last x m)))
+    sum-stops-last {xs} {ws} {ys} {at} z = subst (Ran s xs at ws ys r) (sym sum-is) (goes (more nx) y g (λ x m. passes (plus x) refl z (last x m)))
 
     -- both were made: the Add node is closed
     pub sum-done : {xs ys : List ℕ} {at q : ℕ} → Wrote xs at (nodeStart 134 1) x₁ p → r .number ≡ 0 → Wrote x₃ at (bytes 4 (r .at - at - 4)) ys q →
         Ran s xs at vs ys r (summed nx k st)
     sum-done {xs} {ys} {at} w z c =
-        subst (Ran s xs at vs ys r) (sym (summed-at nx k st z₀ z₁))
+        subst (Ran s xs at vs ys r) (sym sum-is)
         (goes (more nx) y g (λ x m.
         goes (plus x) z (last x m) (λ o q. AnswersIn.made _ z (record { list = q .list; state = q .state; wrote = sum-puts (x .1) (o .1) w (m .wrote) (q .wrote) c }))))
 
--- where an Add node ends, how many entries there are, and the fields behind it: a sum of k - 1 nodes, then one more
-pub sum-goes : {s : List ℕ} {at p : ℕ} (k : ℕ) {a r : Run} → p ≡ at + 15 → 0 < k → Goes s p (2 ^ 29 * (k - 1)) a → Goes s (a .at) (2 ^ 28) r → Goes s at (2 ^ 29 * k) r
-sum-goes k e h x y = record { low = omega (arith, x .low, y .low); high = omega (arith, x .high, y .high); count = y .count; list = y .list }
+-- what the next node stands on, from what a sum of nodes stands on
+pub next-ready : {s ws : List ℕ} {references k at p : ℕ} {from : Rest} → ReadySum s ws references from k at → p + 100 < 2 ^ 56 → ReadyNext s ws references from p
+next-ready a l = record { standing = a .standing; set = a .set; refs = a .refs; list = a .list; cursor = l }
+
+-- an Add node begins with 15 bytes; behind them stands the sum of the first k - 1 nodes
+module _ {s : List ℕ} {at p : ℕ} (k : ℕ) {a : Run} (e : p ≡ at + 15) (h : 0 < k) (x : Goes s p (2 ^ 29 * (k - 1)) a) where
+  -- where that ends, how many entries there are, and the fields behind it
+  pub first-goes : Goes s at (2 ^ 29 * k) a
+  first-goes = record { low = omega (arith, x .low); high = omega (arith, x .high); count = x .count; list = x .list }
+
+  -- what the last node stands on
+  pub last-ready : {ws us : List ℕ} {references : ℕ} {from : Rest} → ReadySum s ws references from k at → length us ≡ length ws → ReadyNext s us references (a .rest) (a .at)
+  last-ready r l = record { standing = standing (r .standing) l (x .count); set = r .set; refs = r .refs; list = x .list; cursor = omega (arith, x .high, r .room) }
+
+  module _ {r : Run} (y : Goes s (a .at) (2 ^ 28) r) where
+    -- where the Add node ends, how many entries there are, and the fields behind it
+    pub sum-goes : Goes s at (2 ^ 29 * k) r
+    sum-goes = record { low = omega (arith, x .low, y .low); high = omega (arith, x .high, y .high); count = y .count; list = y .list }
+
+    -- what closing it stands on
+    pub sum-ends : {ws : List ℕ} {references : ℕ} {from : Rest} → ReadySum s ws references from k at → (at + 4 ≤ r .at) × (r .at < 2 ^ 61)
+    sum-ends b = (omega (arith, x .low, y .low), omega (arith, x .high, y .high, b .room))
 
 -- ---- the count
 
@@ -369,8 +387,8 @@ nodeOut y = done (y .1, y .0 .registry)
 ran-built : {s xs us ys : List ℕ} {at : ℕ} {r : Run} {x : Outcome (State × IrNode)} → Ran s xs at us ys r x →
     Builds s xs at us ys (record { at = r .at; count = r .rest .count; number = r .number }) (_andThen_ x nodeOut)
 unfolding _andThen_
-ran-built (AnswersIn.made y z m) = Builds.made (y .1, y .0 .registry) z (ap (λ (c : State). c .registry) (sym (m .state))) (m .wrote)
-ran-built (AnswersIn.not k z l) = Builds.not k z l
+ran-built (AnswersIn.made y z m) = AnswersIn.made (y .1, y .0 .registry) z (record { entries = ap (λ (c : State). c .registry) (sym (m .state)); wrote = m .wrote })
+ran-built (AnswersIn.not k z l) = AnswersIn.not k z l
 
 -- that node, aligned
 up-is : (a : ℕ) (g : Registry) (x : Outcome (State × IrNode)) → _andThen_ x (λ y. done (align-node (y .1) a, y .0 .registry)) ≡ withAlign a (λ _. _andThen_ x nodeOut) g
@@ -390,10 +408,10 @@ module _ {s : List ℕ} {kind k : ℕ} {h : TypeHead} {f : ListParts} (g : Regis
   up a y = done (align-node (y .1) a, y .0 .registry)
 
   -- the struct's node is the sum of the nodes that the code counts, aligned
-  sum-is : (types : List ResolvedType) (a : Accepted s 1 7 kind) {fs : Fields} → kindOf (typeOf (tree a)) ≡ ResolvedTypeKind.Struct fs →
+  whole-is : (types : List ResolvedType) (a : Accepted s 1 7 kind) {fs : Fields} → kindOf (typeOf (tree a)) ≡ ResolvedTypeKind.Struct fs →
       build-variable-struct types (head (typeOf (tree a))) fs g ≡
       _andThen_ (summed (next types (ownersOf (tree (hd a .references)))) k (stateOf g (fieldsOf (fl a .list .got .0)) 0 false)) (up (h .alignment))
-  sum-is types a {fs} e =
+  whole-is types a {fs} e =
       let H : Head = head (typeOf (tree a)) in
       let F : Fields = fieldsIn (view thingOf (fl a .list .got .0)) in
       let j : kindOf (typeOf (tree a)) ≡ ResolvedTypeKind.Struct F = fl a .struct ek in
@@ -408,8 +426,8 @@ module _ {s : List ℕ} {kind k : ℕ} {h : TypeHead} {f : ListParts} (g : Regis
       Builds s xs at us ys (record { at = u; count = c; number = 11 }) (build-variable-struct (typesOf t) (head (typeOf (tree a))) fs g)
   unfolding summed upTo combine _andThen_
   struct-none z t a fs q e =
-      not-built 11 refl (omega arith)
-      (sum-is (typesOf t) a e
+      refuses (omega arith)
+      (whole-is (typesOf t) a e
       ∙ ap (λ (n : ℕ). _andThen_ (summed (next (typesOf t) (ownersOf (tree (hd a .references)))) n (stateOf g (fieldsOf (fl a .list .got .0)) 0 false)) (up (h .alignment))) z)
 
   -- the sum, aligned
@@ -421,5 +439,5 @@ module _ {s : List ℕ} {kind k : ℕ} {h : TypeHead} {f : ListParts} (g : Regis
       Builds s xs at us ys b (build-variable-struct (typesOf t) (head (typeOf (tree a))) fs g)
   struct-built {us} {xs} {x₁} {ys} {at} {p} {b} sm w c t a fs q e =
       let o = summed (next (typesOf t) (ownersOf (tree (hd a .references)))) k (stateOf g (fieldsOf (fl a .list .got .0)) 0 false) in
-      subst (Builds s xs at us ys b) (sym (sum-is (typesOf t) a e ∙ up-is (h .alignment) g o))
+      subst (Builds s xs at us ys b) (sym (whole-is (typesOf t) a e ∙ up-is (h .alignment) g o))
       (c s us xs x₁ p (h .alignment) (λ _. _andThen_ o nodeOut) g w (ran-built (sm t (hd a .references) (fl a .list) q)))

@@ -1,4 +1,5 @@
 // builder.rs, `build_variable_struct`.
+use builder_expressions::Nested;
 use builder_nodes::Built;
 use builder_registry::Held;
 ghost use mathlib.Core.Path.{_≡_};
@@ -230,7 +231,11 @@ fn field_array(
     ensures { λ r. ⌜ ((t : Tree) (refs : List Owner) (a : Accepted (now (s .entry)) 1 7 kind) → readSet (now (s .entry)) ≡ done t → Builds (now (s .entry)) (now (out .entry)) at (now (words .exit)) (now (out .exit)) r (build-variable-field (typesOf t) refs (nameAt (now (s .entry)) name) (head (typeOf (tree a))) (kindOf (typeOf (tree a))) (entriesOf (now (s .entry)) (now (words .entry)) n))) ⌝ }
 {
     let owner = resolved_parts::name_at(s, name);
-    let r = builder_arrays::build_array_node_with_prefix(s, words, n, owner, 0, kind, out, at);
+    let array = Nested {
+        offset: kind,
+        depth: 0,
+    };
+    let r = builder_arrays::build_array_node_with_prefix(s, words, n, owner, array, out, at);
     enter_behind(s, words, kind, r)
 }
 

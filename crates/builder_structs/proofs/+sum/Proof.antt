@@ -1,8 +1,7 @@
 -- `sum` meets its contract: the sum of one node is that node; the sum of more is an Add node of the sum of the first ones, which the
 -- function makes itself, and the last. The measure is the number of nodes.
 use borrow.Author.Needs.{needs}
-use Rattle.builder_registry.proofs.Laws.{standing}
-use Rattle.builder_structs.proofs.Laws.{sum-one, sum-stops, sum-stops-last, sum-done, sum-goes}
+use Rattle.builder_structs.proofs.Laws.{sum-one, sum-stops, sum-stops-last, sum-done, next-ready, first-goes, last-ready, sum-goes, sum-ends}
 use native.Mathlib.Omega.{arith}
 use Prim.Native.Nat.{ℕ, _<_, _+_, _-_}
 use borrow.Fn.Kinds.{In}
@@ -40,19 +39,8 @@ calls t = (
 child-requires : (t : ℕ) → lts.Need-child-requires (calls t) (within t) reads.Post
 child-requires t c κs =
     let at-then1 = c .before .before in
-    let at-start = at-then1 .before .before .before .before in record {
-      standing = at-start .pre .1 .standing;
-      set = at-start .pre .1 .set;
-      refs = at-start .pre .1 .refs;
-      list = at-start .pre .1 .list;
-      cursor = omega (arith, at-start .pre .1 .room, at-then1 .if1 .taken);
-    }
-
-same-length : (t : ℕ) → lts.Need-same-length (calls t) (within t) reads.Post
-same-length t c = search needs
-
-same-length-2 : (t : ℕ) → lts.Need-same-length-2 (calls t) (within t) reads.Post
-same-length-2 t c = search needs
+    let at-start = at-then1 .before .before .before .before in
+    next-ready (at-start .pre .1) (omega (arith, at-start .pre .1 .room, at-then1 .if1 .taken))
 
 returns : (t : ℕ) → lts.Need-returns (calls t) (within t) reads.Post
 returns t c =
@@ -100,31 +88,15 @@ sum-requires t c κs =
       },
     )
 
-same-length-3 : (t : ℕ) → lts.Need-same-length-3 (calls t) (within t) reads.Post
-same-length-3 t c = search needs
-
-same-length-4 : (t : ℕ) → lts.Need-same-length-4 (calls t) (within t) reads.Post
-same-length-4 t c = search needs
-
 returns-2 : (t : ℕ) → lts.Need-returns-2 (calls t) (within t) reads.Post
 returns-2 t c =
     let at-sum = c .before .before .before .before .before .before in
     let at-open-add = at-sum .before .before .before .before .before in
     let at-else1 = at-open-add .before .before in
     let at-start = at-else1 .before .before .before .before in (
-      record {
-        low = omega (arith, at-sum .sum .ensures .0 .low, at-open-add .open-add .ensures .1);
-        high = omega (
-          arith,
-          at-sum .sum .ensures .0 .high,
-          at-open-add .open-add .ensures .1,
-          at-start .pre .1 .some,
-        );
-        count = at-sum .sum .ensures .0 .count;
-        list = at-sum .sum .ensures .0 .list;
-      },
+      first-goes _ (at-open-add .open-add .ensures .1) (at-start .pre .1 .some) (at-sum .sum .ensures .0),
       λ t b l q. sum-stops _ _
-          (λ e. let p = at-start .pre .1 .some in omega arith)
+          (at-start .pre .1 .some)
           (at-else1 .if1 .left)
           (at-sum .sum .ensures .1 t b l q)
           (c .if2 .taken),
@@ -134,25 +106,8 @@ child-requires-2 : (t : ℕ) → lts.Need-child-requires-2 (calls t) (within t) 
 child-requires-2 t c κs =
     let at-sum = c .before .before .before .before .before .before .before .before in
     let at-open-add = at-sum .before .before .before .before .before in
-    let at-start = at-open-add .before .before .before .before .before .before in record {
-      standing = standing
-          (at-start .pre .1 .standing)
-          (search needs)
-          (at-sum .sum .ensures .0 .count);
-      set = at-start .pre .1 .set;
-      refs = at-start .pre .1 .refs;
-      list = at-sum .sum .ensures .0 .list;
-      cursor = omega (
-        arith,
-        at-sum .sum .ensures .0 .high,
-        at-open-add .open-add .ensures .1,
-        at-start .pre .1 .room,
-        at-start .pre .1 .some,
-      );
-    }
-
-same-length-5 : (t : ℕ) → lts.Need-same-length-5 (calls t) (within t) reads.Post
-same-length-5 t c = search needs
+    let at-start = at-open-add .before .before .before .before .before .before in
+    last-ready _ (at-open-add .open-add .ensures .1) (at-start .pre .1 .some) (at-sum .sum .ensures .0) (at-start .pre .1) (search needs)
 
 same-length-6 : (t : ℕ) → lts.Need-same-length-6 (calls t) (within t) reads.Post
 same-length-6 t c =
@@ -175,7 +130,7 @@ returns-3 t c =
           (at-sum .sum .ensures .0)
           (at-child2 .child2 .ensures .0),
       λ t b l q. sum-stops-last _ _
-          (λ e. let p = at-start .pre .1 .some in omega arith)
+          (at-start .pre .1 .some)
           (at-else1 .if1 .left)
           (at-sum .sum .ensures .1 t b l q)
           (at-else2 .if2 .left)
@@ -188,25 +143,13 @@ close-block-requires t c κs =
     let at-child2 = c .before .before .before .before .before .before .before in
     let at-sum = at-child2 .before .before .before .before .before .before .before .before .before in
     let at-open-add = at-sum .before .before .before .before .before in
-    let at-start = at-open-add .before .before .before .before .before .before in (
-      omega (
-        arith,
-        at-child2 .child2 .ensures .0 .low,
-        at-sum .sum .ensures .0 .low,
-        at-open-add .open-add .ensures .1,
-      ),
-      omega (
-        arith,
-        at-child2 .child2 .ensures .0 .high,
-        at-sum .sum .ensures .0 .high,
-        at-open-add .open-add .ensures .1,
-        at-start .pre .1 .room,
-        at-start .pre .1 .some,
-      ),
-    )
-
-same-length-7 : (t : ℕ) → lts.Need-same-length-7 (calls t) (within t) reads.Post
-same-length-7 t c = search needs
+    let at-start = at-open-add .before .before .before .before .before .before in
+    sum-ends _
+    (at-open-add .open-add .ensures .1)
+    (at-start .pre .1 .some)
+    (at-sum .sum .ensures .0)
+    (at-child2 .child2 .ensures .0)
+    (at-start .pre .1)
 
 same-length-8 : (t : ℕ) → lts.Need-same-length-8 (calls t) (within t) reads.Post
 same-length-8 t c =
@@ -237,7 +180,7 @@ returns-4 t c =
           (at-sum .sum .ensures .0)
           (at-child2 .child2 .ensures .0),
       λ t b l q. sum-done _ _
-          (λ e. let p = at-start .pre .1 .some in omega arith)
+          (at-start .pre .1 .some)
           (at-else1 .if1 .left)
           (at-sum .sum .ensures .1 t b l q)
           (at-else2 .if2 .left)
@@ -250,8 +193,7 @@ returns-4 t c =
 pub +sum-spec : {M : Type 1} → statement M
 +sum-spec =
     close μ
-    (λ t. lts.spec (calls t) (within t) reads.Post (child-requires t) (same-length t)
-    (same-length-2 t) (returns t) (open-add-requires t) (sub-sum t)
-    (sum-requires t) (same-length-3 t) (same-length-4 t) (returns-2 t)
-    (child-requires-2 t) (same-length-5 t) (same-length-6 t) (returns-3 t)
-    (close-block-requires t) (same-length-7 t) (same-length-8 t) (returns-4 t))
+    (λ t. lts.spec (calls t) (within t) reads.Post (child-requires t) (λ c. search needs) (λ c. search needs)
+    (returns t) (open-add-requires t) (sub-sum t) (sum-requires t) (λ c. search needs) (λ c. search needs)
+    (returns-2 t) (child-requires-2 t) (λ c. search needs) (same-length-6 t) (returns-3 t) (close-block-requires t)
+    (λ c. search needs) (same-length-8 t) (returns-4 t))

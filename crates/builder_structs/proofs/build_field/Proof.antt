@@ -1,6 +1,7 @@
 -- `build_field` meets its contract: of variable size it is `variable_field`; else its references enter, and it is a constant.
 use borrow.Author.Needs.{needs}
 use native.Mathlib.Omega.{arith}
+use Rattle.builder_nodes.proofs.Laws.{stopped, ends-at}
 use Rattle.builder_structs.proofs.Field.{field-variable, field-stops, field-done}
 use Rattle.builder_structs.proofs.build_field.Statement.{statement}
 use Rattle.builder_structs.proofs.build_field.Tie as tie
@@ -14,12 +15,6 @@ variable-field-requires : tie.Need-variable-field-requires
 variable-field-requires c κs =
     let at-start = c .before .before .before .before .before .before .before in
     at-start .pre
-
-same-length : tie.Need-same-length
-same-length c = search needs
-
-same-length-2 : tie.Need-same-length-2
-same-length-2 c = search needs
 
 returns : tie.Need-returns
 returns c =
@@ -38,35 +33,19 @@ enter-own-requires c κs =
     let at-start = c .before .before .before .before .before .before in
     (at-start .pre .field .base .standing, at-start .pre .field .base .type-at)
 
-same-length-3 : tie.Need-same-length-3
-same-length-3 c = search needs
-
 returns-2 : tie.Need-returns-2
 returns-2 c =
     let at-enter-own = c .before .before .before .before in
     let at-else1 = at-enter-own .before .before in
     let at-type-head = at-else1 .before in
     let at-start = at-type-head .before .before .before .before in (
-      record {
-        low = omega arith;
-        high = omega arith;
-        count = at-start .pre .field .base .standing .count;
-      },
+      stopped (at-start .pre .field .base .standing .count),
       field-stops _ _ _
           (at-type-head .type-head .ensures)
           (at-else1 .if1 .left)
           (at-enter-own .enter-own .ensures .1)
           (c .if2 .taken),
     )
-
-put-const-or-zero-requires : tie.Need-put-const-or-zero-requires
-put-const-or-zero-requires c κs = search needs
-
-same-length-4 : tie.Need-same-length-4
-same-length-4 c = search needs
-
-same-length-5 : tie.Need-same-length-5
-same-length-5 c = search needs
 
 returns-3 : tie.Need-returns-3
 returns-3 c =
@@ -75,11 +54,10 @@ returns-3 c =
     let at-enter-own = at-else2 .before .before .before .before in
     let at-else1 = at-enter-own .before .before in
     let at-type-head = at-else1 .before in (
-      record {
-        low = omega (arith, at-put-const-or-zero .put-const-or-zero .ensures .1);
-        high = omega (arith, at-put-const-or-zero .put-const-or-zero .ensures .1);
-        count = at-enter-own .enter-own .ensures .0;
-      },
+      ends-at
+          (omega (arith, at-put-const-or-zero .put-const-or-zero .ensures .1))
+          (omega (arith, at-put-const-or-zero .put-const-or-zero .ensures .1))
+          (at-enter-own .enter-own .ensures .0),
       field-done _ _ _
           (at-type-head .type-head .ensures)
           (at-else1 .if1 .left)
@@ -91,6 +69,6 @@ returns-3 c =
 pub build-field-spec : {M : Type 1} → statement M
 build-field-spec =
     tie.close
-    (tie.spec type-head-requires variable-field-requires same-length same-length-2 returns
-    enter-own-requires same-length-3 returns-2 put-const-or-zero-requires same-length-4
-    same-length-5 returns-3)
+    (tie.spec type-head-requires variable-field-requires (λ c. search needs) (λ c. search needs) returns
+    enter-own-requires (λ c. search needs) returns-2 (λ c κs. search needs) (λ c. search needs) (λ c. search needs)
+    returns-3)

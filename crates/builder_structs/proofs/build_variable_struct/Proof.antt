@@ -2,6 +2,7 @@
 -- node is refused; else the sum stands in an AlignUp node.
 use borrow.Author.Needs.{needs}
 use native.Mathlib.Omega.{arith}
+use Rattle.builder_nodes.proofs.Laws.{stopped}
 use Rattle.builder_structs.proofs.Laws.{struct-none, struct-built}
 use Rattle.builder_structs.proofs.build_variable_struct.Statement.{statement}
 use Rattle.builder_structs.proofs.build_variable_struct.Tie as tie
@@ -34,11 +35,7 @@ count-nodes-requires c κs = (
 returns : tie.Need-returns
 returns c =
     let at-field-list = c .before .before in (
-      record {
-        low = omega arith;
-        high = omega arith;
-        count = at-start at-field-list .pre .0 .standing .count;
-      },
+      stopped (at-start at-field-list .pre .0 .standing .count),
       struct-none _
           (at-start at-field-list .pre .0 .kind-is)
           (at-type-head at-field-list .type-head .ensures)
@@ -46,9 +43,6 @@ returns c =
           (c .before .count-nodes .ensures .1)
           (c .if1 .taken),
     )
-
-open-align-requires : tie.Need-open-align-requires
-open-align-requires c κs = search needs
 
 sum-requires : tie.Need-sum-requires
 sum-requires c κs =
@@ -69,12 +63,6 @@ sum-requires c κs =
         at-start at-field-list .pre .1,
       );
     }
-
-same-length : tie.Need-same-length
-same-length c = search needs
-
-same-length-2 : tie.Need-same-length-2
-same-length-2 c = search needs
 
 close-aligned-requires : tie.Need-close-aligned-requires
 close-aligned-requires c κs =
@@ -131,4 +119,5 @@ returns-2 c =
 pub build-variable-struct-spec : {M : Type 1} → statement M
 build-variable-struct-spec =
     tie.close
-    (tie.spec type-head-requires field-list-requires count-nodes-requires returns open-align-requires sum-requires close-aligned-requires same-length same-length-2 returns-2)
+    (tie.spec type-head-requires field-list-requires count-nodes-requires returns (λ c κs. search needs) sum-requires
+    close-aligned-requires (λ c. search needs) (λ c. search needs) returns-2)

@@ -27,12 +27,6 @@ field-node-requires c κs =
     let at-else1 = c .before .before .before in
     (at-start at-else1 .pre, omega (arith, at-else1 .if1 .left))
 
-same-length : tie.Need-same-length
-same-length c = search needs
-
-same-length-2 : tie.Need-same-length-2
-same-length-2 c = search needs
-
 returns-2 : tie.Need-returns-2
 returns-2 c =
     let at-field-node = c .before .before .before .before in
@@ -46,19 +40,10 @@ field-parts-requires c κs =
     let at-start = c .before .before .before .before .before .before in
     field-here (omega (arith, c .before .if1 .left)) (at-start .pre .list)
 
-padding-requires : tie.Need-padding-requires
-padding-requires c κs = search needs
-
 field-node-requires-2 : tie.Need-field-node-requires-2
 field-node-requires-2 c κs =
     let at-else1 = c .before .before .before .before .before .before in
     (at-start at-else1 .pre, omega (arith, at-else1 .if1 .left))
-
-same-length-3 : tie.Need-same-length-3
-same-length-3 c = search needs
-
-same-length-4 : tie.Need-same-length-4
-same-length-4 c = search needs
 
 returns-3 : tie.Need-returns-3
 returns-3 c =
@@ -77,12 +62,6 @@ returns-3 c =
           (at-padding .padding .ensures)
           (at-then3 .if3 .taken),
     )
-
-put-const-or-zero-requires : tie.Need-put-const-or-zero-requires
-put-const-or-zero-requires c κs = search needs
-
-same-length-5 : tie.Need-same-length-5
-same-length-5 c = search needs
 
 returns-4 : tie.Need-returns-4
 returns-4 c =
@@ -111,6 +90,6 @@ returns-4 c =
 pub child-spec : {M : Type 1} → statement M
 child-spec =
     tie.close
-    (tie.spec returns field-node-requires same-length same-length-2 returns-2 field-parts-requires
-    padding-requires field-node-requires-2 same-length-3 same-length-4 returns-3
-    put-const-or-zero-requires same-length-5 returns-4)
+    (tie.spec returns field-node-requires (λ c. search needs) (λ c. search needs) returns-2 field-parts-requires
+    (λ c κs. search needs) field-node-requires-2 (λ c. search needs) (λ c. search needs) returns-3
+    (λ c κs. search needs) (λ c. search needs) returns-4)

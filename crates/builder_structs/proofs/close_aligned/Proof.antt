@@ -14,9 +14,6 @@ close-block-requires c κs =
     let at-start = c .before .before .before .before in
     at-start .pre
 
-same-length : tie.Need-same-length
-same-length c = search needs
-
 returns-2 : tie.Need-returns-2
 returns-2 c =
     let at-close-block = c .before .before in
@@ -24,4 +21,4 @@ returns-2 c =
     ((refl, refl), aligned-closes (at-else1 .if1 .left) (at-close-block .close-block .ensures .0))
 
 pub close-aligned-spec : {M : Type 1} → statement M
-close-aligned-spec = tie.close (tie.spec returns close-block-requires same-length returns-2)
+close-aligned-spec = tie.close (tie.spec returns close-block-requires (λ c. search needs) returns-2)

@@ -24,9 +24,6 @@ loop-holds c = (omega (arith, c .before .pre .1), count-begin (c .before .pre .0
 field-parts-requires : tie.Need-field-parts-requires Inv-loop μ-loop
 field-parts-requires c κs = field-here (c .loop-test .taken) (at-loop c .loop .inv .1 .here)
 
-nodes-of-requires : tie.Need-nodes-of-requires Inv-loop μ-loop
-nodes-of-requires c κs = search needs
-
 add-n : tie.Need-add-n Inv-loop μ-loop
 add-n c =
     let in-loop = c .before .before in
@@ -37,12 +34,6 @@ prefix-after-requires c κs =
     let in-loop = c .before .before in
     c .before .field-parts .ensures
     (field-here (in-loop .loop-test .taken) (at-loop in-loop .loop .inv .1 .here)) .type
-
-enum-known-after : tie.Need-enum-known-after Inv-loop μ-loop
-enum-known-after c = search needs
-
-enum-told : tie.Need-enum-told Inv-loop μ-loop
-enum-told c = search needs
 
 returns : tie.Need-returns Inv-loop μ-loop
 returns c =
@@ -126,6 +117,6 @@ returns-2 c = (
 pub count-nodes-spec : {M : Type 1} → statement M
 count-nodes-spec =
     tie.close
-    (tie.spec Inv-loop μ-loop loop-holds field-parts-requires nodes-of-requires add-n
-    prefix-after-requires enum-known-after enum-told returns add-at read4-requires add-at-2 sub-rest
-    loop-less loop-again returns-2)
+    (tie.spec Inv-loop μ-loop loop-holds field-parts-requires (λ c κs. search needs) add-n prefix-after-requires
+    (λ c. search needs) (λ c. search needs) returns add-at read4-requires add-at-2 sub-rest loop-less loop-again
+    returns-2)

@@ -16,9 +16,6 @@ enter-own-requires c κs =
     let at-start = c .before .before .before .before .before in
     at-start .pre
 
-same-length : tie.Need-same-length
-same-length c = search needs
-
 returns-2 : tie.Need-returns-2
 returns-2 c =
     let at-enter-own = c .before .before in
@@ -26,4 +23,4 @@ returns-2 c =
     ((refl, at-enter-own .enter-own .ensures .0), λ a. own-enters _ (at-else1 .if1 .left) (at-enter-own .enter-own .ensures .1 a))
 
 pub enter-behind-spec : {M : Type 1} → statement M
-enter-behind-spec = tie.close (tie.spec returns enter-own-requires same-length returns-2)
+enter-behind-spec = tie.close (tie.spec returns enter-own-requires (λ c. search needs) returns-2)

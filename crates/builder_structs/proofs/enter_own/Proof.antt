@@ -12,9 +12,6 @@ extend-with-requires c κs =
     let at-start = c .before .before .before .before in
     (at-start .pre .0, c .before .type-head .ensures (at-start .pre .1) .references)
 
-same-length : tie.Need-same-length
-same-length c = search needs
-
 returns : tie.Need-returns
 returns c =
     let at-extend-with = c .before .before in
@@ -24,4 +21,4 @@ returns c =
     )
 
 pub enter-own-spec : {M : Type 1} → statement M
-enter-own-spec = tie.close (tie.spec type-head-requires extend-with-requires same-length returns)
+enter-own-spec = tie.close (tie.spec type-head-requires extend-with-requires (λ c. search needs) returns)

@@ -1,6 +1,5 @@
 -- `field_aligned` meets its contract: the AlignUp node around what `inner_node` leaves.
 use borrow.Author.Needs.{needs}
-use mathlib.Core.Path.{refl}
 use native.Mathlib.Omega.{arith}
 use Rattle.builder_structs.proofs.Field.{close-ready, aligned-within, inner-aligned}
 use Rattle.builder_structs.proofs.field_aligned.Statement.{statement}
@@ -10,9 +9,6 @@ type-head-requires : tie.Need-type-head-requires
 type-head-requires c κs =
     let at-start = c .before .before .before in
     at-start .pre .type-at
-
-open-align-requires : tie.Need-open-align-requires
-open-align-requires c κs = search needs
 
 inner-node-requires : tie.Need-inner-node-requires
 inner-node-requires c κs =
@@ -35,14 +31,7 @@ close-aligned-requires c κs =
     close-ready _
     (at-open-align .open-align .ensures .1)
     (at-node .inner-node .ensures .0)
-    refl
     (omega (arith, at-start .pre .cursor))
-
-same-length : tie.Need-same-length
-same-length c = search needs
-
-same-length-2 : tie.Need-same-length-2
-same-length-2 c = search needs
 
 returns : tie.Need-returns
 returns c =
@@ -53,7 +42,6 @@ returns c =
       aligned-within
           (at-open-align .open-align .ensures .1)
           (at-node .inner-node .ensures .0)
-          (refl, at-node .inner-node .ensures .0 .count)
           (at-close-aligned .close-aligned .ensures .0)
           (omega arith),
       inner-aligned _
@@ -64,4 +52,7 @@ returns c =
     )
 
 pub field-aligned-spec : {M : Type 1} → statement M
-field-aligned-spec = tie.close (tie.spec type-head-requires open-align-requires inner-node-requires close-aligned-requires same-length same-length-2 returns)
+field-aligned-spec =
+    tie.close
+    (tie.spec type-head-requires (λ c κs. search needs) inner-node-requires close-aligned-requires (λ c. search needs)
+    (λ c. search needs) returns)

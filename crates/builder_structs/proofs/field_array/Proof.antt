@@ -2,7 +2,7 @@
 use borrow.Author.Needs.{needs}
 use native.Mathlib.Omega.{arith}
 use Rattle.builder_registry.proofs.Laws.{standing}
-use Rattle.builder_expressions.proofs.Laws.{wider}
+use Rattle.builder_nodes.proofs.Laws.{widened}
 use Rattle.resolved_parts.proofs.Laws.{inside}
 use Rattle.builder_calls.proofs.Laws.{short-name}
 use Rattle.builder_structs.proofs.Field.{own-within, array-built}
@@ -45,19 +45,13 @@ enter-behind-requires c κs =
       at-start .pre .field .base .type-at,
     )
 
-same-length : tie.Need-same-length
-same-length c = search needs
-
-same-length-2 : tie.Need-same-length-2
-same-length-2 c = search needs
-
 returns : tie.Need-returns
 returns c =
     let at-enter-behind = c .before .before in
     let at-node = at-enter-behind .before .before .before .before .before .before in
     let at-name-at = at-node .before .before .before in
     let at-start = at-name-at .before .before .before .before in (
-      wider
+      widened
           (omega (arith, inside (at-start .pre .field .base .type-at), at-start .pre .field .base .standing .size))
           (own-within (at-node .build-array-node-with-prefix .ensures .0) (at-enter-behind .enter-behind .ensures .0)),
       array-built _ _
@@ -68,4 +62,7 @@ returns c =
     )
 
 pub field-array-spec : {M : Type 1} → statement M
-field-array-spec = tie.close (tie.spec name-at-requires build-array-node-with-prefix-requires enter-behind-requires same-length same-length-2 returns)
+field-array-spec =
+    tie.close
+    (tie.spec name-at-requires build-array-node-with-prefix-requires enter-behind-requires (λ c. search needs)
+    (λ c. search needs) returns)

@@ -22,9 +22,6 @@ get-requires c κs =
     let at-start = c .before .before .before .before in
     at-start .pre .field .refs
 
-enum-known-paths : tie.Need-enum-known-paths
-enum-known-paths c = search needs
-
 has-payload-requires : tie.Need-has-payload-requires
 has-payload-requires c κs =
     let at-get = c .before .before .before in
@@ -45,12 +42,6 @@ put-payload-requires c κs =
           (at-get .get .ensures .0)
           (at-start at-get .pre .field .refs);
     }
-
-same-length : tie.Need-same-length
-same-length c = search needs
-
-same-length-2 : tie.Need-same-length-2
-same-length-2 c = search needs
 
 returns : tie.Need-returns
 returns c =
@@ -75,19 +66,10 @@ field-aligned-requires c κs =
     let at-get = c .before .before .before .before .before .before .before in
     inner-ready (at-start at-get .pre .field .field .base) (at-start at-get .pre .kind-is) (omega arith) (λ e. omega arith)
 
-enum-told : tie.Need-enum-told
-enum-told c = search needs
-
 field-aligned-requires-2 : tie.Need-field-aligned-requires-2
 field-aligned-requires-2 c κs =
     let at-get = c .before .before .before .before in
     inner-ready (at-start at-get .pre .field .field .base) (at-start at-get .pre .kind-is) (omega arith) (λ e. omega arith)
-
-same-length-3 : tie.Need-same-length-3
-same-length-3 c = search needs
-
-same-length-4 : tie.Need-same-length-4
-same-length-4 c = search needs
 
 returns-2 : tie.Need-returns-2
 returns-2 c =
@@ -107,12 +89,6 @@ returns-2 c =
           (at-field-aligned .field-aligned .ensures .1),
     )
 
-same-length-5 : tie.Need-same-length-5
-same-length-5 c = search needs
-
-same-length-6 : tie.Need-same-length-6
-same-length-6 c = search needs
-
 returns-3 : tie.Need-returns-3
 returns-3 c =
     let at-field-aligned2 = c .before .before .before .before in
@@ -130,7 +106,7 @@ returns-3 c =
 pub field-enum-spec : {M : Type 1} → statement M
 field-enum-spec =
     tie.close
-    (tie.spec name-at-requires get-requires enum-known-paths has-payload-requires
-    put-payload-requires same-length same-length-2 returns field-aligned-requires enum-told
-    field-aligned-requires-2 same-length-3 same-length-4 returns-2 same-length-5 same-length-6
+    (tie.spec name-at-requires get-requires (λ c. search needs) has-payload-requires put-payload-requires
+    (λ c. search needs) (λ c. search needs) returns field-aligned-requires (λ c. search needs)
+    field-aligned-requires-2 (λ c. search needs) (λ c. search needs) returns-2 (λ c. search needs) (λ c. search needs)
     returns-3)

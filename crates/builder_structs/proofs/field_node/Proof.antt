@@ -32,9 +32,6 @@ field-parts-requires c κs =
 prefix-after-requires : tie.Need-prefix-after-requires
 prefix-after-requires c κs = c .field-parts .ensures (field-here (at-start c .pre .1) (at-start c .pre .0 .list)) .type
 
-enum-known-after : tie.Need-enum-known-after
-enum-known-after c = search needs
-
 add-t16 : tie.Need-add-t16
 add-t16 c =
     let ready = at-start (at-field-parts (c .before)) .pre in
@@ -56,12 +53,6 @@ build-field-requires c κs =
       };
       refs = ready .0 .refs;
     }
-
-same-length : tie.Need-same-length
-same-length c = search needs
-
-same-length-2 : tie.Need-same-length-2
-same-length-2 c = search needs
 
 returns : tie.Need-returns
 returns c =
@@ -102,15 +93,6 @@ sub-t24 : tie.Need-sub-t24
 sub-t24 c =
     let ready = begun (c .before .before .before) .pre in
     omega (arith, ready .1)
-
-enum-told : tie.Need-enum-told
-enum-told c = search needs
-
-same-length-3 : tie.Need-same-length-3
-same-length-3 c = search needs
-
-same-length-4 : tie.Need-same-length-4
-same-length-4 c = search needs
 
 returns-2 : tie.Need-returns-2
 returns-2 c =
@@ -156,6 +138,6 @@ returns-3 c =
 pub field-node-spec : {M : Type 1} → statement M
 field-node-spec =
     tie.close
-    (tie.spec field-parts-requires prefix-after-requires enum-known-after add-t16 build-field-requires
-    same-length same-length-2 returns add-t16-2 read4-requires add-t23 sub-t24 enum-told same-length-3
-    same-length-4 returns-2 returns-3)
+    (tie.spec field-parts-requires prefix-after-requires (λ c. search needs) add-t16 build-field-requires
+    (λ c. search needs) (λ c. search needs) returns add-t16-2 read4-requires add-t23 sub-t24 (λ c. search needs)
+    (λ c. search needs) (λ c. search needs) returns-2 returns-3)

@@ -1,6 +1,6 @@
 -- `field_refs` meets its contract: the sum of the struct's references for the field, or 11 where there are none.
 use borrow.Author.Needs.{needs}
-use native.Mathlib.Omega.{arith}
+use Rattle.builder_nodes.proofs.Laws.{stopped}
 use Rattle.builder_structs.proofs.Field.{paths-found, refs-missing, refs-found}
 use Rattle.builder_structs.proofs.field_refs.Statement.{statement}
 use Rattle.builder_structs.proofs.field_refs.Tie as tie
@@ -15,9 +15,6 @@ name-at-requires c κs = at-start c .pre .field .named
 get-requires : tie.Need-get-requires
 get-requires c κs = at-start (c .before) .pre .refs
 
-enum-known-paths : tie.Need-enum-known-paths
-enum-known-paths c = search needs
-
 put-sum-requires : tie.Need-put-sum-requires
 put-sum-requires c κs =
     let at-paths = c .before .before .before in
@@ -29,15 +26,6 @@ put-sum-requires c κs =
           (at-get .get .ensures .0)
           (at-start at-slice-known2 .pre .refs);
     }
-
-enum-told : tie.Need-enum-told
-enum-told c = search needs
-
-same-length : tie.Need-same-length
-same-length c = search needs
-
-same-length-2 : tie.Need-same-length-2
-same-length-2 c = search needs
 
 returns : tie.Need-returns
 returns c =
@@ -57,11 +45,7 @@ returns-2 : tie.Need-returns-2
 returns-2 c =
     let at-get = c .before .before in
     let at-name-at = at-get .before in (
-      record {
-        low = omega arith;
-        high = omega arith;
-        count = at-start (at-name-at .before) .pre .field .base .standing .count;
-      },
+      stopped (at-start (at-name-at .before) .pre .field .base .standing .count),
       refs-missing _ _ _
           (at-name-at .name-at .ensures)
           (at-get .get .ensures .0)
@@ -71,5 +55,5 @@ returns-2 c =
 pub field-refs-spec : {M : Type 1} → statement M
 field-refs-spec =
     tie.close
-    (tie.spec name-at-requires get-requires enum-known-paths put-sum-requires enum-told same-length
-    same-length-2 returns returns-2)
+    (tie.spec name-at-requires get-requires (λ c. search needs) put-sum-requires (λ c. search needs)
+    (λ c. search needs) (λ c. search needs) returns returns-2)

@@ -4,7 +4,7 @@ use mathlib.Core.Path.{_≡_, _∙_}
 use native.Mathlib.Omega.{arith}
 use Rattle.resolved_parts.proofs.Laws.{kind-of}
 use Rattle.builder_registry.proofs.Laws.{standing}
-use Rattle.builder_expressions.proofs.Laws.{wider}
+use Rattle.builder_nodes.proofs.Laws.{widened}
 use Rattle.builder_structs.proofs.Field.{own-within, enum-inner, sized-inner, call-inner}
 use Rattle.builder_structs.proofs.inner_node.Statement.{statement}
 use Rattle.builder_structs.proofs.inner_node.Tie as tie
@@ -33,12 +33,6 @@ enter-behind-requires c κs =
       standing (at-start .pre .standing) (search needs) (at-node .build-enum-node .ensures .0 .count),
       at-start .pre .type-at,
     )
-
-same-length : tie.Need-same-length
-same-length c = search needs
-
-same-length-2 : tie.Need-same-length-2
-same-length-2 c = search needs
 
 returns : tie.Need-returns
 returns c =
@@ -70,12 +64,6 @@ enter-behind-requires-2 c κs =
       at-start .pre .type-at,
     )
 
-same-length-3 : tie.Need-same-length-3
-same-length-3 c = search needs
-
-same-length-4 : tie.Need-same-length-4
-same-length-4 c = search needs
-
 returns-2 : tie.Need-returns-2
 returns-2 c =
     let at-enter-behind = c .before .before in
@@ -105,23 +93,17 @@ build-typeref-node-requires c κs =
       cursor = at-start .pre .cursor;
     }
 
-same-length-5 : tie.Need-same-length-5
-same-length-5 c = search needs
-
-same-length-6 : tie.Need-same-length-6
-same-length-6 c = search needs
-
 returns-3 : tie.Need-returns-3
 returns-3 c =
     let at-node = c .before .before .before .before in
     let at-else2 = at-node .before .before .before in (
-      wider (omega arith) (at-node .build-typeref-node .ensures .0),
+      widened (omega arith) (at-node .build-typeref-node .ensures .0),
       call-inner _ (start-of-else (at-else2 .before) .pre .kind-is ∙ a-call at-else2) (at-node .build-typeref-node .ensures .1),
     )
 
 pub inner-node-spec : {M : Type 1} → statement M
 inner-node-spec =
     tie.close
-    (tie.spec build-enum-node-requires enter-behind-requires same-length same-length-2 returns
-    build-size-discriminated-union-node-requires enter-behind-requires-2 same-length-3 same-length-4 returns-2
-    build-typeref-node-requires same-length-5 same-length-6 returns-3)
+    (tie.spec build-enum-node-requires enter-behind-requires (λ c. search needs) (λ c. search needs) returns
+    build-size-discriminated-union-node-requires enter-behind-requires-2 (λ c. search needs) (λ c. search needs)
+    returns-2 build-typeref-node-requires (λ c. search needs) (λ c. search needs) returns-3)

@@ -6,9 +6,6 @@ use Rattle.builder_structs.proofs.Laws.{one-node, two-nodes}
 use Rattle.builder_structs.proofs.nodes_of.Statement.{statement}
 use Rattle.builder_structs.proofs.nodes_of.Tie as tie
 
-padding-requires : tie.Need-padding-requires
-padding-requires c κs = search needs
-
 returns : tie.Need-returns
 returns c =
     let at-start = c .before .before in (
@@ -32,4 +29,4 @@ returns-2 c =
     )
 
 pub nodes-of-spec : {M : Type 1} → statement M
-nodes-of-spec = tie.close (tie.spec padding-requires returns returns-2)
+nodes-of-spec = tie.close (tie.spec (λ c κs. search needs) returns returns-2)

@@ -4,9 +4,6 @@ use Rattle.builder_structs.proofs.Laws.{pad-some, pad-none, pad-absent}
 use Rattle.builder_structs.proofs.padding.Statement.{statement}
 use Rattle.builder_structs.proofs.padding.Tie as tie
 
-sub-result : tie.Need-sub-result
-sub-result c = search needs
-
 returns : tie.Need-returns
 returns c = pad-some _ _ _ (c .before .if1 .taken)
 
@@ -17,4 +14,4 @@ returns-3 : tie.Need-returns-3
 returns-3 c = pad-absent _ _ _ (c .if1 .left)
 
 pub padding-spec : {M : Type 1} → statement M
-padding-spec = tie.close (tie.spec sub-result returns returns-2 returns-3)
+padding-spec = tie.close (tie.spec (λ c. search needs) returns returns-2 returns-3)

@@ -15,12 +15,6 @@ returns c =
     (c .before .if1 .taken)
     (c .if2 .taken)
 
-sub-if3 : tie.Need-sub-if3
-sub-if3 c = search needs
-
-add-t11 : tie.Need-add-t11
-add-t11 c = search needs
-
 returns-2 : tie.Need-returns-2
 returns-2 c =
     let at-then1 = c .before .before in
@@ -47,5 +41,4 @@ returns-4 : tie.Need-returns-4
 returns-4 c = end-unplaced _ _ _ (c .before .type-head .ensures) (c .if1 .left)
 
 pub prefix-after-spec : {M : Type 1} → statement M
-prefix-after-spec =
-    tie.close (tie.spec type-head-requires returns sub-if3 add-t11 returns-2 returns-3 returns-4)
+prefix-after-spec = tie.close (tie.spec type-head-requires returns (λ c. search needs) (λ c. search needs) returns-2 returns-3 returns-4)

@@ -1,6 +1,5 @@
 -- `put_payload` meets its contract: the sum of the paths that end in `.payload_size`, and the AlignUp node around it.
 use borrow.Author.Needs.{needs}
-use mathlib.Core.Path.{refl}
 use native.Mathlib.Omega.{arith}
 use Rattle.builder_calls.proofs.Laws.{short-name}
 use Rattle.builder_structs.proofs.Field.{close-ready, aligned-within, payload-built}
@@ -16,9 +15,6 @@ type-head-requires : tie.Need-type-head-requires
 type-head-requires c κs =
     let at-start = c .before .before .before .before in
     at-start .pre .field .base .type-at
-
-open-align-requires : tie.Need-open-align-requires
-open-align-requires c κs = search needs
 
 sum-refs-requires : tie.Need-sum-refs-requires
 sum-refs-requires c κs =
@@ -36,10 +32,7 @@ close-aligned-requires c κs =
     let at-sum-refs = c .before .before .before in
     let at-open-align = at-sum-refs .before .before .before .before in
     let at-start = at-open-align .before .before .before .before .before .before .before in
-    close-ready _ (at-open-align .open-align .ensures .1) (at-sum-refs .sum-refs .ensures .0) refl (omega (arith, at-start .pre .field .base .cursor))
-
-same-length : tie.Need-same-length
-same-length c = search needs
+    close-ready _ (at-open-align .open-align .ensures .1) (at-sum-refs .sum-refs .ensures .0) (omega (arith, at-start .pre .field .base .cursor))
 
 returns : tie.Need-returns
 returns c =
@@ -51,7 +44,6 @@ returns c =
       aligned-within
           (at-open-align .open-align .ensures .1)
           (at-sum-refs .sum-refs .ensures .0)
-          (refl, at-sum-refs .sum-refs .ensures .0 .count)
           (at-close-aligned .close-aligned .ensures .0)
           (omega arith),
       payload-built _ _
@@ -63,4 +55,7 @@ returns c =
     )
 
 pub put-payload-spec : {M : Type 1} → statement M
-put-payload-spec = tie.close (tie.spec name-at-requires type-head-requires open-align-requires sum-refs-requires close-aligned-requires same-length returns)
+put-payload-spec =
+    tie.close
+    (tie.spec name-at-requires type-head-requires (λ c κs. search needs) sum-refs-requires close-aligned-requires
+    (λ c. search needs) returns)

@@ -2,7 +2,7 @@
 use borrow.Author.Needs.{needs}
 use native.Mathlib.Omega.{arith}
 use Rattle.builder_registry.proofs.Laws.{standing}
-use Rattle.builder_expressions.proofs.Laws.{wider}
+use Rattle.builder_nodes.proofs.Laws.{widened}
 use Rattle.builder_calls.proofs.Laws.{short-name}
 use Rattle.builder_structs.proofs.Field.{own-within, sum-built}
 use Rattle.builder_structs.proofs.put_sum.Statement.{statement}
@@ -31,18 +31,12 @@ enter-behind-requires c κs =
       at-start .pre .field .base .type-at,
     )
 
-same-length : tie.Need-same-length
-same-length c = search needs
-
-same-length-2 : tie.Need-same-length-2
-same-length-2 c = search needs
-
 returns : tie.Need-returns
 returns c =
     let at-enter-behind = c .before .before in
     let at-sum-refs = at-enter-behind .before .before .before .before in
     let at-name-at = at-sum-refs .before .before .before in (
-      wider (omega arith) (own-within (at-sum-refs .sum-refs .ensures .0) (at-enter-behind .enter-behind .ensures .0)),
+      widened (omega arith) (own-within (at-sum-refs .sum-refs .ensures .0) (at-enter-behind .enter-behind .ensures .0)),
       sum-built _ _
           (at-name-at .name-at .ensures)
           (at-sum-refs .sum-refs .ensures .1)
@@ -50,4 +44,7 @@ returns c =
     )
 
 pub put-sum-spec : {M : Type 1} → statement M
-put-sum-spec = tie.close (tie.spec name-at-requires sum-refs-requires enter-behind-requires same-length same-length-2 returns)
+put-sum-spec =
+    tie.close
+    (tie.spec name-at-requires sum-refs-requires enter-behind-requires (λ c. search needs) (λ c. search needs)
+    returns)

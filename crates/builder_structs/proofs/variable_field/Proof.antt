@@ -26,12 +26,6 @@ field-refs-requires c κs =
     let at-then1 = c .before .before in
     at-start (at-then1 .before .before) .pre
 
-same-length : tie.Need-same-length
-same-length c = search needs
-
-same-length-2 : tie.Need-same-length-2
-same-length-2 c = search needs
-
 returns : tie.Need-returns
 returns c =
     let at-field-refs = c .before .before .before .before in
@@ -48,12 +42,6 @@ field-enum-requires c κs =
       kind-is = sym (read2 .read2 .ensures .0) ∙ at-then2 .if2 .taken;
     }
 
-same-length-3 : tie.Need-same-length-3
-same-length-3 c = search needs
-
-same-length-4 : tie.Need-same-length-4
-same-length-4 c = search needs
-
 returns-2 : tie.Need-returns-2
 returns-2 c =
     let at-field-enum = c .before .before .before .before in
@@ -66,12 +54,6 @@ field-array-requires c κs =
       field = at-start (read2 .before) .pre .field;
       kind-is = sym (read2 .read2 .ensures .0) ∙ at-then3 .if3 .taken;
     }
-
-same-length-5 : tie.Need-same-length-5
-same-length-5 c = search needs
-
-same-length-6 : tie.Need-same-length-6
-same-length-6 c = search needs
 
 returns-3 : tie.Need-returns-3
 returns-3 c =
@@ -89,12 +71,6 @@ field-aligned-requires c κs =
     (sym (at-read2 at-else1 .read2 .ensures .0))
     (at-else1 .if1 .left)
     (at-else3 .if3 .left)
-
-same-length-7 : tie.Need-same-length-7
-same-length-7 c = search needs
-
-same-length-8 : tie.Need-same-length-8
-same-length-8 c = search needs
 
 returns-4 : tie.Need-returns-4
 returns-4 c =
@@ -114,6 +90,6 @@ returns-4 c =
 pub variable-field-spec : {M : Type 1} → statement M
 variable-field-spec =
     tie.close
-    (tie.spec add-read2 read2-requires field-refs-requires same-length same-length-2 returns
-    field-enum-requires same-length-3 same-length-4 returns-2 field-array-requires same-length-5
-    same-length-6 returns-3 field-aligned-requires same-length-7 same-length-8 returns-4)
+    (tie.spec add-read2 read2-requires field-refs-requires (λ c. search needs) (λ c. search needs) returns
+    field-enum-requires (λ c. search needs) (λ c. search needs) returns-2 field-array-requires (λ c. search needs)
+    (λ c. search needs) returns-3 field-aligned-requires (λ c. search needs) (λ c. search needs) returns-4)
