@@ -7,6 +7,7 @@ use Prim.Native.Nat.{ℕ, _+_, _*_, _^_, _≤_}
 use native.Mathlib.Omega.{arith}
 use lib.ListN.{length}
 use Rattle.errors.specs.Refusal.{done}
+use Rattle.answers.specs.Answers.{AnswersIn}
 use Rattle.blocks.specs.Bytes.{le2, le4}
 use Rattle.blocks.specs.Tree.{Tree}
 use Rattle.blocks.specs.Read.{readSet}
@@ -28,11 +29,11 @@ use Rattle.builder.specs.Nodes.{unlessTarget, build-typeref-node, build-variabl
 use Rattle.builder_registry.specs.Words.{entriesOf}
 use Rattle.builder_nodes.specs.declared.Built.{Built}
 use Rattle.builder_nodes.specs.Built.{Builds, Within}
+use Rattle.builder_nodes.proofs.Laws.{widened}
 use Rattle.builder_calls.specs.Ready.{Ready as CallReady}
 use Rattle.builder_switches.specs.Ready.{Ready as SwitchReady}
 use Rattle.builder_arrays.specs.Ready.{Ready as ArrayReady}
 use Rattle.builder_arrays.proofs.Steps.{not-target}
-use Rattle.builder_expressions.proofs.Laws.{wider}
 use Rattle.builder_parameters.proofs.Tests.{was-true, was-false}
 use Rattle.builder_type.specs.Built.{Ready}
 
@@ -66,7 +67,7 @@ array-ready a e f =
 
 -- an array is short, as the set is
 pub array-wide : {s ws : List ℕ} {n kind at : ℕ} {r : Built} → Ready s ws n kind at → Within at (1024 * (4 + le4 s kind)) r → Within at (2 ^ 41) r
-array-wide a w = let z = short-type a .1 in wider (omega arith) w
+array-wide a w = let z = short-type a .1 in widened (omega arith) w
 
 -- ---- the definition, by kind
 
@@ -182,7 +183,7 @@ module _ {s : List ℕ} {k kind : ℕ} {xs : List ℕ} {at : ℕ} {us ys : List 
       -- a primitive type of variable size
       pub primitive-built : k ≡ 1 → r .number ≡ 10 → Root s kind xs at us ys r g
       unfolding build-variable refuse
-      primitive-built f n t a d = variable-built t a v (primitive a (sym e ∙ f)) refl (Builds.not 10 n (omega arith))
+      primitive-built f n t a d = variable-built t a v (primitive a (sym e ∙ f)) refl (AnswersIn.not 10 n (omega arith))
 
     -- of constant size, and no type reference
     pub const-built : not (h .variable) ≡ true → (k ≡ 7 → ⊥) → r .number ≡ 0 → entriesOf s us (r .count) ≡ g →
@@ -190,4 +191,4 @@ module _ {s : List ℕ} {k kind : ℕ} {xs : List ℕ} {at : ℕ} {us ys : List 
     const-built v f n c o t a d =
         let z : head (typeOf (tree a)) .size ≡ Size.Const (h .size) = w a .size ∙ ap (λ (b : Bool). sized b (h .size)) (was-false (h .variable) v) in
         let i = const-root (typesOf t) (typeOf (tree a)) g (not-target a (λ u. f (e ∙ u))) z in
-        subst (Builds s xs at us ys r) (sym (i ∙ ap (λ (l : ℕ). done (IrNode.Const unplaced (aligned l) (h .size), g)) (w a .alignment))) (Builds.made _ n c o)
+        subst (Builds s xs at us ys r) (sym (i ∙ ap (λ (l : ℕ). done (IrNode.Const unplaced (aligned l) (h .size), g)) (w a .alignment))) (AnswersIn.made _ n (record { entries = c; wrote = o }))

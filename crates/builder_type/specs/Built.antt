@@ -2,7 +2,8 @@
 use Prim.Native.Nat.{ℕ, _^_, _<_}
 use mathlib.Core.Path.{_≡_}
 use mathlib.Core.List.{List}
-use Rattle.errors.specs.Refusal.{Outcome, done, refused, plain}
+use Rattle.errors.specs.Refusal.{Outcome, done}
+use Rattle.answers.specs.Answers.{Answers}
 use Rattle.blocks.specs.Tree.{Tree}
 use Rattle.blocks.specs.Write.{write}
 use Rattle.blocks.specs.Read.{readSet}
@@ -20,7 +21,10 @@ pub record Ready (s ws : List ℕ) (n type at : ℕ) : Type 0 where
   pub type-at : Accepted s 1 7 type
   pub cursor : at < 2 ^ 55
 
--- a type tree's bytes and the next cursor, or the refusal's number and the old cursor; then nothing is said of the output
-pub data BuildsType (xs : List ℕ) (at : ℕ) (ys : List ℕ) (r : TypeTree) : Outcome TypeIr → Type 0 where
-  made : (x : TypeIr) → r .number ≡ 0 → Wrote xs at (write (typeIrTree x)) ys (r .at) → BuildsType xs at ys r (done x)
-  not : (k : ℕ) → r .number ≡ k → 0 < k → r .at ≡ at → BuildsType xs at ys r (refused (plain k))
+-- a type tree that was made: its bytes in the output ys, up to the next cursor
+pub record TypeIn (xs : List ℕ) (at : ℕ) (ys : List ℕ) (r : TypeTree) (x : TypeIr) : Type 0 where
+  pub wrote : Wrote xs at (write (typeIrTree x)) ys (r .at)
+
+-- that, or the refusal, of which nothing is said but its number
+abbrev pub BuildsType : (xs : List ℕ) (at : ℕ) (ys : List ℕ) (r : TypeTree) → Outcome TypeIr → Type 0
+BuildsType xs at ys r = Answers (r .number) (TypeIn xs at ys r)

@@ -13,7 +13,7 @@ ghost use Rattle.builder_registry.specs.Words.{entriesOf};
 ghost use Rattle.builder_nodes.specs.Built.{Builds, Within};
 ghost use Rattle.builder_type.specs.Built.{Ready, BuildsType};
 
-// The cursor behind a type tree, or where it was refused the old one; the number of the refusal or 0.
+// The cursor behind a type tree, and the number of a refusal or 0.
 pub struct TypeTree {
     pub at: usize,
     pub number: u64,

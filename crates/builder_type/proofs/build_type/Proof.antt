@@ -44,9 +44,6 @@ extend-with-requires c κs =
     let at-start = c .before .before .before .before .before in
     (at-start .pre .standing, c .before .type-head .ensures (at-start .pre .type-at) .references)
 
-same-length : tie.Need-same-length
-same-length c = search needs
-
 returns : tie.Need-returns
 returns c =
     let at-extend-with = c .before .before .before .before in
@@ -55,7 +52,7 @@ returns c =
       not-entered
           (at-type-head .type-head .ensures) _
           (at-extend-with .extend-with .ensures .1)
-          (c .if1 .taken) refl refl,
+          (c .if1 .taken) refl,
     )
 
 add-name-at : tie.Need-add-name-at
@@ -118,12 +115,6 @@ node-from-resolved-requires c κs =
     (at-extend-with at-else1 .extend-with .ensures .0)
     (omega (arith, at-start at-else1 .pre .cursor, root-at at-put-le))
 
-same-length-2 : tie.Need-same-length-2
-same-length-2 c = search needs
-
-same-length-3 : tie.Need-same-length-3
-same-length-3 c = search needs
-
 returns-2 : tie.Need-returns-2
 returns-2 c =
     let at-node-from-resolved = c .before .before .before .before .before .before in
@@ -134,7 +125,7 @@ returns-2 c =
           (at-extend-with (at-else1 at-put-le) .extend-with .ensures .1)
           (at-else1 at-put-le .if1 .left)
           (at-node-from-resolved .node-from-resolved .ensures .1)
-          (c .if2 .taken) refl refl,
+          (c .if2 .taken) refl,
     )
 
 put-parameters-requires : tie.Need-put-parameters-requires
@@ -230,7 +221,6 @@ returns-3 c =
 pub build-type-spec : {M : Type 1} → statement M
 build-type-spec =
     tie.close
-    (tie.spec type-head-requires extend-with-requires same-length returns add-name-at
-    name-at-requires open-block-requires put-name-requires put-le-requires
-    node-from-resolved-requires same-length-2 same-length-3 returns-2 put-parameters-requires
-    close-block-requires same-length-4 same-length-5 returns-3)
+    (tie.spec type-head-requires extend-with-requires (λ c. search needs) returns add-name-at name-at-requires
+    open-block-requires put-name-requires put-le-requires node-from-resolved-requires (λ c. search needs)
+    (λ c. search needs) returns-2 put-parameters-requires close-block-requires same-length-4 same-length-5 returns-3)
