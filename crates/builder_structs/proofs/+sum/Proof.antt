@@ -36,6 +36,31 @@ calls t = (
   close-block-reads.Learnt,
 )
 
+-- The places, each seen from a later one: what was known there.
+abbrev start-of : (t : ℕ) → lts.Else1 (calls t) (within t) reads.Post → lts.Start (calls t) (within t) reads.Post
+start-of t r = r .before .before .before .before
+
+abbrev at-else1 : (t : ℕ) → lts.After-open-add (calls t) (within t) reads.Post → lts.Else1 (calls t) (within t) reads.Post
+at-else1 t r = r .before .before
+
+abbrev at-open-add : (t : ℕ) → lts.After-sum (calls t) (within t) reads.Post → lts.After-open-add (calls t) (within t) reads.Post
+at-open-add t r = r .before .before .before .before .before
+
+abbrev at-start : (t : ℕ) → lts.After-sum (calls t) (within t) reads.Post → lts.Start (calls t) (within t) reads.Post
+at-start t r = start-of t (at-else1 t (at-open-add t r))
+
+abbrev at-else2 : (t : ℕ) → lts.After-child2 (calls t) (within t) reads.Post → lts.Else2 (calls t) (within t) reads.Post
+at-else2 t r = r .before .before .before
+
+abbrev at-sum : (t : ℕ) → lts.After-child2 (calls t) (within t) reads.Post → lts.After-sum (calls t) (within t) reads.Post
+at-sum t r = at-else2 t r .before .before .before .before .before .before
+
+abbrev at-out3 : (t : ℕ) → lts.After-out4 (calls t) (within t) reads.Post → lts.After-out3 (calls t) (within t) reads.Post
+at-out3 t r = r .before .before .before .before .before .before .before .before .before
+
+abbrev at-out2 : (t : ℕ) → lts.After-out4 (calls t) (within t) reads.Post → lts.After-out2 (calls t) (within t) reads.Post
+at-out2 t r = at-out3 t r .before .before .before .before .before .before .before
+
 child-requires : (t : ℕ) → lts.Need-child-requires (calls t) (within t) reads.Post
 child-requires t c κs =
     let at-then1 = c .before .before in
@@ -57,135 +82,91 @@ returns t c =
 
 open-add-requires : (t : ℕ) → lts.Need-open-add-requires (calls t) (within t) reads.Post
 open-add-requires t c κs =
-    let at-start = c .before .before .before .before .before in
-    let r = at-start .pre .1 .room in
-    let s = at-start .pre .1 .standing in
+    let r = start-of t (c .before) .pre .1 .room in
+    let s = start-of t (c .before) .pre .1 .standing in
     search needs
 
 sub-sum : (t : ℕ) → lts.Need-sub-sum (calls t) (within t) reads.Post
-sub-sum t c =
-    let at-start = c .before .before .before .before .before .before .before .before .before in
-    omega (arith, at-start .pre .1 .some)
+sub-sum t c = omega (arith, start-of t (at-else1 t (c .before .before .before)) .pre .1 .some)
 
 sum-requires : (t : ℕ) → lts.Need-sum-requires (calls t) (within t) reads.Post
 sum-requires t c κs =
-    let at-open-add = c .before .before .before .before in
-    let at-else1 = at-open-add .before .before in
-    let at-start = at-else1 .before .before .before .before in (
-      omega (arith, at-start .pre .0, at-start .pre .1 .some),
+    let opened = c .before .before .before .before in
+    let ready = start-of t (at-else1 t opened) .pre in (
+      omega (arith, ready .0, ready .1 .some),
       record {
-        standing = at-start .pre .1 .standing;
-        set = at-start .pre .1 .set;
-        refs = at-start .pre .1 .refs;
-        list = at-start .pre .1 .list;
-        some = omega (arith, at-start .pre .1 .some, at-else1 .if1 .left);
-        room = omega (
-          arith,
-          at-open-add .open-add .ensures .1,
-          at-start .pre .1 .room,
-          at-start .pre .1 .some,
-        );
+        standing = ready .1 .standing;
+        set = ready .1 .set;
+        refs = ready .1 .refs;
+        list = ready .1 .list;
+        some = omega (arith, ready .1 .some, at-else1 t opened .if1 .left);
+        room = omega (arith, opened .open-add .ensures .1, ready .1 .room, ready .1 .some);
       },
     )
 
 returns-2 : (t : ℕ) → lts.Need-returns-2 (calls t) (within t) reads.Post
 returns-2 t c =
-    let at-sum = c .before .before .before .before .before .before in
-    let at-open-add = at-sum .before .before .before .before .before in
-    let at-else1 = at-open-add .before .before in
-    let at-start = at-else1 .before .before .before .before in (
-      first-goes _ (at-open-add .open-add .ensures .1) (at-start .pre .1 .some) (at-sum .sum .ensures .0),
-      λ t b l q. sum-stops _ _
-          (at-start .pre .1 .some)
-          (at-else1 .if1 .left)
-          (at-sum .sum .ensures .1 t b l q)
-          (c .if2 .taken),
+    let first = c .before .before .before .before .before .before in
+    let ready = at-start t first .pre .1 in (
+      first-goes _ (at-open-add t first .open-add .ensures .1) (ready .some) (first .sum .ensures .0),
+      λ u b l q. sum-stops _ _ (ready .some) (at-else1 t (at-open-add t first) .if1 .left) (first .sum .ensures .1 u b l q) (c .if2 .taken),
     )
 
 child-requires-2 : (t : ℕ) → lts.Need-child-requires-2 (calls t) (within t) reads.Post
 child-requires-2 t c κs =
-    let at-sum = c .before .before .before .before .before .before .before .before in
-    let at-open-add = at-sum .before .before .before .before .before in
-    let at-start = at-open-add .before .before .before .before .before .before in
-    last-ready _ (at-open-add .open-add .ensures .1) (at-start .pre .1 .some) (at-sum .sum .ensures .0) (at-start .pre .1) (search needs)
+    let first = c .before .before .before .before .before .before .before .before in
+    let ready = at-start t first .pre .1 in
+    last-ready _ (at-open-add t first .open-add .ensures .1) (ready .some) (first .sum .ensures .0) ready (search needs)
 
 same-length-6 : (t : ℕ) → lts.Need-same-length-6 (calls t) (within t) reads.Post
 same-length-6 t c =
     let at-out4 = c .before .before .before in
-    let at-out3 = at-out4 .before .before .before .before .before .before .before .before .before in
-    let at-out2 = at-out3 .before .before .before .before .before .before .before in
-    omega (arith, at-out2 .out2 .given, at-out3 .out3 .given, at-out4 .out4 .given)
+    omega (arith, at-out2 t at-out4 .out2 .given, at-out3 t at-out4 .out3 .given, at-out4 .out4 .given)
 
 returns-3 : (t : ℕ) → lts.Need-returns-3 (calls t) (within t) reads.Post
 returns-3 t c =
-    let at-child2 = c .before .before .before .before .before .before in
-    let at-else2 = at-child2 .before .before .before in
-    let at-sum = at-else2 .before .before .before .before .before .before in
-    let at-open-add = at-sum .before .before .before .before .before in
-    let at-else1 = at-open-add .before .before in
-    let at-start = at-else1 .before .before .before .before in (
-      sum-goes _
-          (at-open-add .open-add .ensures .1)
-          (at-start .pre .1 .some)
-          (at-sum .sum .ensures .0)
-          (at-child2 .child2 .ensures .0),
-      λ t b l q. sum-stops-last _ _
-          (at-start .pre .1 .some)
-          (at-else1 .if1 .left)
-          (at-sum .sum .ensures .1 t b l q)
-          (at-else2 .if2 .left)
-          (λ m. at-child2 .child2 .ensures .1 t b m q)
+    let last = c .before .before .before .before .before .before in
+    let first = at-sum t last in
+    let opened = at-open-add t first in
+    let ready = at-start t first .pre .1 in (
+      sum-goes _ (opened .open-add .ensures .1) (ready .some) (first .sum .ensures .0) (last .child2 .ensures .0),
+      λ u b l q. sum-stops-last _ _
+          (ready .some)
+          (at-else1 t opened .if1 .left)
+          (first .sum .ensures .1 u b l q)
+          (at-else2 t last .if2 .left)
+          (λ m. last .child2 .ensures .1 u b m q)
           (c .if3 .taken),
     )
 
 close-block-requires : (t : ℕ) → lts.Need-close-block-requires (calls t) (within t) reads.Post
 close-block-requires t c κs =
-    let at-child2 = c .before .before .before .before .before .before .before in
-    let at-sum = at-child2 .before .before .before .before .before .before .before .before .before in
-    let at-open-add = at-sum .before .before .before .before .before in
-    let at-start = at-open-add .before .before .before .before .before .before in
-    sum-ends _
-    (at-open-add .open-add .ensures .1)
-    (at-start .pre .1 .some)
-    (at-sum .sum .ensures .0)
-    (at-child2 .child2 .ensures .0)
-    (at-start .pre .1)
+    let last = c .before .before .before .before .before .before .before in
+    let first = at-sum t last in
+    let ready = at-start t first .pre .1 in
+    sum-ends _ (at-open-add t first .open-add .ensures .1) (ready .some) (first .sum .ensures .0) (last .child2 .ensures .0) ready
 
 same-length-8 : (t : ℕ) → lts.Need-same-length-8 (calls t) (within t) reads.Post
 same-length-8 t c =
     let at-out4 = c .before .before .before .before .before .before .before in
-    let at-out3 = at-out4 .before .before .before .before .before .before .before .before .before in
-    let at-out2 = at-out3 .before .before .before .before .before .before .before in
-    omega (
-      arith,
-      at-out2 .out2 .given,
-      at-out3 .out3 .given,
-      at-out4 .out4 .given,
-      c .before .out5 .given,
-    )
+    omega (arith, at-out2 t at-out4 .out2 .given, at-out3 t at-out4 .out3 .given, at-out4 .out4 .given, c .before .out5 .given)
 
 returns-4 : (t : ℕ) → lts.Need-returns-4 (calls t) (within t) reads.Post
 returns-4 t c =
     let at-close-block = c .before .before in
     let at-else3 = at-close-block .before .before in
-    let at-child2 = at-else3 .before .before .before .before .before .before in
-    let at-else2 = at-child2 .before .before .before in
-    let at-sum = at-else2 .before .before .before .before .before .before in
-    let at-open-add = at-sum .before .before .before .before .before in
-    let at-else1 = at-open-add .before .before in
-    let at-start = at-else1 .before .before .before .before in (
-      sum-goes _
-          (at-open-add .open-add .ensures .1)
-          (at-start .pre .1 .some)
-          (at-sum .sum .ensures .0)
-          (at-child2 .child2 .ensures .0),
-      λ t b l q. sum-done _ _
-          (at-start .pre .1 .some)
-          (at-else1 .if1 .left)
-          (at-sum .sum .ensures .1 t b l q)
-          (at-else2 .if2 .left)
-          (λ m. at-child2 .child2 .ensures .1 t b m q)
-          (at-open-add .open-add .ensures .0)
+    let last = at-else3 .before .before .before .before .before .before in
+    let first = at-sum t last in
+    let opened = at-open-add t first in
+    let ready = at-start t first .pre .1 in (
+      sum-goes _ (opened .open-add .ensures .1) (ready .some) (first .sum .ensures .0) (last .child2 .ensures .0),
+      λ u b l q. sum-done _ _
+          (ready .some)
+          (at-else1 t opened .if1 .left)
+          (first .sum .ensures .1 u b l q)
+          (at-else2 t last .if2 .left)
+          (λ m. last .child2 .ensures .1 u b m q)
+          (opened .open-add .ensures .0)
           (at-else3 .if3 .left)
           (at-close-block .close-block .ensures .0),
     )
