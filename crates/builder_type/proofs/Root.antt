@@ -34,7 +34,7 @@ use Rattle.builder_calls.specs.Ready.{Ready as CallReady}
 use Rattle.builder_switches.specs.Ready.{Ready as SwitchReady}
 use Rattle.builder_arrays.specs.Ready.{Ready as ArrayReady}
 use Rattle.builder_arrays.proofs.Steps.{not-target}
-use Rattle.builder_parameters.proofs.Tests.{was-true, was-false}
+use borrow.Author.Tests.{not-true, not-false}
 use Rattle.builder_type.specs.Built.{Ready}
 
 -- ---- what each builder stands on
@@ -130,7 +130,7 @@ module _ {s : List ℕ} {k kind : ℕ} {xs : List ℕ} {at : ℕ} {us ys : List 
     variable-built : (t : Tree) (a : Accepted s 1 7 kind) {q : ResolvedTypeKind} → not (h .variable) ≡ false → kindOf (typeOf (tree a)) ≡ q → targetOf q ≡ none →
         Builds s xs at us ys r (build-variable (typesOf t) (head (typeOf (tree a))) q g) → Builds s xs at us ys r (node-from-resolved (typesOf t) (typeOf (tree a)) g)
     variable-built t a v i n b =
-        let z : head (typeOf (tree a)) .size ≡ Size.Variable = w a .size ∙ ap (λ (b : Bool). sized b (h .size)) (was-true (h .variable) v) in
+        let z : head (typeOf (tree a)) .size ≡ Size.Variable = w a .size ∙ ap (λ (b : Bool). sized b (h .size)) (not-false (h .variable) v) in
         subst (Builds s xs at us ys r) (sym (ap (λ (m : Build IrNode). m g) (variable-root (typesOf t) (typeOf (tree a)) i n z))) b
 
     module _ (v : not (h .variable) ≡ false) where
@@ -189,6 +189,6 @@ module _ {s : List ℕ} {k kind : ℕ} {xs : List ℕ} {at : ℕ} {us ys : List 
     pub const-built : not (h .variable) ≡ true → (k ≡ 7 → ⊥) → r .number ≡ 0 → entriesOf s us (r .count) ≡ g →
         Wrote xs at (write (nodeTree (IrNode.Const unplaced (aligned (h .alignment)) (h .size)))) ys (r .at) → Root s kind xs at us ys r g
     const-built v f n c o t a d =
-        let z : head (typeOf (tree a)) .size ≡ Size.Const (h .size) = w a .size ∙ ap (λ (b : Bool). sized b (h .size)) (was-false (h .variable) v) in
+        let z : head (typeOf (tree a)) .size ≡ Size.Const (h .size) = w a .size ∙ ap (λ (b : Bool). sized b (h .size)) (not-true (h .variable) v) in
         let i = const-root (typesOf t) (typeOf (tree a)) g (not-target a (λ u. f (e ∙ u))) z in
         subst (Builds s xs at us ys r) (sym (i ∙ ap (λ (l : ℕ). done (IrNode.Const unplaced (aligned l) (h .size), g)) (w a .alignment))) (AnswersIn.made _ n (record { entries = c; wrote = o }))

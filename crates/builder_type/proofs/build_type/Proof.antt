@@ -4,7 +4,7 @@
 use native.Mathlib.Omega.{arith}
 use borrow.Author.Needs.{needs}
 use mathlib.Core.Path.{refl, _∙_}
-use Prim.Native.Nat.{_+_, _≤_}
+use Prim.Native.Nat.{_+_, _^_, _≤_}
 use Rattle.builder_calls.proofs.Laws.{short-name}
 use Rattle.builder_type.proofs.Root.{short-type}
 use Rattle.builder_type.proofs.Whole.{not-entered, no-root, tree-built, root-ready, list-ready}
@@ -105,116 +105,101 @@ root-at r =
       omega (arith, at-open-block r .open-block .ensures .1, at-put-name r .put-name .ensures .1, r .put-le .ensures .1),
     )
 
+-- The places as they are seen from where the root was built, and from where the parameters were listed.
+abbrev at-put-le : tie.After-node-from-resolved → tie.After-put-le
+at-put-le r = r .before .before .before .before .before
+
+abbrev entered : tie.After-node-from-resolved → tie.Else1
+entered r = at-else1 (at-put-le r)
+
+abbrev at-else2 : tie.After-put-parameters → tie.Else2
+at-else2 r = r .before .before .before
+
+abbrev at-root : tie.After-put-parameters → tie.After-node-from-resolved
+at-root r = at-else2 r .before .before .before .before .before .before
+
+-- where the type's tree ends
+ends : (r : tie.After-put-parameters) →
+    (at-start (entered (at-root r)) .args .at + 6 ≤ r .put-parameters .result) × (r .put-parameters .result ≤ at-start (entered (at-root r)) .args .at + 2 ^ 42)
+ends r =
+    let root = at-root r .node-from-resolved .ensures .0 in
+    let start = root-at (at-put-le (at-root r)) in (
+      omega (arith, start .0, root .low, r .put-parameters .ensures .1 .0),
+      omega (arith, start .1, root .high, r .put-parameters .ensures .1 .1),
+    )
+
 node-from-resolved-requires : tie.Need-node-from-resolved-requires
 node-from-resolved-requires c κs =
     let at-put-le = c .before .before .before .before in
-    let at-else1 = at-put-le .before .before .before .before .before .before .before .before .before .before .before in
+    let held = at-else1 at-put-le in
     root-ready
-    (at-start at-else1 .pre)
-    (at-extend-with at-else1 .extend-with .kept .1 .0)
-    (at-extend-with at-else1 .extend-with .ensures .0)
-    (omega (arith, at-start at-else1 .pre .cursor, root-at at-put-le))
+    (at-start held .pre)
+    (at-extend-with held .extend-with .kept .1 .0)
+    (at-extend-with held .extend-with .ensures .0)
+    (omega (arith, at-start held .pre .cursor, root-at at-put-le))
 
 returns-2 : tie.Need-returns-2
 returns-2 c =
-    let at-node-from-resolved = c .before .before .before .before .before .before in
-    let at-put-le = at-node-from-resolved .before .before .before .before .before in (
+    let root = c .before .before .before .before .before .before in (
       (omega arith, omega arith),
       no-root
-          (at-type-head (at-else1 at-put-le) .type-head .ensures) _
-          (at-extend-with (at-else1 at-put-le) .extend-with .ensures .1)
-          (at-else1 at-put-le .if1 .left)
-          (at-node-from-resolved .node-from-resolved .ensures .1)
+          (at-type-head (entered root) .type-head .ensures) _
+          (at-extend-with (entered root) .extend-with .ensures .1)
+          (entered root .if1 .left)
+          (root .node-from-resolved .ensures .1)
           (c .if2 .taken) refl,
     )
 
 put-parameters-requires : tie.Need-put-parameters-requires
 put-parameters-requires c κs =
-    let at-node-from-resolved = c .before .before .before .before .before .before .before .before in
-    let at-put-le = at-node-from-resolved .before .before .before .before .before in
+    let root = c .before .before .before .before .before .before .before .before in
+    let ready = at-start (entered root) .pre in
     list-ready
-    (at-start (at-else1 at-put-le) .pre)
-    (at-node-from-resolved .node-from-resolved .kept .1 .0
-    ∙ at-extend-with (at-else1 at-put-le) .extend-with .kept .1 .0)
-    (at-node-from-resolved .node-from-resolved .ensures .0 .count)
-    (omega (
-      arith,
-      at-start (at-else1 at-put-le) .pre .cursor,
-      root-at at-put-le,
-      at-node-from-resolved .node-from-resolved .ensures .0 .high,
-    ))
+    ready
+    (root .node-from-resolved .kept .1 .0 ∙ at-extend-with (entered root) .extend-with .kept .1 .0)
+    (root .node-from-resolved .ensures .0 .count)
+    (omega (arith, ready .cursor, root-at (at-put-le root), root .node-from-resolved .ensures .0 .high))
 
 close-block-requires : tie.Need-close-block-requires
 close-block-requires c κs =
-    let at-put-parameters = c .before .before .before in
-    let at-node-from-resolved = at-put-parameters .before .before .before .before .before .before .before .before .before in
-    let at-put-le = at-node-from-resolved .before .before .before .before .before in (
-      omega (
-        arith,
-        root-at at-put-le .0,
-        at-node-from-resolved .node-from-resolved .ensures .0 .low,
-        at-put-parameters .put-parameters .ensures .1 .0,
-      ),
-      omega (
-        arith,
-        at-start (at-else1 at-put-le) .pre .cursor,
-        root-at at-put-le .1,
-        at-node-from-resolved .node-from-resolved .ensures .0 .high,
-        at-put-parameters .put-parameters .ensures .1 .1,
-      ),
-    )
+    let listed = c .before .before .before in
+    (omega (arith, ends listed .0), omega (arith, at-start (entered (at-root listed)) .pre .cursor, ends listed .1))
 
 same-length-4 : tie.Need-same-length-4
 same-length-4 c =
-    let at-node-from-resolved = c .before .before .before .before .before .before .before .before .before .before .before .before .before .before .before in
-    at-node-from-resolved .node-from-resolved .kept .1 .0
-    ∙ at-extend-with (at-else1 (at-node-from-resolved .before .before .before .before .before)) .extend-with .kept .1 .0
+    let root = at-root (c .before .before .before .before .before .before) in
+    root .node-from-resolved .kept .1 .0 ∙ at-extend-with (entered root) .extend-with .kept .1 .0
 
 same-length-5 : tie.Need-same-length-5
 same-length-5 c =
     let at-close-block = c .before .before in
-    let at-put-parameters = at-close-block .before .before .before .before in
-    let at-node-from-resolved = at-put-parameters .before .before .before .before .before .before .before .before .before in
-    let at-put-le = at-node-from-resolved .before .before .before .before .before in
+    let listed = at-close-block .before .before .before .before in
+    let begun = at-put-le (at-root listed) in
     at-close-block .close-block .kept .0
-    ∙ at-put-parameters .put-parameters .kept .1 .1 .1 .1 .0
-    ∙ at-node-from-resolved .node-from-resolved .kept .1 .1 .1 .1 .0
-    ∙ at-put-le .put-le .kept .0
-    ∙ at-put-name at-put-le .put-name .kept .0
-    ∙ at-open-block at-put-le .open-block .kept .0
+    ∙ listed .put-parameters .kept .1 .1 .1 .1 .0
+    ∙ at-root listed .node-from-resolved .kept .1 .1 .1 .1 .0
+    ∙ begun .put-le .kept .0
+    ∙ at-put-name begun .put-name .kept .0
+    ∙ at-open-block begun .open-block .kept .0
 
 returns-3 : tie.Need-returns-3
 returns-3 c =
     let at-close-block = c .before .before in
-    let at-put-parameters = at-close-block .before .before .before .before in
-    let at-else2 = at-put-parameters .before .before .before in
-    let at-node-from-resolved = at-else2 .before .before .before .before .before .before in
-    let at-put-le = at-node-from-resolved .before .before .before .before .before in (
-      (
-        omega (
-          arith,
-          root-at at-put-le .0,
-          at-node-from-resolved .node-from-resolved .ensures .0 .low,
-          at-put-parameters .put-parameters .ensures .1 .0,
-        ),
-        omega (
-          arith,
-          root-at at-put-le .1,
-          at-node-from-resolved .node-from-resolved .ensures .0 .high,
-          at-put-parameters .put-parameters .ensures .1 .1,
-        ),
-      ),
+    let listed = at-close-block .before .before .before .before in
+    let root = at-root listed in
+    let begun = at-put-le root in (
+      (omega (arith, ends listed .0), ends listed .1),
       tree-built
-          (at-type-head (at-else1 at-put-le) .type-head .ensures) _
-          (at-extend-with (at-else1 at-put-le) .extend-with .ensures .1)
-          (at-else1 at-put-le .if1 .left)
-          (at-node-from-resolved .node-from-resolved .ensures .1)
-          (at-else2 .if2 .left) refl refl
-          (at-name-at at-put-le .name-at .ensures)
-          (at-open-block at-put-le .open-block .ensures .0)
-          (at-put-name at-put-le .put-name .ensures .0)
-          (at-put-le .put-le .ensures .0)
-          (at-put-parameters .put-parameters .ensures .0)
+          (at-type-head (entered root) .type-head .ensures) _
+          (at-extend-with (entered root) .extend-with .ensures .1)
+          (entered root .if1 .left)
+          (root .node-from-resolved .ensures .1)
+          (at-else2 listed .if2 .left) refl refl
+          (at-name-at begun .name-at .ensures)
+          (at-open-block begun .open-block .ensures .0)
+          (at-put-name begun .put-name .ensures .0)
+          (begun .put-le .ensures .0)
+          (listed .put-parameters .ensures .0)
           (at-close-block .close-block .ensures .0),
     )
 
