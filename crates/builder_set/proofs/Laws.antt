@@ -14,6 +14,7 @@ use Rattle.blocks.proofs.Refusals.{Unread, input-unread}
 use borrow.Author.Tests.{le-leb, lt-leb, leb-true}
 use Rattle.errors.proofs.Laws.{done-one, bound, bound-done}
 use Rattle.errors.specs.Refusal.{Outcome, done, refused, _>>=_, atType, plain, answered, ask, enough, unread}
+use Rattle.answers.specs.Answers.{AnswersIn}
 use Rattle.blocks.specs.Bytes.{le2, le4, bytes}
 use Rattle.blocks.specs.Tree.{Tree, num, cons, nil, entries}
 use Rattle.blocks.specs.Write.{write}
@@ -125,20 +126,20 @@ module _ {s xs ys : List ℕ} {at left from place p : ℕ} {t : Tree} (q : Reach
   -- the next type was built: its own tree stands behind the others
   reach-more : {zs : List ℕ} {b : TypeTree} (o : Outcome TypeIr) → build-type (typesOf t) (typeOf (tree (e .child))) ≡ o → BuildsType ys p zs b o → b .number ≡ 0 →
       Reached s xs at zs (left - 1) (from + 4 + le4 s from) (place + 1) (b .at) t
-  reach-more _ d (BuildsType.made x n w) z = record {
+  reach-more _ d (AnswersIn.made x n m) z = record {
     list = e .after .rest;
     built = q .built ++ (x ∷ []);
-    wrote = rw (entries-more (q .built) x) (both (q .wrote) w);
+    wrote = rw (entries-more (q .built) x) (both (q .wrote) (m .wrote));
     whole = q .whole ∙ next-is ∙ one-built (typesOf t) place (typeOf (tree (e .child))) (entries typeOf (e .after .rest .got .0)) (q .built) d;
   }
-  reach-more _ d (BuildsType.not k n h f) z = absurd (omega arith)
+  reach-more _ d (AnswersIn.not k n h) z = absurd (omega arith)
 
   -- the next type was refused: so is the set, with its number and place
   reach-none : {zs : List ℕ} {b : TypeTree} (r : Types) (o : Outcome TypeIr) → build-type (typesOf t) (typeOf (tree (e .child))) ≡ o → BuildsType ys p zs b o →
       (b .number ≡ 0 → ⊥) → r .number ≡ b .number → r .place ≡ place →
       BuildsTypes xs at zs r (build-types (typesOf t) 0 (typesOf t))
-  reach-none r _ d (BuildsType.made x n w) z g k = absurd (z n)
-  reach-none {zs} r _ d (BuildsType.not m n h f) z g k =
+  reach-none r _ d (AnswersIn.made x n w) z g k = absurd (z n)
+  reach-none {zs} r _ d (AnswersIn.not m n h) z g k =
       subst (BuildsTypes xs at zs r) (sym (q .whole ∙ next-is ∙ one-refused (typesOf t) place (typeOf (tree (e .child))) (entries typeOf (e .after .rest .got .0)) (q .built) d))
       (BuildsTypes.not m place (g ∙ n) h k)
 
