@@ -71,6 +71,12 @@ pub enum Held {
     Absent,
 }
 
+// What the root's context is made of, which no call changes: the offset of the block of values, and the buffer length.
+pub struct Root {
+    pub block: usize,
+    pub len: u64,
+}
+
 // Whether the names at two offsets are the same.
 fn same_at(s: &[u8], a: usize, b: usize) -> bool
     requires { ⌜ (a + 2 + le2 (now s) a ≤ length (now s)) × (b + 2 + le2 (now s) b ≤ length (now s)) ⌝ }
@@ -145,17 +151,17 @@ fn callers_name(s: &[u8], call: usize, callee: usize, name: usize) -> Found
 }
 
 // What the root's context has of a name: a value, or the buffer length where no value has that name.
-fn at_root(s: &[u8], name: usize, values: &[u8], block: usize, len: u64) -> Held
-    requires { ⌜ (name + 2 + le2 (now s) name ≤ length (now s)) × Accepted (now values) 192 192 block ⌝ }
-    ensures { λ r. ⌜ ((a : Accepted (now (values .entry)) 192 192 block) → r ≡ heldOf (finding (nameAt (now (s .entry)) name) (with-buffer-size len (valuesOf (tree a))))) ⌝ }
+fn at_root(s: &[u8], name: usize, values: &[u8], root: Root) -> Held
+    requires { ⌜ (name + 2 + le2 (now s) name ≤ length (now s)) × Accepted (now values) 192 192 (root .block) ⌝ }
+    ensures { λ r. ⌜ ((a : Accepted (now (values .entry)) 192 192 (root .block)) → r ≡ heldOf (finding (nameAt (now (s .entry)) name) (with-buffer-size (root .len) (valuesOf (tree a))))) ⌝ }
 {
     let from = name + 2;
     let to = from + wire::read2(s, name);
-    match lookup::value_in(values, block, &s[from..to]) {
+    match lookup::value_in(values, root.block, &s[from..to]) {
         InBlock::At(o) => Held::Value(wire::read8(values, o) as u64),
         InBlock::Missing => {
             if wire::same_name(&s[from..to], b"__buffer_size") {
-                return Held::Value(len);
+                return Held::Value(root.len);
             }
             Held::Absent
         }
@@ -163,17 +169,9 @@ fn at_root(s: &[u8], name: usize, values: &[u8], block: usize, len: u64) -> Held
 }
 
 // A name's value in the context of the innermost of so many open calls.
-pub fn find(
-    s: &[u8],
-    name: usize,
-    values: &[u8],
-    block: usize,
-    len: u64,
-    words: &[u64],
-    depth: usize,
-) -> Held
-    requires { ⌜ (name + 2 + le2 (now s) name ≤ length (now s)) × ((γ : ParamMap) × Context (now s) (now values) block len (now words) depth γ) ⌝ }
-    ensures { λ r. ⌜ ((γ : ParamMap) → Context (now (s .entry)) (now (values .entry)) block len (now (words .entry)) depth γ → r ≡ heldOf (finding (nameAt (now (s .entry)) name) γ)) ⌝ }
+pub fn find(s: &[u8], name: usize, values: &[u8], root: Root, words: &[u64], depth: usize) -> Held
+    requires { ⌜ (name + 2 + le2 (now s) name ≤ length (now s)) × ((γ : ParamMap) × Context (now s) (now values) (root .block) (root .len) (now words) depth γ) ⌝ }
+    ensures { λ r. ⌜ ((γ : ParamMap) → Context (now (s .entry)) (now (values .entry)) (root .block) (root .len) (now (words .entry)) depth γ → r ≡ heldOf (finding (nameAt (now (s .entry)) name) γ)) ⌝ }
 {
     let mut d = depth;
     let mut wanted = name;
@@ -191,5 +189,5 @@ pub fn find(
             }
         }
     }
-    at_root(s, wanted, values, block, len)
+    at_root(s, wanted, values, root)
 }

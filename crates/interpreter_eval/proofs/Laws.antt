@@ -31,6 +31,7 @@ use Rattle.lookup.specs.declared.Place.{Place}
 use Rattle.lookup.specs.declared.Place.the-variants.{At as PlaceAt, Missing as PlaceNone}
 use Rattle.lookup.specs.Named.{Placed}
 use Rattle.lookup.specs.Found.{TreeFound}
+use Rattle.interpreter_context.specs.declared.Root.{Root}
 use Rattle.interpreter_context.specs.declared.Held.{Held}
 use Rattle.interpreter_context.specs.declared.Held.the-variants.{Value, Absent}
 use Rattle.interpreter_context.specs.Names.{heldOf}
@@ -338,19 +339,21 @@ module _ {s : List ℕ} {at : ℕ} (k : le2 s (at + 4) ≡ 133) (left : ℕ) (ty
 -- ---- words
 
 -- what is ready stays ready where the words of the open calls are kept
-pub still-ready : {s values ws us : List ℕ} {f : Frame} {at q : ℕ} → Ready s values ws f at → Accepted s 128 144 q → length us ≡ length ws → Same (f .depth) ws us → Ready s values us f q
+pub still-ready : {s values ws us : List ℕ} {root : Root} {f : Frame} {at q : ℕ} → Ready s values ws root f at → Accepted s 128 144 q →
+    length us ≡ length ws → Same (f .depth) ws us → Ready s values us root f q
 still-ready {s} {f = f} r c l e = record {
   node = c;
   layout = r .layout;
   context = (r .context .0, context-same (f .depth) (omega arith) l e (r .context .1));
   here = λ d g. let w = r .here d g in (omega (arith, w .0), subst (λ (v : ℕ). Placed s (f .place) (treeAt v)) (sym (e d (omega arith))) (w .1));
+  calls = r .calls;
   room = omega (arith, r .room);
   small = r .small;
 }
 
 -- what is ready for a node is ready for another of the same tree
-pub child-ready : {s values ws : List ℕ} {f : Frame} {at q : ℕ} → Ready s values ws f at → Accepted s 128 144 q → Ready s values ws f q
-child-ready r c = record { node = c; layout = r .layout; context = r .context; here = r .here; room = r .room; small = r .small }
+pub child-ready : {s values ws : List ℕ} {root : Root} {f : Frame} {at q : ℕ} → Ready s values ws root f at → Accepted s 128 144 q → Ready s values ws root f q
+child-ready r c = record { node = c; layout = r .layout; context = r .context; here = r .here; calls = r .calls; room = r .room; small = r .small }
 
 -- the word of a call
 pub packed : (call callee : ℕ) → call < 4294967296 → (callAt (call + callee * 4294967296) ≡ call) × (treeAt (call + callee * 4294967296) ≡ callee)
@@ -389,33 +392,33 @@ pub record Opening (s ws : List ℕ) (f : Frame) (at callee : ℕ) : Type 0 wher
   pub call : at < 65536
   pub type : callee < 65536
   pub word : f .depth < length ws
-  pub more : 0 < f .left
+  pub more : f .depth < 16
 
--- a call may open where calls are left and its type was found
-pub call-opens : {s values ws : List ℕ} {f : Frame} {at callee i : ℕ} {p : Place} → Ready s values ws f at → p ≡ PlaceAt i callee →
-    ((t : Tree) → readLayout s ≡ done t → (a : Accepted s 128 144 at) → TreeFound s (text (part 2 (body (tree a)))) (layoutOf t) p) → (f .left ≡ 0 → ⊥) → Opening s ws f at callee
+-- a call may open where fewer than 16 are open and its type was found
+pub call-opens : {s values ws : List ℕ} {root : Root} {f : Frame} {at callee i : ℕ} {p : Place} → Ready s values ws root f at → p ≡ PlaceAt i callee →
+    ((t : Tree) → readLayout s ≡ done t → (a : Accepted s 128 144 at) → TreeFound s (text (part 2 (body (tree a)))) (layoutOf t) p) → (f .depth ≡ 16 → ⊥) → Opening s ws f at callee
 call-opens x e d n =
     let a = ends (x .node) in
     let c = ends (found-at e (d (x .layout .0) (x .layout .1) (x .node)) .0) in
     record {
       call = omega (arith, a .1, x .small);
       type = omega (arith, c .1, x .small);
-      word = omega (arith, x .room, n);
-      more = omega (arith, n);
+      word = omega (arith, x .room, x .calls, n);
+      more = omega (arith, x .calls, n);
     }
 
 -- the frame of a call that opens
 abbrev inCall : Frame → ℕ → Frame
-inCall f i = record { block = f .block; len = f .len; depth = f .depth + 1; left = f .left - 1; place = i }
+inCall f i = record { depth = f .depth + 1; place = i }
 
-module _ {s values ws : List ℕ} (f : Frame) {at callee w q : ℕ} (h : f .depth < length ws) (l : at < 4294967296) (ew : w ≡ at + callee * 4294967296)
+module _ {s values ws : List ℕ} (root : Root) (f : Frame) {at callee w q : ℕ} (h : f .depth < length ws) (l : at < 4294967296) (ew : w ≡ at + callee * 4294967296)
     (k : le2 s (at + 4) ≡ 133) {r : Arguments} {p : Place} {i : ℕ}
     (er : r ≡ All) (ep : p ≡ PlaceAt i callee)
-    (b : (p : ℕ) (γ : ParamMap) → Context s values (f .block) (f .len) ws (f .depth) γ → (a : Accepted s 128 144 at) → Bound p γ (argumentsOf (tree a)) r)
+    (b : (p : ℕ) (γ : ParamMap) → Context s values (root .block) (root .len) ws (f .depth) γ → (a : Accepted s 128 144 at) → Bound p γ (argumentsOf (tree a)) r)
     (d : (t : Tree) → readLayout s ≡ done t → (a : Accepted s 128 144 at) → TreeFound s (text (part 2 (body (tree a)))) (layoutOf t) p)
-    (e : (t : Accepted s 161 161 callee) → Rooted t q) (n : f .left ≡ 0 → ⊥) where
+    (e : (t : Accepted s 161 161 callee) → Rooted t q) (n : f .depth < 16) where
   -- the root of the called type is ready
-  pub call-ready : Ready s values ws f at → Ready s values (set ws (f .depth) w) (inCall f i) q
+  pub call-ready : Ready s values ws root f at → Ready s values (set ws (f .depth) w) root (inCall f i) q
   call-ready x =
       let t = found-at ep (d (x .layout .0) (x .layout .1) (x .node)) in
       let y = bound-all er (b 0 (x .context .0) (x .context .1) (x .node)) in
@@ -424,13 +427,11 @@ module _ {s values ws : List ℕ} (f : Frame) {at callee w q : ℕ} (h : f .dept
         layout = x .layout;
         context = (_, opened-call 0 h l ew (x .context .1) (x .node) k (t .0) (y .1));
         here = λ d g. here (t .2) d (omega arith);
-        room = subst (λ (z : ℕ). f .depth + 1 + (f .left - 1) ≤ z) (sym (length-set ws (f .depth) w)) (room x);
+        calls = omega (arith, n);
+        room = subst (λ (z : ℕ). 16 ≤ z) (sym (length-set ws (f .depth) w)) (x .room);
         small = x .small;
       }
     where
-      room : Ready s values ws f at → f .depth + 1 + (f .left - 1) ≤ length ws
-      room x = omega (arith, x .room)
-
       here : Placed s i callee → (d : ℕ) → d ≡ f .depth → (d < length (set ws (f .depth) w)) × Placed s i (treeAt (getD (set ws (f .depth) w) d 0))
       here p d g =
           let v : getD (set ws (f .depth) w) d 0 ≡ w = ap (λ (d : ℕ). getD (set ws (f .depth) w) d 0) g ∙ getD-set-same ws (f .depth) w 0 h in
@@ -438,13 +439,18 @@ module _ {s values ws : List ℕ} (f : Frame) {at callee w q : ℕ} (h : f .dept
           (omega (arith, length-set ws (f .depth) w), subst (λ (o : ℕ). Placed s i o) (sym t) p)
 
   -- what it comes to is what the call comes to
-  pub call-answers : {o : Bool} {us vs : List ℕ} → Evaluates s values (set ws (f .depth) w) (inCall f i) q o us vs → Evaluates s values ws f at o us vs
+  pub call-answers : {o : Bool} {us vs : List ℕ} → Evaluates s values (set ws (f .depth) w) root (inCall f i) q o us vs → Evaluates s values ws root f at o us vs
   call-answers ev γ x t rd a =
       let c = found-at ep (d t rd a) in
       let y = bound-all er (b (f .place) γ x a) in
       let z = e (c .0) in
       tells-as (ev (y .0 ++ inherited γ (parametersOf (tree (c .0)))) (opened-call (f .place) h l ew x a k (c .0) (y .1)) t rd (z .root))
-      (ap (eval-within (f .left - 1) (layoutOf t) i (y .0 ++ inherited γ (parametersOf (tree (c .0))))) (sym (z .is)) ∙ call-goes k (f .left) (layoutOf t) (f .place) γ a (y .1) (c .1) n)
+      (ap (eval-within (16 - (f .depth + 1)) (layoutOf t) i (y .0 ++ inherited γ (parametersOf (tree (c .0))))) (sym (z .is))
+      ∙ ap (λ (l : ℕ). eval-within l (layoutOf t) i (y .0 ++ inherited γ (parametersOf (tree (c .0)))) (typeIrOf (tree (c .0)) .root)) one-less
+      ∙ call-goes k (16 - f .depth) (layoutOf t) (f .place) γ a (y .1) (c .1) (λ e. absurd (omega (arith, n))))
+    where
+      one-less : 16 - (f .depth + 1) ≡ 16 - f .depth - 1
+      one-less = omega arith
 
 -- "`SumOverArray` gives 24 always."
 pub sum-is : {s : List ℕ} {at k : ℕ} → k ≡ le2 s (at + 4) → k ≡ 144 → (left : ℕ) (types : List TypeIr) (pl : ℕ) (γ : ParamMap) (a : Accepted s 128 144 at) →

@@ -1,6 +1,7 @@
 // interpreter.rs, `eval_node`, `eval_switch`, `eval_call`, over the accepted bytes of a layout. Left before right, arguments
 // before the type lookup.
 use interpreter_context::Held;
+use interpreter_context::Root;
 use interpreter_leaves::Arguments;
 use interpreter_leaves::Choice;
 use interpreter_leaves::Frame;
@@ -18,15 +19,16 @@ pub fn eval_node(
     at: usize,
     values: &[u8],
     words: &mut [u64],
+    root: Root,
     f: Frame,
     out: &mut [u64; 4],
 ) -> bool
-    requires { ⌜ Ready (now s) (now values) (now words) f at ⌝ }
+    requires { ⌜ Ready (now s) (now values) (now words) root f at ⌝ }
     ensures { λ r. ⌜ Same (f .depth) (now (words .entry)) (now (words .exit)) ⌝ }
-    ensures { λ r. ⌜ Evaluates (now (s .entry)) (now (values .entry)) (now (words .entry)) f at r (now (out .entry)) (now (out .exit)) ⌝ }
+    ensures { λ r. ⌜ Evaluates (now (s .entry)) (now (values .entry)) (now (words .entry)) root f at r (now (out .entry)) (now (out .exit)) ⌝ }
 {
     let inner = interpreter_leaves::unwrapped(s, at);
-    eval_kind(s, inner, values, words, f, out)
+    eval_kind(s, inner, values, words, root, f, out)
 }
 
 // The same, by the node's kind.
@@ -35,23 +37,24 @@ fn eval_kind(
     at: usize,
     values: &[u8],
     words: &mut [u64],
+    root: Root,
     f: Frame,
     out: &mut [u64; 4],
 ) -> bool
-    requires { ⌜ Ready (now s) (now values) (now words) f at ⌝ }
+    requires { ⌜ Ready (now s) (now values) (now words) root f at ⌝ }
     ensures { λ r. ⌜ Same (f .depth) (now (words .entry)) (now (words .exit)) ⌝ }
-    ensures { λ r. ⌜ Evaluates (now (s .entry)) (now (values .entry)) (now (words .entry)) f at r (now (out .entry)) (now (out .exit)) ⌝ }
+    ensures { λ r. ⌜ Evaluates (now (s .entry)) (now (values .entry)) (now (words .entry)) root f at r (now (out .entry)) (now (out .exit)) ⌝ }
 {
     let kind = wire::read2(s, at + 4);
     match kind {
         128 => interpreter_leaves::counted(0, out),
         129 => interpreter_leaves::constant(s, at, out),
-        130 => interpreter_leaves::field(s, values, words, f, at, out),
-        131 => eval_align(s, at, values, words, f, out),
-        132 => eval_switch(s, at, values, words, f, out),
-        133 => eval_call(s, at, values, words, f, out),
+        130 => interpreter_leaves::field(s, values, words, root, f, at, out),
+        131 => eval_align(s, at, values, words, root, f, out),
+        132 => eval_switch(s, at, values, words, root, f, out),
+        133 => eval_call(s, at, values, words, root, f, out),
         144 => interpreter_leaves::refused(24, f.place, at, 0, out),
-        _ => eval_binary(s, at, values, words, f, out),
+        _ => eval_binary(s, at, values, words, root, f, out),
     }
 }
 
@@ -61,16 +64,17 @@ fn eval_align(
     at: usize,
     values: &[u8],
     words: &mut [u64],
+    root: Root,
     f: Frame,
     out: &mut [u64; 4],
 ) -> bool
-    requires { ⌜ Ready (now s) (now values) (now words) f at × (le2 (now s) (at + 4) ≡ 131) ⌝ }
+    requires { ⌜ Ready (now s) (now values) (now words) root f at × (le2 (now s) (at + 4) ≡ 131) ⌝ }
     ensures { λ r. ⌜ Same (f .depth) (now (words .entry)) (now (words .exit)) ⌝ }
-    ensures { λ r. ⌜ Evaluates (now (s .entry)) (now (values .entry)) (now (words .entry)) f at r (now (out .entry)) (now (out .exit)) ⌝ }
+    ensures { λ r. ⌜ Evaluates (now (s .entry)) (now (values .entry)) (now (words .entry)) root f at r (now (out .entry)) (now (out .exit)) ⌝ }
 {
     let p = interpreter_context::first_part(s, at);
     let q = interpreter_context::second_part(s, at);
-    if !eval_node(s, q, values, words, f, out) {
+    if !eval_node(s, q, values, words, root, f, out) {
         return false;
     }
     let x = out[0];
@@ -88,18 +92,19 @@ fn eval_operand(
     at: usize,
     values: &[u8],
     words: &mut [u64],
+    root: Root,
     f: Frame,
     out: &mut [u64; 4],
 ) -> bool
-    requires { ⌜ Ready (now s) (now values) (now words) f at ⌝ }
+    requires { ⌜ Ready (now s) (now values) (now words) root f at ⌝ }
     ensures { λ r. ⌜ Same (f .depth) (now (words .entry)) (now (words .exit)) ⌝ }
-    ensures { λ r. ⌜ Evaluates (now (s .entry)) (now (values .entry)) (now (words .entry)) f at r (now (out .entry)) (now (out .exit)) ⌝ }
+    ensures { λ r. ⌜ Evaluates (now (s .entry)) (now (values .entry)) (now (words .entry)) root f at r (now (out .entry)) (now (out .exit)) ⌝ }
 {
     let inner = interpreter_leaves::unwrapped(s, at);
     if wire::read2(s, inner + 4) == 129 {
         return interpreter_leaves::constant(s, inner, out);
     }
-    eval_node(s, inner, values, words, f, out)
+    eval_node(s, inner, values, words, root, f, out)
 }
 
 // A node of two operands, left before right.
@@ -108,21 +113,22 @@ fn eval_binary(
     at: usize,
     values: &[u8],
     words: &mut [u64],
+    root: Root,
     f: Frame,
     out: &mut [u64; 4],
 ) -> bool
-    requires { ⌜ Ready (now s) (now values) (now words) f at × ((134 ≤ le2 (now s) (at + 4)) × (le2 (now s) (at + 4) ≤ 143)) ⌝ }
+    requires { ⌜ Ready (now s) (now values) (now words) root f at × ((134 ≤ le2 (now s) (at + 4)) × (le2 (now s) (at + 4) ≤ 143)) ⌝ }
     ensures { λ r. ⌜ Same (f .depth) (now (words .entry)) (now (words .exit)) ⌝ }
-    ensures { λ r. ⌜ Evaluates (now (s .entry)) (now (values .entry)) (now (words .entry)) f at r (now (out .entry)) (now (out .exit)) ⌝ }
+    ensures { λ r. ⌜ Evaluates (now (s .entry)) (now (values .entry)) (now (words .entry)) root f at r (now (out .entry)) (now (out .exit)) ⌝ }
 {
     let kind = wire::read2(s, at + 4);
     let p = interpreter_context::first_part(s, at);
     let q = interpreter_context::second_part(s, at);
-    if !eval_operand(s, p, values, words, f, out) {
+    if !eval_operand(s, p, values, words, root, f, out) {
         return false;
     }
     let x = out[0];
-    if !eval_node(s, q, values, words, f, out) {
+    if !eval_node(s, q, values, words, root, f, out) {
         return false;
     }
     let y = out[0];
@@ -140,17 +146,18 @@ fn eval_switch(
     at: usize,
     values: &[u8],
     words: &mut [u64],
+    root: Root,
     f: Frame,
     out: &mut [u64; 4],
 ) -> bool
-    requires { ⌜ Ready (now s) (now values) (now words) f at × (le2 (now s) (at + 4) ≡ 132) ⌝ }
+    requires { ⌜ Ready (now s) (now values) (now words) root f at × (le2 (now s) (at + 4) ≡ 132) ⌝ }
     ensures { λ r. ⌜ Same (f .depth) (now (words .entry)) (now (words .exit)) ⌝ }
-    ensures { λ r. ⌜ Evaluates (now (s .entry)) (now (values .entry)) (now (words .entry)) f at r (now (out .entry)) (now (out .exit)) ⌝ }
+    ensures { λ r. ⌜ Evaluates (now (s .entry)) (now (values .entry)) (now (words .entry)) root f at r (now (out .entry)) (now (out .exit)) ⌝ }
 {
-    match interpreter_leaves::tag(s, values, words, f, at) {
+    match interpreter_leaves::tag(s, values, words, root, f, at) {
         Held::Absent => interpreter_leaves::refused(21, f.place, at, 0, out),
         Held::Value(v) => match interpreter_leaves::selected(s, at, v) {
-            Choice::Node(q) => eval_node(s, q, values, words, f, out),
+            Choice::Node(q) => eval_node(s, q, values, words, root, f, out),
             Choice::Nothing => interpreter_leaves::refused(22, f.place, at, v, out),
         },
     }
@@ -162,33 +169,30 @@ fn eval_call(
     at: usize,
     values: &[u8],
     words: &mut [u64],
+    root: Root,
     f: Frame,
     out: &mut [u64; 4],
 ) -> bool
-    requires { ⌜ Ready (now s) (now values) (now words) f at × (le2 (now s) (at + 4) ≡ 133) ⌝ }
+    requires { ⌜ Ready (now s) (now values) (now words) root f at × (le2 (now s) (at + 4) ≡ 133) ⌝ }
     ensures { λ r. ⌜ Same (f .depth) (now (words .entry)) (now (words .exit)) ⌝ }
-    ensures { λ r. ⌜ Evaluates (now (s .entry)) (now (values .entry)) (now (words .entry)) f at r (now (out .entry)) (now (out .exit)) ⌝ }
+    ensures { λ r. ⌜ Evaluates (now (s .entry)) (now (values .entry)) (now (words .entry)) root f at r (now (out .entry)) (now (out .exit)) ⌝ }
 {
-    match interpreter_leaves::collect_arguments(s, values, words, f, at) {
+    match interpreter_leaves::collect_arguments(s, values, words, root, f, at) {
         Arguments::Lacking(q) => interpreter_leaves::refused(21, f.place, q, 0, out),
         Arguments::All => match interpreter_leaves::called(s, words, f, at) {
             Place::Missing => interpreter_leaves::refused(20, 65535, 0, 0, out),
             Place::At(i, callee) => {
-                let left = f.left;
-                if left == 0 {
+                let depth = f.depth;
+                if depth == 16 {
                     return interpreter_leaves::refused(27, f.place, at, 0, out);
                 }
-                let root = interpreter_leaves::root(s, callee);
-                let depth = f.depth;
+                let top = interpreter_leaves::root(s, callee);
                 words[depth] = at as u64 + callee as u64 * 4294967296;
                 let inner = Frame {
-                    block: f.block,
-                    len: f.len,
                     depth: depth + 1,
-                    left: left - 1,
                     place: i,
                 };
-                eval_node(s, root, values, words, inner, out)
+                eval_node(s, top, values, words, root, inner, out)
             }
         },
     }

@@ -2,6 +2,7 @@
 // the node that it selects, a call's arguments and the tree of its type.
 use interpreter_arithmetic::Num;
 use interpreter_context::Held;
+use interpreter_context::Root;
 use lookup::Place;
 ghost use mathlib.Core.Path.{_≡_};
 ghost use Prim.Native.Nat.{ℕ, _+_};
@@ -43,13 +44,10 @@ pub enum Arguments {
     Lacking(usize),
 }
 
-// What evaluating a node hands on to the nodes inside: the offset of the block of values, the buffer length, how many calls are
-// open and how many may still open, and the place of the type whose tree holds the node.
+// What a call changes for the nodes inside: how many calls are open, and the place of the type whose tree holds the node. It stands
+// apart from `Root`, since a struct is handed on by the address of a copy: two words are copied at once, and `Root` is not made anew.
 pub struct Frame {
-    pub block: usize,
-    pub len: u64,
     pub depth: usize,
-    pub left: usize,
     pub place: usize,
 }
 
@@ -107,26 +105,27 @@ pub fn field(
     s: &[u8],
     values: &[u8],
     words: &[u64],
+    root: Root,
     f: Frame,
     at: usize,
     out: &mut [u64; 4],
 ) -> bool
-    requires { ⌜ Accepted (now s) 128 144 at × (le2 (now s) (at + 4) ≡ 130) × ((γ : ParamMap) × Context (now s) (now values) (f .block) (f .len) (now words) (f .depth) γ) ⌝ }
-    ensures { λ r. ⌜ ((handle : Handlers) (γ : ParamMap) → Context (now (s .entry)) (now (values .entry)) (f .block) (f .len) (now (words .entry)) (f .depth) γ → (a : Accepted (now (s .entry)) 128 144 at) → Tells r (now (out .entry)) (now (out .exit)) (eval-node handle (f .place) γ (nodeOf (tree a)))) ⌝ }
+    requires { ⌜ Accepted (now s) 128 144 at × (le2 (now s) (at + 4) ≡ 130) × ((γ : ParamMap) × Context (now s) (now values) (root .block) (root .len) (now words) (f .depth) γ) ⌝ }
+    ensures { λ r. ⌜ ((handle : Handlers) (γ : ParamMap) → Context (now (s .entry)) (now (values .entry)) (root .block) (root .len) (now (words .entry)) (f .depth) γ → (a : Accepted (now (s .entry)) 128 144 at) → Tells r (now (out .entry)) (now (out .exit)) (eval-node handle (f .place) γ (nodeOf (tree a)))) ⌝ }
 {
-    match interpreter_context::find(s, field_name(s, at), values, f.block, f.len, words, f.depth) {
+    match interpreter_context::find(s, field_name(s, at), values, root, words, f.depth) {
         Held::Value(v) => counted(v, out),
         Held::Absent => refused(21, f.place, at, 0, out),
     }
 }
 
 // The tag of a Switch node.
-pub fn tag(s: &[u8], values: &[u8], words: &[u64], f: Frame, at: usize) -> Held
-    requires { ⌜ Accepted (now s) 128 144 at × (le2 (now s) (at + 4) ≡ 132) × ((γ : ParamMap) × Context (now s) (now values) (f .block) (f .len) (now words) (f .depth) γ) ⌝ }
-    ensures { λ r. ⌜ ((γ : ParamMap) → Context (now (s .entry)) (now (values .entry)) (f .block) (f .len) (now (words .entry)) (f .depth) γ → (a : Accepted (now (s .entry)) 128 144 at) → r ≡ heldOf (find (text (part 2 (body (tree a)))) γ)) ⌝ }
+pub fn tag(s: &[u8], values: &[u8], words: &[u64], root: Root, f: Frame, at: usize) -> Held
+    requires { ⌜ Accepted (now s) 128 144 at × (le2 (now s) (at + 4) ≡ 132) × ((γ : ParamMap) × Context (now s) (now values) (root .block) (root .len) (now words) (f .depth) γ) ⌝ }
+    ensures { λ r. ⌜ ((γ : ParamMap) → Context (now (s .entry)) (now (values .entry)) (root .block) (root .len) (now (words .entry)) (f .depth) γ → (a : Accepted (now (s .entry)) 128 144 at) → r ≡ heldOf (find (text (part 2 (body (tree a)))) γ)) ⌝ }
 {
     let p = interpreter_context::first_part(s, at);
-    interpreter_context::find(s, p, values, f.block, f.len, words, f.depth)
+    interpreter_context::find(s, p, values, root, words, f.depth)
 }
 
 // The node of the first case of the tag's value, or else the default node.
@@ -152,16 +151,23 @@ pub fn selected(s: &[u8], at: usize, tag: u64) -> Choice
 }
 
 // Whether each argument's value is in the caller's context.
-pub fn collect_arguments(s: &[u8], values: &[u8], words: &[u64], f: Frame, at: usize) -> Arguments
-    requires { ⌜ Accepted (now s) 128 144 at × (le2 (now s) (at + 4) ≡ 133) × ((γ : ParamMap) × Context (now s) (now values) (f .block) (f .len) (now words) (f .depth) γ) ⌝ }
-    ensures { λ r. ⌜ ((p : ℕ) (γ : ParamMap) → Context (now (s .entry)) (now (values .entry)) (f .block) (f .len) (now (words .entry)) (f .depth) γ → (a : Accepted (now (s .entry)) 128 144 at) → Bound p γ (argumentsOf (tree a)) r) ⌝ }
+pub fn collect_arguments(
+    s: &[u8],
+    values: &[u8],
+    words: &[u64],
+    root: Root,
+    f: Frame,
+    at: usize,
+) -> Arguments
+    requires { ⌜ Accepted (now s) 128 144 at × (le2 (now s) (at + 4) ≡ 133) × ((γ : ParamMap) × Context (now s) (now values) (root .block) (root .len) (now words) (f .depth) γ) ⌝ }
+    ensures { λ r. ⌜ ((p : ℕ) (γ : ParamMap) → Context (now (s .entry)) (now (values .entry)) (root .block) (root .len) (now (words .entry)) (f .depth) γ → (a : Accepted (now (s .entry)) 128 144 at) → Bound p γ (argumentsOf (tree a)) r) ⌝ }
 {
     let list = interpreter_context::second_part(s, at);
     let mut left = wire::read2(s, list);
     let mut p = list + 2;
     while 0 < left {
         let value = p + 8 + wire::read2(s, p + 6);
-        match interpreter_context::find(s, value, values, f.block, f.len, words, f.depth) {
+        match interpreter_context::find(s, value, values, root, words, f.depth) {
             Held::Value(v) => {
                 p = p + 4 + wire::read4(s, p);
                 left -= 1;

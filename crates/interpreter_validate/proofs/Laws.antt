@@ -34,6 +34,7 @@ use Rattle.interpreter_leaves.specs.declared.Answer.{Answer}
 use Rattle.interpreter_leaves.specs.declared.Answer.the-variants as answer
 use Rattle.interpreter_leaves.specs.Outcome.{outcomeOf, Tells}
 use Rattle.interpreter_leaves.specs.Steps.{Rooted}
+use Rattle.interpreter_context.specs.declared.Root.{Root}
 use Rattle.interpreter_leaves.specs.declared.Frame.{Frame}
 use Rattle.interpreter_eval.specs.Evaluates.{Ready, Evaluates}
 use Rattle.interpreter_eval.proofs.Laws.{found-at, found-none}
@@ -241,9 +242,12 @@ tells-one : {ok : Bool} {ws us : List ℕ} (o : Outcome ℕ) → Tells ok ws us 
 tells-one (done n) t = rw (t .which, t .left)
 tells-one (refused r) t = rw (t .which, t .left)
 
--- the frame of a type that was asked for
-abbrev atRoot : (block len left place : ℕ) → Frame
-atRoot b len left place = record { block = b; len = len; depth = 0; left = left; place = place }
+-- the root's context, and the frame of a type that was asked for
+abbrev rooted-at : (block len : ℕ) → Root
+rooted-at b len = record { block = b; len = len }
+
+abbrev first-frame : ℕ → Frame
+first-frame place = record { depth = 0; place = place }
 
 module _ {s : List ℕ} {name : Name} {r : Place} (f : (t : Tree) → readLayout s ≡ done t → TreeFound s name (layoutOf t) r) where
   -- no type has the name
@@ -258,19 +262,20 @@ module _ {s : List ℕ} {name : Name} {r : Place} (f : (t : Tree) → readLayout
 
     module _ {q : ℕ} (rooted : (c : Accepted s 161 161 o) → Rooted c q) where
       -- the root is ready to be evaluated
-      pub root-ready : {v ws : List ℕ} {block left : ℕ} (len : ℕ) → Given s v block ws → left ≤ 16 → Ready s v ws (atRoot block len left i) q
-      root-ready len g h = record {
+      pub root-ready : {v ws : List ℕ} {block : ℕ} (len : ℕ) → Given s v block ws → Ready s v ws (rooted-at block len) (first-frame i) q
+      root-ready len g = record {
         node = rooted (type-tree g) .root;
         layout = g .layout;
         context = (_, Context.root (g .values-read));
         here = λ d e. absurd (omega arith);
-        room = omega (arith, g .room, h);
+        calls = omega arith;
+        room = g .room;
         small = g .small;
       }
 
       -- what it comes to, held against the buffer length, is the answer
       pub type-goes : {v ws : List ℕ} {block len : ℕ} {ok : Bool} {before out : List ℕ} (w z : Answer) →
-          Evaluates s v ws (atRoot block len 16 i) q ok before out → outcomeOf w ≡ outcomeIn ok out → outcomeOf z ≡ fitted i len (outcomeOf w) →
+          Evaluates s v ws (rooted-at block len) (first-frame i) q ok before out → outcomeOf w ≡ outcomeIn ok out → outcomeOf z ≡ fitted i len (outcomeOf w) →
           (t : Tree) → readLayout s ≡ done t → (a : Accepted v 192 192 block) → outcomeOf z ≡ validate-type (layoutOf t) name len (valuesOf (tree a))
       unfolding validate-type fitted
       type-goes {len} w z ev is fit t rd a =

@@ -1,5 +1,6 @@
 // From the bytes of a layout, a type's name, the bytes of values and a buffer length to a byte count. Whatever `validate` and
 // `validate_run` answer, the working words are zero after.
+use interpreter_context::Root;
 use interpreter_leaves::Answer;
 use interpreter_leaves::Frame;
 use lookup::Place;
@@ -112,14 +113,9 @@ fn evaluated(
         Place::At(i, at) => {
             let root = interpreter_leaves::root(layout, at);
             let mut out = [0u64; 4];
-            let f = Frame {
-                block,
-                len,
-                depth: 0,
-                left: 16,
-                place: i,
-            };
-            let ok = interpreter_eval::eval_node(layout, root, values, words, f, &mut out);
+            let context = Root { block, len };
+            let f = Frame { depth: 0, place: i };
+            let ok = interpreter_eval::eval_node(layout, root, values, words, context, f, &mut out);
             fitting(answered(ok, &out), i, len)
         }
     }

@@ -80,7 +80,7 @@ returns c =
     (c .if1 .taken)
     ∙ ap
     (λ (n : Name). heldOf
-    (find n (with-buffer-size (at-start at-value-in .args .len) (valuesOf (tree a)))))
+    (find n (with-buffer-size (at-start at-value-in .args .root .len) (valuesOf (tree a)))))
     (slice-is _ _ _ (at-read2 at-value-in .read2 .ensures .0))
 
 returns-2 : tie.Need-returns-2
@@ -90,7 +90,7 @@ returns-2 c =
     λ a. held-value _ (at-value-in .value-in .ensures .1 a) (at-o .o .given .1) (c .read8 .ensures)
     ∙ ap
     (λ (n : Name). heldOf
-    (find n (with-buffer-size (at-start at-value-in .args .len) (valuesOf (tree a)))))
+    (find n (with-buffer-size (at-start at-value-in .args .root .len) (valuesOf (tree a)))))
     (slice-is _ _ _ (at-read2 at-value-in .read2 .ensures .0))
 
 returns-3 : tie.Need-returns-3
@@ -104,7 +104,7 @@ returns-3 c =
     (c .if1 .left)
     ∙ ap
     (λ (n : Name). heldOf
-    (find n (with-buffer-size (at-start at-value-in .args .len) (valuesOf (tree a)))))
+    (find n (with-buffer-size (at-start at-value-in .args .root .len) (valuesOf (tree a)))))
     (slice-is _ _ _ (at-read2 at-value-in .read2 .ensures .0))
 
 pub at-root-spec : {M : Type 1} → statement M

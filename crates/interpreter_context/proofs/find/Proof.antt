@@ -7,11 +7,11 @@ use Rattle.interpreter_context.proofs.find.Statement.{statement}
 use Rattle.interpreter_context.proofs.find.Tie as tie
 
 abbrev Inv-loop : tie.InvT-loop
-Inv-loop s name values block len words depth d₀ wanted₀ d wanted =
-    Wanted s values block len words name depth wanted d
+Inv-loop s name values root words depth d₀ wanted₀ d wanted =
+    Wanted s values (root .block) (root .len) words name depth wanted d
 
 abbrev μ-loop : tie.MeasureT-loop
-μ-loop s name values block len words depth d₀ wanted₀ d wanted = d
+μ-loop s name values root words depth d₀ wanted₀ d wanted = d
 
 -- The places, each seen from a later one: what was known there.
 abbrev at-start : tie.After-shared-slice-known3 Inv-loop μ-loop → tie.Start Inv-loop μ-loop

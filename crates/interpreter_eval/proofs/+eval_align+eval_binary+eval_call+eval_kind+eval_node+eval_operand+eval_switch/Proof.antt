@@ -42,7 +42,7 @@ use Rattle.interpreter_eval.proofs.Laws.{
 }
 use borrow.Author.Needs.{needs}
 use native.Mathlib.Omega.{arith}
-use Prim.Native.Nat.{ℕ, _<_, _+_, _*_}
+use Prim.Native.Nat.{ℕ, _<_, _+_, _-_, _*_}
 use borrow.Fn.Kinds.{In}
 use borrow.Fn.PlainCycle.{Measures, is, falls, and}
 use Rattle.interpreter_eval.proofs.eval_align.Reads as eval-align
@@ -90,9 +90,9 @@ use Rattle.interpreter_eval.proofs.+eval_align+eval_binary+eval_call+ev
   close,
 }
 
--- The members have the same parameters: the layout, the node's offset, the values, the words, the frame, the answer's words.
+-- The members have the same parameters: the layout, the node's offset, the values, the words, the root, the frame, the answer's words.
 abbrev μ : ℕ → Measures 4 eval-node-kinds.ps ℕ
-μ rank κs (s, (at, (values, (words, (f, out))))) = f .left * 1048576 + 4 * le4 (s .now) at + rank
+μ rank κs (s, (at, (values, (words, (root, (f, out)))))) = (16 - f .depth) * 1048576 + 4 * le4 (s .now) at + rank
 
 abbrev μ-eval-align : Measures 4 eval-align-kinds.ps ℕ
 μ-eval-align = μ 0
@@ -596,7 +596,7 @@ eval-call-returns t c =
           (at-enum-told .enum-told .given .1)
           (at-collect-arguments .collect-arguments .ensures _ γ x a) .1)
           (found-at (at-i .i .given .1) (at-called .called .ensures t rd a) .1)
-          (at-then1 .if1 .taken)),
+          (omega (arith, at-then1 .if1 .taken))),
     )
 
 eval-call-root-requires : (t : ℕ) → eval-call-lts.Need-root-requires (eval-call-with t) (eval-call-at t) eval-call.Post
@@ -653,9 +653,6 @@ eval-call-slice-write-words t c = let o = opening t c in omega arith
 eval-call-add-t30 : (t : ℕ) → eval-call-lts.Need-add-t30 (eval-call-with t) (eval-call-at t) eval-call.Post
 eval-call-add-t30 t c = let o = opening t c in omega arith
 
-eval-call-sub-t32 : (t : ℕ) → eval-call-lts.Need-sub-t32 (eval-call-with t) (eval-call-at t) eval-call.Post
-eval-call-sub-t32 t c = let o = opening t c in omega arith
-
 eval-call-eval-node-requires : (t : ℕ) → eval-call-lts.Need-eval-node-requires (eval-call-with t) (eval-call-at t) eval-call.Post
 eval-call-eval-node-requires t c κs =
     let r = c .before .before in
@@ -663,7 +660,7 @@ eval-call-eval-node-requires t c κs =
     let ready = at-start t r .pre .1 .0 in
     let type = found-at (at-i t r .i .given .1) (at-called t r .called .ensures (ready .layout .0) (ready .layout .1) (ready .node)) .0 in (
       omega (arith, at-start t r .pre .0, ready .small, ends (r .root .ensures type .root) .1),
-      call-ready _
+      call-ready _ _
           (o .word)
           (omega arith) refl
           (at-start t r .pre .1 .1)
@@ -672,7 +669,7 @@ eval-call-eval-node-requires t c κs =
           (at-collect-arguments t r .collect-arguments .ensures)
           (at-called t r .called .ensures)
           (r .root .ensures)
-          (at-else1 t r .if1 .left) ready,
+          (o .more) ready,
     )
 
 eval-call-same-length-2 : (t : ℕ) → eval-call-lts.Need-same-length-2 (eval-call-with t) (eval-call-at t) eval-call.Post
@@ -728,7 +725,7 @@ eval-call-returns-4 t c =
     let o = opening t r in (
       λ i h. at-eval-node .eval-node .ensures .0 i (omega arith)
           ∙ getD-set-other (at-start t r .args .words .now) (at-start t r .args .f .depth) i _ 0 (λ f. absurd (omega arith)),
-      call-answers _
+      call-answers _ _
           (o .word)
           (omega arith) refl
           (at-start t r .pre .1 .1)
@@ -737,7 +734,7 @@ eval-call-returns-4 t c =
           (at-collect-arguments t r .collect-arguments .ensures)
           (at-called t r .called .ensures)
           (r .root .ensures)
-          (at-else1 t r .if1 .left)
+          (o .more)
           (at-eval-node .eval-node .ensures .1),
     )
 
@@ -1115,7 +1112,7 @@ pub +eval-align+eval-binary+eval-call+eval-kind+eval-node+eval-operand+eval-swit
     (eval-call-refused-requires-3 t) (eval-call-same-length t) (eval-call-returns t)
     (eval-call-root-requires t) (eval-call-mul-words t) (eval-call-add-words t)
     (eval-call-mul-words-2 t) (eval-call-slice-write-words t) (eval-call-add-t30 t)
-    (eval-call-sub-t32 t) (eval-call-eval-node-requires t) (eval-call-same-length-2 t)
+    (eval-call-eval-node-requires t) (eval-call-same-length-2 t)
     (eval-call-returns-2 t) (eval-call-same-length-3 t) (eval-call-returns-3 t)
     (eval-call-same-length-4 t) (eval-call-returns-4 t))
     (λ t. eval-kind-lts.spec (eval-kind-with t) (eval-kind-at t) eval-kind.Post

@@ -14,11 +14,11 @@ use Rattle.interpreter_leaves.proofs.collect_arguments.Statement.{state
 use Rattle.interpreter_leaves.proofs.collect_arguments.Tie as tie
 
 abbrev Inv-loop : tie.InvT-loop
-Inv-loop s values words f at list left₀ p₀ left p =
-    Collecting s values (f .block) (f .len) words (f .depth) (le2 s list) (list + 2) left p
+Inv-loop s values words root f at list left₀ p₀ left p =
+    Collecting s values (root .block) (root .len) words (f .depth) (le2 s list) (list + 2) left p
 
 abbrev μ-loop : tie.MeasureT-loop
-μ-loop s values words f at list left₀ p₀ left p = left
+μ-loop s values words root f at list left₀ p₀ left p = left
 
 -- The places before the loop, seen from it.
 abbrev at-second-part : tie.At-loop Inv-loop μ-loop → tie.After-second-part Inv-loop μ-loop

@@ -32,7 +32,6 @@ eval-node-requires c κs =
     (at-i .i .given .1)
     (at-root .root .ensures) _
     (at-start .pre)
-    (omega arith)
 
 answered-requires : tie.Need-answered-requires
 answered-requires c κs = search needs
