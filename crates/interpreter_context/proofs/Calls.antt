@@ -8,6 +8,8 @@ use native.Mathlib.Numerals.{sub-one}
 use native.Mathlib.Omega.{arith}
 use lib.ListN.{length, getD}
 use Rattle.blocks.specs.Bytes.{le2, le8}
+use Rattle.value.specs.declared.Value.{Value}
+use Rattle.value.specs.Number.{numberOf}
 use Rattle.blocks.specs.Name.{Name, same, ascii}
 use Rattle.ir.specs.Ir.{IrArgument, IrParameter}
 use Rattle.accepted.specs.Accepted.{Accepted, tree, nameAt}
@@ -19,8 +21,8 @@ use Rattle.lookup.specs.Found.{ValueFound}
 use Rattle.interpreter_context.specs.declared.Found.{Found}
 use Rattle.interpreter_context.specs.declared.Found.the-variants.{At, Missing}
 use Rattle.interpreter_context.specs.declared.Held.{Held}
-use Rattle.interpreter_context.specs.declared.Held.the-variants.{Value, Absent}
-use Rattle.interpreter_context.specs.Names.{chosen, lastArgument, lists, callersName, Named, heldOf}
+use Rattle.interpreter_context.specs.declared.Held.the-variants.{Value as HeldValue, Absent}
+use Rattle.interpreter_context.specs.Names.{chosen, lastArgument, lists, callersName, Named, foundIn}
 use Rattle.interpreter_context.specs.Context.{Pair, Open, Context, callAt, treeAt, argumentsOf, parametersOf, Same}
 use Rattle.interpreter.proofs.Lookup.{first-of}
 use Rattle.interpreter_context.proofs.Names.{via, through-call, find-behind}
@@ -86,20 +88,20 @@ block-none e (ValueFound.missing g) = g
 
 module _ {values : List ℕ} {n : Name} {γ : ParamMap} {b : InBlock} (len : ℕ) (f : ValueFound values n γ b) where
   -- a value has the name
-  pub held-value : {o v : ℕ} → b ≡ BlockAt o → v ≡ le8 values o → Value v ≡ heldOf (find n (with-buffer-size len γ))
-  held-value e ev = ap Value ev ∙ sym (ap heldOf (root-is n γ len ∙ ap (λ (o : Option ℕ). first-of o (cond (same n (ascii "__buffer_size")) (some len) none)) (block-at e f .1)))
+  pub held-value : {o : ℕ} (v : Value) → b ≡ BlockAt o → numberOf v ≡ le8 values o → foundIn (HeldValue v) ≡ find n (with-buffer-size len γ)
+  held-value v e ev = ap some ev ∙ sym (root-is n γ len ∙ ap (λ (o : Option ℕ). first-of o (cond (same n (ascii "__buffer_size")) (some len) none)) (block-at e f .1))
 
   -- no value has it: whether it is the buffer length's decides
   no-value : {t : Bool} → b ≡ BlockNone → t ≡ same n (ascii "__buffer_size") → find n (with-buffer-size len γ) ≡ cond t (some len) none
   no-value e h = root-is n γ len ∙ ap (λ (o : Option ℕ). first-of o (cond (same n (ascii "__buffer_size")) (some len) none)) (block-none e f) ∙ ap (λ (t : Bool). cond t (some len) none) (sym h)
 
   -- it is the buffer length's
-  pub held-length : {t : Bool} → b ≡ BlockNone → t ≡ same n (ascii "__buffer_size") → t ≡ true → Value len ≡ heldOf (find n (with-buffer-size len γ))
-  held-length e h t = sym (ap heldOf (no-value e h ∙ ap (λ (t : Bool). cond t (some len) none) t))
+  pub held-length : {t : Bool} (v : Value) → b ≡ BlockNone → t ≡ same n (ascii "__buffer_size") → t ≡ true → numberOf v ≡ len → foundIn (HeldValue v) ≡ find n (with-buffer-size len γ)
+  held-length v e h t ev = ap some ev ∙ sym (no-value e h ∙ ap (λ (t : Bool). cond t (some len) none) t)
 
   -- it is not
-  pub held-absent : {t : Bool} → b ≡ BlockNone → t ≡ same n (ascii "__buffer_size") → t ≡ false → Absent ≡ heldOf (find n (with-buffer-size len γ))
-  held-absent e h t = sym (ap heldOf (no-value e h ∙ ap (λ (t : Bool). cond t (some len) none) t))
+  pub held-absent : {t : Bool} → b ≡ BlockNone → t ≡ same n (ascii "__buffer_size") → t ≡ false → foundIn Absent ≡ find n (with-buffer-size len γ)
+  held-absent e h t = sym (no-value e h ∙ ap (λ (t : Bool). cond t (some len) none) t)
 
 -- ---- the open calls
 
@@ -160,17 +162,17 @@ module _ {s values : List ℕ} {block len : ℕ} {words : List ℕ} {name depth 
       }
 
       -- the caller has none: there is no value
-      pub caller-lacks : f ≡ Missing → (γ : ParamMap) → Context s values block len words depth γ → Absent ≡ heldOf (find (nameAt s name) γ)
-      caller-lacks e γ c = let y = found-by γ c in sym (ap heldOf (y .4 ∙ ap (via (y .0)) (named-none e (y .3))))
+      pub caller-lacks : f ≡ Missing → (γ : ParamMap) → Context s values block len words depth γ → foundIn Absent ≡ find (nameAt s name) γ
+      caller-lacks e γ c = let y = found-by γ c in sym (y .4 ∙ ap (via (y .0)) (named-none e (y .3)))
 
   -- at the root the root's context decides
-  pub at-the-root : {wanted d : ℕ} {r : Held} → d ≤ 0 → Wanted s values block len words name depth wanted d →
-      ((a : Accepted values 192 192 block) → r ≡ heldOf (find (nameAt s wanted) (with-buffer-size len (valuesOf (tree a))))) →
-      (γ : ParamMap) → Context s values block len words depth γ → r ≡ heldOf (find (nameAt s name) γ)
-  at-the-root {wanted} h w k γ c =
+  pub at-the-root : {wanted d : ℕ} (r : Held) → d ≤ 0 → Wanted s values block len words name depth wanted d →
+      ((a : Accepted values 192 192 block) → foundIn r ≡ find (nameAt s wanted) (with-buffer-size len (valuesOf (tree a)))) →
+      (γ : ParamMap) → Context s values block len words depth γ → foundIn r ≡ find (nameAt s name) γ
+  at-the-root {wanted} r h w k γ c =
       let x = w .on γ c in
       let b = at-bottom h (x .1) in
-      k (b .0) ∙ ap (λ (δ : ParamMap). heldOf (find (nameAt s wanted) δ)) (sym (b .1)) ∙ ap heldOf (sym (x .2))
+      k (b .0) ∙ ap (find (nameAt s wanted)) (sym (b .1)) ∙ sym (x .2)
 
 -- ---- words that are the same
 

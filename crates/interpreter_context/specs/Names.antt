@@ -7,6 +7,7 @@ use mathlib.Core.Option.{Option, some, none}
 use lib.ListN.{length}
 use Rattle.blocks.specs.Bytes.{le2}
 use Rattle.blocks.specs.Name.{Name, same}
+use Rattle.value.specs.Number.{numberOf}
 use Rattle.ir.specs.Ir.{IrArgument, IrParameter}
 use Rattle.accepted.specs.Accepted.{nameAt}
 use Rattle.interpreter_context.specs.declared.Found.{Found}
@@ -37,7 +38,7 @@ pub data Named (s : List ℕ) (o : Option Name) : Found → Type 0 where
   at : {q : ℕ} → q + 2 + le2 s q ≤ length s → o ≡ some (nameAt s q) → Named s o (At q)
   missing : o ≡ none → Named s o Missing
 
--- what the code answers for a value of a context
-abbrev pub heldOf : Option ℕ → Held
-heldOf none = Absent
-heldOf (some v) = Value v
+-- what each answer of the code says a context has of a name
+abbrev pub foundIn : Held → Option ℕ
+foundIn Absent = none
+foundIn (Value v) = some (numberOf v)

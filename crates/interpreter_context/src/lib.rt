@@ -1,5 +1,6 @@
 // Where the parts of an accepted node stand, and a value by its name, found through the open calls.
 use lookup::Found as InBlock;
+use value::Value;
 ghost use mathlib.Core.Path.{_≡_};
 ghost use mathlib.Core.List.{List, _∷_};
 ghost use mathlib.Core.Bool.{true, false};
@@ -7,16 +8,17 @@ ghost use mathlib.Core.Option.{Option, none};
 ghost use Prim.Native.Nat.{_+_, _≤_, ℕ};
 ghost use lib.ListN.{length, drop};
 ghost use Rattle.blocks.specs.declared.Part.{Part};
-ghost use Rattle.blocks.specs.Bytes.{le2};
+ghost use Rattle.blocks.specs.Bytes.{le2, le8};
 ghost use Rattle.blocks.specs.Grammar.{partsOf};
 ghost use Rattle.blocks.specs.Name.{same};
+ghost use Rattle.value.specs.Number.{numberOf};
 ghost use Rattle.ir_nodes.specs.Codes.{codeOf};
 ghost use Rattle.ir.specs.Layout.{argumentOf};
 ghost use Rattle.interpreter.specs.Eval.{ParamMap, find as finding};
 ghost use Rattle.interpreter.specs.Validate.{with-buffer-size, valuesOf};
 ghost use Rattle.accepted.specs.Accepted.{Accepted, Parts, tree, nameAt};
 ghost use Rattle.interpreter_context.specs.Located.{Simple, Next, Located};
-ghost use Rattle.interpreter_context.specs.Names.{chosen, lastArgument, lists, callersName, Named, heldOf};
+ghost use Rattle.interpreter_context.specs.Names.{chosen, lastArgument, lists, callersName, Named, foundIn};
 ghost use Rattle.interpreter_context.specs.Context.{Pair, Context, argumentsOf, parametersOf};
 
 // The offset behind the part of a code.
@@ -67,7 +69,7 @@ pub enum Found {
 }
 
 pub enum Held {
-    Value(u64),
+    Value(Value),
     Absent,
 }
 
@@ -150,18 +152,26 @@ fn callers_name(s: &[u8], call: usize, callee: usize, name: usize) -> Found
     }
 }
 
+// A value of a block 192, at its offset there.
+fn value_at(values: &[u8], at: usize) -> Value
+    requires { ⌜ at + 8 ≤ length (now values) ⌝ }
+    ensures { λ r. ⌜ numberOf r ≡ le8 (now (values .entry)) at ⌝ }
+{
+    Value::of(wire::read8(values, at) as u64)
+}
+
 // What the root's context has of a name: a value, or the buffer length where no value has that name.
 fn at_root(s: &[u8], name: usize, values: &[u8], root: Root) -> Held
     requires { ⌜ (name + 2 + le2 (now s) name ≤ length (now s)) × Accepted (now values) 192 192 (root .block) ⌝ }
-    ensures { λ r. ⌜ ((a : Accepted (now (values .entry)) 192 192 (root .block)) → r ≡ heldOf (finding (nameAt (now (s .entry)) name) (with-buffer-size (root .len) (valuesOf (tree a))))) ⌝ }
+    ensures { λ r. ⌜ ((a : Accepted (now (values .entry)) 192 192 (root .block)) → foundIn r ≡ finding (nameAt (now (s .entry)) name) (with-buffer-size (root .len) (valuesOf (tree a)))) ⌝ }
 {
     let from = name + 2;
     let to = from + wire::read2(s, name);
     match lookup::value_in(values, root.block, &s[from..to]) {
-        InBlock::At(o) => Held::Value(wire::read8(values, o) as u64),
+        InBlock::At(o) => Held::Value(value_at(values, o)),
         InBlock::Missing => {
             if wire::same_name(&s[from..to], b"__buffer_size") {
-                return Held::Value(root.len);
+                return Held::Value(Value::of(root.len));
             }
             Held::Absent
         }
@@ -171,7 +181,7 @@ fn at_root(s: &[u8], name: usize, values: &[u8], root: Root) -> Held
 // A name's value in the context of the innermost of so many open calls.
 pub fn find(s: &[u8], name: usize, values: &[u8], root: Root, words: &[u64], depth: usize) -> Held
     requires { ⌜ (name + 2 + le2 (now s) name ≤ length (now s)) × ((γ : ParamMap) × Context (now s) (now values) (root .block) (root .len) (now words) depth γ) ⌝ }
-    ensures { λ r. ⌜ ((γ : ParamMap) → Context (now (s .entry)) (now (values .entry)) (root .block) (root .len) (now (words .entry)) depth γ → r ≡ heldOf (finding (nameAt (now (s .entry)) name) γ)) ⌝ }
+    ensures { λ r. ⌜ ((γ : ParamMap) → Context (now (s .entry)) (now (values .entry)) (root .block) (root .len) (now (words .entry)) depth γ → foundIn r ≡ finding (nameAt (now (s .entry)) name) γ) ⌝ }
 {
     let mut d = depth;
     let mut wanted = name;

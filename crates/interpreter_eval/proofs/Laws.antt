@@ -19,22 +19,22 @@ use Rattle.blocks.specs.Read.{readLayout}
 use Rattle.blocks.specs.declared.Part.the-variants.{Block}
 use Rattle.ir.specs.Ir.{BinaryOp, IrNode, IrArgument, SwitchCases, DefaultNode, TypeIr}
 use Rattle.ir.specs.Layout.{Form, formOf, makeThing, thingOf, nodeIn, defaultIn, nodeOf, layoutOf, typeIrOf, operations}
+use Rattle.value.specs.declared.Value.{Value}
+use Rattle.value.specs.Number.{numberOf}
 use Rattle.accepted.specs.Accepted.{Accepted, tree}
 use Rattle.accepted.proofs.Laws.{each}
 use Rattle.interpreter.specs.Arithmetic.{Result, operate, align-up, bits}
 use Rattle.interpreter.specs.Eval.{Handlers, ParamMap, find, refusalAt as refusal, valueOr, lift, eval-node, eval-cases, eval-default, collect-arguments, inherited, lookup-type, eval-call, eval-within, handlers, Enter, no-more-calls}
 use Rattle.interpreter_context.proofs.Laws.{Standing}
 use Rattle.interpreter_context.proofs.Shape.{bodyOf, child-at, node-is, node-in, cases-in, default-in, located}
-use Rattle.interpreter_arithmetic.specs.declared.Num.{Num}
-use Rattle.interpreter_arithmetic.specs.Num.{numOf}
 use Rattle.lookup.specs.declared.Place.{Place}
 use Rattle.lookup.specs.declared.Place.the-variants.{At as PlaceAt, Missing as PlaceNone}
 use Rattle.lookup.specs.Named.{Placed}
 use Rattle.lookup.specs.Found.{TreeFound}
 use Rattle.interpreter_context.specs.declared.Root.{Root}
 use Rattle.interpreter_context.specs.declared.Held.{Held}
-use Rattle.interpreter_context.specs.declared.Held.the-variants.{Value, Absent}
-use Rattle.interpreter_context.specs.Names.{heldOf}
+use Rattle.interpreter_context.specs.declared.Held.the-variants.{Value as HeldValue, Absent}
+use Rattle.interpreter_context.specs.Names.{foundIn}
 use Rattle.interpreter_context.specs.Context.{Context, Pair, Open, callAt, treeAt, argumentsOf, parametersOf, Same}
 use Rattle.interpreter_context.proofs.Calls.{context-same}
 use Rattle.interpreter_context.proofs.Lists.{ends}
@@ -43,11 +43,11 @@ use Rattle.interpreter_leaves.specs.declared.Choice.the-variants.{Node, Nothing
 use Rattle.interpreter_leaves.specs.declared.Arguments.{Arguments}
 use Rattle.interpreter_leaves.specs.declared.Arguments.the-variants.{All, Lacking}
 use Rattle.interpreter_leaves.specs.declared.Frame.{Frame}
-use Rattle.interpreter_leaves.specs.Outcome.{Tells}
+use Rattle.interpreter_leaves.specs.Outcome.{countIn, Tells}
 use Rattle.interpreter_leaves.specs.Steps.{Rooted, pick, casesOf, defaultOf, Picked, Bound, Unwrapped}
 use Rattle.interpreter_leaves.proofs.Align.{align-child, align-node, unwrap-same}
 use Rattle.interpreter_leaves.proofs.Tells.{tells-as, then-stops, then-goes}
-use Rattle.interpreter_leaves.proofs.Nodes.{held-value, absent-none}
+use Rattle.interpreter_leaves.proofs.Nodes.{found-as}
 use Rattle.interpreter_eval.specs.Evaluates.{Ready, Evaluates}
 
 -- ---- the allowance of open calls
@@ -102,10 +102,11 @@ module _ {s : List ℕ} {at p q : ℕ} (st : Standing s at 2 p) (su : Standing s
     align-stops f = tells-as (then-stops _ _ (e (align-child su a k .0)) f) (sym align-is)
 
     -- the operand came to a count, which was aligned
-    pub align-goes : {m : ℕ} {z : Num} {b : Bool} {vs : List ℕ} → not r ≡ false → m ≡ le8 s p → z ≡ numOf (align-up bits (getD us 0 0) m) →
-        ((x : Result) → z ≡ numOf x → Tells b us vs (lift pl at x)) → Tells b ws vs (outcomeAt left types pl γ a)
-    align-goes f em ez eo = tells-as (then-goes _ _ (e (align-child su a k .0)) f (eo (align-up bits (getD us 0 0) (le8 s p)) (ez
-        ∙ ap (λ (m : ℕ). numOf (align-up bits (getD us 0 0) m)) em))) (sym align-is)
+    pub align-goes : {n m : ℕ} {z : Result} {b : Bool} {vs : List ℕ} → not r ≡ false → n ≡ countIn us → m ≡ le8 s p → z ≡ align-up bits n m →
+        Tells b us vs (lift pl at z) → Tells b ws vs (outcomeAt left types pl γ a)
+    align-goes {n} {m} f en em ez eo =
+        let x = ez ∙ ap (λ (n : ℕ). align-up bits n m) en ∙ ap (align-up bits (countIn us)) em in
+        tells-as (then-goes _ _ (e (align-child su a k .0)) f (tells-as eo (ap (lift pl at) x))) (sym align-is)
 
 -- ---- two operands
 
@@ -184,11 +185,12 @@ module _ {s : List ℕ} {at : ℕ} (a : Accepted s 128 144 at) (lo : 134 ≤ le2
         right-stops h = tells-as (then-goes _ _ (e (left-child st .0)) f (then-stops _ _ (g (right-child su .0)) h)) (sym binary-is)
 
         -- both came to counts, on which the operation was done
-        pub both-go : {k : ℕ} {z : Num} {d : Bool} {xs : List ℕ} → not b ≡ false → k ≡ le2 s (at + 4) → z ≡ numOf (operate bits (opOf k) (getD us 0 0) (getD vs 0 0)) →
-            ((x : Result) → z ≡ numOf x → Tells d vs xs (lift pl at x)) → Tells d ws xs (outcomeAt left types pl γ a)
-        both-go h ek ez eo =
-            let x = eo (operate bits (opOf (le2 s (at + 4))) (getD us 0 0) (getD vs 0 0)) (ez ∙ ap (λ (k : ℕ). numOf (operate bits (opOf k) (getD us 0 0) (getD vs 0 0))) ek) in
-            tells-as (then-goes _ _ (e (left-child st .0)) f (then-goes _ _ (g (right-child su .0)) h x)) (sym binary-is)
+        pub both-go : {k n m : ℕ} {z : Result} {d : Bool} {xs : List ℕ} → not b ≡ false → k ≡ le2 s (at + 4) → n ≡ countIn us → m ≡ countIn vs →
+            z ≡ operate bits (opOf k) n m → Tells d vs xs (lift pl at z) → Tells d ws xs (outcomeAt left types pl γ a)
+        both-go {k} {n} {m} h ek en em ez eo =
+            let op = opOf (le2 s (at + 4)) in
+            let x = ez ∙ ap (λ (k : ℕ). operate bits (opOf k) n m) ek ∙ ap (λ (n : ℕ). operate bits op n m) en ∙ ap (operate bits op (countIn us)) em in
+            tells-as (then-goes _ _ (e (left-child st .0)) f (then-goes _ _ (g (right-child su .0)) h (tells-as eo (ap (lift pl at) x)))) (sym binary-is)
 
 -- ---- Switch
 
@@ -244,28 +246,28 @@ module _ {s : List ℕ} {at : ℕ} (k : le2 s (at + 4) ≡ 132) (left : ℕ) (ty
       ∙ ap (λ (d : DefaultNode). o >>= (λ v. eval-cases handle pl γ v (casesOf (bodyOf a)) (eval-default handle pl γ at v d))) (default-in 4 (bodyOf a))
       ∙ ap (λ (f : ℕ → Outcome ℕ). o >>= f) (fun-ext (λ v. pick-is handle pl γ at v (casesOf (bodyOf a)) (defaultOf (bodyOf a))))
 
-  module _ {r : Held} (er : r ≡ heldOf (find (text (part 2 (bodyOf a))) γ)) where
+  module _ {r : Held} (er : foundIn r ≡ find (text (part 2 (bodyOf a))) γ) where
     -- the context lacks the tag
     pub switch-misses : r ≡ Absent → refused (refusal pl at 21 0) ≡ outcomeAt left types pl γ a
     unfolding valueOr _>>=_ missed
-    switch-misses f = sym (switch-is ∙ ap (λ (o : Option ℕ). valueOr missed o >>= picks) (absent-none (find (text (part 2 (bodyOf a))) γ) r er f))
+    switch-misses f = sym (switch-is ∙ ap (λ (o : Option ℕ). valueOr missed o >>= picks) (found-as (find (text (part 2 (bodyOf a))) γ) er f))
 
-    module _ {v : ℕ} (f : r ≡ Value v) where
+    module _ {v : Value} (f : r ≡ HeldValue v) where
       -- the context has it
-      switch-picks : outcomeAt left types pl γ a ≡ picks v
+      switch-picks : outcomeAt left types pl γ a ≡ picks (numberOf v)
       unfolding valueOr _>>=_
-      switch-picks = switch-is ∙ ap (λ (o : Option ℕ). valueOr missed o >>= picks) (held-value (find (text (part 2 (bodyOf a))) γ) r v er f)
+      switch-picks = switch-is ∙ ap (λ (o : Option ℕ). valueOr missed o >>= picks) (found-as (find (text (part 2 (bodyOf a))) γ) er f)
 
       -- no case has its value, and there is no default
-      pub switch-ends : {c : Choice} → c ≡ Nothing → Picked a v c → refused (refusal pl at 22 v) ≡ outcomeAt left types pl γ a
+      pub switch-ends : {c : Choice} {w : ℕ} → c ≡ Nothing → Picked a (numberOf v) c → w ≡ numberOf v → refused (refusal pl at 22 w) ≡ outcomeAt left types pl γ a
       unfolding picking
-      switch-ends g p = sym (switch-picks ∙ ap (picking (handlersAt left types) pl γ at v) (picked-none g p))
+      switch-ends g p ew = ap (λ (w : ℕ). refused (refusal pl at 22 w)) ew ∙ sym (switch-picks ∙ ap (picking (handlersAt left types) pl γ at (numberOf v)) (picked-none g p))
 
       -- what the picked node comes to is the answer
-      pub switch-goes : {c : Choice} {q : ℕ} {b : Bool} {ws us : List ℕ} → c ≡ Node q → Picked a v c →
+      pub switch-goes : {c : Choice} {q : ℕ} {b : Bool} {ws us : List ℕ} → c ≡ Node q → Picked a (numberOf v) c →
           ((x : Accepted s 128 144 q) → Tells b ws us (outcomeAt left types pl γ x)) → Tells b ws us (outcomeAt left types pl γ a)
       unfolding picking
-      switch-goes g p e = let x = picked-node g p in tells-as (e (x .0)) (within-is left types pl γ (nodeOf (tree (x .0))) ∙ sym (switch-picks ∙ ap (picking (handlersAt left types) pl γ at v) (x .2)))
+      switch-goes g p e = let x = picked-node g p in tells-as (e (x .0)) (within-is left types pl γ (nodeOf (tree (x .0))) ∙ sym (switch-picks ∙ ap (picking (handlersAt left types) pl γ at (numberOf v)) (x .2)))
 
 -- ---- CallNested
 

@@ -6,6 +6,7 @@ use interpreter_leaves::Arguments;
 use interpreter_leaves::Choice;
 use interpreter_leaves::Frame;
 use lookup::Place;
+use value::Value;
 ghost use mathlib.Core.Path.{_≡_};
 ghost use Prim.Native.Nat.{_+_, _≤_};
 ghost use Rattle.blocks.specs.Bytes.{le2};
@@ -47,7 +48,7 @@ fn eval_kind(
 {
     let kind = wire::read2(s, at + 4);
     match kind {
-        128 => interpreter_leaves::counted(0, out),
+        128 => interpreter_leaves::counted(Value::of(0), out),
         129 => interpreter_leaves::constant(s, at, out),
         130 => interpreter_leaves::field(s, values, words, root, f, at, out),
         131 => eval_align(s, at, values, words, root, f, out),
@@ -77,7 +78,7 @@ fn eval_align(
     if !eval_node(s, q, values, words, root, f, out) {
         return false;
     }
-    let x = out[0];
+    let x = interpreter_leaves::count_in(out);
     interpreter_leaves::lifted(
         f.place,
         at,
@@ -127,11 +128,11 @@ fn eval_binary(
     if !eval_operand(s, p, values, words, root, f, out) {
         return false;
     }
-    let x = out[0];
+    let x = interpreter_leaves::count_in(out);
     if !eval_node(s, q, values, words, root, f, out) {
         return false;
     }
-    let y = out[0];
+    let y = interpreter_leaves::count_in(out);
     interpreter_leaves::lifted(
         f.place,
         at,
@@ -158,7 +159,7 @@ fn eval_switch(
         Held::Absent => interpreter_leaves::refused(21, f.place, at, 0, out),
         Held::Value(v) => match interpreter_leaves::selected(s, at, v) {
             Choice::Node(q) => eval_node(s, q, values, words, root, f, out),
-            Choice::Nothing => interpreter_leaves::refused(22, f.place, at, v, out),
+            Choice::Nothing => interpreter_leaves::refused(22, f.place, at, v.low(), out),
         },
     }
 }

@@ -7,6 +7,8 @@ use native.Mathlib.Omega.{arith}
 use Rattle.errors.specs.Refusal.{refused, _>>=_, MissingIrParameter}
 use Rattle.blocks.specs.Bytes.{le2, le4}
 use Rattle.blocks.specs.Tree.{Tree, entries}
+use Rattle.value.specs.declared.Value.{Value}
+use Rattle.value.specs.Number.{numberOf}
 use Rattle.ir.specs.Ir.{IrArgument}
 use Rattle.ir.specs.Layout.{argumentOf}
 use Rattle.accepted.specs.Accepted.{Accepted, tree, Listed, nameAt}
@@ -15,13 +17,13 @@ use Rattle.interpreter.specs.Eval.{ParamMap, find, refusalAt, valueOr, collect-
 use Rattle.interpreter_context.proofs.Shape.{ListAt}
 use Rattle.interpreter_context.proofs.Blocks.{IsArgument, argument}
 use Rattle.interpreter_context.specs.declared.Held.{Held}
-use Rattle.interpreter_context.specs.declared.Held.the-variants.{Value, Absent}
-use Rattle.interpreter_context.specs.Names.{heldOf}
+use Rattle.interpreter_context.specs.declared.Held.the-variants.{Value as HeldValue, Absent}
+use Rattle.interpreter_context.specs.Names.{foundIn}
 use Rattle.interpreter_context.specs.Context.{Context, argumentsOf}
 use Rattle.interpreter_leaves.specs.declared.Arguments.{Arguments}
 use Rattle.interpreter_leaves.specs.declared.Arguments.the-variants.{All, Lacking}
 use Rattle.interpreter_leaves.specs.Steps.{Bound}
-use Rattle.interpreter_leaves.proofs.Nodes.{held-value, absent-none}
+use Rattle.interpreter_leaves.proofs.Nodes.{found-as}
 
 -- of m arguments from `from` on, left are left, from p on
 pub record Collecting (s values : List ℕ) (block len : ℕ) (words : List ℕ) (depth m from left p : ℕ) : Type 0 where
@@ -53,9 +55,9 @@ module _ {s values : List ℕ} {block len : ℕ} {words : List ℕ} {depth m fro
   pub next-one : (x : (γ : ParamMap) × Context s values block len words depth γ) → Listed s 164 164 m from → Accepted s 164 164 p
   next-one x l = block-entry (t .on 0 (x .0) (x .1) l .0) h .child
 
-  module _ {u : ℕ} {r : Held} (eu : u ≡ le2 s (p + 6)) (e : (γ : ParamMap) → Context s values block len words depth γ → r ≡ heldOf (find (nameAt s (p + 8 + u)) γ)) where
+  module _ {u : ℕ} {r : Held} (eu : u ≡ le2 s (p + 6)) (e : (γ : ParamMap) → Context s values block len words depth γ → foundIn r ≡ find (nameAt s (p + 8 + u)) γ) where
     -- the caller has its value: the loop goes on behind it
-    pub found-one : {v w : ℕ} → r ≡ Value v → w ≡ le4 s p → Collecting s values block len words depth m from (left - 1) (p + 4 + w)
+    pub found-one : {v : Value} {w : ℕ} → r ≡ HeldValue v → w ≡ le4 s p → Collecting s values block len words depth m from (left - 1) (p + 4 + w)
     unfolding entries
     found-one {v} f ew = subst (λ (w : ℕ). Collecting s values block len words depth m from (left - 1) (p + 4 + w)) (sym ew) (record {
       on = λ pl γ c l.
@@ -63,10 +65,10 @@ module _ {s values : List ℕ} {block len : ℕ} {words : List ℕ} {depth m fro
           let b = block-entry (x .0) h in
           let i = value-at eu (b .child) in (
             b .after .rest,
-            record { name = argumentOf (tree (b .child)) .name; value = v } ∷ x .1,
+            record { name = argumentOf (tree (b .child)) .name; value = numberOf v } ∷ x .1,
             x .2 ∙ ap (λ (z : Tree). collect-arguments pl γ (entries argumentOf z) (x .1)) (b .after .tree)
-                ∙ one-more pl γ (argumentOf (tree (b .child))) (entries argumentOf (b .after .rest .got .0)) (x .1) v (ap (λ (y : IrArgument). find (y .value) γ) (i .is)
-                ∙ held-value (find (nameAt s (p + 8 + u)) γ) r v (e γ c) f),
+                ∙ one-more pl γ (argumentOf (tree (b .child))) (entries argumentOf (b .after .rest .got .0)) (x .1) (numberOf v) (ap (λ (y : IrArgument). find (y .value) γ) (i .is)
+                ∙ found-as (find (nameAt s (p + 8 + u)) γ) (e γ c) f),
           );
     })
 
@@ -79,7 +81,7 @@ module _ {s values : List ℕ} {block len : ℕ} {words : List ℕ} {depth m fro
         let i = value-at eu (b .child) in
         Bound.lacking (x .2 ∙ ap (λ (z : Tree). collect-arguments pl γ (entries argumentOf z) (x .1)) (b .after .tree)
         ∙ one-missing pl γ (argumentOf (tree (b .child))) (entries argumentOf (b .after .rest .got .0)) (x .1) (ap (λ (y : IrArgument). find (y .value) γ) (i .is)
-        ∙ absent-none (find (nameAt s (p + 8 + u)) γ) r (e γ c) f)
+        ∙ found-as (find (nameAt s (p + 8 + u)) γ) (e γ c) f)
         ∙ ap (λ (y : IrArgument). refused (refusalAt pl (y .at) MissingIrParameter 0)) (i .is))
 
 -- none is left: all were found

@@ -20,6 +20,7 @@ use Rattle.interpreter_context.specs.Located.{rests, Located}
 use Rattle.interpreter_context.proofs.Laws.{Standing}
 use Rattle.interpreter_context.proofs.Shape.{bodyOf, part-rests, located, node-in}
 use Rattle.interpreter_context.proofs.Blocks.{sole-kind}
+use Rattle.interpreter_leaves.specs.declared.Choice.{Choice}
 use Rattle.interpreter_leaves.specs.declared.Choice.the-variants.{Node, Nothing}
 use Rattle.interpreter_leaves.specs.Steps.{pick, casesOf, defaultOf, Picked}
 
@@ -110,6 +111,10 @@ switch-parts {a} l =
 pub switch-at : {s : List ℕ} {at q : ℕ} → Standing s at 3 q → (a : Accepted s 128 144 at) → le2 s (at + 4) ≡ 132 → SwitchAt a q
 unfolding partsOf nodeTable
 switch-at st a k = switch-parts (located 3 st a k refl)
+
+-- what is picked for a number is picked for one that is equal
+pub same-tag : {s : List ℕ} {at v w : ℕ} {a : Accepted s 128 144 at} {c : Choice} → v ≡ w → Picked a v c → Picked a w c
+same-tag {a} {c} e p = subst (λ (v : ℕ). Picked a v c) e p
 
 -- ---- the loop: the cases before p have other values
 

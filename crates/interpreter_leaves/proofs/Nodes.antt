@@ -14,38 +14,30 @@ use Rattle.blocks.specs.Bytes.{le2, le8}
 use Rattle.blocks.specs.Name.{Name}
 use Rattle.blocks.specs.Grammar.{partsOf, nodeTable}
 use Rattle.blocks.specs.Tree.{Tree, text, number, body, part}
+use Rattle.value.specs.declared.Value.{Value}
+use Rattle.value.specs.Number.{numberOf}
 use Rattle.ir.specs.Layout.{formOf, makeThing, nodeOf, layoutOf}
 use Rattle.accepted.specs.Accepted.{Accepted, tree, nameAt}
-use Rattle.interpreter.specs.Arithmetic.{Result, value, fault}
 use Rattle.interpreter.specs.Eval.{Handlers, ParamMap, find, refusalAt as refusal, valueOr, lift, chosen, eval-node}
 use Rattle.interpreter_context.proofs.Laws.{Standing}
 use Rattle.interpreter_context.proofs.Shape.{bodyOf, text-at, number-at, MaybeText, maybe-text, node-is, located}
 use Rattle.interpreter_arithmetic.specs.declared.Num.{Num}
-use Rattle.interpreter_arithmetic.specs.declared.Num.the-variants.{Value as NumValue, Fault}
-use Rattle.interpreter_arithmetic.specs.Num.{numOf}
+use Rattle.interpreter_arithmetic.specs.Num.{resultOf}
 use Rattle.lookup.specs.declared.Place.{Place}
 use Rattle.lookup.specs.Named.{Placed}
 use Rattle.lookup.specs.Found.{TreeFound}
 use Rattle.interpreter_context.specs.declared.Held.{Held}
-use Rattle.interpreter_context.specs.declared.Held.the-variants.{Value, Absent}
-use Rattle.interpreter_context.specs.Names.{heldOf}
+use Rattle.interpreter_context.specs.declared.Held.the-variants.{Value as HeldValue, Absent}
+use Rattle.interpreter_context.specs.Names.{foundIn}
 use Rattle.interpreter_context.specs.Context.{Context, Here, treeAt}
 use Rattle.lookup.proofs.Slices.{slice-is}
 use Rattle.interpreter_leaves.specs.Steps.{FieldName}
 
 -- ---- arithmetic
 
--- a value is given as a count
-pub lifted-value : (p a v : ℕ) (n : Num) → n ≡ NumValue v → (x : Result) → n ≡ numOf x → done v ≡ lift p a x
-unfolding lift
-lifted-value p a v n e (value w) f = let h : v ≡ w = cc in ap done h
-lifted-value p a v n e (fault q) f = let z : _≡_ {A = ℕ} 0 1 = cc in absurd (omega arith)
-
--- a fault is a refusal at the node
-pub lifted-fault : (p a q : ℕ) (n : Num) → n ≡ Fault q → (x : Result) → n ≡ numOf x → refused (refusal p a q 0) ≡ lift p a x
-unfolding lift
-lifted-fault p a q n e (value w) f = let z : _≡_ {A = ℕ} 0 1 = cc in absurd (omega arith)
-lifted-fault p a q n e (fault r) f = let h : q ≡ r = cc in ap (λ (q : ℕ). refused (refusal p a q 0)) h
+-- what the code was given is what it tells apart
+pub lifted-as : (p a : ℕ) {n m : Num} → n ≡ m → lift p a (resultOf m) ≡ lift p a (resultOf n)
+lifted-as p a e = ap (λ (n : Num). lift p a (resultOf n)) (sym e)
 
 -- ---- Const
 
@@ -87,15 +79,9 @@ module _ {s : List ℕ} {at p q : ℕ} (st : Standing s at 2 p) (su : Standing s
     is = λ b. ap (chosen (text (part 2 (bodyOf b)))) (ref-three su b k .plain h) ∙ ref-two st b k .1;
   }
 
--- the context has the value that was found
-pub held-value : (o : Option ℕ) (r : Held) (v : ℕ) → r ≡ heldOf o → r ≡ Value v → o ≡ some v
-held-value none r v e f = let z : _≡_ {A = ℕ} 0 1 = cc in absurd (omega arith)
-held-value (some w) r v e f = let h : w ≡ v = cc in ap some h
-
--- and none where none was found
-pub absent-none : (o : Option ℕ) (r : Held) → r ≡ heldOf o → r ≡ Absent → o ≡ none
-absent-none none r e f = refl
-absent-none (some w) r e f = let z : _≡_ {A = ℕ} 0 1 = cc in absurd (omega arith)
+-- the context has what the code tells apart: a value, or none
+pub found-as : (o : Option ℕ) {r h : Held} → foundIn r ≡ o → r ≡ h → o ≡ foundIn h
+found-as o e f = sym e ∙ ap foundIn f
 
 -- a FieldRef node evaluates to what the context has of that name
 ref-is : {s : List ℕ} {at q : ℕ} → FieldName s at q → le2 s (at + 4) ≡ 130 → (handle : Handlers) (pl : ℕ) (γ : ParamMap) (a : Accepted s 128 144 at) →
@@ -104,16 +90,16 @@ unfolding formOf makeThing eval-node
 ref-is {at} n k handle pl γ a = ap (eval-node handle pl γ) (node-is a k refl) ∙ ap (λ (m : Name). valueOr (refusal pl at MissingIrParameter 0) (find m γ)) (n .is a)
 
 module _ {s values : List ℕ} {block len : ℕ} {words : List ℕ} {depth at q : ℕ} {r : Held} (pl : ℕ) (n : FieldName s at q) (k : le2 s (at + 4) ≡ 130) (e : (γ : ParamMap) →
-    Context s values block len words depth γ → r ≡ heldOf (find (nameAt s q) γ)) (handle : Handlers) (γ : ParamMap) (c : Context s values block len words depth γ) (a : Accepted s 128 144 at) where
+    Context s values block len words depth γ → foundIn r ≡ find (nameAt s q) γ) (handle : Handlers) (γ : ParamMap) (c : Context s values block len words depth γ) (a : Accepted s 128 144 at) where
   -- a value was found
-  pub ref-found : {v : ℕ} → r ≡ Value v → done v ≡ eval-node handle pl γ (nodeOf (tree a))
+  pub ref-found : {v : Value} → r ≡ HeldValue v → done (numberOf v) ≡ eval-node handle pl γ (nodeOf (tree a))
   unfolding valueOr
-  ref-found f = sym (ref-is n k handle pl γ a ∙ ap (valueOr (refusal pl at MissingIrParameter 0)) (held-value (find (nameAt s q) γ) r _ (e γ c) f))
+  ref-found f = sym (ref-is n k handle pl γ a ∙ ap (valueOr (refusal pl at MissingIrParameter 0)) (found-as (find (nameAt s q) γ) (e γ c) f))
 
   -- none was
   pub ref-absent : r ≡ Absent → refused (refusal pl at 21 0) ≡ eval-node handle pl γ (nodeOf (tree a))
   unfolding valueOr
-  ref-absent f = sym (ref-is n k handle pl γ a ∙ ap (valueOr (refusal pl at MissingIrParameter 0)) (absent-none (find (nameAt s q) γ) r (e γ c) f))
+  ref-absent f = sym (ref-is n k handle pl γ a ∙ ap (valueOr (refusal pl at MissingIrParameter 0)) (found-as (find (nameAt s q) γ) (e γ c) f))
 
 -- ---- ZeroSize
 
@@ -135,10 +121,10 @@ unfolding partsOf nodeTable
 call-type st a k = text-at (located 2 st a k refl)
 
 -- what was found of the tag's name is the tag
-pub tag-is : {s values : List ℕ} {block len : ℕ} {words : List ℕ} {depth at p : ℕ} {r : Held} → Standing s at 2 p → le2 s (at + 4) ≡ 132 →
-    ((γ : ParamMap) → Context s values block len words depth γ → r ≡ heldOf (find (nameAt s p) γ)) →
-    (γ : ParamMap) → Context s values block len words depth γ → (a : Accepted s 128 144 at) → r ≡ heldOf (find (text (part 2 (body (tree a)))) γ)
-tag-is st k e γ c a = e γ c ∙ ap (λ (n : Name). heldOf (find n γ)) (sym (switch-tag st a k .1))
+pub tag-is : {s values : List ℕ} {block len : ℕ} {words : List ℕ} {depth at p : ℕ} (r : Held) → Standing s at 2 p → le2 s (at + 4) ≡ 132 →
+    ((γ : ParamMap) → Context s values block len words depth γ → foundIn r ≡ find (nameAt s p) γ) →
+    (γ : ParamMap) → Context s values block len words depth γ → (a : Accepted s 128 144 at) → foundIn r ≡ find (text (part 2 (body (tree a)))) γ
+tag-is r st k e γ c a = e γ c ∙ ap (λ (n : Name). find n γ) (sym (switch-tag st a k .1))
 
 -- what was found of the type's name is the type
 pub type-is : {s : List ℕ} {at p u : ℕ} {r : Place} → Standing s at 2 p → le2 s (at + 4) ≡ 133 → u ≡ le2 s p → (t : Tree) →

@@ -18,6 +18,10 @@ abbrev pub leftIn : List ℕ → Outcome ℕ → List ℕ
 leftIn before (done n) = n ∷ getD before 1 0 ∷ getD before 2 0 ∷ getD before 3 0 ∷ []
 leftIn before (refused r) = r .number ∷ r .place ∷ r .offset ∷ r .value ∷ []
 
+-- the count that the words hold
+abbrev pub countIn : List ℕ → ℕ
+countIn words = getD words 0 0
+
 -- whether it is a count, and the words after it
 pub record Tells (ok : Bool) (before after : List ℕ) (o : Outcome ℕ) : Type 0 where
   pub which : ok ≡ answered o

@@ -4,6 +4,7 @@ use interpreter_arithmetic::Num;
 use interpreter_context::Held;
 use interpreter_context::Root;
 use lookup::Place;
+use value::Value;
 ghost use mathlib.Core.Path.{_≡_};
 ghost use Prim.Native.Nat.{ℕ, _+_};
 ghost use Rattle.errors.specs.Refusal.{done, refused as stop};
@@ -12,13 +13,13 @@ ghost use Rattle.blocks.specs.Tree.{Tree, text, body, part};
 ghost use Rattle.blocks.specs.Read.{readLayout};
 ghost use Rattle.ir.specs.Layout.{nodeOf, layoutOf};
 ghost use Rattle.accepted.specs.Accepted.{Accepted, tree};
-ghost use Rattle.interpreter.specs.Arithmetic.{Result};
 ghost use Rattle.interpreter.specs.Eval.{Handlers, ParamMap, find, refusalAt, lift, eval-node};
-ghost use Rattle.interpreter_arithmetic.specs.Num.{numOf};
+ghost use Rattle.value.specs.Number.{numberOf};
+ghost use Rattle.interpreter_arithmetic.specs.Num.{resultOf};
 ghost use Rattle.lookup.specs.Found.{TreeFound};
-ghost use Rattle.interpreter_context.specs.Names.{heldOf};
+ghost use Rattle.interpreter_context.specs.Names.{foundIn};
 ghost use Rattle.interpreter_context.specs.Context.{Context, argumentsOf, Here};
-ghost use Rattle.interpreter_leaves.specs.Outcome.{Tells};
+ghost use Rattle.interpreter_leaves.specs.Outcome.{Tells, countIn};
 ghost use Rattle.interpreter_leaves.specs.Steps.{Rooted, Picked, Bound, FieldName, Unwrapped};
 
 // A count, or a refusal.
@@ -52,11 +53,18 @@ pub struct Frame {
 }
 
 // A count, left in the caller's words. They are written as a whole, so that the proof needs no length; one store is compiled.
-pub fn counted(n: u64, out: &mut [u64; 4]) -> bool
-    ensures { λ r. ⌜ Tells r (now (out .entry)) (now (out .exit)) (done n) ⌝ }
+pub fn counted(v: Value, out: &mut [u64; 4]) -> bool
+    ensures { λ r. ⌜ Tells r (now (out .entry)) (now (out .exit)) (done (numberOf v)) ⌝ }
 {
-    *out = [n, out[1], out[2], out[3]];
+    *out = [v.low(), out[1], out[2], out[3]];
     true
+}
+
+// The count that was left there.
+pub fn count_in(out: &[u64; 4]) -> Value
+    ensures { λ r. ⌜ numberOf r ≡ countIn (now (out .entry)) ⌝ }
+{
+    Value::of(out[0])
 }
 
 // A refusal, left in the caller's words.
@@ -69,7 +77,7 @@ pub fn refused(number: u64, place: usize, offset: usize, value: u64, out: &mut [
 
 // A result of arithmetic, at a node.
 pub fn lifted(place: usize, at: usize, n: Num, out: &mut [u64; 4]) -> bool
-    ensures { λ r. ⌜ ((x : Result) → n ≡ numOf x → Tells r (now (out .entry)) (now (out .exit)) (lift place at x)) ⌝ }
+    ensures { λ r. ⌜ Tells r (now (out .entry)) (now (out .exit)) (lift place at (resultOf n)) ⌝ }
 {
     match n {
         Num::Value(v) => counted(v, out),
@@ -83,7 +91,7 @@ pub fn constant(s: &[u8], at: usize, out: &mut [u64; 4]) -> bool
     ensures { λ r. ⌜ ((handle : Handlers) (p : ℕ) (γ : ParamMap) (a : Accepted (now (s .entry)) 128 144 at) → Tells r (now (out .entry)) (now (out .exit)) (eval-node handle p γ (nodeOf (tree a)))) ⌝ }
 {
     let p = interpreter_context::first_part(s, at);
-    counted(wire::read8(s, p) as u64, out)
+    counted(Value::of(wire::read8(s, p) as u64), out)
 }
 
 // The offset of the name that a FieldRef node looks for.
@@ -122,22 +130,23 @@ pub fn field(
 // The tag of a Switch node.
 pub fn tag(s: &[u8], values: &[u8], words: &[u64], root: Root, f: Frame, at: usize) -> Held
     requires { ⌜ Accepted (now s) 128 144 at × (le2 (now s) (at + 4) ≡ 132) × ((γ : ParamMap) × Context (now s) (now values) (root .block) (root .len) (now words) (f .depth) γ) ⌝ }
-    ensures { λ r. ⌜ ((γ : ParamMap) → Context (now (s .entry)) (now (values .entry)) (root .block) (root .len) (now (words .entry)) (f .depth) γ → (a : Accepted (now (s .entry)) 128 144 at) → r ≡ heldOf (find (text (part 2 (body (tree a)))) γ)) ⌝ }
+    ensures { λ r. ⌜ ((γ : ParamMap) → Context (now (s .entry)) (now (values .entry)) (root .block) (root .len) (now (words .entry)) (f .depth) γ → (a : Accepted (now (s .entry)) 128 144 at) → foundIn r ≡ find (text (part 2 (body (tree a)))) γ) ⌝ }
 {
     let p = interpreter_context::first_part(s, at);
     interpreter_context::find(s, p, values, root, words, f.depth)
 }
 
 // The node of the first case of the tag's value, or else the default node.
-pub fn selected(s: &[u8], at: usize, tag: u64) -> Choice
+pub fn selected(s: &[u8], at: usize, tag: Value) -> Choice
     requires { ⌜ Accepted (now s) 128 144 at × (le2 (now s) (at + 4) ≡ 132) ⌝ }
-    ensures { λ r. ⌜ ((a : Accepted (now (s .entry)) 128 144 at) → Picked a tag r) ⌝ }
+    ensures { λ r. ⌜ ((a : Accepted (now (s .entry)) 128 144 at) → Picked a (numberOf tag) r) ⌝ }
 {
+    let wanted = tag.low();
     let list = interpreter_context::second_part(s, at);
     let mut left = wire::read2(s, list);
     let mut p = list + 2;
     while 0 < left {
-        if wire::read8(s, p + 6) as u64 == tag {
+        if wire::read8(s, p + 6) as u64 == wanted {
             return Choice::Node(p + 14);
         }
         p = p + 4 + wire::read4(s, p);

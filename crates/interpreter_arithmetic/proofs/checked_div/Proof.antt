@@ -1,12 +1,13 @@
 -- `checked_div` gives the quotient, or 23 for a zero divisor.
 use borrow.Author.Needs.{needs}
 use borrow.Author.Tests.{eq-eqb, ne-eqb}
+use Rattle.value.specs.Number.{numberOf}
 use Rattle.interpreter.specs.Arithmetic.{checked-div}
 use Rattle.interpreter_arithmetic.proofs.checked_div.Statement.{statement}
 use Rattle.interpreter_arithmetic.proofs.checked_div.Tie as tie
 
 pub checked-div-spec : {M : Type 1} → statement M
-unfolding checked-div
+unfolding checked-div numberOf
 checked-div-spec =
     tie.close
     (tie.spec

@@ -2,13 +2,14 @@
 use native.Mathlib.Omega.{arith}
 use native.Mathlib.Nat.{pos-of-ne-zero, mul-zero}
 use borrow.Author.Needs.{needs}
+use Rattle.value.specs.Number.{numberOf}
 use Rattle.interpreter.specs.Arithmetic.{checked-mul}
 use Rattle.interpreter.proofs.Arithmetic.{product-in, product-over, exact-in, exact-over}
 use Rattle.interpreter_arithmetic.proofs.checked_mul.Statement.{statement}
 use Rattle.interpreter_arithmetic.proofs.checked_mul.Tie as tie
 
 returns : tie.Need-returns
-unfolding checked-mul
+unfolding checked-mul numberOf
 returns c = rw (c .if1 .taken, mul-zero)
 
 div-if2 : tie.Need-div-if2
@@ -20,11 +21,11 @@ mul-product c = record {
 }
 
 returns-2 : tie.Need-returns-2
-unfolding checked-mul
+unfolding checked-mul numberOf
 returns-2 c = rw (exact-in 64 _ (mul-product c .fits))
 
 returns-3 : tie.Need-returns-3
-unfolding checked-mul
+unfolding checked-mul numberOf
 returns-3 c =
     rw (exact-over 64 _ (product-over _ _ _ (pos-of-ne-zero (c .before .if1 .left)) (c .if2 .left)))
 

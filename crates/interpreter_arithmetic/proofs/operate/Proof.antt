@@ -2,8 +2,9 @@
 use Prim.Native.Nat.{ℕ, suc, _≤_}
 use native.Mathlib.Omega.{arith}
 use native.Mathlib.Nat.{le-antisymm}
-use mathlib.Core.Path.{_≡_}
+use mathlib.Core.Path.{_≡_, refl}
 use Rattle.ir.specs.Layout.{operations}
+use Rattle.value.specs.Number.{numberOf}
 use Rattle.interpreter.specs.Arithmetic.{operate as operation}
 use Rattle.interpreter_arithmetic.proofs.operate.Statement.{statement}
 use Rattle.interpreter_arithmetic.proofs.operate.Tie as tie
@@ -14,7 +15,7 @@ above f t = let h = f (t .0) in let n = t .1 in omega arith
 
 -- the last arm: the kind is none of 134 to 142
 last : tie.Need-returns-10
-unfolding operations operation
+unfolding operations operation numberOf
 last c =
     let at-start = c .before .before in
     let e : at-start .args .kind ≡ 143 = le-antisymm
@@ -25,13 +26,10 @@ last c =
     rw e (c .checked-right-shift .ensures)
 
 pub operate-spec : {M : Type 1} → statement M
-unfolding operations operation
+unfolding operations operation numberOf
 operate-spec =
     tie.close
     (tie.spec
-    (λ c κs. tt)
-    (λ c κs. tt)
-    (λ c κs. tt)
     (λ c κs. tt)
     (λ c κs. tt)
     (λ c κs. tt)
@@ -44,8 +42,8 @@ operate-spec =
     (λ c. rw (c .before .match .keys3) (c .checked-mul .ensures))
     (λ c. rw (c .before .match .keys4) (c .checked-div .ensures))
     (λ c. rw (c .before .match .keys5) (c .checked-mod .ensures))
-    (λ c. rw (c .before .match .keys6) (c .bit-and .ensures))
-    (λ c. rw (c .before .match .keys7) (c .bit-or .ensures))
-    (λ c. rw (c .before .match .keys8) (c .bit-xor .ensures))
+    (λ c. rw (c .match .keys6))
+    (λ c. rw (c .match .keys7))
+    (λ c. rw (c .match .keys8))
     (λ c. rw (c .before .match .keys9) (c .checked-left-shift .ensures))
     last)

@@ -7,7 +7,6 @@ use Rattle.lookup.proofs.Slices.{slice-is}
 use Rattle.interpreter.specs.Eval.{find}
 use Rattle.interpreter.specs.Validate.{with-buffer-size, valuesOf}
 use Rattle.accepted.specs.Accepted.{tree}
-use Rattle.interpreter_context.specs.Names.{heldOf}
 use Rattle.interpreter_context.proofs.Calls.{block-at, held-value, held-length, held-absent}
 use borrow.Author.Needs.{needs}
 use Rattle.interpreter_context.proofs.at_root.Statement.{statement}
@@ -44,8 +43,8 @@ at-read2 r = r .before .before
 abbrev at-start : tie.After-value-in → tie.Start
 at-start r = at-read2 r .before .before .before
 
-read8-requires : tie.Need-read8-requires
-read8-requires c κs =
+value-at-requires : tie.Need-value-at-requires
+value-at-requires c κs =
     let at-value-in = c .before .before .before in
     block-at
     (c .before .o .given .1)
@@ -69,28 +68,31 @@ slice-aggregate-same-name c = search needs
 same-name-requires : tie.Need-same-name-requires
 same-name-requires c κs = search needs
 
+of-requires : tie.Need-of-requires
+of-requires c κs = search needs
+
 returns : tie.Need-returns
 returns c =
-    let at-enum-told = c .before .before .before .before in
+    let at-then1 = c .before in
+    let at-enum-told = at-then1 .before .before .before .before in
     let at-value-in = at-enum-told .before .before in
     λ a. held-length _
-    (at-value-in .value-in .ensures .1 a)
+    (at-value-in .value-in .ensures .1 a) _
     (at-enum-told .enum-told .given .1)
-    (c .before .same-name .ensures)
-    (c .if1 .taken)
+    (at-then1 .before .same-name .ensures)
+    (at-then1 .if1 .taken)
+    (c .of .ensures)
     ∙ ap
-    (λ (n : Name). heldOf
-    (find n (with-buffer-size (at-start at-value-in .args .root .len) (valuesOf (tree a)))))
+    (λ (n : Name). find n (with-buffer-size (at-start at-value-in .args .root .len) (valuesOf (tree a))))
     (slice-is _ _ _ (at-read2 at-value-in .read2 .ensures .0))
 
 returns-2 : tie.Need-returns-2
 returns-2 c =
     let at-o = c .before .before in
     let at-value-in = at-o .before .before in
-    λ a. held-value _ (at-value-in .value-in .ensures .1 a) (at-o .o .given .1) (c .read8 .ensures)
+    λ a. held-value _ (at-value-in .value-in .ensures .1 a) _ (at-o .o .given .1) (c .value-at .ensures)
     ∙ ap
-    (λ (n : Name). heldOf
-    (find n (with-buffer-size (at-start at-value-in .args .root .len) (valuesOf (tree a)))))
+    (λ (n : Name). find n (with-buffer-size (at-start at-value-in .args .root .len) (valuesOf (tree a))))
     (slice-is _ _ _ (at-read2 at-value-in .read2 .ensures .0))
 
 returns-3 : tie.Need-returns-3
@@ -103,8 +105,7 @@ returns-3 c =
     (c .before .same-name .ensures)
     (c .if1 .left)
     ∙ ap
-    (λ (n : Name). heldOf
-    (find n (with-buffer-size (at-start at-value-in .args .root .len) (valuesOf (tree a)))))
+    (λ (n : Name). find n (with-buffer-size (at-start at-value-in .args .root .len) (valuesOf (tree a))))
     (slice-is _ _ _ (at-read2 at-value-in .read2 .ensures .0))
 
 pub at-root-spec : {M : Type 1} → statement M
@@ -119,13 +120,14 @@ at-root-spec =
     part-value-in-end
     value-in-requires
     enum-known-o
-    read8-requires
+    value-at-requires
     enum-told
     sub-same-name
     part-same-name-start
     part-same-name-end
     slice-aggregate-same-name
     same-name-requires
+    of-requires
     returns
     returns-2
     returns-3)

@@ -86,7 +86,7 @@ at-root-requires c κs = (
 
 returns-2 : tie.Need-returns-2 Inv-loop μ-loop
 returns-2 c =
-    at-the-root (c .before .loop-test .left) (c .before .before .loop .inv) (c .at-root .ensures)
+    at-the-root (c .at-root .result) (c .before .loop-test .left) (c .before .before .loop .inv) (c .at-root .ensures)
 
 pub find-spec : {M : Type 1} → statement M
 find-spec =

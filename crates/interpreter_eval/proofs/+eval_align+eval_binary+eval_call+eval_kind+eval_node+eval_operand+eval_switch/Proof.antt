@@ -2,9 +2,10 @@
 -- open. Each need follows from what the leaves and the other members ensure, by a law of Laws.antt. The measure: the calls that may
 -- still open, then the length of the node's block, then the member's rank, since a node is handed on unchanged only from
 -- eval_operand to eval_node, to eval_kind and to the member of its kind.
-use mathlib.Core.Path.{refl, sym, _∙_}
+use mathlib.Core.Path.{refl, sym, _∙_, ap}
 use lib.ListN.{length-set}
 use lib.Seq.{getD-set-other}
+use Rattle.errors.specs.Refusal.{done}
 use Rattle.blocks.specs.Bytes.{le4}
 use Rattle.ir.specs.Layout.{layoutOf}
 use Rattle.interpreter_context.proofs.Lists.{ends}
@@ -68,12 +69,15 @@ use Rattle.interpreter_eval.proofs.eval_switch.Kinds as eval-switch-kin
 use Rattle.interpreter_eval.proofs.+eval_align+eval_binary+eval_call+eval_kind+eval_node+eval_operand+eval_switch.Lts-eval_switch as eval-switch-lts
 use Rattle.interpreter_arithmetic.proofs.align_up.Reads as align-up-reads
 use Rattle.interpreter_arithmetic.proofs.operate.Reads as operate-reads
+use Rattle.value.proofs.Value.of.Reads as of-reads
+use Rattle.value.proofs.Value.low.Reads as low-reads
 use Rattle.wire.proofs.read2.Reads as read2-reads
 use Rattle.wire.proofs.read8.Reads as read8-reads
 use Rattle.interpreter_leaves.proofs.called.Reads as called-reads
 use Rattle.interpreter_leaves.proofs.collect_arguments.Reads as collect-arguments-reads
 use Rattle.interpreter_leaves.proofs.constant.Reads as constant-reads
 use Rattle.interpreter_leaves.proofs.counted.Reads as counted-reads
+use Rattle.interpreter_leaves.proofs.count_in.Reads as count-in-reads
 use Rattle.interpreter_leaves.proofs.field.Reads as field-reads
 use Rattle.interpreter_leaves.proofs.lifted.Reads as lifted-reads
 use Rattle.interpreter_leaves.proofs.refused.Reads as refused-reads
@@ -180,6 +184,8 @@ eval-align-with t = (
   second-part-reads.Learnt,
   eval-node-below t,
   eval-node.Post,
+  count-in-reads.Asked,
+  count-in-reads.Learnt,
   read8-reads.Asked,
   read8-reads.Learnt,
   align-up-reads.Asked,
@@ -198,6 +204,8 @@ eval-binary-with t = (
   second-part-reads.Learnt,
   eval-operand-below t,
   eval-operand.Post,
+  count-in-reads.Asked,
+  count-in-reads.Learnt,
   eval-node-below t,
   eval-node.Post,
   operate-reads.Asked,
@@ -224,6 +232,8 @@ abbrev eval-kind-with : ℕ → eval-kind-lts.Claims
 eval-kind-with t = (
   read2-reads.Asked,
   read2-reads.Learnt,
+  of-reads.Asked,
+  of-reads.Learnt,
   counted-reads.Asked,
   counted-reads.Learnt,
   constant-reads.Asked,
@@ -272,6 +282,8 @@ eval-switch-with t = (
   selected-reads.Learnt,
   eval-node-below t,
   eval-node.Post,
+  low-reads.Asked,
+  low-reads.Learnt,
 )
 
 eval-align-first-part-requires : (t : ℕ) → eval-align-lts.Need-first-part-requires (eval-align-with t) (eval-align-at t) eval-align.Post
@@ -328,12 +340,13 @@ eval-align-returns t c =
           (c .if1 .taken),
     )
 
-eval-align-element-copy-out-x : (t : ℕ) → eval-align-lts.Need-element-copy-out-x (eval-align-with t) (eval-align-at t) eval-align.Post
-eval-align-element-copy-out-x t c = search needs
+eval-align-count-in-requires : (t : ℕ) → eval-align-lts.Need-count-in-requires (eval-align-with t) (eval-align-at t) eval-align.Post
+eval-align-count-in-requires t c κs = search needs
 
 eval-align-read8-requires : (t : ℕ) → eval-align-lts.Need-read8-requires (eval-align-with t) (eval-align-at t) eval-align.Post
 eval-align-read8-requires t c κs =
-    let at-first-part = c .before .before .before .before .before .before .before .before in
+    let at-eval-node = c .before .before .before .before .before in
+    let at-first-part = at-eval-node .before .before .before .before in
     let at-start = at-first-part .before .before .before .before in
     align-number
     (at-first-part .first-part .ensures)
@@ -353,7 +366,8 @@ eval-align-returns-2 : (t : ℕ) → eval-align-lts.Need-returns-2 (eval-align-w
 eval-align-returns-2 t c =
     let at-align-up = c .before .before in
     let at-read8 = at-align-up .before in
-    let at-else1 = at-read8 .before .before in
+    let at-count-in = at-read8 .before in
+    let at-else1 = at-count-in .before .before in
     let at-eval-node = at-else1 .before .before .before in
     let at-second-part = at-eval-node .before .before .before in
     let at-first-part = at-second-part .before in
@@ -366,6 +380,7 @@ eval-align-returns-2 t c =
           (layoutOf t) _ γ a
           (at-eval-node .eval-node .ensures .1 γ x t rd)
           (at-else1 .if1 .left)
+          (at-count-in .count-in .ensures)
           (at-read8 .read8 .ensures)
           (at-align-up .align-up .ensures)
           (c .lifted .ensures),
@@ -438,12 +453,12 @@ eval-binary-returns t c =
           (c .if1 .taken),
     )
 
-eval-binary-element-copy-out-x : (t : ℕ) → eval-binary-lts.Need-element-copy-out-x (eval-binary-with t) (eval-binary-at t) eval-binary.Post
-eval-binary-element-copy-out-x t c = search needs
+eval-binary-count-in-requires : (t : ℕ) → eval-binary-lts.Need-count-in-requires (eval-binary-with t) (eval-binary-at t) eval-binary.Post
+eval-binary-count-in-requires t c κs = search needs
 
 eval-binary-eval-node-requires : (t : ℕ) → eval-binary-lts.Need-eval-node-requires (eval-binary-with t) (eval-binary-at t) eval-binary.Post
 eval-binary-eval-node-requires t c κs =
-    let at-eval-operand = c .before .before .before .before .before .before in
+    let at-eval-operand = c .before .before .before .before .before .before .before in
     let at-second-part = at-eval-operand .before .before .before in
     let at-start = at-second-part .before .before .before .before .before .before in (
       omega (
@@ -472,7 +487,7 @@ eval-binary-same-length-2 t c = search needs
 eval-binary-returns-2 : (t : ℕ) → eval-binary-lts.Need-returns-2 (eval-binary-with t) (eval-binary-at t) eval-binary.Post
 eval-binary-returns-2 t c =
     let at-eval-node = c .before .before .before in
-    let at-else1 = at-eval-node .before .before .before .before in
+    let at-else1 = at-eval-node .before .before .before .before .before in
     let at-eval-operand = at-else1 .before .before .before in
     let at-second-part = at-eval-operand .before .before .before in
     let at-first-part = at-second-part .before in
@@ -487,18 +502,20 @@ eval-binary-returns-2 t c =
           (layoutOf t) _ γ
           (at-eval-operand .eval-operand .ensures .1 γ x t rd)
           (at-eval-node .eval-node .ensures .1 γ
-          (context-same _ (omega arith) (omega arith) (at-eval-operand .eval-operand .ensures .0) x)
+          (context-same _ (omega arith) (at-else1 .before .before .words .given) (at-eval-operand .eval-operand .ensures .0) x)
           t rd)
           (at-else1 .if1 .left)
           (c .if2 .taken),
     )
 
-eval-binary-element-copy-out-y : (t : ℕ) → eval-binary-lts.Need-element-copy-out-y (eval-binary-with t) (eval-binary-at t) eval-binary.Post
-eval-binary-element-copy-out-y t c = search needs
+eval-binary-count-in-requires-2 : (t : ℕ) → eval-binary-lts.Need-count-in-requires-2 (eval-binary-with t) (eval-binary-at t) eval-binary.Post
+eval-binary-count-in-requires-2 t c κs = search needs
 
 eval-binary-operate-requires : (t : ℕ) → eval-binary-lts.Need-operate-requires (eval-binary-with t) (eval-binary-at t) eval-binary.Post
 eval-binary-operate-requires t c κs =
-    let at-read2 = c .before .before .before .before .before .before .before .before .before .before .before .before .before .before .before .before in
+    let at-eval-node = c .before .before .before .before .before in
+    let at-eval-operand = at-eval-node .before .before .before .before .before .before .before .before in
+    let at-read2 = at-eval-operand .before .before .before .before .before in
     let at-start = at-read2 .before .before .before .before in (
       omega (arith, at-read2 .read2 .ensures .0, (at-start .pre .1 .1 .0)),
       omega (arith, at-read2 .read2 .ensures .0, (at-start .pre .1 .1 .1)),
@@ -513,9 +530,11 @@ eval-binary-same-length-3 t c = search needs
 eval-binary-returns-3 : (t : ℕ) → eval-binary-lts.Need-returns-3 (eval-binary-with t) (eval-binary-at t) eval-binary.Post
 eval-binary-returns-3 t c =
     let at-operate = c .before .before in
-    let at-else2 = at-operate .before .before in
+    let at-count-in2 = at-operate .before in
+    let at-else2 = at-count-in2 .before .before in
     let at-eval-node = at-else2 .before .before .before in
-    let at-else1 = at-eval-node .before .before .before .before in
+    let at-count-in = at-eval-node .before .before .before in
+    let at-else1 = at-count-in .before .before in
     let at-eval-operand = at-else1 .before .before .before in
     let at-second-part = at-eval-operand .before .before .before in
     let at-first-part = at-second-part .before in
@@ -531,11 +550,13 @@ eval-binary-returns-3 t c =
           (layoutOf t) _ γ
           (at-eval-operand .eval-operand .ensures .1 γ x t rd)
           (at-eval-node .eval-node .ensures .1 γ
-          (context-same _ (omega arith) (omega arith) (at-eval-operand .eval-operand .ensures .0) x)
+          (context-same _ (omega arith) (at-else1 .before .before .words .given) (at-eval-operand .eval-operand .ensures .0) x)
           t rd)
           (at-else1 .if1 .left)
           (at-else2 .if2 .left)
           (at-read2 .read2 .ensures .0)
+          (at-count-in .count-in .ensures)
+          (at-count-in2 .count-in2 .ensures)
           (at-operate .operate .ensures)
           (c .lifted .ensures),
     )
@@ -748,6 +769,9 @@ eval-kind-read2-requires t c κs =
     let at-start = c .before .before .before in
     omega (arith, within (at-start .pre .1 .node))
 
+eval-kind-of-requires : (t : ℕ) → eval-kind-lts.Need-of-requires (eval-kind-with t) (eval-kind-at t) eval-kind.Post
+eval-kind-of-requires t c κs = search needs
+
 eval-kind-counted-requires : (t : ℕ) → eval-kind-lts.Need-counted-requires (eval-kind-with t) (eval-kind-at t) eval-kind.Post
 eval-kind-counted-requires t c κs = search needs
 
@@ -829,14 +853,15 @@ eval-kind-eval-binary-requires t c κs =
 
 eval-kind-returns : (t : ℕ) → eval-kind-lts.Need-returns (eval-kind-with t) (eval-kind-at t) eval-kind.Post
 eval-kind-returns t c =
-    let at-match-keys1 = c .before .before in
+    let at-of = c .before .before in
+    let at-match-keys1 = at-of .before in
     let at-read2 = at-match-keys1 .before in (
       (λ i h. refl),
       λ γ x t rd a. leaf-answers _
           (layoutOf t) _ γ a
           (λ k. tells-as
           (c .counted .ensures)
-          (zero-is (at-read2 .read2 .ensures .0) (at-match-keys1 .match .keys1) k _ γ a)),
+          (ap done (at-of .of .ensures) ∙ zero-is (at-read2 .read2 .ensures .0) (at-match-keys1 .match .keys1) k _ γ a)),
     )
 
 eval-kind-returns-2 : (t : ℕ) → eval-kind-lts.Need-returns-2 (eval-kind-with t) (eval-kind-at t) eval-kind.Post
@@ -1024,6 +1049,9 @@ eval-switch-eval-node-requires t c κs =
 eval-switch-enum-told-2 : (t : ℕ) → eval-switch-lts.Need-enum-told-2 (eval-switch-with t) (eval-switch-at t) eval-switch.Post
 eval-switch-enum-told-2 t c = search needs
 
+eval-switch-low-requires : (t : ℕ) → eval-switch-lts.Need-low-requires (eval-switch-with t) (eval-switch-at t) eval-switch.Post
+eval-switch-low-requires t c κs = search needs
+
 eval-switch-refused-requires-2 : (t : ℕ) → eval-switch-lts.Need-refused-requires-2 (eval-switch-with t) (eval-switch-at t) eval-switch.Post
 eval-switch-refused-requires-2 t c κs = search needs
 
@@ -1072,7 +1100,8 @@ eval-switch-same-length-3 t c = search needs
 
 eval-switch-returns-3 : (t : ℕ) → eval-switch-lts.Need-returns-3 (eval-switch-with t) (eval-switch-at t) eval-switch.Post
 eval-switch-returns-3 t c =
-    let at-enum-told2 = c .before .before in
+    let at-low = c .before .before in
+    let at-enum-told2 = at-low .before in
     let at-selected = at-enum-told2 .before .before in
     let at-v = at-selected .before .before in
     let at-tag = at-v .before .before in
@@ -1086,7 +1115,8 @@ eval-switch-returns-3 t c =
           (at-tag .tag .ensures γ x a)
           (at-v .v .given .1)
           (at-enum-told2 .enum-told2 .given .1)
-          (at-selected .selected .ensures a)),
+          (at-selected .selected .ensures a)
+          (at-low .low .ensures)),
     )
 
 pub +eval-align+eval-binary+eval-call+eval-kind+eval-node+eval-operand+eval-switch-spec : {M : Type 1} → statement M
@@ -1096,14 +1126,14 @@ pub +eval-align+eval-binary+eval-call+eval-kind+eval-node+eval-operand+eval-swit
     (λ t. eval-align-lts.spec (eval-align-with t) (eval-align-at t) eval-align.Post
     (eval-align-first-part-requires t) (eval-align-second-part-requires t)
     (eval-align-eval-node-requires t) (eval-align-same-length t) (eval-align-returns t)
-    (eval-align-element-copy-out-x t) (eval-align-read8-requires t) (eval-align-align-up-requires t)
+    (eval-align-count-in-requires t) (eval-align-read8-requires t) (eval-align-align-up-requires t)
     (eval-align-lifted-requires t) (eval-align-same-length-2 t) (eval-align-returns-2 t))
     (λ t. eval-binary-lts.spec (eval-binary-with t) (eval-binary-at t) eval-binary.Post
     (eval-binary-add-read2 t) (eval-binary-read2-requires t) (eval-binary-first-part-requires t)
     (eval-binary-second-part-requires t) (eval-binary-eval-operand-requires t)
-    (eval-binary-same-length t) (eval-binary-returns t) (eval-binary-element-copy-out-x t)
+    (eval-binary-same-length t) (eval-binary-returns t) (eval-binary-count-in-requires t)
     (eval-binary-eval-node-requires t) (eval-binary-same-length-2 t) (eval-binary-returns-2 t)
-    (eval-binary-element-copy-out-y t) (eval-binary-operate-requires t)
+    (eval-binary-count-in-requires-2 t) (eval-binary-operate-requires t)
     (eval-binary-lifted-requires t) (eval-binary-same-length-3 t) (eval-binary-returns-3 t))
     (λ t. eval-call-lts.spec (eval-call-with t) (eval-call-at t) eval-call.Post
     (eval-call-collect-arguments-requires t) (eval-call-enum-known-q t)
@@ -1116,7 +1146,7 @@ pub +eval-align+eval-binary+eval-call+eval-kind+eval-node+eval-operand+eval-swit
     (eval-call-returns-2 t) (eval-call-same-length-3 t) (eval-call-returns-3 t)
     (eval-call-same-length-4 t) (eval-call-returns-4 t))
     (λ t. eval-kind-lts.spec (eval-kind-with t) (eval-kind-at t) eval-kind.Post
-    (eval-kind-add-read2 t) (eval-kind-read2-requires t) (eval-kind-counted-requires t)
+    (eval-kind-add-read2 t) (eval-kind-read2-requires t) (eval-kind-of-requires t) (eval-kind-counted-requires t)
     (eval-kind-constant-requires t) (eval-kind-field-requires t) (eval-kind-eval-align-requires t)
     (eval-kind-eval-switch-requires t) (eval-kind-eval-call-requires t)
     (eval-kind-refused-requires t) (eval-kind-eval-binary-requires t) (eval-kind-returns t)
@@ -1145,7 +1175,7 @@ pub +eval-align+eval-binary+eval-call+eval-kind+eval-node+eval-operand+eval-swit
     (λ t. eval-switch-lts.spec (eval-switch-with t) (eval-switch-at t) eval-switch.Post
     (eval-switch-tag-requires t) (eval-switch-enum-told t) (eval-switch-refused-requires t)
     (eval-switch-enum-known-v t) (eval-switch-selected-requires t) (eval-switch-enum-known-q t)
-    (eval-switch-eval-node-requires t) (eval-switch-enum-told-2 t)
+    (eval-switch-eval-node-requires t) (eval-switch-enum-told-2 t) (eval-switch-low-requires t)
     (eval-switch-refused-requires-2 t) (eval-switch-same-length t) (eval-switch-returns t)
     (eval-switch-same-length-2 t) (eval-switch-returns-2 t) (eval-switch-same-length-3 t)
     (eval-switch-returns-3 t))

@@ -1,6 +1,7 @@
 -- `lifted` meets its contract: a value becomes a count, a fault a refusal at the node.
 use Rattle.interpreter_leaves.proofs.Tells.{tells-as}
-use Rattle.interpreter_leaves.proofs.Nodes.{lifted-value, lifted-fault}
+use Rattle.interpreter_leaves.proofs.Nodes.{lifted-as}
+use Rattle.interpreter.specs.Eval.{lift}
 use borrow.Author.Needs.{needs}
 use Rattle.interpreter_leaves.proofs.lifted.Statement.{statement}
 use Rattle.interpreter_leaves.proofs.lifted.Tie as tie
@@ -18,14 +19,16 @@ refused-requires : tie.Need-refused-requires
 refused-requires c κs = search needs
 
 returns : tie.Need-returns
+unfolding lift
 returns c =
     let at-n = c .before .before .before in
-    λ x e. tells-as (c .counted .ensures) (lifted-value _ _ _ _ (at-n .n .given .1) x e)
+    tells-as (c .counted .ensures) (lifted-as _ _ (at-n .n .given .1))
 
 returns-2 : tie.Need-returns-2
+unfolding lift
 returns-2 c =
     let at-n2 = c .before .before .before in
-    λ x e. tells-as (c .refused .ensures) (lifted-fault _ _ _ _ (at-n2 .n2 .given .1) x e)
+    tells-as (c .refused .ensures) (lifted-as _ _ (at-n2 .n2 .given .1))
 
 pub lifted-spec : {M : Type 1} → statement M
 lifted-spec =

@@ -6,22 +6,25 @@ use native.Mathlib.Omega.{arith}
 use Rattle.blocks.specs.Bytes.{le2}
 use Rattle.accepted.specs.Accepted.{Accepted}
 use Rattle.interpreter_leaves.proofs.Nodes.{enough}
-use Rattle.interpreter_leaves.proofs.Cases.{IsCase, SwitchAt, Tried, begin, switch-at, next-case, another, hit, ended, flag-in, default-given, default-absent}
+use Rattle.interpreter_leaves.proofs.Cases.{same-tag, IsCase, SwitchAt, Tried, begin, switch-at, next-case, another, hit, ended, flag-in, default-given, default-absent}
 use Rattle.interpreter_leaves.proofs.selected.Statement.{statement}
 use Rattle.interpreter_leaves.proofs.selected.Tie as tie
 
 abbrev Inv-loop : tie.InvT-loop
-Inv-loop s at tag list left₀ p₀ left p = Tried s tag (le2 s list) (list + 2) left p
+Inv-loop s at wanted list left₀ p₀ left p = Tried s wanted (le2 s list) (list + 2) left p
 
 abbrev μ-loop : tie.MeasureT-loop
-μ-loop s at tag list left₀ p₀ left p = left
+μ-loop s at wanted list left₀ p₀ left p = left
 
 -- The places before the loop, seen from it.
 abbrev at-second-part : tie.At-loop Inv-loop μ-loop → tie.After-second-part Inv-loop μ-loop
 at-second-part r = r .before .before
 
+abbrev at-low : tie.At-loop Inv-loop μ-loop → tie.After-low Inv-loop μ-loop
+at-low r = at-second-part r .before
+
 abbrev at-start : tie.At-loop Inv-loop μ-loop → tie.Start Inv-loop μ-loop
-at-start r = at-second-part r .before .before
+at-start r = at-low r .before .before
 
 -- the cases of the node, whatever accepted it
 cases : (r : tie.At-loop Inv-loop μ-loop) (a : Accepted (at-start r .args .s .now) 128 144 (at-start r .args .at)) → SwitchAt a (at-second-part r .second-part .result)
@@ -31,19 +34,23 @@ cases r a = switch-at (at-second-part r .second-part .ensures) a (at-start r .pr
 next : (r : tie.In-loop Inv-loop μ-loop) → (c : Accepted (at-start (r .before) .args .s .now) 163 163 (r .before .loop .p)) × IsCase c
 next r = next-case (r .loop-test .taken) (r .before .loop .inv) (cases (r .before) (at-start (r .before) .pre .0) .list)
 
+low-requires : tie.Need-low-requires Inv-loop μ-loop
+low-requires c κs = tt
+
 second-part-requires : tie.Need-second-part-requires Inv-loop μ-loop
-second-part-requires c κs = (
-  c .before .pre .0,
-  enough _ _ (omega (arith, c .before .pre .1)) (omega (arith, c .before .pre .1)) (omega arith),
-)
+second-part-requires c κs =
+    let at-start = c .before .before in (
+      at-start .pre .0,
+      enough _ _ (omega (arith, at-start .pre .1)) (omega (arith, at-start .pre .1)) (omega arith),
+    )
 
 read2-requires : tie.Need-read2-requires Inv-loop μ-loop
-read2-requires c κs = let at-start = c .before .before in
+read2-requires c κs = let at-start = c .before .before .before in
     switch-at (c .second-part .ensures) (at-start .pre .0) (at-start .pre .1) .inside
 
 add-p : tie.Need-add-p Inv-loop μ-loop
 add-p c =
-    let at-start = c .before .before .before in
+    let at-start = c .before .before .before .before in
     omega (
       arith,
       switch-at (c .before .second-part .ensures) (at-start .pre .0) (at-start .pre .1) .inside,
@@ -58,14 +65,14 @@ add-read8 c = omega (arith, next c .1 .inside)
 read8-requires : tie.Need-read8-requires Inv-loop μ-loop
 read8-requires c κs = omega (arith, next c .1 .inside)
 
-add-t12 : tie.Need-add-t12 Inv-loop μ-loop
-add-t12 c = omega (arith, next (c .before .before) .1 .inside)
+add-t13 : tie.Need-add-t13 Inv-loop μ-loop
+add-t13 c = omega (arith, next (c .before .before) .1 .inside)
 
 returns : tie.Need-returns Inv-loop μ-loop
 returns c =
     let in-loop = c .before .before in
     let at-loop = in-loop .before in
-    λ a. hit refl refl (in-loop .loop-test .taken) (c .before .read8 .ensures) (c .if1 .taken) (at-loop .loop .inv) a (cases at-loop a)
+    λ a. same-tag (at-low at-loop .low .ensures) (hit refl refl (in-loop .loop-test .taken) (c .before .read8 .ensures) (c .if1 .taken) (at-loop .loop .inv) a (cases at-loop a))
 
 add-p-2 : tie.Need-add-p-2 Inv-loop μ-loop
 add-p-2 c = omega (arith, next (c .before .before) .1 .inside)
@@ -100,8 +107,8 @@ shared-slice-read-b c =
     let a = at-start at-loop .pre .0 in
     omega (arith, flag-in (ended (c .before .loop-test .left) (at-loop .loop .inv) a (cases at-loop a)))
 
-add-t16 : tie.Need-add-t16 Inv-loop μ-loop
-add-t16 c =
+add-t17 : tie.Need-add-t17 Inv-loop μ-loop
+add-t17 c =
     let after-loop = c .before .before in
     let at-loop = after-loop .before in
     let a = at-start at-loop .pre .0 in
@@ -111,13 +118,13 @@ returns-2 : tie.Need-returns-2 Inv-loop μ-loop
 returns-2 c =
     let after-loop = c .before .before in
     let at-loop = after-loop .before in
-    λ a. default-given (ended (after-loop .loop-test .left) (at-loop .loop .inv) a (cases at-loop a)) (c .if2 .taken)
+    λ a. same-tag (at-low at-loop .low .ensures) (default-given (ended (after-loop .loop-test .left) (at-loop .loop .inv) a (cases at-loop a)) (c .if2 .taken))
 
 returns-3 : tie.Need-returns-3 Inv-loop μ-loop
 returns-3 c =
     let after-loop = c .before .before in
     let at-loop = after-loop .before in
-    λ a. default-absent (ended (after-loop .loop-test .left) (at-loop .loop .inv) a (cases at-loop a)) (c .if2 .left)
+    λ a. same-tag (at-low at-loop .low .ensures) (default-absent (ended (after-loop .loop-test .left) (at-loop .loop .inv) a (cases at-loop a)) (c .if2 .left))
 
 pub selected-spec : {M : Type 1} → statement M
 selected-spec =
@@ -125,13 +132,14 @@ selected-spec =
     (tie.spec
     Inv-loop
     μ-loop
+    low-requires
     second-part-requires
     read2-requires
     add-p
     loop-holds
     add-read8
     read8-requires
-    add-t12
+    add-t13
     returns
     add-p-2
     read4-requires
@@ -140,6 +148,6 @@ selected-spec =
     loop-less
     loop-again
     shared-slice-read-b
-    add-t16
+    add-t17
     returns-2
     returns-3)

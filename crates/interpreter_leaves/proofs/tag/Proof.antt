@@ -16,7 +16,7 @@ find-requires c κs =
 returns : tie.Need-returns
 returns c =
     let at-start = c .before .before .before .before .before in
-    tag-is (c .before .first-part .ensures) (at-start .pre .1) (c .find .ensures)
+    tag-is (c .find .result) (c .before .first-part .ensures) (at-start .pre .1) (c .find .ensures)
 
 pub tag-spec : {M : Type 1} → statement M
 tag-spec = tie.close (tie.spec first-part-requires find-requires returns)
