@@ -1,23 +1,21 @@
 -- Stepping over the parts of a node, front to back.
 use mathlib.Core.Path.{_≡_, refl, sym, _∙_, ap, subst}
-use mathlib.Core.Bool.{Bool, true, false, _&&_}
 use mathlib.Core.List.{List, [], _∷_, map}
 use Prim.Native.Nat.{ℕ, zero, suc, _+_, _-_, _≤_, _<_}
 use native.Mathlib.Numerals.{add-one}
 use native.Mathlib.Omega.{arith}
-use lib.ListN.{length, getD, drop, getD-replicate}
+use lib.ListN.{length, getD, drop}
+use borrow.Author.Tests.{le-leb}
 use Rattle.blocks.specs.declared.Part.{Part}
-use Rattle.blocks.specs.declared.Part.the-variants.{Text, Key, Number, Flag, Size, OptNumber, OptText, Literal, Block, OptBlock, Blocks, Ascending, Distinct, Names, Paths, Values}
+use Rattle.blocks.specs.declared.Part.the-variants.{Text, Number, OptText, Block, Blocks}
 use Rattle.blocks.specs.Bytes.{le2, le4}
 use Rattle.blocks.specs.Grammar.{partsOf, nodeTable}
+use Rattle.blocks.specs.Read.{Earlier}
 use Rattle.blocks.specs.Tree.{Tree, cons, num, first, rest, body}
-use Rattle.blocks.proofs.Name.{and-left, and-right}
 use Rattle.ir_nodes.specs.Codes.{codeOf, codeAt}
-use Rattle.ir_nodes.proofs.Table.{entry}
-use Rattle.ir_nodes.proofs.Rows.{rowed, part-0, part-1}
-use Rattle.accepted.specs.Accepted.{Accepted, tree, Parts, Optional}
-use Rattle.accepted.proofs.Laws.{opened, Behind, text-part, number-part, There, optional-part, block-part}
-use Rattle.interpreter_context.specs.Located.{Simple, Next, rests, Located}
+use Rattle.accepted.specs.Accepted.{Accepted, tree, Parts, Optional, Counted, Item, Listed}
+use Rattle.accepted.proofs.Laws.{each, opened, Behind, text-part, number-part, There, optional-part, block-part, Enlisted, list-part, block-entry, none-left}
+use Rattle.interpreter_context.specs.Located.{Simple, Listing, Next, rests, Located}
 
 -- ---- one part
 
@@ -40,12 +38,12 @@ through {s} {at} {q} h l t b = record {
 
 -- what is behind a part, by its code
 pub record Steps {s : List ℕ} {p : Part} {ps : List Part} {at : ℕ} (c : Parts s (p ∷ ps) at) (code : ℕ) : Type 0 where
-  pub number : code ≡ 3 → Next c (at + 8)
-  pub text : code ≡ 1 → Next c (at + 2 + le2 s at)
-  pub flag : code ≡ 7 → at + 1 ≤ c .end
-  pub given : code ≡ 7 → getD s at 0 ≡ 1 → Next c (at + 3 + le2 s (at + 1))
-  pub absent : code ≡ 7 → (getD s at 0 ≡ 1 → ⊥) → Next c (at + 1)
-  pub block : (code ≡ 3 → ⊥) → (code ≡ 1 → ⊥) → (code ≡ 7 → ⊥) → Next c (at + 4 + le4 s at)
+  pub number : code ≡ codeOf Number → Next c (at + 8)
+  pub text : code ≡ codeOf Text → Next c (at + 2 + le2 s at)
+  pub flag : code ≡ codeOf OptText → at + 1 ≤ c .end
+  pub given : code ≡ codeOf OptText → getD s at 0 ≡ 1 → Next c (at + 3 + le2 s (at + 1))
+  pub absent : code ≡ codeOf OptText → (getD s at 0 ≡ 1 → ⊥) → Next c (at + 1)
+  pub block : (code ≡ codeOf Number → ⊥) → (code ≡ codeOf Text → ⊥) → (code ≡ codeOf OptText → ⊥) → Next c (at + 4 + le4 s at)
 
 -- every part of a node's first three is stepped over so
 pub step : {s : List ℕ} {p : Part} {ps : List Part} {at code : ℕ} → Simple p → code ≡ codeOf p → (c : Parts s (p ∷ ps) at) → Steps c code
@@ -74,7 +72,7 @@ step {s} {at} Simple.optText e c = let o = optional-part Optional.text c in reco
   absent = λ h g. nextOf (omega arith) (o .absent g);
   block = λ u v w. absurd (w e);
 }
-step (Simple.block {lo} {hi}) e c = record {
+step Simple.node e c = record {
   number = λ h. absurd (omega arith);
   text = λ h. absurd (omega arith);
   flag = λ h. absurd (omega arith);
@@ -89,63 +87,32 @@ past {at} {c} n e x = subst (λ (w : ℕ). Next c (at + n + w)) (sym e) x
 
 -- ---- the parts of a node's kind
 
--- the parts that stand among the first three of a node, as a test
-isSimple : Part → Bool
-isSimple Text = true
-isSimple Key = false
-isSimple Number = true
-isSimple Flag = false
-isSimple Size = false
-isSimple OptNumber = false
-isSimple OptText = true
-isSimple Literal = false
-isSimple (Block lo hi) = true
-isSimple (OptBlock lo hi) = false
-isSimple (Blocks lo hi limit) = false
-isSimple (Ascending lo hi limit) = false
-isSimple (Distinct lo hi limit) = false
-isSimple (Names limit) = false
-isSimple (Paths limit) = false
-isSimple (Values limit) = false
+-- every node begins with its metadata: a number, and a text behind a flag
+pub metadata-first : (k : ℕ) → 128 ≤ k → k ≤ 144 → partsOf k ≡ Number ∷ OptText ∷ drop 2 (partsOf k)
+unfolding partsOf
+metadata-first k lo hi = rw (le-leb 128 k lo, le-leb k 144 hi)
 
--- a test cannot go both ways
-wrong : {A : Type 0} → false ≡ true → A
-wrong e = let z : _≡_ {A = ℕ} 0 1 = cc in absurd (omega arith)
-
--- what the test says
-simple-is : (p : Part) → isSimple p ≡ true → Simple p
-unfolding isSimple
-simple-is Text e = Simple.text
-simple-is Key e = wrong e
-simple-is Number e = Simple.number
-simple-is Flag e = wrong e
-simple-is Size e = wrong e
-simple-is OptNumber e = wrong e
-simple-is OptText e = Simple.optText
-simple-is Literal e = wrong e
-simple-is (Block lo hi) e = Simple.block
-simple-is (OptBlock lo hi) e = wrong e
-simple-is (Blocks lo hi limit) e = wrong e
-simple-is (Ascending lo hi limit) e = wrong e
-simple-is (Distinct lo hi limit) e = wrong e
-simple-is (Names limit) e = wrong e
-simple-is (Paths limit) e = wrong e
-simple-is (Values limit) e = wrong e
+-- so it has two parts or more
+pub two-parts : (k : ℕ) → 128 ≤ k → k ≤ 144 → 2 ≤ length (partsOf k)
+two-parts k lo hi = let e = ap length (metadata-first k lo hi) in omega arith
 
 -- the first n parts are simple
-abbrev simples : ℕ → List Part → Bool
-simples zero ps = true
-simples (suc n) [] = true
-simples (suc n) (p ∷ ps) = isSimple p && simples n ps
+abbrev Simples : ℕ → List Part → Type 0
+Simples zero ps = Unit
+Simples (suc n) [] = Unit
+Simples (suc n) (p ∷ ps) = Simple p × Simples n ps
 
 -- the first three of a node are
-node-simples : (k : ℕ) → 128 ≤ k → k ≤ 144 → simples 3 (partsOf k) ≡ true
-unfolding partsOf nodeTable isSimple
+node-simples : (k : ℕ) → 128 ≤ k → k ≤ 144 → Simples 3 (partsOf k)
+unfolding partsOf nodeTable
 node-simples k lo hi =
-    let e : 128 + (k - 128) ≡ k = omega arith in
-    let h : k - 128 < 17 = omega arith in
-    let t = sym (entry 17 (λ j. simples 3 (partsOf (128 + j))) (k - 128) true h) ∙ getD-replicate 17 (k - 128) true true h in
-    rw e at t
+    let o = Simple.optText in
+    let n : Simples 3 (partsOf 129) = (Simple.number, (o, (Simple.number, tt))) in
+    let t : Simples 3 (partsOf 130) = (Simple.number, (o, (Simple.text, tt))) in
+    let x : Simples 3 (partsOf 134) = (Simple.number, (o, (Simple.node, tt))) in
+    each (λ (k : ℕ). Simples 3 (partsOf k)) 17 128
+    ((Simple.number, (o, tt)), (n, (t, (n, (t, (t, (x, (x, (x, (x, (x, (x, (x, (x, (x, (x, (x, tt)))))))))))))))))
+    k lo (omega arith)
 
 -- part i of a row, with its code and what stands behind it
 record At (ps : List Part) (i : ℕ) : Type 0 where
@@ -155,27 +122,88 @@ record At (ps : List Part) (i : ℕ) : Type 0 where
   rest : drop i ps ≡ part ∷ drop (suc i) ps
 
 -- every part among the first n of a row whose first n are simple is one
-at-place : (n i : ℕ) (ps : List Part) → simples n ps ≡ true → i < n → i < length ps → At ps i
+at-place : (n i : ℕ) (ps : List Part) → Simples n ps → i < n → i < length ps → At ps i
 at-place zero i ps t h l = absurd (omega arith)
 at-place (suc n) i [] t h l = absurd (omega arith)
-at-place (suc n) zero (p ∷ ps) t h l = record { part = p; simple = simple-is p (and-left _ _ t); code = refl; rest = refl }
+at-place (suc n) zero (p ∷ ps) t h l = record { part = p; simple = t .0; code = refl; rest = refl }
 at-place (suc n) (suc i) (p ∷ ps) t h l =
-    let a = at-place n i ps (and-right (isSimple p) _ t) (omega arith) (omega arith) in
+    let a = at-place n i ps (t .1) (omega arith) (omega arith) in
     record { part = a .part; simple = a .simple; code = a .code; rest = a .rest }
 
--- part i of a node's kind
-pub record Column (k i : ℕ) : Type 0 where
+-- part i of a node's kind, of which P holds
+pub record Column (P : Part → Type 0) (k i : ℕ) : Type 0 where
   pub part : Part
-  pub simple : Simple part
+  pub is : P part
   pub code : codeAt k i ≡ codeOf part
   pub rest : drop i (partsOf k) ≡ part ∷ drop (i + 1) (partsOf k)
 
--- every one of a node's first three parts is one
-pub column : (k i : ℕ) → 128 ≤ k → k ≤ 144 → i < 3 → i < length (partsOf k) → Column k i
+-- of part i of every node's kind that has it
+abbrev pub Columns : (Part → Type 0) → ℕ → Type 0
+Columns P i = (k : ℕ) → 128 ≤ k → k ≤ 144 → i < length (partsOf k) → Column P k i
+
+-- every one of a node's first three parts is simple
+pub simple-column : (i : ℕ) → i < 3 → Columns Simple i
 unfolding codeAt
-column k i lo hi h l =
+simple-column i h k lo hi l =
     let a = at-place 3 i (partsOf k) (node-simples k lo hi) h l in
-    record { part = a .part; simple = a .simple; code = a .code; rest = rw add-one (a .rest) }
+    record { part = a .part; is = a .simple; code = a .code; rest = rw add-one (a .rest) }
+
+-- a node's fourth part may be a list
+pub data Fourth : Part → Type 0 where
+  simple : {p : Part} → Simple p → Fourth p
+  list : {p : Part} → Listing p → Fourth p
+
+-- the fourth part of a kind
+fourth : (k : ℕ) {p : Part} → Fourth p → codeAt k 3 ≡ codeOf p → drop 3 (partsOf k) ≡ p ∷ drop 4 (partsOf k) → 3 < length (partsOf k) → Column Fourth k 3
+fourth k {p} x c r h = record { part = p; is = x; code = c; rest = r }
+
+-- by kind: the fourth part of each that has one
+pub fourth-column : Columns Fourth 3
+unfolding partsOf nodeTable codeAt
+fourth-column k lo hi =
+    let n = Fourth.simple Simple.node in
+    each (λ (k : ℕ). 3 < length (partsOf k) → Column Fourth k 3) 17 128 (
+      (λ h. absurd (omega arith)),
+      (
+        (λ h. absurd (omega arith)),
+        (
+          fourth 130 (Fourth.simple Simple.optText) refl refl,
+          (
+            fourth 131 n refl refl,
+            (
+              fourth 132 (Fourth.list Listing.cases) refl refl,
+              (
+                fourth 133 (Fourth.list Listing.arguments) refl refl,
+                (fourth 134 n refl refl, (fourth 135 n refl refl, (fourth 136 n refl refl, (fourth 137 n refl refl, (fourth 138 n refl refl, (fourth 139 n refl refl, (fourth 140 n refl refl, (fourth 141 n refl refl, (fourth 142 n refl refl, (fourth 143 n refl refl, (fourth 144 (Fourth.simple Simple.text) refl refl, tt))))))))))),
+              ),
+            ),
+          ),
+        ),
+      ),
+    )
+    k lo (omega arith)
+
+-- a simple part has no list's code
+no-list : {p q : Part} → Simple p → Listing q → codeOf p ≡ codeOf q → ⊥
+no-list Simple.text Listing.cases e = absurd (omega arith)
+no-list Simple.text Listing.arguments e = absurd (omega arith)
+no-list Simple.number Listing.cases e = absurd (omega arith)
+no-list Simple.number Listing.arguments e = absurd (omega arith)
+no-list Simple.optText Listing.cases e = absurd (omega arith)
+no-list Simple.optText Listing.arguments e = absurd (omega arith)
+no-list Simple.node Listing.cases e = absurd (omega arith)
+no-list Simple.node Listing.arguments e = absurd (omega arith)
+
+-- a fourth part with the code of a list is one
+pub is-list : {p q : Part} {code : ℕ} → Listing q → code ≡ codeOf q → Fourth p → code ≡ codeOf p → Listing p
+is-list l h (Fourth.simple x) e = absurd (no-list x l (sym e ∙ h))
+is-list l h (Fourth.list x) e = x
+
+-- and one with another code is simple
+pub is-simple : {p : Part} {code : ℕ} → (code ≡ codeOf (Blocks 163 163 64) → ⊥) → (code ≡ codeOf (Blocks 164 164 512) → ⊥) → Fourth p → code ≡ codeOf p → Simple p
+is-simple f g (Fourth.simple x) e = x
+is-simple f g (Fourth.list Listing.cases) e = absurd (f e)
+is-simple f g (Fourth.list Listing.arguments) e = absurd (g e)
 
 -- ---- from the first part on
 
@@ -210,58 +238,84 @@ begins s at a ps e = let o = opened a refl e in record {
   ended = o .ended;
 }
 
--- the next part, which the step needs
-pub stands : {s : List ℕ} {at i q k code : ℕ} → Accepted s 128 144 at → k ≡ le2 s (at + 4) → code ≡ codeAt k i → i < 3 → i < length (partsOf (le2 s (at + 4))) → Standing s at i q →
-    (p : Part) × (ps : List Part) × Simple p × (code ≡ codeOf p) × Parts s (p ∷ ps) q
-stands {s} {at} {i} a ek ec h l st =
-    let b = kinds a in
-    let c = column (le2 s (at + 4)) i (b .0) (b .1) h l in
-    (c .part, drop (i + 1) (partsOf (le2 s (at + 4))), c .simple, ec ∙ ap (λ (k : ℕ). codeAt k i) ek ∙ c .code, st a _ (c .rest) .parts)
+module _ {P : Part → Type 0} {s : List ℕ} {at i q k code : ℕ} (column : Columns P i) (ek : k ≡ le2 s (at + 4)) (ec : code ≡ codeAt k i)
+    (l : i < length (partsOf (le2 s (at + 4)))) (st : Standing s at i q) where
+  -- the next part, which the step needs
+  pub stands : Accepted s 128 144 at → (p : Part) × (ps : List Part) × P p × (code ≡ codeOf p) × Parts s (p ∷ ps) q
+  stands a =
+      let b = kinds a in
+      let c = column (le2 s (at + 4)) (b .0) (b .1) l in
+      (c .part, drop (i + 1) (partsOf (le2 s (at + 4))), c .is, ec ∙ ap (λ (k : ℕ). codeAt k i) ek ∙ c .code, st a _ (c .rest) .parts)
 
--- and the part behind it begins where the step ended
-pub stands-next : {s : List ℕ} {at i q r k code : ℕ} → k ≡ le2 s (at + 4) → code ≡ codeAt k i → i < 3 → i < length (partsOf (le2 s (at + 4))) → Standing s at i q →
-    ((p : Part) (ps : List Part) (c : Parts s (p ∷ ps) q) → Simple p → code ≡ codeOf p → Next c r) → Standing s at (i + 1) r
-stands-next {s} {at} {i} ek ec h l st f a ps e =
-    let b = kinds a in
-    let c = column (le2 s (at + 4)) i (b .0) (b .1) h l in
-    let m = st a (c .part ∷ ps) (c .rest ∙ ap (λ (z : List Part). c .part ∷ z) e) in
-    let n = f (c .part) ps (m .parts) (c .simple) (ec ∙ ap (λ (k : ℕ). codeAt k i) ek ∙ c .code) in
-    record {
-      parts = n .rest;
-      tree = rests-next i (body (tree a)) ∙ ap rest (m .tree ∙ n .tree);
-      low = omega (arith, m .low, n .low);
-      inside = omega (arith, n .inside, n .end);
-      room = m .room ∙ ap suc (sym (n .room));
-      end = n .end ∙ m .end;
-      ended = sym (n .stop) ∙ m .ended;
-    }
-
--- ---- the metadata: a number, and a text behind a flag
-
--- every node has its metadata
-two-parts : (k : ℕ) → 128 ≤ k → k ≤ 144 → 2 ≤ length (partsOf k)
-two-parts k h g = let w = rowed k h g in rw (w .1) (omega arith)
-
--- the flag
-pub flagged : {s : List ℕ} {at : ℕ} → Accepted s 128 144 at → Standing s at 1 (at + 14)
-flagged {s} {at} a =
-    let b = kinds a in
-    let e : at + 6 + 8 ≡ at + 14 = omega arith in
-    rw e at (stands-next {i = 0} refl (part-0 (le2 s (at + 4)) 0 (b .0) (b .1) refl) (omega arith) (omega (arith, two-parts (le2 s (at + 4)) (b .0) (b .1)))
-    (begins s at) (λ p ps c h g. step h g c .number refl))
+  -- and the part behind it begins where the step ended
+  pub stands-next : {r : ℕ} → ((p : Part) (ps : List Part) (c : Parts s (p ∷ ps) q) → P p → code ≡ codeOf p → Next c r) → Standing s at (i + 1) r
+  stands-next f a ps e =
+      let b = kinds a in
+      let c = column (le2 s (at + 4)) (b .0) (b .1) l in
+      let m = st a (c .part ∷ ps) (c .rest ∙ ap (λ (z : List Part). c .part ∷ z) e) in
+      let n = f (c .part) ps (m .parts) (c .is) (ec ∙ ap (λ (k : ℕ). codeAt k i) ek ∙ c .code) in
+      record {
+        parts = n .rest;
+        tree = rests-next i (body (tree a)) ∙ ap rest (m .tree ∙ n .tree);
+        low = omega (arith, m .low, n .low);
+        inside = omega (arith, n .inside, n .end);
+        room = m .room ∙ ap suc (sym (n .room));
+        end = n .end ∙ m .end;
+        ended = sym (n .stop) ∙ m .ended;
+      }
 
 -- a node's header and alignment lie in the bytes
 pub within : {s : List ℕ} {at : ℕ} → Accepted s 128 144 at → at + 14 ≤ length s
-within a = let l = flagged a a _ refl in omega (arith, l .inside, l .parts .fits)
+within a = let b = kinds a in
+    let o = opened a refl (metadata-first _ (b .0) (b .1)) in
+    omega (arith, number-part (o .parts) .inside, o .parts .fits)
 
--- what the step over the flag and its text needs
-pub flagged-part : {s : List ℕ} {at : ℕ} → Accepted s 128 144 at → (p : Part) × (ps : List Part) × Simple p × (7 ≡ codeOf p) × Parts s (p ∷ ps) (at + 14)
-flagged-part {s} {at} a =
-    let b = kinds a in
-    stands a refl (part-1 (le2 s (at + 4)) 1 (b .0) (b .1) refl) (omega arith) (omega (arith, two-parts (le2 s (at + 4)) (b .0) (b .1))) (flagged a)
+-- ---- a list
 
--- what is behind it
-pub behind-metadata : {s : List ℕ} {at r : ℕ} → Accepted s 128 144 at → ((p : Part) (ps : List Part) (c : Parts s (p ∷ ps) (at + 14)) → Simple p → 7 ≡ codeOf p → Next c r) → Standing s at 2 r
-behind-metadata {s} {at} a f =
-    let b = kinds a in
-    stands-next {i = 1} refl (part-1 (le2 s (at + 4)) 1 (b .0) (b .1) refl) (omega arith) (omega (arith, two-parts (le2 s (at + 4)) (b .0) (b .1))) (flagged a) f
+-- of m blocks from `from` on, left are left, from q on: they end where all of them end
+pub record Passed (s : List ℕ) (m from left q : ℕ) : Type 0 where
+  pub low : from ≤ q
+  pub on : {lo hi : ℕ} (l : Listed s lo hi m from) → (r : Listed s lo hi left q) × (l .got .1 ≡ r .got .1) × (r .end ≡ l .end)
+
+-- the loop begins with all of them
+pub none-passed : {s : List ℕ} {m from left : ℕ} → left ≡ m → Passed s m from left from
+none-passed {s} {m} {from} e = subst (λ (k : ℕ). Passed s m from k from) (sym e) (record { low = omega arith; on = λ l. (l, refl, refl) })
+
+-- one more is passed
+pub one-passed : {s : List ℕ} {m from left q w : ℕ} → 0 < left → w ≡ le4 s q → Passed s m from left q → Passed s m from (left - 1) (q + 4 + w)
+one-passed {s} {m} {from} {left} {q} h ew t = subst (λ (w : ℕ). Passed s m from (left - 1) (q + 4 + w)) (sym ew) (record {
+  low = omega (arith, t .low);
+  on = λ l. let x = t .on l in let b = block-entry (x .0) h in (b .after .rest, x .1 ∙ b .after .stop, b .after .end ∙ x .2);
+})
+
+-- the list of blocks that a part is
+record ListOf {s : List ℕ} {p : Part} {ps : List Part} {at : ℕ} (c : Parts s (p ∷ ps) at) : Type 0 where
+  lo : ℕ
+  hi : ℕ
+  limit : ℕ
+  list : Enlisted c (Item.blocks lo hi) limit Earlier.any
+
+list-of : {s : List ℕ} {p : Part} {ps : List Part} {at : ℕ} → Listing p → (c : Parts s (p ∷ ps) at) → ListOf c
+list-of Listing.cases c = record { lo = 163; hi = 163; limit = 64; list = list-part Counted.any c }
+list-of Listing.arguments c = record { lo = 164; hi = 164; limit = 512; list = list-part Counted.any c }
+
+module _ {s : List ℕ} {p : Part} {ps : List Part} {at : ℕ} (x : Listing p) (c : Parts s (p ∷ ps) at) where
+  -- its count lies in the bytes
+  pub count-in : at + 2 ≤ length s
+  count-in = omega (arith, list-of x c .list .inside, c .fits)
+
+  -- the next block lies in the bytes
+  pub next-in : {left q : ℕ} → 0 < left → Passed s (le2 s at) (at + 2) left q → (q + 4 ≤ length s) × (q + 4 + le4 s q ≤ length s)
+  next-in h t =
+      let y = t .on (list-of x c .list .list) in
+      let b = block-entry (y .0) h in
+      let o = opened (b .child) refl refl in
+      (omega (arith, o .high, y .0 .fits, b .end), omega (arith, o .high, y .0 .fits, b .end))
+
+  -- none is left: there the next part begins
+  pub all-passed : {left q : ℕ} → left ≤ 0 → Passed s (le2 s at) (at + 2) left q → Next c q
+  all-passed {q} h t =
+      let l = list-of x c .list in
+      let y = t .on (l .list) in
+      let e : l .list .got .1 ≡ q = y .1 ∙ ap (λ (z : Tree × ℕ). z .1) (none-left (y .0) h) in
+      subst (λ (q : ℕ). Next c q) e (nextOf (omega (arith, e, t .low)) (l .behind))

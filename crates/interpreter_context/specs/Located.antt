@@ -3,7 +3,7 @@ use Prim.Native.Nat.{ℕ, zero, suc, _+_, _≤_}
 use mathlib.Core.Path.{_≡_}
 use mathlib.Core.List.{List, _∷_}
 use Rattle.blocks.specs.declared.Part.{Part}
-use Rattle.blocks.specs.declared.Part.the-variants.{Text, Number, OptText, Block}
+use Rattle.blocks.specs.declared.Part.the-variants.{Text, Number, OptText, Block, Blocks}
 use Rattle.blocks.specs.Bytes.{le4}
 use Rattle.blocks.specs.Tree.{Tree, cons, rest, body}
 use Rattle.accepted.specs.Accepted.{Accepted, tree, Parts}
@@ -13,7 +13,12 @@ pub data Simple : Part → Type 0 where
   text : Simple Text
   number : Simple Number
   optText : Simple OptText
-  block : {lo hi : ℕ} → Simple (Block lo hi)
+  node : Simple (Block 128 144)
+
+-- the lists that a node has
+pub data Listing : Part → Type 0 where
+  cases : Listing (Blocks 163 163 64)
+  arguments : Listing (Blocks 164 164 512)
 
 -- the parts behind the first begin at q
 pub record Next {s : List ℕ} {p : Part} {ps : List Part} {at : ℕ} (c : Parts s (p ∷ ps) at) (q : ℕ) : Type 0 where

@@ -17,11 +17,12 @@ ghost use Rattle.ir.specs.Layout.{argumentOf};
 ghost use Rattle.interpreter.specs.Eval.{ParamMap, find as finding};
 ghost use Rattle.interpreter.specs.Validate.{with-buffer-size, valuesOf};
 ghost use Rattle.accepted.specs.Accepted.{Accepted, Parts, tree, nameAt};
-ghost use Rattle.interpreter_context.specs.Located.{Simple, Next, Located};
+ghost use Rattle.interpreter_context.specs.Located.{Simple, Listing, Next, Located};
 ghost use Rattle.interpreter_context.specs.Names.{chosen, lastArgument, lists, callersName, Named, foundIn};
 ghost use Rattle.interpreter_context.specs.Context.{Pair, Context, argumentsOf, parametersOf};
 
-// The offset behind the part of a code.
+// The offset behind a number, a text, an optional text or a node, by its code. It is small, and stands apart from `behind_list`, so that
+// it is compiled into its callers: there a code is most often known.
 fn behind(s: &[u8], at: usize, code: u32) -> usize
     requires { ⌜ ((p : Part) × (ps : List Part) × Simple p × (code ≡ codeOf p) × Parts (now s) (p ∷ ps) at) ⌝ }
     ensures { λ r. ⌜ ((p : Part) (ps : List Part) (c : Parts (now (s .entry)) (p ∷ ps) at) → Simple p → code ≡ codeOf p → Next c r) ⌝ }
@@ -42,12 +43,28 @@ fn behind(s: &[u8], at: usize, code: u32) -> usize
     at + 4 + wire::read4(s, at)
 }
 
+// The offset behind a list of cases or arguments.
+fn behind_list(s: &[u8], at: usize) -> usize
+    requires { ⌜ ((p : Part) × (ps : List Part) × Listing p × Parts (now s) (p ∷ ps) at) ⌝ }
+    ensures { λ r. ⌜ ((p : Part) (ps : List Part) (c : Parts (now (s .entry)) (p ∷ ps) at) → Listing p → Next c r) ⌝ }
+{
+    let mut left = wire::read2(s, at);
+    let mut q = at + 2;
+    while 0 < left {
+        q = q + 4 + wire::read4(s, q);
+        left -= 1;
+    }
+    q
+}
+
 // The offset of a node's first part behind its metadata.
 pub fn first_part(s: &[u8], at: usize) -> usize
     requires { ⌜ Accepted (now s) 128 144 at ⌝ }
     ensures { λ r. ⌜ ((a : Accepted (now (s .entry)) 128 144 at) (ps : List Part) → drop 2 (partsOf (le2 (now (s .entry)) (at + 4))) ≡ ps → Located a ps 2 r) ⌝ }
 {
-    behind(s, at + 14, ir_nodes::OPT_TEXT)
+    let kind = wire::read2(s, at + 4);
+    let p = behind(s, at + 6, ir_nodes::node_part(kind, 0));
+    behind(s, p, ir_nodes::node_part(kind, 1))
 }
 
 // The offset of the part behind that.
@@ -57,6 +74,23 @@ pub fn second_part(s: &[u8], at: usize) -> usize
 {
     let kind = wire::read2(s, at + 4);
     behind(s, first_part(s, at), ir_nodes::node_part(kind, 2))
+}
+
+// The offset of the part behind that, which may be a list.
+pub fn third_part(s: &[u8], at: usize) -> usize
+    requires { ⌜ Accepted (now s) 128 144 at × (4 ≤ length (partsOf (le2 (now s) (at + 4)))) ⌝ }
+    ensures { λ r. ⌜ ((a : Accepted (now (s .entry)) 128 144 at) (ps : List Part) → drop 4 (partsOf (le2 (now (s .entry)) (at + 4))) ≡ ps → Located a ps 4 r) ⌝ }
+{
+    let kind = wire::read2(s, at + 4);
+    let p = second_part(s, at);
+    let code = ir_nodes::node_part(kind, 3);
+    if code == ir_nodes::CASES {
+        return behind_list(s, p);
+    }
+    if code == ir_nodes::ARGUMENTS {
+        return behind_list(s, p);
+    }
+    behind(s, p, code)
 }
 
 // A name's value in the context of an open call. A context is no map: it is found through the open calls, from the innermost

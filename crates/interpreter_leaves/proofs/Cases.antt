@@ -16,7 +16,7 @@ use Rattle.ir.specs.Ir.{IrNode, IrParameter, SwitchCases, DefaultNode}
 use Rattle.ir.specs.Layout.{Thing, formOf, makeThing, thingOf, nodeOf, casesIn, withCase, parameterOf}
 use Rattle.accepted.specs.Accepted.{Accepted, tree, Parts, Listed, Optional, Counted}
 use Rattle.accepted.proofs.Laws.{opened, number-part, block-part, optional-part, list-part, block-entry, none-left}
-use Rattle.interpreter_context.specs.Located.{rests, Located}
+use Rattle.interpreter_context.specs.Located.{Located}
 use Rattle.interpreter_context.proofs.Laws.{Standing}
 use Rattle.interpreter_context.proofs.Shape.{bodyOf, part-rests, located, node-in}
 use Rattle.interpreter_context.proofs.Blocks.{sole-kind}
@@ -80,20 +80,16 @@ first-case a u e = ap (λ (t : Thing). withCase t (casesIn (view thingOf u))) e
 
 -- ---- the list
 
--- the cases of a Switch begin at q, and its default stands behind them
+-- the cases of a Switch begin at q
 pub record SwitchAt {s : List ℕ} {at : ℕ} (a : Accepted s 128 144 at) (q : ℕ) : Type 0 where
   pub inside : q + 2 ≤ length s
   pub list : Listed s 163 163 (le2 s q) (q + 2)
   pub is : rest (part 3 (bodyOf a)) ≡ list .got .0
   pub end : list .end ≡ at + 4 + le4 s at
   pub low : at + 6 ≤ q
-  pub behind : Parts s (OptBlock 128 144 ∷ []) (list .got .1)
-  pub default : part 4 (bodyOf a) ≡ first (behind .got .0)
-  pub stop : behind .end ≡ at + 4 + le4 s at
 
--- what a Switch's last two parts say
+-- what a Switch's part 3 says
 switch-parts : {s : List ℕ} {at q : ℕ} {a : Accepted s 128 144 at} → Located a (Blocks 163 163 64 ∷ OptBlock 128 144 ∷ []) 3 q → SwitchAt a q
-unfolding rests
 switch-parts {a} l =
     let e = list-part Counted.any (l .parts) in
     record {
@@ -102,9 +98,6 @@ switch-parts {a} l =
       is = ap rest (part-rests 3 (bodyOf a) ∙ ap first (l .tree ∙ e .behind .tree));
       end = e .end ∙ l .end;
       low = l .low;
-      behind = e .behind .rest;
-      default = part-rests 4 (bodyOf a) ∙ ap (λ (t : Tree). first (rest t)) (l .tree ∙ e .behind .tree);
-      stop = e .behind .end ∙ l .end;
     }
 
 -- they stand where part 3 was found
@@ -118,15 +111,15 @@ same-tag {a} {c} e p = subst (λ (v : ℕ). Picked a v c) e p
 
 -- ---- the loop: the cases before p have other values
 
--- Of every list that is accepted there: what is left of it picks the same node, and ends where it ends.
+-- Of every list that is accepted there: what is left of it picks the same node.
 pub record Tried (s : List ℕ) (v m from left p : ℕ) : Type 0 where
   pub low : from ≤ p
   pub on : (l : Listed s 163 163 m from) → (r : Listed s 163 163 left p) × ((d : DefaultNode) →
-      pick v (casesIn (view thingOf (l .got .0))) d ≡ pick v (casesIn (view thingOf (r .got .0))) d) × (l .got .1 ≡ r .got .1) × (r .end ≡ l .end)
+      pick v (casesIn (view thingOf (l .got .0))) d ≡ pick v (casesIn (view thingOf (r .got .0))) d) × (r .end ≡ l .end)
 
 -- the loop begins with all of them
 pub begin : {s : List ℕ} {m from left : ℕ} (v : ℕ) → left ≡ m → Tried s v m from left from
-begin {s} {m} {from} v e = subst (λ (k : ℕ). Tried s v m from k from) (sym e) (record { low = omega arith; on = λ l. (l, (λ d. refl), refl, refl) })
+begin {s} {m} {from} v e = subst (λ (k : ℕ). Tried s v m from k from) (sym e) (record { low = omega arith; on = λ l. (l, (λ d. refl), refl) })
 
 -- a case of another value is passed over
 pick-not : (v t : ℕ) (n : IrNode) (ps : List IrParameter) (cs : SwitchCases) (d : DefaultNode) → (t ≡ v → ⊥) → pick v (SwitchCases.case t n ps cs) d ≡ pick v cs d
@@ -155,8 +148,7 @@ module _ {s : List ℕ} {v m from left p : ℕ} where
           (λ d. x .1 d ∙ ap (λ (z : Tree). pick v (casesIn (view thingOf z)) d) (b .after .tree)
               ∙ ap (λ (cs : SwitchCases). pick v cs d) (first-case (tree (b .child)) (b .after .rest .got .0) (i .is))
               ∙ pick-not v (le8 s (p + 6)) (nodeOf (tree (i .node))) (i .parameters) (casesIn (view thingOf (b .after .rest .got .0))) d (λ e. n (eu ∙ e))),
-          x .2 ∙ b .after .stop,
-          b .after .end ∙ x .3,
+          b .after .end ∙ x .2,
         );
   })
 
@@ -170,40 +162,45 @@ module _ {s : List ℕ} {v m from left p : ℕ} where
           let x = t′ .on (w .list) in
           let b = block-entry (x .0) h in
           let i = case-at (b .child) in
-          Picked.node (i .node) (omega (arith, i .short, b .after .inside, x .3, w .end, w .low, t′ .low))
+          Picked.node (i .node) (omega (arith, i .short, b .after .inside, x .2, w .end, w .low, t′ .low))
           (ap (λ (z : Tree). pick v (casesIn (view thingOf z)) (defaultOf (bodyOf a))) (w .is) ∙ x .1 (defaultOf (bodyOf a))
           ∙ ap (λ (z : Tree). pick v (casesIn (view thingOf z)) (defaultOf (bodyOf a))) (b .after .tree)
           ∙ ap (λ (cs : SwitchCases). pick v cs (defaultOf (bodyOf a))) (first-case (tree (b .child)) (b .after .rest .got .0) (i .is))
           ∙ pick-this v (le8 s (p + 6)) (nodeOf (tree (i .node))) (i .parameters) (casesIn (view thingOf (b .after .rest .got .0))) (defaultOf (bodyOf a)) (sym eu ∙ ev))
 
--- behind the last case
-pub record Behind {s : List ℕ} {at : ℕ} (a : Accepted s 128 144 at) (v p : ℕ) : Type 0 where
+-- the cases pick nothing
+abbrev Unpicked : {s : List ℕ} {at : ℕ} → Accepted s 128 144 at → ℕ → Type 0
+Unpicked a v = pick v (casesOf (bodyOf a)) (defaultOf (bodyOf a)) ≡ pick v SwitchCases.noCase (defaultOf (bodyOf a))
+
+-- none is left: the default decides
+pub ended : {s : List ℕ} {v left p at q : ℕ} → left ≤ 0 → Tried s v (le2 s q) (q + 2) left p → (a : Accepted s 128 144 at) → SwitchAt a q → Unpicked a v
+unfolding casesIn view
+ended {v} h t a w =
+    let x = t .on (w .list) in
+    ap (λ (z : Tree). pick v (casesIn (view thingOf z)) (defaultOf (bodyOf a))) (w .is) ∙ x .1 (defaultOf (bodyOf a))
+    ∙ ap (λ (z : Tree × ℕ). pick v (casesIn (view thingOf (z .0))) (defaultOf (bodyOf a))) (none-left (x .0) h)
+
+-- ---- the default
+
+-- a Switch has five parts
+pub switch-long : {k : ℕ} → k ≡ 132 → 4 ≤ length (partsOf k)
+unfolding partsOf nodeTable
+switch-long e = rw e (omega arith)
+
+-- where the cases pick nothing, the default stands at p
+pub record Default {s : List ℕ} {at : ℕ} (a : Accepted s 128 144 at) (v p : ℕ) : Type 0 where
   pub parts : Parts s (OptBlock 128 144 ∷ []) p
   pub default : part 4 (bodyOf a) ≡ first (parts .got .0)
   pub stop : parts .end ≡ at + 4 + le4 s at
   pub low : at + 6 ≤ p
-  pub picks : pick v (casesOf (bodyOf a)) (defaultOf (bodyOf a)) ≡ pick v SwitchCases.noCase (defaultOf (bodyOf a))
+  pub picks : Unpicked a v
 
--- the default of a Switch stands at p
-abbrev DefaultAt : {s : List ℕ} {at : ℕ} → Accepted s 128 144 at → ℕ → Type 0
-DefaultAt {s} {at} a p = (d : Parts s (OptBlock 128 144 ∷ []) p) × (part 4 (bodyOf a) ≡ first (d .got .0)) × (d .end ≡ at + 4 + le4 s at)
-
--- none is left: the default decides
-pub ended : {s : List ℕ} {v left p at q : ℕ} → left ≤ 0 → Tried s v (le2 s q) (q + 2) left p → (a : Accepted s 128 144 at) → SwitchAt a q → Behind a v p
-unfolding casesIn view
-ended {s} {v} {left} {p} {at} h t a w =
-    let x = t .on (w .list) in
-    let n = none-left (x .0) h in
-    let e : w .list .got .1 ≡ p = x .2 ∙ ap (λ (z : Tree × ℕ). z .1) n in
-    let c = subst (DefaultAt a) e (w .behind, w .default, w .stop) in
-    record {
-      parts = c .0;
-      default = c .1;
-      stop = c .2;
-      low = omega (arith, t .low, w .low);
-      picks = ap (λ (z : Tree). pick v (casesIn (view thingOf z)) (defaultOf (bodyOf a))) (w .is) ∙ x .1 (defaultOf (bodyOf a))
-          ∙ ap (λ (z : Tree × ℕ). pick v (casesIn (view thingOf (z .0))) (defaultOf (bodyOf a))) n;
-    }
+-- it stands where part 4 was found
+pub default-at : {s : List ℕ} {at v p : ℕ} → Standing s at 4 p → (a : Accepted s 128 144 at) → le2 s (at + 4) ≡ 132 → Unpicked a v → Default a v p
+unfolding partsOf nodeTable
+default-at st a k e =
+    let l = located 4 st a k refl in
+    record { parts = l .parts; default = part-rests 4 (bodyOf a) ∙ ap first (l .tree); stop = l .end; low = l .low; picks = e }
 
 -- behind the last case the default's flag decides
 default-by : (t u : Tree) (f v : ℕ) {b : Bool} → part 4 t ≡ cons (num 1 f) u → eqb f 1 ≡ b →
@@ -212,7 +209,7 @@ default-by t u f v e h =
     ap (λ (z : Tree). pick v SwitchCases.noCase (cond (eqb (number (first z)) 1) (DefaultNode.orElse (nodeOf (rest z))) DefaultNode.noDefault)) e
     ∙ ap (λ (b : Bool). pick v SwitchCases.noCase (cond b (DefaultNode.orElse (nodeOf u)) DefaultNode.noDefault)) h
 
-module _ {s : List ℕ} {at v p : ℕ} {a : Accepted s 128 144 at} (b : Behind a v p) where
+module _ {s : List ℕ} {at v p : ℕ} {a : Accepted s 128 144 at} (b : Default a v p) where
   -- the default's flag lies in the bytes
   pub flag-in : p + 1 ≤ length s
   flag-in = let o = optional-part Optional.block (b .parts) in omega (arith, o .inside, b .parts .fits)

@@ -136,7 +136,7 @@ pub fn tag(s: &[u8], values: &[u8], words: &[u64], root: Root, f: Frame, at: usi
     interpreter_context::find(s, p, values, root, words, f.depth)
 }
 
-// The node of the first case of the tag's value, or else the default node.
+// The node of the first case of the tag's value, or else the default node, whose place is looked for only where no case has the value.
 pub fn selected(s: &[u8], at: usize, tag: Value) -> Choice
     requires { ⌜ Accepted (now s) 128 144 at × (le2 (now s) (at + 4) ≡ 132) ⌝ }
     ensures { λ r. ⌜ ((a : Accepted (now (s .entry)) 128 144 at) → Picked a (numberOf tag) r) ⌝ }
@@ -152,9 +152,10 @@ pub fn selected(s: &[u8], at: usize, tag: Value) -> Choice
         p = p + 4 + wire::read4(s, p);
         left -= 1;
     }
-    let b = s[p];
+    let d = interpreter_context::third_part(s, at);
+    let b = s[d];
     if b == 1 {
-        return Choice::Node(p + 1);
+        return Choice::Node(d + 1);
     }
     Choice::Nothing
 }

@@ -1,7 +1,7 @@
 -- `second_part` meets its contract: it steps over one part more, whose code the table of node kinds gives.
 use borrow.Author.Needs.{needs}
 use native.Mathlib.Omega.{arith}
-use Rattle.interpreter_context.proofs.Laws.{kinds, stands, stands-next}
+use Rattle.interpreter_context.proofs.Laws.{kinds, simple-column, stands, stands-next}
 use Rattle.interpreter_context.proofs.second_part.Statement.{statement}
 use Rattle.interpreter_context.proofs.second_part.Tie as tie
 
@@ -27,12 +27,12 @@ behind-requires c κs =
     let at-read2 = c .before .before in
     let at-start = at-read2 .before .before in
     stands
-    (at-start .pre .0)
+    (simple-column 2 (omega arith))
     (at-read2 .read2 .ensures .0)
     (c .node-part .ensures)
-    (omega arith)
     (omega (arith, at-start .pre .1))
     (c .before .first-part .ensures)
+    (at-start .pre .0)
 
 returns : tie.Need-returns
 returns c =
@@ -40,9 +40,9 @@ returns c =
     let at-read2 = at-first-part .before in
     let at-start = at-read2 .before .before in
     stands-next
+    (simple-column 2 (omega arith))
     (at-read2 .read2 .ensures .0)
     (c .before .node-part .ensures)
-    (omega arith)
     (omega (arith, at-start .pre .1))
     (at-first-part .first-part .ensures)
     (c .behind .ensures)

@@ -6,7 +6,7 @@ use native.Mathlib.Omega.{arith}
 use Rattle.blocks.specs.Bytes.{le2}
 use Rattle.accepted.specs.Accepted.{Accepted}
 use Rattle.interpreter_leaves.proofs.Nodes.{enough}
-use Rattle.interpreter_leaves.proofs.Cases.{same-tag, IsCase, SwitchAt, Tried, begin, switch-at, next-case, another, hit, ended, flag-in, default-given, default-absent}
+use Rattle.interpreter_leaves.proofs.Cases.{same-tag, IsCase, SwitchAt, Tried, begin, switch-at, next-case, another, hit, ended, switch-long, Default, default-at, flag-in, default-given, default-absent}
 use Rattle.interpreter_leaves.proofs.selected.Statement.{statement}
 use Rattle.interpreter_leaves.proofs.selected.Tie as tie
 
@@ -65,8 +65,8 @@ add-read8 c = omega (arith, next c .1 .inside)
 read8-requires : tie.Need-read8-requires Inv-loop μ-loop
 read8-requires c κs = omega (arith, next c .1 .inside)
 
-add-t13 : tie.Need-add-t13 Inv-loop μ-loop
-add-t13 c = omega (arith, next (c .before .before) .1 .inside)
+add-t14 : tie.Need-add-t14 Inv-loop μ-loop
+add-t14 c = omega (arith, next (c .before .before) .1 .inside)
 
 returns : tie.Need-returns Inv-loop μ-loop
 returns c =
@@ -101,30 +101,35 @@ loop-again c =
     (c .read4 .ensures .0)
     (at-loop .loop .inv)
 
+third-part-requires : tie.Need-third-part-requires Inv-loop μ-loop
+third-part-requires c κs = let start = at-start (c .before) in (start .pre .0, switch-long (start .pre .1))
+
+-- behind the loop, the default of the node, whatever accepted it
+default : (r : tie.After-third-part Inv-loop μ-loop) (a : Accepted (at-start (r .before .before) .args .s .now) 128 144 (at-start (r .before .before) .args .at)) →
+    Default a (at-low (r .before .before) .low .result) (r .third-part .result)
+default r a =
+    let at-loop = r .before .before in
+    default-at (r .third-part .ensures) a (at-start at-loop .pre .1) (ended (r .before .loop-test .left) (at-loop .loop .inv) a (cases at-loop a))
+
 shared-slice-read-b : tie.Need-shared-slice-read-b Inv-loop μ-loop
 shared-slice-read-b c =
-    let at-loop = c .before .before in
-    let a = at-start at-loop .pre .0 in
-    omega (arith, flag-in (ended (c .before .loop-test .left) (at-loop .loop .inv) a (cases at-loop a)))
+    let at-third-part = c .before in
+    omega (arith, flag-in (default at-third-part (at-start (at-third-part .before .before) .pre .0)))
 
-add-t17 : tie.Need-add-t17 Inv-loop μ-loop
-add-t17 c =
-    let after-loop = c .before .before in
-    let at-loop = after-loop .before in
-    let a = at-start at-loop .pre .0 in
-    omega (arith, flag-in (ended (after-loop .loop-test .left) (at-loop .loop .inv) a (cases at-loop a)))
+add-t18 : tie.Need-add-t18 Inv-loop μ-loop
+add-t18 c =
+    let at-third-part = c .before .before in
+    omega (arith, flag-in (default at-third-part (at-start (at-third-part .before .before) .pre .0)))
 
 returns-2 : tie.Need-returns-2 Inv-loop μ-loop
 returns-2 c =
-    let after-loop = c .before .before in
-    let at-loop = after-loop .before in
-    λ a. same-tag (at-low at-loop .low .ensures) (default-given (ended (after-loop .loop-test .left) (at-loop .loop .inv) a (cases at-loop a)) (c .if2 .taken))
+    let at-third-part = c .before .before in
+    λ a. same-tag (at-low (at-third-part .before .before) .low .ensures) (default-given (default at-third-part a) (c .if2 .taken))
 
 returns-3 : tie.Need-returns-3 Inv-loop μ-loop
 returns-3 c =
-    let after-loop = c .before .before in
-    let at-loop = after-loop .before in
-    λ a. same-tag (at-low at-loop .low .ensures) (default-absent (ended (after-loop .loop-test .left) (at-loop .loop .inv) a (cases at-loop a)) (c .if2 .left))
+    let at-third-part = c .before .before in
+    λ a. same-tag (at-low (at-third-part .before .before) .low .ensures) (default-absent (default at-third-part a) (c .if2 .left))
 
 pub selected-spec : {M : Type 1} → statement M
 selected-spec =
@@ -139,7 +144,7 @@ selected-spec =
     loop-holds
     add-read8
     read8-requires
-    add-t13
+    add-t14
     returns
     add-p-2
     read4-requires
@@ -147,7 +152,8 @@ selected-spec =
     sub-left
     loop-less
     loop-again
+    third-part-requires
     shared-slice-read-b
-    add-t17
+    add-t18
     returns-2
     returns-3)
