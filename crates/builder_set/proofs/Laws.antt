@@ -10,11 +10,19 @@ use lib.ListN.{length, take, drop, replicate}
 use lib.Seq.{take-append-le, take-all}
 use lib.Dec.{leb}
 use Rattle.blocks.proofs.Name.{and-left}
-use Rattle.blocks.proofs.Refusals.{Unread, input-unread}
 use borrow.Author.Tests.{le-leb, lt-leb, leb-true}
-use Rattle.errors.proofs.Laws.{done-one, bound, bound-done}
-use Rattle.errors.specs.Refusal.{Outcome, done, refused, _>>=_, atType, plain, answered, ask, enough, unread}
-use Rattle.answers.specs.Answers.{AnswersIn}
+use Rattle.errors.proofs.Laws.{done-one, not-done, bound, bound-done}
+use Rattle.value.specs.declared.Value.{Value}
+use Rattle.value.specs.Number.{numberOf}
+use Rattle.errors.specs.Refusal.{Refusal, Outcome, done, refused, _>>=_, atType, plain, answered, ask, enough, unread}
+use Rattle.errors.specs.Answer.{built}
+use Rattle.errors.specs.declared.Refusal as code
+use Rattle.errors.specs.declared.Length.{Length}
+use Rattle.errors.specs.declared.Length.the-variants as answer
+use Rattle.errors.specs.Meaning.{refusalOf, lengthOf}
+use Rattle.answers.specs.Answers.{AnswersIn, refusalIn}
+use Rattle.answers.proofs.Laws.{unanswered, refuses, makes}
+use Rattle.answers.proofs.Laws as answers
 use Rattle.blocks.specs.Bytes.{le2, le4, bytes}
 use Rattle.blocks.specs.Tree.{Tree, num, cons, nil, entries}
 use Rattle.blocks.specs.Write.{write}
@@ -31,14 +39,13 @@ use Rattle.wire.proofs.Laws.{none, both, closed, poke-whole, poke-length}
 use Rattle.reader_leaf.specs.declared.Read.{Read}
 use Rattle.reader_leaf.specs.declared.Read.the-variants.{Ok, Refused}
 use Rattle.reader.specs.Input.{inputOf}
+use Rattle.reader_calls.specs.Inputs.{readCall, passed, passedOf}
+use Rattle.reader_calls.proofs.Laws.{called, passed-no}
 use Rattle.lookup.proofs.Types.{set-list}
 use Rattle.builder_type.specs.declared.TypeTree.{TypeTree}
 use Rattle.builder_type.specs.Built.{BuildsType, Ready as TypeReady}
-use Rattle.builder_set.specs.declared.Types.{Types}
-use Rattle.builder_set.specs.declared.Answer.{Answer}
-use Rattle.builder_set.specs.declared.Answer.the-variants as answer
 use Rattle.builder_registry.proofs.Laws.{standing}
-use Rattle.builder_set.specs.Sets.{BuildsTypes, Ready, holdsAt, answerOf, layoutOf, Leaves}
+use Rattle.builder_set.specs.Sets.{TypesAt, Ready, holdsAt, layoutOf, Leaves}
 
 -- ---- the loop
 
@@ -112,6 +119,10 @@ module _ (types : List ResolvedType) (i : ℕ) (T : ResolvedType) (rest : List R
 
 -- ---- in the code's form: b is what building the type at `from` left
 
+-- what building all types answers
+abbrev pub Made : (xs : List ℕ) (at : ℕ) (ys : List ℕ) (place number end : ℕ) (t : Tree) → Type 0
+Made xs at ys place number end t = AnswersIn place number (TypesAt xs at ys end) (build-types (typesOf t) 0 (typesOf t))
+
 -- what is asked of it
 abbrev pub Makes : (s ys : List ℕ) (from p : ℕ) (zs : List ℕ) (b : TypeTree) → Type 0
 Makes s ys from p zs b = (t : Tree) (a : Accepted s 1 7 from) → readSet s ≡ done t → BuildsType ys p zs b (build-type (typesOf t) (typeOf (tree a)))
@@ -135,13 +146,16 @@ module _ {s xs ys : List ℕ} {at left from place p : ℕ} {t : Tree} (q : Reach
   reach-more _ d (AnswersIn.not k n h) z = absurd (omega arith)
 
   -- the next type was refused: so is the set, with its number and place
-  reach-none : {zs : List ℕ} {b : TypeTree} (r : Types) (o : Outcome TypeIr) → build-type (typesOf t) (typeOf (tree (e .child))) ≡ o → BuildsType ys p zs b o →
-      (b .number ≡ 0 → ⊥) → r .number ≡ b .number → r .place ≡ place →
-      BuildsTypes xs at zs r (build-types (typesOf t) 0 (typesOf t))
-  reach-none r _ d (AnswersIn.made x n w) z g k = absurd (z n)
-  reach-none {zs} r _ d (AnswersIn.not m n h) z g k =
-      subst (BuildsTypes xs at zs r) (sym (q .whole ∙ next-is ∙ one-refused (typesOf t) place (typeOf (tree (e .child))) (entries typeOf (e .after .rest .got .0)) (q .built) d))
-      (BuildsTypes.not m place (g ∙ n) h k)
+  reach-none : {zs : List ℕ} {b : TypeTree} {number end : ℕ} (o : Outcome TypeIr) → build-type (typesOf t) (typeOf (tree (e .child))) ≡ o → BuildsType ys p zs b o →
+      (b .number ≡ 0 → ⊥) → number ≡ b .number → Made xs at zs place number end t
+  reach-none _ d (AnswersIn.made x n w) z g = absurd (z n)
+  reach-none {number} _ d (AnswersIn.not m n h) z g =
+      let i : number ≡ m = g ∙ n in
+      refuses (omega arith)
+      (q .whole
+      ∙ next-is
+      ∙ one-refused (typesOf t) place (typeOf (tree (e .child))) (entries typeOf (e .after .rest .got .0)) (q .built) d
+      ∙ ap (λ (k : ℕ). refused (refusalIn place k)) (sym i))
 
 module _ {s xs ys : List ℕ} {at left from place p : ℕ} where
   -- the type that is next
@@ -161,19 +175,19 @@ module _ {s xs ys : List ℕ} {at left from place p : ℕ} where
       })
 
   -- it is refused
-  pub stopped : {zs : List ℕ} {b : TypeTree} {r : Types} → 0 < left → Makes s ys from p zs b → (b .number ≡ 0 → ⊥) → r .number ≡ b .number → r .place ≡ place → Loop s xs at ys left from place p →
-      (t : Tree) → readSet s ≡ done t → BuildsTypes xs at zs r (build-types (typesOf t) 0 (typesOf t))
-  stopped {r} h f z g k c t d = let e = block-entry (c .on t d .list) h in reach-none (c .on t d) e r _ refl (f t (e .child) d) z g k
+  pub stopped : {zs : List ℕ} {b : TypeTree} {number end : ℕ} → 0 < left → Makes s ys from p zs b → (b .number ≡ 0 → ⊥) → number ≡ b .number → Loop s xs at ys left from place p →
+      (t : Tree) → readSet s ≡ done t → Made xs at zs place number end t
+  stopped h f z g c t d = let e = block-entry (c .on t d .list) h in reach-none (c .on t d) e _ refl (f t (e .child) d) z g
 
 -- no type is left
-pub no-more : {s xs ys : List ℕ} {at left from place p : ℕ} {r : Types} → left ≤ 0 → r .number ≡ 0 → r .at ≡ p → Loop s xs at ys left from place p →
-    (t : Tree) → readSet s ≡ done t → BuildsTypes xs at ys r (build-types (typesOf t) 0 (typesOf t))
+pub no-more : {s xs ys : List ℕ} {at left from place p number : ℕ} → left ≤ 0 → number ≡ 0 → Loop s xs at ys left from place p → (t : Tree) → readSet s ≡ done t →
+    Made xs at ys place number p t
 unfolding prepend build-types entries
-no-more {xs} {ys} {at} {place} {r} h z g c t e =
+no-more {place} h z c t e =
     let q = c .on t e in
-    subst (BuildsTypes xs at ys r)
-    (sym (q .whole ∙ ap (λ (v : Tree × ℕ). prepend (q .built) (build-types (typesOf t) place (entries typeOf (v .0)))) (none-left (q .list) h) ∙ ap done (append-nil (q .built))))
-    (BuildsTypes.made (q .built) z (rw g (q .wrote)))
+    makes (q .built) z
+    (q .whole ∙ ap (λ (v : Tree × ℕ). prepend (q .built) (build-types (typesOf t) place (entries typeOf (v .0)))) (none-left (q .list) h) ∙ ap done (append-nil (q .built)))
+    (q .wrote)
 
 -- ---- what the calls stand on
 
@@ -306,114 +320,100 @@ is-held : (out : ℕ) (ts : List TypeIr) → holds out (write (layoutTree ts)) �
 unfolding write-layout _>>=_ ask
 is-held out ts h = rw h refl
 
--- the code's answer of 18
-refused-18 : answer.Refused 18 65535 0 0 ≡ answerOf (refused (plain 18))
-unfolding answerOf
-refused-18 = refl
+-- a layout was built: its length is answered
+leaves-made : {xs ys : List ℕ} {r : Length} {o : Outcome (List ℕ)} (bs : List ℕ) → o ≡ done bs → lengthOf r ≡ done (length bs) → ys ≡ bs ++ drop (length bs) xs → Leaves xs ys r o
+unfolding built
+leaves-made {xs} {ys} bs e f w = record { is = rw (e, f); left = λ cs d. let g : bs ≡ cs = done-one (sym e ∙ d) in rw (← g) w }
+
+-- none was: the refusal is answered
+leaves-none : {xs ys : List ℕ} {r : Length} {o : Outcome (List ℕ)} {q : Refusal} → o ≡ refused q → lengthOf r ≡ refused q → Leaves xs ys r o
+unfolding built
+leaves-none e f = record { is = rw (e, f); left = λ cs d. absurd (not-done (sym e ∙ d)) }
 
 -- the types are built: 18 decides
 decided : (out : ℕ) (t : Tree) {ts : List TypeIr} → build-types (typesOf t) 0 (typesOf t) ≡ done ts → layoutOf out t ≡ write-layout out ts
 unfolding layoutOf
 decided out t e = bound-done (write-layout out) e
 
-module _ (s : List ℕ) {xs xs₁ xs₂ xs₃ : List ℕ} {p q : ℕ} {r : Types} {n : ℕ} (o : Wrote xs 0 (opened 160) xs₁ p) (k : Wrote xs₁ p (bytes 2 n) xs₂ q) (c : n ≡ le2 s 6)
-    (f : (t : Tree) → readSet s ≡ done t → BuildsTypes xs₂ q xs₃ r (build-types (typesOf t) 0 (typesOf t))) where
+-- the code's refusal of a type
+pub at-place : (n place : ℕ) (v : Value) → numberOf v ≡ 0 → refusalOf (record { number = n; place = place; offset = 0; value = v }) ≡ refusalIn place n
+unfolding refusalOf
+at-place n place v e = rw e
+
+module _ (s : List ℕ) {xs xs₁ xs₂ xs₃ : List ℕ} {p q place number end n : ℕ} (o : Wrote xs 0 (opened 160) xs₁ p) (k : Wrote xs₁ p (bytes 2 n) xs₂ q) (c : n ≡ le2 s 6)
+    (f : (t : Tree) → readSet s ≡ done t → Made xs₂ q xs₃ place number end t) where
   -- a type refused
-  pub types-no : (r .number ≡ 0 → ⊥) → (t : Tree) → readSet s ≡ done t → Leaves xs xs₃ (answer.Refused (r .number) (r .place) 0 0) (layoutOf (length xs) t)
-  unfolding layoutOf _>>=_ answerOf
-  types-no z t e = go (build-types (typesOf t) 0 (typesOf t)) (f t e)
-    where
-      go : (b : Outcome (List TypeIr)) → BuildsTypes xs₂ q xs₃ r b → Leaves xs xs₃ (answer.Refused (r .number) (r .place) 0 0) (b >>= write-layout (length xs))
-      go _ (BuildsTypes.made ts n w) = absurd (z n)
-      go _ (BuildsTypes.not m i n h g) = Leaves.refuses (record { number = m; place = i; offset = 0; value = 0 }) (rw (n, g) refl)
+  pub types-no : {x : code.Refusal} → (number ≡ 0 → ⊥) → refusalOf x ≡ refusalIn place number → (t : Tree) → readSet s ≡ done t →
+      Leaves xs xs₃ (answer.Refused x) (layoutOf (length xs) t)
+  unfolding layoutOf _>>=_
+  types-no z g t e =
+      let h : build-types (typesOf t) 0 (typesOf t) ≡ refused (refusalIn place number) = unanswered z (f t e) .0 in
+      let d : layoutOf (length xs) t ≡ refused (refusalIn place number) = rw h in
+      leaves-none d (ap refused g)
 
   -- all are built
-  module _ {ys : List ℕ} {v : ℕ} (z : r .number ≡ 0) (d : Wrote xs₃ 0 (bytes 4 (r .at - 0 - 4)) ys v) (t : Tree) (e : readSet s ≡ done t) where
+  module _ {ys : List ℕ} {v : ℕ} (z : number ≡ 0) (d : Wrote xs₃ 0 (bytes 4 (end - 0 - 4)) ys v) (t : Tree) (e : readSet s ≡ done t) where
     -- all types were built: their trees and their bytes
-    all-made : (b : Outcome (List TypeIr)) → build-types (typesOf t) 0 (typesOf t) ≡ b → BuildsTypes xs₂ q xs₃ r b →
-        (ts : List TypeIr) × (build-types (typesOf t) 0 (typesOf t) ≡ done ts) × Wrote xs 0 (write (layoutTree ts)) ys (r .at)
-    all-made _ g (BuildsTypes.made ts m w) = (ts, g, layout-is ts o k w d (c ∙ set-count s e g))
-    all-made _ g (BuildsTypes.not m i y h l) = absurd (omega (arith, z, y, h))
+    all-made : (ts : List TypeIr) × (build-types (typesOf t) 0 (typesOf t) ≡ done ts) × Wrote xs 0 (write (layoutTree ts)) ys end
+    all-made = let (ts, g, w) = answers.answered z (f t e) in (ts, g, layout-is ts o k w d (c ∙ set-count s e g))
 
     -- the layout holds: its bytes stand at the start of the output
-    pub layout-yes : true ≡ holdsAt ys (r .at) → Leaves xs ys (answer.Length (r .at)) (layoutOf (length xs) t)
+    pub layout-yes : true ≡ holdsAt ys end → Leaves xs ys (answer.Bytes end) (layoutOf (length xs) t)
     layout-yes h =
-        let (ts, g, w) = all-made _ refl (f t e) in
+        let (ts, g, w) = all-made in
         let y : holds (length xs) (write (layoutTree ts)) ≡ true = same-holds w ∙ sym h in
         let l : length (write (layoutTree ts)) ≤ length xs = leb-true _ _ (and-left _ _ (and-left _ _ y)) in
-        subst (Leaves xs ys (answer.Length (r .at))) (sym (decided (length xs) t g ∙ is-held (length xs) ts y))
-        (Leaves.built (write (layoutTree ts)) (ap answer.Length (w .end ∙ zero-add _)) (whole-is w l))
+        leaves-made (write (layoutTree ts)) (decided (length xs) t g ∙ is-held (length xs) ts y) (ap done (w .end ∙ zero-add _)) (whole-is w l)
 
     -- it does not: 18
-    pub layout-no : false ≡ holdsAt ys (r .at) → Leaves xs ys (answer.Refused 18 65535 0 0) (layoutOf (length xs) t)
-    layout-no h =
-        let (ts, g, w) = all-made _ refl (f t e) in
+    pub layout-no : {x : code.Refusal} → false ≡ holdsAt ys end → refusalOf x ≡ plain 18 → Leaves xs ys (answer.Refused x) (layoutOf (length xs) t)
+    layout-no h g =
+        let (ts, b, w) = all-made in
         let y : holds (length xs) (write (layoutTree ts)) ≡ false = same-holds w ∙ sym h in
-        subst (Leaves xs ys (answer.Refused 18 65535 0 0)) (sym (decided (length xs) t g ∙ not-held (length xs) ts y)) (Leaves.refuses (plain 18) refused-18)
+        leaves-none (decided (length xs) t b ∙ not-held (length xs) ts y) (ap refused g)
 
 -- ---- the questions before building
 
--- a set that was read has a tree
-read-tree : (m : ℕ) {i : ℕ} (o : Outcome Tree) → inputOf m o ≡ Ok i → (t : Tree) × (o ≡ done t)
-unfolding inputOf
-read-tree m (done t) e = (t, refl)
-read-tree m (refused r) e = let z : _≡_ {A = ℕ} 0 1 = cc in absurd (omega arith)
+-- the questions may be put first, and what follows them afterwards
+asked-first : (n out : ℕ) (set : List ℕ) → build-set n out set ≡ (readCall readSet n set >>= layoutOf out)
+unfolding build-set readCall layoutOf _>>=_
+asked-first n out set = go (enough n) (small set) (readSet set) (λ t. build-types (typesOf t) 0 (typesOf t) >>= write-layout out)
+  where
+    go : (a b : Outcome Unit) (x : Outcome Tree) (k : Tree → Outcome (List ℕ)) → (a >>= (λ _. b >>= (λ _. x >>= k))) ≡ ((a >>= (λ _. b >>= (λ _. x))) >>= k)
+    go (refused r) b x k = refl
+    go (done u) (refused r) x k = refl
+    go (done u) (done v) (refused r) k = refl
+    go (done u) (done v) (done t) k = refl
 
--- a set that was not read is refused with the same number and offset
-unread-leaves : (xs : List ℕ) (m q o : ℕ) {a : Outcome Tree} → Unread a → inputOf m a ≡ Refused q o → (k : Tree → Outcome (List ℕ)) → Leaves xs xs (answer.Refused q 65535 o 0) (a >>= k)
-unfolding inputOf _>>=_ answerOf
-unread-leaves xs m q o (Unread.given t) e k = let z : _≡_ {A = ℕ} 0 1 = cc in absurd (omega arith)
-unread-leaves xs m q o (Unread.at-offset p i) e k =
-    let g : p ≡ q = cc in
-    let h : i ≡ o = cc in
-    Leaves.refuses (unread p i) (rw (g, h) refl)
+module _ (n : ℕ) (set : List ℕ) {r : Read} (d : passedOf r ≡ passed (readCall readSet n set)) where
+  -- a question was not passed: its refusal
+  pub set-unread : (xs : List ℕ) {q o : ℕ} {x : code.Refusal} → r ≡ Refused q o → refusalOf x ≡ unread q o → Leaves xs xs (answer.Refused x) (build-set n (length xs) set)
+  unfolding _>>=_
+  set-unread xs e g =
+      leaves-none (asked-first n (length xs) set ∙ ap (λ (z : Outcome Tree). z >>= layoutOf (length xs)) (passed-no (readCall readSet n set) d e)) (ap refused g)
 
-module _ (n : ℕ) (set xs : List ℕ) where
-  -- fewer than 8192 words: 19
-  pub set-19 : n < 8192 → Leaves xs xs (answer.Refused 19 65535 0 0) (build-set n (length xs) set)
-  unfolding build-set enough _>>=_ ask answerOf
-  set-19 h = rw (lt-leb _ _ h) (Leaves.refuses (plain 19) refl)
+  module _ {i : ℕ} (e : r ≡ Ok i) where
+    -- all were: what the layout leaves
+    pub set-read : (xs : List ℕ) {ys : List ℕ} {a : Length} → ((t : Tree) → readSet set ≡ done t → Leaves xs ys a (layoutOf (length xs) t)) → Leaves xs ys a (build-set n (length xs) set)
+    set-read xs {ys} {a} g =
+        let j = called d e in
+        subst (Leaves xs ys a) (sym (asked-first n (length xs) set ∙ bound-done (layoutOf (length xs)) (j .is))) (g (j .tree) (j .input-read))
 
-  module _ (h : 8192 ≤ n) where
-    -- a set that is too long: 1
-    pub set-1 : 65536 < length set → Leaves xs xs (answer.Refused 1 65535 0 0) (build-set n (length xs) set)
-    unfolding build-set enough small _>>=_ ask answerOf
-    set-1 k = rw (le-leb _ _ h, lt-leb _ _ k) (Leaves.refuses (unread 1 0) refl)
-
-    module _ (k : length set ≤ 65536) where
-      -- behind 19 and 1 the set is read, and its layout is built
-      asked : build-set n (length xs) set ≡ (readSet set >>= layoutOf (length xs))
-      unfolding build-set enough small _>>=_ ask layoutOf
-      asked = rw (le-leb _ _ h, le-leb _ _ k) refl
-
-      module _ {r : Read} (e : r ≡ inputOf (length set) (readSet set)) where
-        -- the set is not read: 2 to 6
-        pub set-unread : {q o : ℕ} → r ≡ Refused q o → Leaves xs xs (answer.Refused q 65535 o 0) (build-set n (length xs) set)
-        set-unread {q} {o} f = subst (Leaves xs xs (answer.Refused q 65535 o 0)) (sym asked) (unread-leaves xs (length set) q o (input-unread 32 36 set) (sym e ∙ f) (layoutOf (length xs)))
-
-        -- the set is read: what its layout leaves
-        pub set-read : {i : ℕ} {ys : List ℕ} {a : Answer} → r ≡ Ok i → ((t : Tree) → readSet set ≡ done t → Leaves xs ys a (layoutOf (length xs) t)) → Leaves xs ys a (build-set n (length xs) set)
-        set-read {ys} {a} f g = let (t, d) = read-tree (length set) (readSet set) (sym e ∙ f) in subst (Leaves xs ys a) (sym (asked ∙ bound-done (layoutOf (length xs)) d)) (g t d)
-
--- building stands on a set that was read, and on the words
-pub set-ready : {set ws : List ℕ} {r : Read} {i : ℕ} → 512 ≤ length ws → length set ≤ 65536 → r ≡ inputOf (length set) (readSet set) → r ≡ Ok i → Ready set ws
-set-ready {set} h k e f = record { standing = record { size = k; words = h; count = omega arith }; set = read-tree (length set) (readSet set) (sym e ∙ f) }
+    -- building stands on a set that was read, and on the words
+    pub set-ready : {ws : List ℕ} → (8192 ≤ n → 512 ≤ length ws) → Ready set ws
+    set-ready h = let j = called d e in record { standing = record { size = j .size; words = h (j .words); count = omega arith }; set = (j .tree, j .input-read) }
 
 -- ---- what a call leaves
 
--- the length of a layout
-pub leaves-built : {xs ys : List ℕ} {a : Answer} {n : ℕ} {o : Outcome (List ℕ)} → Leaves xs ys a o → a ≡ answer.Length n → (answer.Length n ≡ answerOf o) × (ys ≡ output-after xs o)
-unfolding answerOf output-after
-leaves-built (Leaves.built bs e w) f = (sym f ∙ e, w)
-leaves-built (Leaves.refuses r e) f = let z : _≡_ {A = ℕ} 0 1 = cc in absurd (omega arith)
+-- where a length is answered, the layout stands in the output
+pub left-built : {xs ys : List ℕ} {a : Length} {n : ℕ} (o : Outcome (List ℕ)) → Leaves xs ys a o → a ≡ answer.Bytes n → (lengthOf (answer.Bytes n) ≡ built o) × (ys ≡ output-after xs o)
+unfolding output-after built
+left-built (done bs) l f = (ap lengthOf (sym f) ∙ l .is, l .left bs refl)
+left-built (refused q) l f = absurd (not-done (sym (ap lengthOf (sym f) ∙ l .is)))
 
--- a refusal
-pub leaves-refused : {xs ys zs : List ℕ} {a : Answer} {q p i v : ℕ} {o : Outcome (List ℕ)} → Leaves xs ys a o → a ≡ answer.Refused q p i v → zs ≡ replicate (length xs) 0 →
-    (answer.Refused q p i v ≡ answerOf o) × (zs ≡ output-after xs o)
-unfolding answerOf output-after
-leaves-refused (Leaves.built bs e w) f g = let z : _≡_ {A = ℕ} 0 1 = cc in absurd (omega arith)
-leaves-refused (Leaves.refuses r e) f g = (sym f ∙ e, g)
-
--- cleared words, or bytes, as many as there were
-pub zeros : (xs ys : List ℕ) {zs : List ℕ} → zs ≡ replicate (length ys) 0 → length ys ≡ length xs → zs ≡ replicate (length xs) 0
-zeros xs ys e h = e ∙ ap (λ (n : ℕ). replicate n 0) h
+-- where a refusal is, the output is cleared
+pub left-cleared : {xs ys zs : List ℕ} {a : Length} {q : code.Refusal} (o : Outcome (List ℕ)) → Leaves xs ys a o → a ≡ answer.Refused q → zs ≡ replicate (length ys) 0 → length ys ≡ length xs →
+    (lengthOf (answer.Refused q) ≡ built o) × (zs ≡ output-after xs o)
+unfolding output-after built
+left-cleared (done bs) l f c h = absurd (not-done (ap lengthOf (sym f) ∙ l .is))
+left-cleared (refused r) l f c h = (ap lengthOf (sym f) ∙ l .is, c ∙ ap (λ (n : ℕ). replicate n 0) h)

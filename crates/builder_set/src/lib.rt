@@ -1,23 +1,21 @@
 // The call that builds every type of a set, in set order. Whatever is answered, the working words are zero after; a refusal
 // leaves the output all zeros.
+use errors::Length;
+use errors::Refusal;
 use reader_leaf::Read;
+use value::Value;
 ghost use mathlib.Core.Path.{_≡_};
 ghost use Prim.Native.Nat.{ℕ, _+_, _^_, _≤_, _<_};
 ghost use lib.ListN.{length};
-ghost use Rattle.errors.specs.Refusal.{done};
+ghost use Rattle.errors.specs.Refusal.{done, words-after};
+ghost use Rattle.errors.specs.Answer.{built};
+ghost use Rattle.errors.specs.Meaning.{lengthOf};
+ghost use Rattle.answers.specs.Answers.{AnswersIn};
 ghost use Rattle.blocks.specs.Tree.{Tree};
 ghost use Rattle.blocks.specs.Read.{readSet};
 ghost use Rattle.resolved.specs.Set.{typesOf};
 ghost use Rattle.builder.specs.Build.{build-types, build-set, output-after};
-ghost use Rattle.errors.specs.Refusal.{words-after};
-ghost use Rattle.builder_set.specs.Sets.{Ready, BuildsTypes, answerOf, holdsAt, layoutOf, Leaves};
-
-// A built layout's length, or a refusal.
-pub enum Answer {
-    Length(usize),
-    // number, place of a type (65,535 if none), offset, value
-    Refused(u64, u64, usize, u64),
-}
+ghost use Rattle.builder_set.specs.Sets.{Ready, TypesAt, holdsAt, layoutOf, Leaves};
 
 // The next cursor; the number of a refusal or 0, and the place of the type that it is of.
 pub struct Types {
@@ -26,14 +24,11 @@ pub struct Types {
     pub place: usize,
 }
 
-// No type's place.
-const NOWHERE: u64 = 65535;
-
 // The type trees of an accepted set, one behind the other.
 fn build_types(s: &[u8], words: &mut [u64], out: &mut [u8], at: usize) -> Types
     requires { ⌜ Ready (now s) (now words) × (at < 2 ^ 54) ⌝ }
     ensures { λ r. ⌜ (at ≤ r .at) × (r .at ≤ at + 2 ^ 50) ⌝ }
-    ensures { λ r. ⌜ ((t : Tree) → readSet (now (s .entry)) ≡ done t → BuildsTypes (now (out .entry)) at (now (out .exit)) r (build-types (typesOf t) 0 (typesOf t))) ⌝ }
+    ensures { λ r. ⌜ ((t : Tree) → readSet (now (s .entry)) ≡ done t → AnswersIn (r .place) (r .number) (TypesAt (now (out .entry)) at (now (out .exit)) (r .at)) (build-types (typesOf t) 0 (typesOf t))) ⌝ }
 {
     let mut left = wire::read2(s, 6);
     let mut from = 8;
@@ -78,7 +73,7 @@ fn holds(out: &[u8], n: usize) -> bool
 }
 
 // The layout of an accepted set, at the start of the output.
-fn build_layout(s: &[u8], words: &mut [u64], out: &mut [u8]) -> Answer
+fn build_layout(s: &[u8], words: &mut [u64], out: &mut [u8]) -> Length
     requires { ⌜ Ready (now s) (now words) ⌝ }
     ensures { λ r. ⌜ ((t : Tree) → readSet (now (s .entry)) ≡ done t → Leaves (now (out .entry)) (now (out .exit)) r (layoutOf (length (now (out .entry))) t)) ⌝ }
 {
@@ -86,68 +81,70 @@ fn build_layout(s: &[u8], words: &mut [u64], out: &mut [u8]) -> Answer
     let q = wire::put_le(out, p, 2, wire::read2(s, 6) as u64);
     let r = build_types(s, words, out, q);
     if r.number != 0 {
-        return Answer::Refused(r.number, r.place as u64, 0, 0);
+        return Length::Refused(Refusal {
+            number: r.number,
+            place: r.place,
+            offset: 0,
+            value: Value::of(0),
+        });
     }
     let end = r.at;
     wire::close_block(out, 0, end);
     if holds(out, end) {
-        return Answer::Length(end);
+        return Length::Bytes(end);
     }
-    Answer::Refused(18, NOWHERE, 0, 0)
+    Length::Refused(Refusal::plain(18))
 }
 
-// The questions behind 19: 1, then the reading of the set.
-fn built(set: &[u8], out: &mut [u8], words: &mut [u64]) -> Answer
-    requires { ⌜ 512 ≤ length (now words) ⌝ }
-    ensures { λ r. ⌜ ((n : ℕ) → 8192 ≤ n → Leaves (now (out .entry)) (now (out .exit)) r (build-set n (length (now (out .entry))) (now (set .entry)))) ⌝ }
+// The questions of a call with n working words, of which those for the registry are lent; then the layout.
+fn built(n: usize, set: &[u8], out: &mut [u8], words: &mut [u64]) -> Length
+    requires { ⌜ (8192 ≤ n → 512 ≤ length (now words)) ⌝ }
+    ensures { λ r. ⌜ Leaves (now (out .entry)) (now (out .exit)) r (build-set n (length (now (out .entry))) (now (set .entry))) ⌝ }
 {
-    if 65536 < set.len() {
-        return Answer::Refused(1, NOWHERE, 0, 0);
-    }
-    match reader::read_input(set, 32, 36) {
-        Read::Refused(q, o) => Answer::Refused(q, NOWHERE, o, 0),
+    match reader_calls::one_read(n, set, 32, 36) {
+        Read::Refused(q, o) => Length::Refused(Refusal::unread(q, o)),
         Read::Ok(_) => build_layout(set, words, out),
     }
 }
 
+// The same, and a refusal leaves the output all zeros.
+fn settled(n: usize, set: &[u8], out: &mut [u8], words: &mut [u64]) -> Length
+    requires { ⌜ (8192 ≤ n → 512 ≤ length (now words)) ⌝ }
+    ensures { λ r. ⌜ lengthOf r ≡ built (build-set n (length (now (out .entry))) (now (set .entry))) ⌝ }
+    ensures { λ _. ⌜ now (out .exit) ≡ output-after (now (out .entry)) (build-set n (length (now (out .entry))) (now (set .entry))) ⌝ }
+{
+    let a = built(n, set, out, words);
+    match a {
+        Length::Bytes(count) => Length::Bytes(count),
+        Length::Refused(r) => {
+            wire::clear_bytes(out);
+            Length::Refused(r)
+        }
+    }
+}
+
 // Builds every type of a set in set order: the layout at the start of the output, bytes behind it stay.
-pub fn build_set(set: &[u8], out: &mut [u8], words: &mut [u64]) -> Answer
-    ensures { λ r. ⌜ r ≡ answerOf (build-set (length (now (words .entry))) (length (now (out .entry))) (now (set .entry))) ⌝ }
+pub fn build_set(set: &[u8], out: &mut [u8], words: &mut [u64]) -> Length
+    ensures { λ r. ⌜ lengthOf r ≡ built (build-set (length (now (words .entry))) (length (now (out .entry))) (now (set .entry))) ⌝ }
     ensures { λ _. ⌜ now (out .exit) ≡ output-after (now (out .entry)) (build-set (length (now (words .entry))) (length (now (out .entry))) (now (set .entry))) ⌝ }
     ensures { λ _. ⌜ now (words .exit) ≡ words-after (now (words .entry)) ⌝ }
 {
     let n = words.len();
     wire::clear_words(words);
-    if n < 8192 {
-        wire::clear_bytes(out);
-        return Answer::Refused(19, NOWHERE, 0, 0);
-    }
     // a word for each entry of the registry
-    let entries = &mut words[..512];
-    let a = built(set, out, entries);
+    let most = reader_calls::used(n, 512);
+    let entries = &mut words[..most];
+    let a = settled(n, set, out, entries);
     wire::clear_words(entries);
-    match a {
-        Answer::Length(n) => Answer::Length(n),
-        Answer::Refused(q, place, offset, value) => {
-            wire::clear_bytes(out);
-            Answer::Refused(q, place, offset, value)
-        }
-    }
+    a
 }
 
 // The same with working words of its own, of which it needs one for each entry of the registry: the caller gives none, so that 19 is
 // never answered and no word has to be cleared.
-pub fn layout_of(set: &[u8], out: &mut [u8]) -> Answer
-    ensures { λ r. ⌜ r ≡ answerOf (build-set 8192 (length (now (out .entry))) (now (set .entry))) ⌝ }
+pub fn layout_of(set: &[u8], out: &mut [u8]) -> Length
+    ensures { λ r. ⌜ lengthOf r ≡ built (build-set 8192 (length (now (out .entry))) (now (set .entry))) ⌝ }
     ensures { λ _. ⌜ now (out .exit) ≡ output-after (now (out .entry)) (build-set 8192 (length (now (out .entry))) (now (set .entry))) ⌝ }
 {
     let mut entries = [0u64; 512];
-    let a = built(set, out, &mut entries);
-    match a {
-        Answer::Length(count) => Answer::Length(count),
-        Answer::Refused(number, place, offset, value) => {
-            wire::clear_bytes(out);
-            Answer::Refused(number, place, offset, value)
-        }
-    }
+    settled(8192, set, out, &mut entries)
 }

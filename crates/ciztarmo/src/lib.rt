@@ -2,68 +2,16 @@
 // The answer goes into the caller's four words: number (0 if accepted), place, offset, and value or count; where there are many,
 // one behind the other.
 ghost use mathlib.Core.Path.{_≡_};
-ghost use mathlib.Core.List.{List, _++_};
-ghost use Prim.Native.Nat.{ℕ, _*_};
+ghost use mathlib.Core.List.{_++_};
+ghost use Prim.Native.Nat.{_*_};
 ghost use lib.ListN.{length, drop};
-ghost use Rattle.errors.specs.Refusal.{Outcome};
-ghost use Rattle.blocks.specs.Tree.{Tree};
 ghost use Rattle.blocks.specs.Read.{readSet, readLayout, readValues, readRun};
-ghost use Rattle.reader_calls.specs.Inputs.{readCall, answerOf};
-ghost use Rattle.builder_set.specs.Sets.{answerOf as layoutAnswer};
-ghost use Rattle.interpreter_leaves.specs.Outcome.{outcomeOf};
+ghost use Rattle.reader_calls.specs.Inputs.{readCall};
 ghost use Rattle.interpreter.specs.Validate.{validate, validate-run};
 ghost use Rattle.builder.specs.Build.{build-set, output-after};
 ghost use Rattle.errors.specs.Refusal.{words-after};
 ghost use Rattle.interpreter.specs.Runs.{validate-runs, given};
-ghost use Rattle.errors.specs.Answer.{allAnswerWords};
-ghost use Rattle.ciztarmo.specs.Outcomes.{answerWords, read, built};
-
-// What a reading answered, as four words.
-fn put_reading(a: reader_calls::Answer, answer: &mut [u64; 4])
-    ensures { λ _. ⌜ ((o : Outcome Tree) → a ≡ answerOf o → now (answer .exit) ≡ answerWords (read o)) ⌝ }
-{
-    match a {
-        reader_calls::Answer::Accepted => {
-            *answer = [0, 65535, 0, 0];
-        }
-        reader_calls::Answer::Refused(number, place, offset, value) => {
-            *answer = [number, place, offset as u64, value];
-        }
-    }
-}
-
-// What a build answered, as four words.
-fn put_length(a: builder_set::Answer, answer: &mut [u64; 4])
-    ensures { λ _. ⌜ ((o : Outcome (List ℕ)) → a ≡ layoutAnswer o → now (answer .exit) ≡ answerWords (built o)) ⌝ }
-{
-    match a {
-        builder_set::Answer::Length(n) => {
-            *answer = [0, 65535, 0, n as u64];
-        }
-        builder_set::Answer::Refused(q, place, offset, value) => {
-            *answer = [q, place, offset as u64, value];
-        }
-    }
-}
-
-// What a validation answered, as four words.
-fn put_count(a: interpreter_leaves::Answer, answer: &mut [u64; 4])
-    ensures { λ _. ⌜ now (answer .exit) ≡ answerWords (outcomeOf a) ⌝ }
-{
-    match a {
-        interpreter_leaves::Answer::Count(n) => {
-            *answer = [0, 65535, 0, n];
-        }
-        interpreter_leaves::Answer::Refused {
-            number,
-            place,
-            offset,
-            value,
-        } => {
-            *answer = [number, place as u64, offset as u64, value];
-        }
-    }
-}
+ghost use Rattle.errors.specs.Answer.{answerWords, allAnswerWords, read, built};
 
 // Whether a type set is read.
 #[no_mangle]
@@ -72,7 +20,7 @@ pub extern "C" fn ciztarmo_read_set(words: &mut [u64], set: &[u8], answer: &mut 
     ensures { λ _. ⌜ now (words .exit) ≡ words-after (now (words .entry)) ⌝ }
 {
     let a = reader_calls::read_set(words, set);
-    put_reading(a, answer);
+    *answer = a.words();
 }
 
 // Whether a layout is read.
@@ -82,7 +30,7 @@ pub extern "C" fn ciztarmo_read_layout(words: &mut [u64], layout: &[u8], answer:
     ensures { λ _. ⌜ now (words .exit) ≡ words-after (now (words .entry)) ⌝ }
 {
     let a = reader_calls::read_layout(words, layout);
-    put_reading(a, answer);
+    *answer = a.words();
 }
 
 // Whether values are read.
@@ -92,7 +40,7 @@ pub extern "C" fn ciztarmo_read_values(words: &mut [u64], values: &[u8], answer:
     ensures { λ _. ⌜ now (words .exit) ≡ words-after (now (words .entry)) ⌝ }
 {
     let a = reader_calls::read_values(words, values);
-    put_reading(a, answer);
+    *answer = a.words();
 }
 
 // Whether a run is read.
@@ -102,7 +50,7 @@ pub extern "C" fn ciztarmo_read_run(words: &mut [u64], run: &[u8], answer: &mut 
     ensures { λ _. ⌜ now (words .exit) ≡ words-after (now (words .entry)) ⌝ }
 {
     let a = reader_calls::read_run(words, run);
-    put_reading(a, answer);
+    *answer = a.words();
 }
 
 // The layout of a set's types, in set order, and its length.
@@ -117,8 +65,8 @@ pub extern "C" fn ciztarmo_build_set(
     ensures { λ _. ⌜ now (out .exit) ≡ output-after (now (out .entry)) (build-set (length (now (words .entry))) (length (now (out .entry))) (now (set .entry))) ⌝ }
     ensures { λ _. ⌜ now (words .exit) ≡ words-after (now (words .entry)) ⌝ }
 {
-    let a = builder_set::build_set(set, out, words);
-    put_length(a, answer);
+    let a = builder_set::build_set(set, out, words).answer();
+    *answer = a.words();
 }
 
 // The same with no words of the caller: the call has those that it needs.
@@ -127,8 +75,8 @@ pub extern "C" fn ciztarmo_layout_of(set: &[u8], out: &mut [u8], answer: &mut [u
     ensures { λ _. ⌜ now (answer .exit) ≡ answerWords (built (build-set 8192 (length (now (out .entry))) (now (set .entry)))) ⌝ }
     ensures { λ _. ⌜ now (out .exit) ≡ output-after (now (out .entry)) (build-set 8192 (length (now (out .entry))) (now (set .entry))) ⌝ }
 {
-    let a = builder_set::layout_of(set, out);
-    put_length(a, answer);
+    let a = builder_set::layout_of(set, out).answer();
+    *answer = a.words();
 }
 
 // The count of a type's bytes.
@@ -145,7 +93,7 @@ pub extern "C" fn ciztarmo_validate(
     ensures { λ _. ⌜ now (words .exit) ≡ words-after (now (words .entry)) ⌝ }
 {
     let a = interpreter_validate::validate(words, layout, name, values, len);
-    put_count(a, answer);
+    *answer = a.words();
 }
 
 // The count of the bytes that a run asks for.
@@ -160,7 +108,7 @@ pub extern "C" fn ciztarmo_validate_run(
     ensures { λ _. ⌜ now (words .exit) ≡ words-after (now (words .entry)) ⌝ }
 {
     let a = interpreter_validate::validate_run(words, layout, run);
-    put_count(a, answer);
+    *answer = a.words();
 }
 
 // The count of a type's bytes, with no words of the caller: the call has those that it needs.
@@ -175,7 +123,7 @@ pub extern "C" fn ciztarmo_length_of(
     ensures { λ _. ⌜ now (answer .exit) ≡ answerWords (validate 8192 (now (layout .entry)) (now (name .entry)) (now (values .entry)) len) ⌝ }
 {
     let a = interpreter_validate::length_of(layout, name, values, len);
-    put_count(a, answer);
+    *answer = a.words();
 }
 
 // The count of the bytes that a run asks for, with no words of the caller.
@@ -184,7 +132,7 @@ pub extern "C" fn ciztarmo_length_of_run(layout: &[u8], run: &[u8], answer: &mut
     ensures { λ _. ⌜ now (answer .exit) ≡ answerWords (validate-run 8192 (now (layout .entry)) (now (run .entry))) ⌝ }
 {
     let a = interpreter_validate::length_of_run(layout, run);
-    put_count(a, answer);
+    *answer = a.words();
 }
 
 // The counts of the bytes that runs, one behind the other, ask for, over one layout: how many runs have their answers in

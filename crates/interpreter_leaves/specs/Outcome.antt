@@ -1,17 +1,10 @@
--- What each answer of the code says in document 01's terms: the count, or the refusal's number, place, offset and value.
+-- What evaluating leaves of an outcome: the count, or the refusal's number, place, offset and value.
 use Prim.Native.Nat.{ℕ}
 use mathlib.Core.Path.{_≡_}
 use mathlib.Core.Bool.{Bool}
 use mathlib.Core.List.{List, [], _∷_}
 use lib.ListN.{getD}
 use Rattle.errors.specs.Refusal.{Outcome, done, refused, answered}
-use Rattle.interpreter.specs.Eval.{refusalAt}
-use Rattle.interpreter_leaves.specs.declared.Answer.{Answer}
-use Rattle.interpreter_leaves.specs.declared.Answer.the-variants.{Count, Refused}
-
-abbrev pub outcomeOf : Answer → Outcome ℕ
-outcomeOf (Count n) = done n
-outcomeOf (Refused q p o v) = refused (refusalAt p o q v)
 
 -- what an outcome leaves of four words: a count in the first, the others as they were; a refusal in all of them
 abbrev pub leftIn : List ℕ → Outcome ℕ → List ℕ

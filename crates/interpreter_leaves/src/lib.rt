@@ -22,17 +22,6 @@ ghost use Rattle.interpreter_context.specs.Context.{Context, argumentsOf, Here}
 ghost use Rattle.interpreter_leaves.specs.Outcome.{Tells, countIn};
 ghost use Rattle.interpreter_leaves.specs.Steps.{Rooted, Picked, Bound, FieldName, Unwrapped};
 
-// A count, or a refusal.
-pub enum Answer {
-    Count(u64),
-    Refused {
-        number: u64,
-        place: usize,
-        offset: usize,
-        value: u64,
-    },
-}
-
 // The node that a switch selects.
 pub enum Choice {
     Node(usize),

@@ -3,22 +3,14 @@ use Prim.Native.Nat.{ℕ, _-_, _≤_, _<_}
 use mathlib.Core.Path.{_≡_}
 use mathlib.Core.List.{List}
 use lib.ListN.{length, take, drop}
-use Rattle.errors.specs.Refusal.{Outcome, _>>=_}
-use Rattle.blocks.specs.Tree.{Tree}
-use Rattle.blocks.specs.Read.{small, readLayout}
+use Rattle.blocks.specs.Read.{readLayout}
 use Rattle.reader_leaf.specs.declared.Read.{Read}
-use Rattle.reader.specs.Input.{inputOf}
+use Rattle.reader_calls.specs.Inputs.{readCall, passed, passedOf}
 use Rattle.interpreter.specs.Runs.{first-run, later-runs}
 
--- the questions that concern the layout alone
-unfoldable pub holding : List ℕ → Outcome Tree
-holding layout = do
-  _ ← small layout
-  readLayout layout
-
--- the answer to them
-abbrev pub Holds : List ℕ → Read → Type 0
-Holds layout r = r ≡ inputOf (length layout) (holding layout)
+-- the answer to the questions of a call with the layout alone
+abbrev pub Holds : ℕ → List ℕ → Read → Type 0
+Holds n layout r = passedOf r ≡ passed (readCall readLayout n layout)
 
 -- the run at i of s ends at r
 pub record Ends (s : List ℕ) (i r : ℕ) : Type 0 where

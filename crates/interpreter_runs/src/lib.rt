@@ -1,61 +1,27 @@
 // Runs that stand one behind the other, over one layout, which is read once and not again for each run: the answers of
 // `validate_run`, four words each.
-use interpreter_leaves::Answer;
+use errors::Answer;
 use reader_leaf::Read;
 ghost use mathlib.Core.Path.{_≡_};
-ghost use mathlib.Core.List.{[], _∷_, _++_};
+ghost use mathlib.Core.List.{_++_};
 ghost use Prim.Native.Nat.{_+_, _*_, _≤_, _<_};
 ghost use lib.ListN.{length, drop};
 ghost use Rattle.errors.specs.Refusal.{words-after};
 ghost use Rattle.interpreter.specs.Validate.{validate-run};
 ghost use Rattle.wire.specs.Poke.{Wrote};
-ghost use Rattle.interpreter_leaves.specs.Outcome.{outcomeOf};
-ghost use Rattle.interpreter_leaves.specs.declared.Answer.the-variants.{Refused};
+ghost use Rattle.errors.specs.Meaning.{outcomeOf};
 ghost use Rattle.interpreter.specs.Runs.{validate-runs, given};
 ghost use Rattle.errors.specs.Answer.{answerWords, allAnswerWords};
 ghost use Rattle.interpreter_runs.specs.Held.{Holds, Ends};
 
-// Whether the layout is read; if not, the number and the offset of the refusal.
-fn held(layout: &[u8]) -> Read
-    ensures { λ r. ⌜ Holds (now (layout .entry)) r ⌝ }
-{
-    if 65536 < layout.len() {
-        return Read::Refused(1, 0);
-    }
-    reader_quick::read_input(layout, 256, 160)
-}
-
-// A refusal before evaluating.
-fn unread(number: u64, offset: usize) -> Answer
-    ensures { λ r. ⌜ r ≡ Refused number 65535 offset 0 ⌝ }
-{
-    Answer::Refused {
-        number,
-        place: 65535,
-        offset,
-        value: 0,
-    }
-}
-
-// The answer to a run. Whether the layout is read is known.
-fn answer(n: usize, layout: &[u8], read: Read, run: &[u8], calls: &mut [u64]) -> Answer
-    requires { ⌜ Holds (now layout) read × (8192 ≤ n → 16 ≤ length (now calls)) ⌝ }
+// The answer to a run. The questions of a call with the layout alone are answered.
+fn answer(n: usize, layout: &[u8], first: Read, run: &[u8], calls: &mut [u64]) -> Answer
+    requires { ⌜ Holds n (now layout) first × (8192 ≤ n → 16 ≤ length (now calls)) ⌝ }
     ensures { λ _. ⌜ length (now (calls .exit)) ≡ length (now (calls .entry)) ⌝ }
     ensures { λ r. ⌜ outcomeOf r ≡ validate-run n (now (layout .entry)) (now (run .entry)) ⌝ }
 {
-    if n < 8192 {
-        return unread(19, 0);
-    }
-    if 65536 < run.len() {
-        return unread(1, 0);
-    }
-    match read {
-        Read::Refused(q, o) => unread(q, o),
-        Read::Ok(_) => match reader_quick::read_input(run, 2, 193) {
-            Read::Refused(q, o) => unread(q, o),
-            Read::Ok(_) => interpreter_validate::evaluated_run(layout, run, calls),
-        },
-    }
+    let judged = reader_calls::other_read(n, first, run, 193);
+    interpreter_validate::counted_run(judged, layout, run, calls)
 }
 
 // Where the run at i ends.
@@ -75,45 +41,31 @@ fn run_end(s: &[u8], i: usize) -> usize
 }
 
 // The four words of an answer, and the cursor behind them.
-fn put_four(out: &mut [u64], at: usize, number: u64, place: u64, offset: u64, value: u64) -> usize
-    requires { ⌜ at + 4 ≤ length (now out) ⌝ }
-    ensures { λ r. ⌜ Wrote (now (out .entry)) at (number ∷ place ∷ offset ∷ value ∷ []) (now (out .exit)) r ⌝ }
-{
-    let b = at + 1;
-    let c = at + 2;
-    let d = at + 3;
-    out[at] = number;
-    out[b] = place;
-    out[c] = offset;
-    out[d] = value;
-    at + 4
-}
-
 fn put_answer(out: &mut [u64], at: usize, a: Answer) -> usize
     requires { ⌜ at + 4 ≤ length (now out) ⌝ }
     ensures { λ r. ⌜ Wrote (now (out .entry)) at (answerWords (outcomeOf a)) (now (out .exit)) r ⌝ }
 {
-    match a {
-        Answer::Count(n) => put_four(out, at, 0, 65535, 0, n),
-        Answer::Refused {
-            number,
-            place,
-            offset,
-            value,
-        } => put_four(out, at, number, place as u64, offset as u64, value),
-    }
+    let w = a.words();
+    let b = at + 1;
+    let c = at + 2;
+    let d = at + 3;
+    out[at] = w[0];
+    out[b] = w[1];
+    out[c] = w[2];
+    out[d] = w[3];
+    at + 4
 }
 
 // The answers to the runs in s, as far as there is room for them, and how many words they are.
 fn answer_all(
     n: usize,
     layout: &[u8],
-    read: Read,
+    first: Read,
     s: &[u8],
     calls: &mut [u64],
     out: &mut [u64],
 ) -> usize
-    requires { ⌜ Holds (now layout) read × (8192 ≤ n → 16 ≤ length (now calls)) ⌝ }
+    requires { ⌜ Holds n (now layout) first × (8192 ≤ n → 16 ≤ length (now calls)) ⌝ }
     ensures { λ _. ⌜ length (now (calls .exit)) ≡ length (now (calls .entry)) ⌝ }
     ensures { λ r. ⌜ Wrote (now (out .entry)) 0 (allAnswerWords (given (length (now (out .entry))) (validate-runs n (now (layout .entry)) (now (s .entry))))) (now (out .exit)) r ⌝ }
 {
@@ -124,21 +76,11 @@ fn answer_all(
             return at;
         }
         let end = run_end(s, i);
-        let a = answer(n, layout, read, &s[i..end], calls);
+        let a = answer(n, layout, first, &s[i..end], calls);
         at = put_answer(out, at, a);
         i = end;
     }
     at
-}
-
-// The smaller of n and 16: a word for each call that may be open.
-fn call_words(n: usize) -> usize
-    ensures { λ r. ⌜ (r ≤ n) × (8192 ≤ n → 16 ≤ r) ⌝ }
-{
-    if n < 16 {
-        return n;
-    }
-    16
 }
 
 // How many runs have their answers in `answers`: those from the first on for which there is room.
@@ -149,10 +91,11 @@ pub fn validate_runs(words: &mut [u64], layout: &[u8], runs: &[u8], answers: &mu
 {
     let n = words.len();
     wire::clear_words(words);
-    let read = held(layout);
-    let most = call_words(n);
+    let first = reader_calls::one_read(n, layout, 256, 160);
+    // a word for each call that may be open
+    let most = reader_calls::used(n, 16);
     let calls = &mut words[..most];
-    let end = answer_all(n, layout, read, runs, calls, answers);
+    let end = answer_all(n, layout, first, runs, calls, answers);
     wire::clear_words(calls);
     end / 4
 }

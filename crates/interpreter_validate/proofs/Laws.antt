@@ -1,19 +1,19 @@
--- What a call answers, question by question; then what a type of an accepted layout comes to.
+-- What a call answers where its questions are answered; then what a type of an accepted layout comes to.
 use mathlib.Core.Path.{_≡_, refl, sym, _∙_, ap}
-use mathlib.Core.Bool.{Bool, true, false}
+use mathlib.Core.Bool.{Bool}
 use mathlib.Core.List.{List, [], _∷_}
-use Prim.Native.Nat.{ℕ, _+_, _-_, _<_, _≤_}
+use Prim.Native.Nat.{ℕ, _+_, _-_, _≤_}
 use native.Mathlib.Omega.{arith}
-use lib.Dec.{leb}
-use lib.ListN.{length, take, drop, replicate, length-replicate}
-use lib.Seq.{length-take-le}
-use borrow.Author.Tests.{le-leb, lt-leb, leb-true}
-use Rattle.errors.specs.Refusal.{Outcome, done, refused, _>>=_, ask, enough, unread}
-use Rattle.errors.proofs.Laws.{asked, bound, bound-done}
+use lib.ListN.{length, take, drop, replicate}
+use Rattle.errors.specs.Refusal.{Outcome, done, refused, _>>=_, enough, plain, unread}
+use Rattle.errors.specs.declared.Refusal.{Refusal}
+use Rattle.errors.specs.declared.Answer.{Answer}
+use Rattle.errors.specs.declared.Answer.the-variants as answer
+use Rattle.errors.specs.Meaning.{refusalOf, outcomeOf}
+use Rattle.errors.proofs.Laws.{bound-done}
 use Rattle.blocks.specs.Name.{Name}
 use Rattle.blocks.specs.Tree.{Tree, name, num, block, cons, body, part}
 use Rattle.blocks.specs.Read.{small, readInput, readLayout, readRun}
-use Rattle.blocks.proofs.Refusals.{Unread, input-unread}
 use Rattle.ir.specs.Layout.{layoutOf}
 use Rattle.blocks.specs.Bytes.{le2, le8}
 use Rattle.blocks.specs.Grammar.{partsOf, findRow, grammar}
@@ -22,7 +22,8 @@ use Rattle.accepted.specs.Accepted.{Accepted, tree, Parts, nameAt}
 use Rattle.accepted.proofs.Laws.{input, opened, text-part, number-part, block-part, behind-at}
 use Rattle.reader_leaf.specs.declared.Read.{Read}
 use Rattle.reader_leaf.specs.declared.Read.the-variants.{Ok, Refused}
-use Rattle.reader.specs.Input.{inputOf}
+use Rattle.reader_calls.specs.Inputs.{judge, passed, passedOf, Least}
+use Rattle.reader_calls.proofs.Laws.{Judged, judged, passed-no, part-enough}
 use Rattle.lookup.specs.declared.Place.{Place}
 use Rattle.lookup.specs.declared.Place.the-variants.{At as PlaceAt, Missing as PlaceNone}
 use Rattle.lookup.specs.Found.{TreeFound}
@@ -30,151 +31,19 @@ use Rattle.interpreter.specs.Eval.{ParamMap, eval-within}
 use Rattle.interpreter.specs.Validate.{with-buffer-size, valuesOf, validate-type, validate, validate-run, runOf}
 use Rattle.interpreter_context.specs.Context.{Context}
 use Rattle.lookup.proofs.Slices.{slice-is}
-use Rattle.interpreter_leaves.specs.declared.Answer.{Answer}
-use Rattle.interpreter_leaves.specs.declared.Answer.the-variants as answer
-use Rattle.interpreter_leaves.specs.Outcome.{outcomeOf, Tells}
+use Rattle.interpreter_leaves.specs.Outcome.{Tells}
 use Rattle.interpreter_leaves.specs.Steps.{Rooted}
 use Rattle.interpreter_context.specs.declared.Root.{Root}
 use Rattle.interpreter_leaves.specs.declared.Frame.{Frame}
 use Rattle.interpreter_eval.specs.Evaluates.{Ready, Evaluates}
 use Rattle.interpreter_eval.proofs.Laws.{found-at, found-none}
-use Rattle.interpreter_validate.specs.declared.Judgement.the-variants as judgement
-use Rattle.interpreter_validate.specs.Validator.{judge, judgementOf, outcomeIn, fitted, Given, GivenRun}
+use Rattle.interpreter_validate.specs.Validator.{Asked, outcomeIn, fitted, Given, GivenRun}
 
--- ---- the questions before evaluating
+-- ---- validate
 
 -- both inputs
 abbrev pair : Outcome Tree → Outcome Tree → Outcome (Tree × Tree)
 pair x y = x >>= (λ l. y >>= (λ v. done (l, v)))
-
--- the first input was refused
-first-no : (n : ℕ) (x y : Outcome Tree) {q o : ℕ} → inputOf n x ≡ Refused q o → judgement.Unread q o ≡ judgementOf (pair x y)
-unfolding inputOf judgementOf _>>=_
-first-no n (done t) y e = let z : _≡_ {A = ℕ} 0 1 = cc in absurd (omega arith)
-first-no n (refused r) y e = cc
-
--- the first was read, and the second was refused
-second-no : (n m : ℕ) (x y : Outcome Tree) {i q o : ℕ} → inputOf n x ≡ Ok i → inputOf m y ≡ Refused q o → judgement.Unread q o ≡ judgementOf (pair x y)
-unfolding inputOf judgementOf _>>=_
-second-no n m (done t) y d e = first-no m y (done t) e ∙ same y
-  where
-    same : (y : Outcome Tree) → judgementOf (pair y (done t)) ≡ judgementOf (pair (done t) y)
-    same (done u) = refl
-    same (refused r) = refl
-second-no n m (refused r) y d e = let z : _≡_ {A = ℕ} 0 1 = cc in absurd (omega arith)
-
--- both were read
-both-yes : (n m : ℕ) (x y : Outcome Tree) {i j : ℕ} → inputOf n x ≡ Ok i → inputOf m y ≡ Ok j → judgement.Read ≡ judgementOf (pair x y)
-unfolding inputOf judgementOf _>>=_
-both-yes n m (done t) (done u) d e = refl
-both-yes n m (done t) (refused r) d e = let z : _≡_ {A = ℕ} 0 1 = cc in absurd (omega arith)
-both-yes n m (refused r) y d e = let z : _≡_ {A = ℕ} 0 1 = cc in absurd (omega arith)
-
-module _ (n : ℕ) (s v : List ℕ) (k : ℕ) where
-  -- there are too few words
-  pub judge-19 : n < 8192 → judgement.Unread 19 0 ≡ judgementOf (judge n s v k)
-  unfolding judge judgementOf enough _>>=_ ask
-  judge-19 h = rw (lt-leb _ _ h)
-
-  module _ (h : 8192 ≤ n) where
-    -- the layout is too long
-    pub judge-1 : 65536 < length s → judgement.Unread 1 0 ≡ judgementOf (judge n s v k)
-    unfolding judge judgementOf enough small _>>=_ ask
-    judge-1 g = rw (le-leb _ _ h, lt-leb _ _ g)
-
-    module _ (g : length s ≤ 65536) where
-      -- the other input is
-      pub judge-1-too : 65536 < length v → judgement.Unread 1 0 ≡ judgementOf (judge n s v k)
-      unfolding judge judgementOf enough small _>>=_ ask
-      judge-1-too f = rw (le-leb _ _ h, le-leb _ _ g, lt-leb _ _ f)
-
-      module _ (f : length v ≤ 65536) where
-        -- else both inputs are read
-        reads : judge n s v k ≡ pair (readLayout s) (readInput 2 k v)
-        unfolding judge enough small _>>=_ ask
-        reads = rw (le-leb _ _ h, le-leb _ _ g, le-leb _ _ f)
-
-        module _ {x : Read} (ex : x ≡ inputOf (length s) (readInput 256 160 s)) where
-          -- the layout was refused
-          pub layout-no : {q o : ℕ} → x ≡ Refused q o → judgement.Unread q o ≡ judgementOf (judge n s v k)
-          layout-no e = first-no (length s) (readLayout s) (readInput 2 k v) (sym ex ∙ e) ∙ ap judgementOf (sym reads)
-
-          module _ {y : Read} (ey : y ≡ inputOf (length v) (readInput 2 k v)) {i : ℕ} (d : x ≡ Ok i) where
-            -- the other input was
-            pub values-no : {q o : ℕ} → y ≡ Refused q o → judgement.Unread q o ≡ judgementOf (judge n s v k)
-            values-no e = second-no (length s) (length v) (readLayout s) (readInput 2 k v) (sym ex ∙ d) (sym ey ∙ e) ∙ ap judgementOf (sym reads)
-
-            -- both were read
-            pub both-read : {j : ℕ} → y ≡ Ok j → judgement.Read ≡ judgementOf (judge n s v k)
-            both-read e = both-yes (length s) (length v) (readLayout s) (readInput 2 k v) (sym ex ∙ d) (sym ey ∙ e) ∙ ap judgementOf (sym reads)
-
--- ---- a refusal before evaluating has no place and no value
-
-module _ {A B : Type 0} where
-  -- one question after another
-  both : {o : Outcome A} {k : A → Outcome B} → Unread o → ((a : A) → Unread (k a)) → Unread (o >>= k)
-  unfolding _>>=_
-  both (Unread.given a) g = g a
-  both (Unread.at-offset q o) g = Unread.at-offset q o
-
--- a question before evaluating
-asks : (b : Bool) (q o : ℕ) → Unread (ask b (unread q o))
-unfolding ask
-asks true q o = Unread.given tt
-asks false q o = Unread.at-offset q o
-
--- all of them
-judge-unread : (n : ℕ) (s v : List ℕ) (k : ℕ) → Unread (judge n s v k)
-unfolding judge enough small
-judge-unread n s v k = both (asks _ 19 0) (λ a. both (asks _ 1 0) (λ b. both (asks _ 1 0) (λ c. both (input-unread 256 160 s) (λ l. both (input-unread 2 k v) (λ t. Unread.given (l, t))))))
-
--- so a refusal is known by its number and its offset
-unread-is : {o : Outcome (Tree × Tree)} {q p : ℕ} → Unread o → judgement.Unread q p ≡ judgementOf o → o ≡ refused (unread q p)
-unfolding judgementOf
-unread-is (Unread.given x) e = let z : _≡_ {A = ℕ} 0 1 = cc in absurd (omega arith)
-unread-is {q} {p} (Unread.at-offset r o) e =
-    let a : r ≡ q = cc in
-    let b : o ≡ p = cc in
-    ap (λ (z : ℕ). refused (unread z o)) a ∙ ap (λ (z : ℕ). refused (unread q z)) b
-
--- what was not refused was read
-read-is : (o : Outcome (Tree × Tree)) → judgement.Read ≡ judgementOf o → (x : Tree × Tree) × (o ≡ done x)
-unfolding judgementOf
-read-is (done x) e = (x, refl)
-read-is (refused r) e = let z : _≡_ {A = ℕ} 0 1 = cc in absurd (omega arith)
-
--- ---- what was read
-
--- Both inputs were read, and their questions were passed.
-pub record Judged (n : ℕ) (s v : List ℕ) (k : ℕ) : Type 0 where
-  pub layout : Tree
-  pub other : Tree
-  pub is : judge n s v k ≡ done (layout, other)
-  pub words : 8192 ≤ n
-  pub small-layout : length s ≤ 65536
-  pub layout-read : readLayout s ≡ done layout
-  pub other-read : readInput 2 k v ≡ done other
-
--- what judging says where it accepts
-judged-as : (n : ℕ) (s v : List ℕ) (k : ℕ) (x : Tree × Tree) → judge n s v k ≡ done x → Judged n s v k
-unfolding judge enough small
-judged-as n s v k x e =
-    let a = asked (leb 8192 n) _ _ _ e in
-    let b = asked (leb (length s) 65536) _ _ _ (a .1) in
-    let c = asked (leb (length v) 65536) _ _ _ (b .1) in
-    last (leb-true _ _ (a .0)) (leb-true _ _ (b .0)) (c .1)
-  where
-    last : 8192 ≤ n → length s ≤ 65536 → pair (readLayout s) (readInput 2 k v) ≡ done x → Judged n s v k
-    last h g f =
-        let l = bound (readLayout s) _ _ f in
-        let t = bound (readInput 2 k v) _ _ (l .2) in
-        record { layout = l .0; other = t .0; is = e ∙ sym (t .2); words = h; small-layout = g; layout-read = l .1; other-read = t .1 }
-
--- the same, as the code answers it
-pub judged : {n : ℕ} {s v : List ℕ} {k : ℕ} → judgement.Read ≡ judgementOf (judge n s v k) → Judged n s v k
-judged {n} {s} {v} {k} e = let x = read-is (judge n s v k) e in judged-as n s v k (x .0) (x .1)
-
--- ---- validate
 
 -- the questions may be put first, and what follows them afterwards
 after-judging : (a b c : Outcome Unit) (x y : Outcome Tree) (g : Tree → Tree → Outcome ℕ) →
@@ -190,9 +59,9 @@ after-judging (done u) (done v) (done w) (done l) (done t) g = refl
 -- what goes on with both inputs once they were read
 module _ (n : ℕ) (s v : List ℕ) (k : ℕ) {o : Outcome ℕ} (g : Tree × Tree → Outcome ℕ) (is : o ≡ (judge n s v k >>= g)) where
   -- an input was refused
-  judged-stops : {q p : ℕ} → judgement.Unread q p ≡ judgementOf (judge n s v k) → outcomeOf (answer.Refused q 65535 p 0) ≡ o
+  judged-stops : {ws : List ℕ} {r : Read} {q p : ℕ} (x : Refusal) → Asked s v k r ws n → r ≡ Refused q p → refusalOf x ≡ unread q p → outcomeOf (answer.Refused x) ≡ o
   unfolding _>>=_
-  judged-stops e = sym (is ∙ ap (λ (o : Outcome (Tree × Tree)). o >>= g) (unread-is (judge-unread n s v k) e))
+  judged-stops x a e f = ap refused f ∙ sym (is ∙ ap (λ (o : Outcome (Tree × Tree)). o >>= g) (passed-no (judge n s v k) (a .is) e))
 
   -- both were read
   judged-goes : (j : Judged n s v k) → o ≡ g (j .layout, j .other)
@@ -205,35 +74,37 @@ module _ (n : ℕ) (s : List ℕ) (name : Name) (v : List ℕ) (len : ℕ) where
   unfolding validate judge
   validate-is = after-judging (enough n) (small s) (small v) (readLayout s) (readInput 2 192 v) (λ l t. validate-type (layoutOf l) name len (valuesOf t))
 
-  -- an input was refused
-  pub stops : {q p : ℕ} → judgement.Unread q p ≡ judgementOf (judge n s v 192) → outcomeOf (answer.Refused q 65535 p 0) ≡ validate n s name v len
-  stops e = judged-stops n s v 192 _ validate-is e
+  module _ {r : Read} {ws : List ℕ} (asked : Asked s v 192 r ws n) where
+    -- an input was refused
+    pub stops : {q p : ℕ} (x : Refusal) → r ≡ Refused q p → refusalOf x ≡ unread q p → outcomeOf (answer.Refused x) ≡ validate n s name v len
+    stops x e f = judged-stops n s v 192 _ validate-is x asked e f
 
-  -- both were read, and the type was evaluated
-  pub goes : (r : Answer) → judgement.Read ≡ judgementOf (judge n s v 192) →
-      ((t : Tree) → readLayout s ≡ done t → (a : Accepted v 192 192 0) → outcomeOf r ≡ validate-type (layoutOf t) name len (valuesOf (tree a))) → outcomeOf r ≡ validate n s name v len
-  goes r e f =
-      let j = judged e in
-      let a = input 2 192 v (j .other-read) in
-      f (j .layout) (j .layout-read) (a .0)
-      ∙ ap (λ (z : Tree × ℕ). validate-type (layoutOf (j .layout)) name len (valuesOf (z .0))) (a .1)
-      ∙ sym (judged-goes n s v 192 _ validate-is j)
+    -- both were read, and the type was evaluated
+    pub goes : {i : ℕ} (a : Answer) → r ≡ Ok i →
+        ((t : Tree) → readLayout s ≡ done t → (b : Accepted v 192 192 0) → outcomeOf a ≡ validate-type (layoutOf t) name len (valuesOf (tree b))) → outcomeOf a ≡ validate n s name v len
+    goes a e f =
+        let j = judged (asked .is) e in
+        let t = input 2 192 v (j .other-read) in
+        f (j .layout) (j .layout-read) (t .0)
+        ∙ ap (λ (z : Tree × ℕ). validate-type (layoutOf (j .layout)) name len (valuesOf (z .0))) (t .1)
+        ∙ sym (judged-goes n s v 192 _ validate-is j)
 
--- the words for the open calls, the first of n words that are zero
-module _ (n : ℕ) (s v : List ℕ) (k : ℕ) {us : List ℕ} (e : us ≡ replicate n 0) (r : judgement.Read ≡ judgementOf (judge n s v k)) where
-  -- there are sixteen
-  pub has-sixteen : 16 ≤ length us
-  has-sixteen = let l : length us ≡ n = ap length e ∙ length-replicate n 0 in omega (arith, judged r .words)
+module _ {n : ℕ} {s v ws : List ℕ} {r : Read} {i : ℕ} where
+  -- what evaluating asks for, where values were read
+  pub given : Asked s v 192 r ws n → r ≡ Ok i → Given s v 0 ws
+  given a e =
+      let j = judged (a .is) e in
+      record { layout = (j .layout, j .layout-read); values-read = input 2 192 v (j .other-read) .0; room = a .room (j .words); small = j .small-layout }
 
-  -- and the first sixteen are as many
-  pub takes-sixteen : 16 ≤ length (take 16 us)
-  takes-sixteen = omega (arith, length-take-le 16 us has-sixteen)
+  -- and where a run was
+  pub given-run : Asked s v 193 r ws n → r ≡ Ok i → GivenRun s v ws
+  given-run a e =
+      let j = judged (a .is) e in
+      record { layout = (j .layout, j .layout-read); run-read = (j .other, j .other-read); room = a .room (j .words); small = j .small-layout }
 
--- what evaluating asks for, where values were read
-pub given : (n : ℕ) (s v : List ℕ) {ws : List ℕ} → 16 ≤ length ws → judgement.Read ≡ judgementOf (judge n s v 192) → Given s v 0 ws
-given n s v h r =
-    let j = judged r in
-    record { layout = (j .layout, j .layout-read); values-read = input 2 192 v (j .other-read) .0; room = h; small = j .small-layout }
+-- the first words are lent for the open calls: where there are enough, sixteen
+pub lent : (n k m : ℕ) (s v us : List ℕ) {r : Read} → passedOf r ≡ passed (judge n s v k) → us ≡ replicate n 0 → Least n 16 m → Asked s v k r (take m us) n
+lent n k m s v us d e h = record { is = d; room = λ g. part-enough n 16 m us e h (omega arith) }
 
 -- ---- a type of an accepted layout
 
@@ -251,9 +122,9 @@ first-frame place = record { depth = 0; place = place }
 
 module _ {s : List ℕ} {name : Name} {r : Place} (f : (t : Tree) → readLayout s ≡ done t → TreeFound s name (layoutOf t) r) where
   -- no type has the name
-  pub type-unknown : r ≡ PlaceNone → (t : Tree) → readLayout s ≡ done t → (len : ℕ) (γ : ParamMap) → outcomeOf (answer.Refused 20 65535 0 0) ≡ validate-type (layoutOf t) name len γ
+  pub type-unknown : r ≡ PlaceNone → (t : Tree) → readLayout s ≡ done t → (len : ℕ) (γ : ParamMap) (x : Refusal) → refusalOf x ≡ plain 20 → outcomeOf (answer.Refused x) ≡ validate-type (layoutOf t) name len γ
   unfolding validate-type _>>=_
-  type-unknown e t rd len γ = rw (found-none e (f t rd))
+  type-unknown e t rd len γ x g = rw (g, found-none e (f t rd))
 
   module _ {i o : ℕ} (e : r ≡ PlaceAt i o) where
     -- the tree of the type that was found
@@ -298,22 +169,17 @@ module _ (n : ℕ) (s v : List ℕ) where
   unfolding validate-run judge
   run-is = after-judging (enough n) (small s) (small v) (readLayout s) (readInput 2 193 v) runIn
 
-  -- an input was refused
-  pub run-stops : {q p : ℕ} → judgement.Unread q p ≡ judgementOf (judge n s v 193) → outcomeOf (answer.Refused q 65535 p 0) ≡ validate-run n s v
-  run-stops e = judged-stops n s v 193 _ run-is e
+  module _ {r : Read} {ws : List ℕ} (asked : Asked s v 193 r ws n) where
+    -- an input was refused
+    pub run-stops : {q p : ℕ} (x : Refusal) → r ≡ Refused q p → refusalOf x ≡ unread q p → outcomeOf (answer.Refused x) ≡ validate-run n s v
+    run-stops x e f = judged-stops n s v 193 _ run-is x asked e f
 
-  -- both were read, and the type was evaluated
-  pub run-goes : (r : Answer) → judgement.Read ≡ judgementOf (judge n s v 193) →
-      ((t : Tree) → readLayout s ≡ done t → (u : Tree) → readRun v ≡ done u → outcomeOf r ≡ runIn t u) → outcomeOf r ≡ validate-run n s v
-  run-goes r e f =
-      let j = judged e in
-      f (j .layout) (j .layout-read) (j .other) (j .other-read) ∙ sym (judged-goes n s v 193 _ run-is j)
-
--- what evaluating asks for, where a run was read
-pub given-run : (n : ℕ) (s v : List ℕ) {ws : List ℕ} → 16 ≤ length ws → judgement.Read ≡ judgementOf (judge n s v 193) → GivenRun s v ws
-given-run n s v h r =
-    let j = judged r in
-    record { layout = (j .layout, j .layout-read); run-read = (j .other, j .other-read); room = h; small = j .small-layout }
+    -- both were read, and the type was evaluated
+    pub run-goes : {i : ℕ} (a : Answer) → r ≡ Ok i →
+        ((t : Tree) → readLayout s ≡ done t → (u : Tree) → readRun v ≡ done u → outcomeOf a ≡ runIn t u) → outcomeOf a ≡ validate-run n s v
+    run-goes a e f =
+        let j = judged (asked .is) e in
+        f (j .layout) (j .layout-read) (j .other) (j .other-read) ∙ sym (judged-goes n s v 193 _ run-is j)
 
 -- where a run's name, buffer length and values stand
 pub record RunAt (s : List ℕ) (u : ℕ) (t : Tree) : Type 0 where

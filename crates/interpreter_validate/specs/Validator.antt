@@ -1,31 +1,22 @@
--- The questions before evaluating and what the code answers of them; what evaluating a type asks for; 25, at the end.
+-- What evaluating a type asks for; 25, at the end.
 use Prim.Native.Nat.{ℕ, _≤_}
 use mathlib.Core.Path.{_≡_}
 use mathlib.Core.Bool.{Bool, true, false}
 use mathlib.Core.List.{List}
 use lib.ListN.{length, getD}
-use Rattle.errors.specs.Refusal.{Outcome, done, refused, _>>=_, enough}
+use Rattle.errors.specs.Refusal.{Outcome, done, refused, _>>=_}
 use Rattle.blocks.specs.Tree.{Tree}
-use Rattle.blocks.specs.Read.{small, readInput, readLayout, readRun}
+use Rattle.blocks.specs.Read.{readLayout, readRun}
+use Rattle.reader_leaf.specs.declared.Read.{Read}
+use Rattle.reader_calls.specs.Inputs.{judge, passed, passedOf}
 use Rattle.accepted.specs.Accepted.{Accepted}
 use Rattle.interpreter.specs.Eval.{refusalAt}
 use Rattle.interpreter.specs.Validate.{fits-buffer}
-use Rattle.interpreter_validate.specs.declared.Judgement.{Judgement}
-use Rattle.interpreter_validate.specs.declared.Judgement.the-variants.{Read, Unread}
 
--- with so many working words: a layout, and an input of this kind
-unfoldable pub judge : ℕ → List ℕ → List ℕ → ℕ → Outcome (Tree × Tree)
-judge words layout input kind = do
-  _ ← enough words
-  _ ← small layout
-  _ ← small input
-  l ← readLayout layout
-  v ← readInput 2 kind input
-  done (l, v)
-
-unfoldable pub judgementOf : Outcome (Tree × Tree) → Judgement
-judgementOf (done x) = Read
-judgementOf (refused r) = Unread (r .number) (r .offset)
+-- the questions of a call with so many words are answered; where the words are enough, there is room for the open calls
+pub record Asked (s v : List ℕ) (kind : ℕ) (judged : Read) (words : List ℕ) (n : ℕ) : Type 0 where
+  pub is : passedOf judged ≡ passed (judge n s v kind)
+  pub room : 8192 ≤ n → 16 ≤ length words
 
 -- what evaluating left: whether it is a count, then the first word, or a refusal's number, place, offset and value
 abbrev pub outcomeIn : Bool → List ℕ → Outcome ℕ

@@ -1,62 +1,37 @@
 // From the bytes of a layout, a type's name, the bytes of values and a buffer length to a byte count. Whatever `validate` and
 // `validate_run` answer, the working words are zero after.
+use errors::Answer;
+use errors::Refusal;
 use interpreter_context::Root;
-use interpreter_leaves::Answer;
 use interpreter_leaves::Frame;
 use lookup::Place;
 use reader_leaf::Read;
+use value::Value;
 ghost use mathlib.Core.Path.{_≡_};
+ghost use Prim.Native.Nat.{ℕ};
 ghost use lib.ListN.{length};
 ghost use Rattle.errors.specs.Refusal.{done, words-after};
+ghost use Rattle.errors.specs.Meaning.{outcomeOf};
 ghost use Rattle.blocks.specs.Tree.{Tree};
 ghost use Rattle.blocks.specs.Read.{readLayout, readRun};
 ghost use Rattle.ir.specs.Layout.{layoutOf};
 ghost use Rattle.accepted.specs.Accepted.{Accepted, tree};
 ghost use Rattle.interpreter.specs.Validate.{valuesOf, validate-type, validate, validate-run, runOf};
-ghost use Rattle.interpreter_leaves.specs.Outcome.{outcomeOf};
-ghost use Rattle.interpreter_validate.specs.Validator.{judge, judgementOf, outcomeIn, fitted, Given, GivenRun};
-
-// Whether the inputs are read; if not, the number and the offset of the refusal.
-pub enum Judgement {
-    Read,
-    Unread(u64, usize),
-}
-
-// The questions before evaluating: 19, 1 for each input, then the reading of each.
-fn judged(n: usize, layout: &[u8], values: &[u8], kind: usize) -> Judgement
-    ensures { λ r. ⌜ r ≡ judgementOf (judge n (now (layout .entry)) (now (values .entry)) kind) ⌝ }
-{
-    if n < 8192 {
-        return Judgement::Unread(19, 0);
-    }
-    if 65536 < layout.len() {
-        return Judgement::Unread(1, 0);
-    }
-    if 65536 < values.len() {
-        return Judgement::Unread(1, 0);
-    }
-    match reader_quick::read_input(layout, 256, 160) {
-        Read::Refused(q, o) => Judgement::Unread(q, o),
-        Read::Ok(_) => match reader_quick::read_input(values, 2, kind) {
-            Read::Refused(q, o) => Judgement::Unread(q, o),
-            Read::Ok(_) => Judgement::Read,
-        },
-    }
-}
+ghost use Rattle.interpreter_validate.specs.Validator.{Asked, outcomeIn, fitted, Given, GivenRun};
 
 // What evaluating left in its four words.
 fn answered(ok: bool, out: &[u64; 4]) -> Answer
     ensures { λ r. ⌜ outcomeOf r ≡ outcomeIn ok (now (out .entry)) ⌝ }
 {
     if ok {
-        return Answer::Count(out[0]);
+        return Answer::Count(Value::of(out[0]));
     }
-    Answer::Refused {
+    Answer::Refused(Refusal {
         number: out[0],
         place: out[1] as usize,
         offset: out[2] as usize,
-        value: out[3],
-    }
+        value: Value::of(out[3]),
+    })
 }
 
 // 25, last: whether the count is at most the buffer length.
@@ -65,28 +40,17 @@ fn fitting(a: Answer, place: usize, len: u64) -> Answer
 {
     match a {
         Answer::Count(n) => {
-            if n <= len {
-                Answer::Count(n)
-            } else {
-                Answer::Refused {
-                    number: 25,
-                    place,
-                    offset: 0,
-                    value: n,
-                }
+            if n.at_most(len) {
+                return Answer::Count(n);
             }
+            Answer::Refused(Refusal {
+                number: 25,
+                place,
+                offset: 0,
+                value: n,
+            })
         }
-        Answer::Refused {
-            number,
-            place,
-            offset,
-            value,
-        } => Answer::Refused {
-            number,
-            place,
-            offset,
-            value,
-        },
+        Answer::Refused(r) => Answer::Refused(r),
     }
 }
 
@@ -104,12 +68,7 @@ fn evaluated(
     ensures { λ r. ⌜ ((t : Tree) → readLayout (now (layout .entry)) ≡ done t → (a : Accepted (now (values .entry)) 192 192 block) → outcomeOf r ≡ validate-type (layoutOf t) (now (name .entry)) len (valuesOf (tree a))) ⌝ }
 {
     match lookup::lookup_type(layout, name) {
-        Place::Missing => Answer::Refused {
-            number: 20,
-            place: 65535,
-            offset: 0,
-            value: 0,
-        },
+        Place::Missing => Answer::Refused(Refusal::plain(20)),
         Place::At(i, at) => {
             let root = interpreter_leaves::root(layout, at);
             let mut out = [0u64; 4];
@@ -121,27 +80,38 @@ fn evaluated(
     }
 }
 
+// The count of a type, where the questions before evaluating are answered.
+fn counted(
+    judged: Read,
+    layout: &[u8],
+    name: &[u8],
+    values: &[u8],
+    len: u64,
+    words: &mut [u64],
+) -> Answer
+    requires { ⌜ ((n : ℕ) × Asked (now layout) (now values) 192 judged (now words) n) ⌝ }
+    ensures { λ _. ⌜ length (now (words .exit)) ≡ length (now (words .entry)) ⌝ }
+    ensures { λ r. ⌜ ((n : ℕ) → Asked (now (layout .entry)) (now (values .entry)) 192 judged (now (words .entry)) n → outcomeOf r ≡ validate n (now (layout .entry)) (now (name .entry)) (now (values .entry)) len) ⌝ }
+{
+    match judged {
+        Read::Refused(q, o) => Answer::Refused(Refusal::unread(q, o)),
+        Read::Ok(_) => evaluated(layout, name, values, 0, len, words),
+    }
+}
+
 pub fn validate(words: &mut [u64], layout: &[u8], name: &[u8], values: &[u8], len: u64) -> Answer
     ensures { λ r. ⌜ outcomeOf r ≡ validate (length (now (words .entry))) (now (layout .entry)) (now (name .entry)) (now (values .entry)) len ⌝ }
     ensures { λ _. ⌜ now (words .exit) ≡ words-after (now (words .entry)) ⌝ }
 {
     let n = words.len();
     wire::clear_words(words);
-    match judged(n, layout, values, 192) {
-        Judgement::Unread(q, o) => Answer::Refused {
-            number: q,
-            place: 65535,
-            offset: o,
-            value: 0,
-        },
-        Judgement::Read => {
-            // a word for each call that may be open
-            let calls = &mut words[..16];
-            let a = evaluated(layout, name, values, 0, len, calls);
-            wire::clear_words(calls);
-            a
-        }
-    }
+    let judged = reader_calls::both_read(n, layout, values, 192);
+    // a word for each call that may be open
+    let most = reader_calls::used(n, 16);
+    let calls = &mut words[..most];
+    let a = counted(judged, layout, name, values, len, calls);
+    wire::clear_words(calls);
+    a
 }
 
 // The same with working words of its own, of which it needs one for each call that may be open: the caller gives none, so that 19 is
@@ -149,23 +119,13 @@ pub fn validate(words: &mut [u64], layout: &[u8], name: &[u8], values: &[u8], le
 pub fn length_of(layout: &[u8], name: &[u8], values: &[u8], len: u64) -> Answer
     ensures { λ r. ⌜ outcomeOf r ≡ validate 8192 (now (layout .entry)) (now (name .entry)) (now (values .entry)) len ⌝ }
 {
-    match judged(8192, layout, values, 192) {
-        Judgement::Unread(q, o) => Answer::Refused {
-            number: q,
-            place: 65535,
-            offset: o,
-            value: 0,
-        },
-        Judgement::Read => {
-            let mut calls = [0u64; 16];
-            evaluated(layout, name, values, 0, len, &mut calls)
-        }
-    }
+    let judged = reader_calls::both_read(8192, layout, values, 192);
+    let mut calls = [0u64; 16];
+    counted(judged, layout, name, values, len, &mut calls)
 }
 
-// The count of a run: its name, its buffer length and its values stand one behind the other. Of the words nothing is said but
-// their number: who lends them clears them.
-pub fn evaluated_run(layout: &[u8], run: &[u8], words: &mut [u64]) -> Answer
+// The count of a run: its name, its buffer length and its values stand one behind the other.
+fn evaluated_run(layout: &[u8], run: &[u8], words: &mut [u64]) -> Answer
     requires { ⌜ GivenRun (now layout) (now run) (now words) ⌝ }
     ensures { λ _. ⌜ length (now (words .exit)) ≡ length (now (words .entry)) ⌝ }
     ensures { λ r. ⌜ ((t : Tree) → readLayout (now (layout .entry)) ≡ done t → (u : Tree) → readRun (now (run .entry)) ≡ done u → outcomeOf r ≡ validate-type (layoutOf t) (runOf u .type-name) (runOf u .buffer-length) (runOf u .values)) ⌝ }
@@ -176,43 +136,39 @@ pub fn evaluated_run(layout: &[u8], run: &[u8], words: &mut [u64]) -> Answer
     evaluated(layout, &run[from..to], run, to + 8, len, words)
 }
 
+// The same, where the questions before evaluating are answered. Of the words nothing is said but their number: who lends them clears
+// them.
+pub fn counted_run(judged: Read, layout: &[u8], run: &[u8], words: &mut [u64]) -> Answer
+    requires { ⌜ ((n : ℕ) × Asked (now layout) (now run) 193 judged (now words) n) ⌝ }
+    ensures { λ _. ⌜ length (now (words .exit)) ≡ length (now (words .entry)) ⌝ }
+    ensures { λ r. ⌜ ((n : ℕ) → Asked (now (layout .entry)) (now (run .entry)) 193 judged (now (words .entry)) n → outcomeOf r ≡ validate-run n (now (layout .entry)) (now (run .entry))) ⌝ }
+{
+    match judged {
+        Read::Refused(q, o) => Answer::Refused(Refusal::unread(q, o)),
+        Read::Ok(_) => evaluated_run(layout, run, words),
+    }
+}
+
 pub fn validate_run(words: &mut [u64], layout: &[u8], run: &[u8]) -> Answer
     ensures { λ r. ⌜ outcomeOf r ≡ validate-run (length (now (words .entry))) (now (layout .entry)) (now (run .entry)) ⌝ }
     ensures { λ _. ⌜ now (words .exit) ≡ words-after (now (words .entry)) ⌝ }
 {
     let n = words.len();
     wire::clear_words(words);
-    match judged(n, layout, run, 193) {
-        Judgement::Unread(q, o) => Answer::Refused {
-            number: q,
-            place: 65535,
-            offset: o,
-            value: 0,
-        },
-        Judgement::Read => {
-            // a word for each call that may be open
-            let calls = &mut words[..16];
-            let a = evaluated_run(layout, run, calls);
-            wire::clear_words(calls);
-            a
-        }
-    }
+    let judged = reader_calls::both_read(n, layout, run, 193);
+    // a word for each call that may be open
+    let most = reader_calls::used(n, 16);
+    let calls = &mut words[..most];
+    let a = counted_run(judged, layout, run, calls);
+    wire::clear_words(calls);
+    a
 }
 
 // The same with working words of its own.
 pub fn length_of_run(layout: &[u8], run: &[u8]) -> Answer
     ensures { λ r. ⌜ outcomeOf r ≡ validate-run 8192 (now (layout .entry)) (now (run .entry)) ⌝ }
 {
-    match judged(8192, layout, run, 193) {
-        Judgement::Unread(q, o) => Answer::Refused {
-            number: q,
-            place: 65535,
-            offset: o,
-            value: 0,
-        },
-        Judgement::Read => {
-            let mut calls = [0u64; 16];
-            evaluated_run(layout, run, &mut calls)
-        }
-    }
+    let judged = reader_calls::both_read(8192, layout, run, 193);
+    let mut calls = [0u64; 16];
+    counted_run(judged, layout, run, &mut calls)
 }

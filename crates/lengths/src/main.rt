@@ -1,6 +1,6 @@
 // Reads a type set, then runs, from standard input, and prints a line per run. What is printed is made by `lengths_lines`; here is only
 // what reads and writes.
-use builder_set::Answer;
+use errors::Length;
 use lengths_lines::Header;
 use lengths_lines::Printed;
 use libc::STDIN_FILENO;
@@ -103,8 +103,8 @@ fn main() {
         Next::End => print_stopped(2),
         Next::Refused(q) => print_stopped(q),
         Next::Block(n) => match builder_set::build_set(&block[..n], &mut layout, &mut words) {
-            Answer::Refused(q, _, _, _) => print_stopped(q),
-            Answer::Length(m) => {
+            Length::Refused(r) => print_stopped(r.number),
+            Length::Bytes(m) => {
                 // a layout lies in its array
                 if m <= 65536 {
                     answer_runs(&layout[..m], &mut block, &mut words);

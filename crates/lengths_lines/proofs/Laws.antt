@@ -22,9 +22,12 @@ use Rattle.interpreter.specs.Eval.{ParamMap, refusalAt, lookup-type, eval-withi
 use Rattle.interpreter.specs.Validate.{with-buffer-size, fits-buffer, validate-type, validate-run, runOf}
 use Rattle.wire.specs.Poke.{Wrote}
 use Rattle.wire.proofs.Laws.{both, none}
-use Rattle.interpreter_leaves.specs.declared.Answer.{Answer}
-use Rattle.interpreter_leaves.specs.declared.Answer.the-variants as answer
-use Rattle.interpreter_leaves.specs.Outcome.{outcomeOf}
+use Rattle.value.specs.declared.Value.{Value}
+use Rattle.value.specs.Number.{numberOf}
+use Rattle.errors.specs.declared.Refusal.{Refusal}
+use Rattle.errors.specs.declared.Answer.{Answer}
+use Rattle.errors.specs.declared.Answer.the-variants as answer
+use Rattle.errors.specs.Meaning.{refusalOf, outcomeOf}
 use Rattle.interpreter_validate.proofs.Laws.{run-at}
 use Rattle.lengths_definition.specs.Lengths.{digits, decimal, fill, line, stopped, next-block, run-length, answer-lines}
 use Rattle.lengths_lines.specs.declared.Header.the-variants as header
@@ -204,10 +207,10 @@ counted n s v c e =
         let r = bound (readRun v) _ _ f in
         (record { tree = r .0; read = r .1 }, rw (length-of v (r .1)) (counted-type (layoutOf t) _ _ _ c (r .2)))
 
-module _ (n : ℕ) (s v : List ℕ) {a : Answer} {c : ℕ} (e : outcomeOf a ≡ validate-run n s v) (f : a ≡ answer.Count c) where
+module _ (n : ℕ) (s v : List ℕ) {a : Answer} {x : Value} {c : ℕ} (e : outcomeOf a ≡ validate-run n s v) (f : a ≡ answer.Count x) (i : c ≡ numberOf x) where
   -- the run came to a count
   is-done : validate-run n s v ≡ done c
-  is-done = sym e ∙ ap outcomeOf f
+  is-done = sym e ∙ ap outcomeOf f ∙ ap done (sym i)
 
   -- it was read
   pub run-accepted : AcceptedRun v
@@ -223,17 +226,19 @@ module _ (n : ℕ) (s v : List ℕ) {a : Answer} {c : ℕ} (e : outcomeOf a ≡ 
   unfolding answer-lines
   answers-count run h g w = rw (is-done) (Answered.line w (λ more. rw (g, h)))
 
-module _ (n : ℕ) (s v : List ℕ) {a : Answer} {q p o x : ℕ} (e : outcomeOf a ≡ validate-run n s v) (f : a ≡ answer.Refused q p o x) where
+module _ (n : ℕ) (s v : List ℕ) {a : Answer} {x : Refusal} (e : outcomeOf a ≡ validate-run n s v) (f : a ≡ answer.Refused x) where
   -- the run was refused
-  is-refused : validate-run n s v ≡ refused (refusalAt p o q x)
+  is-refused : validate-run n s v ≡ refused (refusalOf x)
   is-refused = sym e ∙ ap outcomeOf f
 
   -- a refusal of reading ends the output
-  pub answers-stop : (run : ℕ) {c r : ℕ} {xs ys : List ℕ} → q ≤ 6 → Wrote xs c (stopped (plain q)) ys r → Answered (answer-lines run (run-length v) (validate-run n s v)) xs c ys (printed.Last r)
-  unfolding answer-lines stopped
+  pub answers-stop : (run : ℕ) {c r : ℕ} {xs ys : List ℕ} → x .number ≤ 6 → Wrote xs c (stopped (plain (x .number))) ys r →
+      Answered (answer-lines run (run-length v) (validate-run n s v)) xs c ys (printed.Last r)
+  unfolding answer-lines stopped refusalOf
   answers-stop run h w = rw is-refused (Answered.last w (λ more. rw (le-leb _ _ h)))
 
   -- another is a line
-  pub answers-refused : (run : ℕ) {c r : ℕ} {xs ys : List ℕ} → 6 < q → Wrote xs c (line run q x 0) ys r → Answered (answer-lines run (run-length v) (validate-run n s v)) xs c ys (printed.Line r)
-  unfolding answer-lines
-  answers-refused run h w = rw is-refused (Answered.line w (λ more. rw (lt-leb _ _ h)))
+  pub answers-refused : (run : ℕ) {c r u : ℕ} {xs ys : List ℕ} → 6 < x .number → u ≡ numberOf (x .value) → Wrote xs c (line run (x .number) u 0) ys r →
+      Answered (answer-lines run (run-length v) (validate-run n s v)) xs c ys (printed.Line r)
+  unfolding answer-lines refusalOf
+  answers-refused run h i w = rw is-refused (Answered.line w (λ more. rw (lt-leb _ _ h, i)))

@@ -1,6 +1,6 @@
 // What the program `lengths` prints, as bytes in a slice that the caller lends: numbers in decimal, the fill, a run's line, the
 // line of a refused block.
-use interpreter_leaves::Answer;
+use errors::Answer;
 ghost use mathlib.Core.Path.{_≡_};
 ghost use mathlib.Core.List.{List, [], _∷_, _++_};
 ghost use Prim.Native.Nat.{ℕ, _+_, _^_, _≤_, _<_};
@@ -149,21 +149,17 @@ fn answer_at(
     ensures { λ r. ⌜ bytesOf r ≤ at + 84 ⌝ }
 {
     match interpreter_validate::validate_run(words, layout, block) {
-        Answer::Count(n) => {
+        Answer::Count(count) => {
+            let n = count.low();
             let len = run_length(block);
             let part = fill(n, len);
             Printed::Line(put_line(out, at, run, 0, n, part))
         }
-        Answer::Refused {
-            number,
-            place: _,
-            offset: _,
-            value,
-        } => {
-            if number <= 6 {
-                return Printed::Last(put_stopped(out, at, number));
+        Answer::Refused(r) => {
+            if r.number <= 6 {
+                return Printed::Last(put_stopped(out, at, r.number));
             }
-            Printed::Line(put_line(out, at, run, number, value, 0))
+            Printed::Line(put_line(out, at, run, r.number, r.value.low(), 0))
         }
     }
 }

@@ -1,12 +1,12 @@
 // Reads a list of stored calls with their answers from standard input and holds the proved readers against those that reading
 // decides, `build_set`, `validate` and `validate_run` against all of theirs, layouts byte for byte, and what `lengths` prints
 // against its stored lines.
-use builder_set::Answer as Built;
-use interpreter_leaves::Answer;
+use errors::Answer;
+use errors::Length;
+use errors::Refusal;
 use lengths_lines::Header;
 use libc::STDIN_FILENO;
 use libc::STDOUT_FILENO;
-use reader_calls::Answer as Reading;
 ghost use mathlib.Core.Path.{_≡_};
 ghost use Prim.Native.Nat.{_^_, _≤_, _<_};
 ghost use lib.ListN.{length};
@@ -143,33 +143,33 @@ fn stored_number(s: &[u8], at: usize) -> usize {
     wire::read2(s, at) % 256
 }
 
+// Whether the refusal is the stored answer.
+fn is_refusal(r: Refusal, s: &[u8], at: usize) -> bool {
+    is_stored(s, at, r.number, r.place as u64, r.offset, r.value.low())
+}
+
 // Whether the answer of reading is the stored one, which stands at `at`.
-fn is_read(got: Reading, s: &[u8], at: usize) -> bool {
+fn is_read(got: Answer, s: &[u8], at: usize) -> bool {
     match got {
-        Reading::Accepted => !of_reading(stored_number(s, at)),
-        Reading::Refused(q, p, o, v) => is_stored(s, at, q, p, o, v),
+        Answer::Count(_) => !of_reading(stored_number(s, at)),
+        Answer::Refused(r) => is_refusal(r, s, at),
     }
 }
 
 // Whether the count or the refusal is the stored answer.
 fn is_answer(got: Answer, s: &[u8], at: usize) -> bool {
     match got {
-        Answer::Count(n) => is_stored(s, at, 0, NOWHERE, 0, n),
-        Answer::Refused {
-            number,
-            place,
-            offset,
-            value,
-        } => is_stored(s, at, number, place as u64, offset, value),
+        Answer::Count(n) => is_stored(s, at, 0, NOWHERE, 0, n.low()),
+        Answer::Refused(r) => is_refusal(r, s, at),
     }
 }
 
-fn count_refused(tally: &mut [u64; 62], got: Reading) {
+fn count_refused(tally: &mut [u64; 62], got: Answer) {
     match got {
-        Reading::Accepted => {}
-        Reading::Refused(q, _, _, _) => {
-            if q < 28 {
-                bump(tally, READINGS + q as usize);
+        Answer::Count(_) => {}
+        Answer::Refused(r) => {
+            if r.number < 28 {
+                bump(tally, READINGS + r.number as usize);
             }
         }
     }
@@ -178,14 +178,9 @@ fn count_refused(tally: &mut [u64; 62], got: Reading) {
 fn count_answer(tally: &mut [u64; 62], got: Answer) {
     match got {
         Answer::Count(_) => bump(tally, ANSWERS),
-        Answer::Refused {
-            number,
-            place: _,
-            offset: _,
-            value: _,
-        } => {
-            if number < 28 {
-                bump(tally, ANSWERS + number as usize);
+        Answer::Refused(r) => {
+            if r.number < 28 {
+                bump(tally, ANSWERS + r.number as usize);
             }
         }
     }
@@ -235,9 +230,9 @@ fn output_length(s: &[u8], out: &[u8]) -> usize
 
 // What a build left against the stored answer, which stands at `at`, and the stored layout: its bytes and those behind it, or
 // zeros.
-fn is_built(got: Built, out: &[u8], s: &[u8], at: usize, layout: &[u8]) -> bool {
+fn is_built(got: Length, out: &[u8], s: &[u8], at: usize, layout: &[u8]) -> bool {
     match got {
-        Built::Length(n) => {
+        Length::Bytes(n) => {
             if out.len() < n {
                 return false;
             }
@@ -245,15 +240,7 @@ fn is_built(got: Built, out: &[u8], s: &[u8], at: usize, layout: &[u8]) -> bool 
                 && wire::same_name(&out[..n], layout)
                 && is_all(&out[n..], 0xA5)
         }
-        Built::Refused(number, place, offset, value) => is_stored(
-            s,
-            at,
-            number,
-            place,
-            offset,
-            value,
-        )
-            && is_all(out, 0),
+        Length::Refused(r) => is_refusal(r, s, at) && is_all(out, 0),
     }
 }
 
@@ -296,23 +283,23 @@ fn hold_set(words: &mut [u64], tally: &mut [u64; 62], s: &[u8]) -> Held {
 }
 
 // Of a layout and values or a run: 19 comes first, then 1 for the layout, 1 for the other, then the rest in this order.
-fn first(a: Reading, b: Reading) -> Reading {
+fn first(a: Answer, b: Answer) -> Answer {
     match a {
-        Reading::Accepted => b,
-        Reading::Refused(q, _, _, _) => {
-            if q == 19 || q == 1 {
+        Answer::Count(_) => b,
+        Answer::Refused(q) => {
+            if q.number == 19 || q.number == 1 {
                 return a;
             }
             match b {
-                Reading::Accepted => a,
-                Reading::Refused(r, _, _, _) => if r == 1 { b } else { a },
+                Answer::Count(_) => a,
+                Answer::Refused(r) => if r.number == 1 { b } else { a },
             }
         }
     }
 }
 
 // Values or a run, by the kind of the record.
-fn read_input(words: &mut [u64], input: &[u8], kind: u8) -> Reading {
+fn read_input(words: &mut [u64], input: &[u8], kind: u8) -> Answer {
     if kind == 2 {
         return reader_calls::read_values(words, input);
     }
@@ -424,8 +411,8 @@ fn lines_of(input: &[u8], layout: &mut [u8], words: &mut [u64], out: &mut [u8]) 
     match lengths_lines::whole_block(input) {
         Header::Refused(q) => lengths_lines::put_stopped(out, 0, q),
         Header::Fits(n) => match builder_set::build_set(&input[..n], layout, words) {
-            Built::Refused(q, _, _, _) => lengths_lines::put_stopped(out, 0, q),
-            Built::Length(m) => {
+            Length::Refused(r) => lengths_lines::put_stopped(out, 0, r.number),
+            Length::Bytes(m) => {
                 if layout.len() < m {
                     return 0;
                 }

@@ -2,7 +2,7 @@
 use mathlib.Core.Path.{sym, _∙_}
 use native.Mathlib.Omega.{arith}
 use borrow.Author.Needs.{needs}
-use Rattle.builder_set.proofs.Laws.{set-counts, types-no, layout-yes, layout-no}
+use Rattle.builder_set.proofs.Laws.{set-counts, at-place, types-no, layout-yes, layout-no}
 use Rattle.builder_set.proofs.build_layout.Statement.{statement}
 use Rattle.builder_set.proofs.build_layout.Tie as tie
 
@@ -39,6 +39,9 @@ build-types-requires c κs =
       omega (arith, at-open-block .open-block .ensures .1, at-put-le .put-le .ensures .1),
     )
 
+of-requires : tie.Need-of-requires
+of-requires c κs = search needs
+
 same-length : tie.Need-same-length
 same-length c = search needs
 
@@ -47,13 +50,15 @@ same-length-2 c = search needs
 
 returns : tie.Need-returns
 returns c =
-    let at-out3 = c .before .before .before in
+    let at-then1 = c .before in
+    let at-out3 = at-then1 .before .before .before in
     types-no _
     (at-open-block at-out3 .open-block .ensures .0)
     (at-put-le at-out3 .put-le .ensures .0)
     (at-read2 at-out3 .read2 .ensures .0)
     (at-build-types at-out3 .build-types .ensures .1)
-    (c .if1 .taken)
+    (at-then1 .if1 .taken)
+    (at-place _ _ _ (c .of .ensures))
 
 close-block-requires : tie.Need-close-block-requires
 close-block-requires c κs =
@@ -95,15 +100,28 @@ returns-2 c t e =
     (at-close-block .close-block .ensures .0) t e
     (sym (c .if2 .taken) ∙ c .before .holds .ensures)
 
+plain-requires : tie.Need-plain-requires
+plain-requires c κs = search needs
+
 same-length-5 : tie.Need-same-length-5
 same-length-5 c = search needs
 
 same-length-6 : tie.Need-same-length-6
-same-length-6 c = search needs
+same-length-6 c =
+    let at-close-block = c .before .before .before .before .before .before in
+    let at-out3 = at-close-block .before .before .before .before .before in
+    omega (
+      arith,
+      at-open-block at-out3 .open-block .kept .0,
+      at-put-le at-out3 .put-le .kept .0,
+      at-build-types at-out3 .build-types .kept .1 .1 .0,
+      at-close-block .close-block .kept .0,
+    )
 
 returns-3 : tie.Need-returns-3
 returns-3 c t e =
-    let at-close-block = c .before .before .before .before .before in
+    let at-else2 = c .before in
+    let at-close-block = at-else2 .before .before .before .before .before in
     let at-else1 = at-close-block .before .before in
     let at-out3 = at-else1 .before .before .before in
     layout-no _
@@ -113,7 +131,8 @@ returns-3 c t e =
     (at-build-types at-out3 .build-types .ensures .1)
     (at-else1 .if1 .left)
     (at-close-block .close-block .ensures .0) t e
-    (sym (c .if2 .left) ∙ c .before .holds .ensures)
+    (sym (at-else2 .if2 .left) ∙ at-else2 .before .holds .ensures)
+    (c .plain .ensures)
 
 pub build-layout-spec : {M : Type 1} → statement M
 build-layout-spec =
@@ -123,6 +142,7 @@ build-layout-spec =
     read2-requires
     put-le-requires
     build-types-requires
+    of-requires
     same-length
     same-length-2
     returns
@@ -131,6 +151,7 @@ build-layout-spec =
     same-length-3
     same-length-4
     returns-2
+    plain-requires
     same-length-5
     same-length-6
     returns-3)

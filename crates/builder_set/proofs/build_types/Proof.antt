@@ -64,7 +64,7 @@ returns c =
       stopped
           (in-loop .loop-test .taken)
           (at-build-type .build-type .ensures .1)
-          (c .if1 .taken) refl refl
+          (c .if1 .taken) refl
           (at-loop .loop .inv .loop),
     )
 
@@ -140,7 +140,7 @@ same-length-4 c = search needs
 returns-2 : tie.Need-returns-2 Inv-loop μ-loop
 returns-2 c = (
   (omega arith, omega arith),
-  no-more (c .loop-test .left) refl refl (c .before .loop .inv .loop),
+  no-more (c .loop-test .left) refl (c .before .loop .inv .loop),
 )
 
 pub build-types-spec : {M : Type 1} → statement M

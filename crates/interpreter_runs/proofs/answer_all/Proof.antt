@@ -11,11 +11,11 @@ use Rattle.interpreter_runs.proofs.answer_all.Statement.{statement}
 use Rattle.interpreter_runs.proofs.answer_all.Tie as tie
 
 abbrev Inv-loop : tie.InvT-loop
-Inv-loop n layout read s calls₀ out₀ i₀ at₀ calls out i at =
+Inv-loop n layout first s calls₀ out₀ i₀ at₀ calls out i at =
     (length calls ≡ length calls₀) × Answering (validate-run n layout) s out₀ out i at
 
 abbrev μ-loop : tie.MeasureT-loop
-μ-loop n layout read s calls₀ out₀ i₀ at₀ calls out i at = length s - i
+μ-loop n layout first s calls₀ out₀ i₀ at₀ calls out i at = length s - i
 
 loop-holds : tie.Need-loop-holds Inv-loop μ-loop
 loop-holds c = (refl, answering-start _ _ _)

@@ -1,48 +1,88 @@
--- `put_answer` meets its contract: the four words of a count or of a refusal are written.
-use Rattle.interpreter_runs.proofs.Laws.{count-written, refusal-written}
+-- `put_answer` meets its contract: four stores, each of which fits.
+use native.Mathlib.Omega.{arith}
+use lib.ListN.{length-set}
+use Rattle.interpreter_runs.proofs.Laws.{written}
 use borrow.Author.Needs.{needs}
 use Rattle.interpreter_runs.proofs.put_answer.Statement.{statement}
 use Rattle.interpreter_runs.proofs.put_answer.Tie as tie
 
-enum-known-a : tie.Need-enum-known-a
-enum-known-a c = search needs
+words-requires : tie.Need-words-requires
+words-requires c κs = search needs
 
-put-four-requires : tie.Need-put-four-requires
-put-four-requires c κs = search needs
+add-b : tie.Need-add-b
+add-b c = search needs
 
-enum-known-a-2 : tie.Need-enum-known-a-2
-enum-known-a-2 c = search needs
+add-c : tie.Need-add-c
+add-c c = search needs
 
-put-four-requires-2 : tie.Need-put-four-requires-2
-put-four-requires-2 c κs = search needs
+add-d : tie.Need-add-d
+add-d c = search needs
+
+array-read-out : tie.Need-array-read-out
+array-read-out c = search needs
+
+mul-out : tie.Need-mul-out
+mul-out c = search needs
+
+slice-write-out : tie.Need-slice-write-out
+slice-write-out c = search needs
+
+array-read-out-2 : tie.Need-array-read-out-2
+array-read-out-2 c = search needs
+
+mul-out-2 : tie.Need-mul-out-2
+mul-out-2 c = search needs
+
+slice-write-out-2 : tie.Need-slice-write-out-2
+slice-write-out-2 c = simp length-set (omega arith)
+
+array-read-out-3 : tie.Need-array-read-out-3
+array-read-out-3 c = search needs
+
+mul-out-3 : tie.Need-mul-out-3
+mul-out-3 c = search needs
+
+slice-write-out-3 : tie.Need-slice-write-out-3
+slice-write-out-3 c = simp length-set (omega arith)
+
+array-read-out-4 : tie.Need-array-read-out-4
+array-read-out-4 c = search needs
+
+mul-out-4 : tie.Need-mul-out-4
+mul-out-4 c = search needs
+
+slice-write-out-4 : tie.Need-slice-write-out-4
+slice-write-out-4 c = simp length-set (omega arith)
+
+add-result : tie.Need-add-result
+add-result c = search needs
 
 same-length : tie.Need-same-length
 same-length c = search needs
 
 returns : tie.Need-returns
-returns c =
-    let at-put-four = c .before .before in
-    let at-a = at-put-four .before .before .before in
-    count-written (at-a .a .given .1) (at-put-four .put-four .ensures)
-
-same-length-2 : tie.Need-same-length-2
-same-length-2 c = search needs
-
-returns-2 : tie.Need-returns-2
-returns-2 c =
-    let at-put-four2 = c .before .before in
-    let at-a2 = at-put-four2 .before .before .before in
-    refusal-written (at-a2 .a2 .given .1) (at-put-four2 .put-four2 .ensures)
+returns c = written _ _ _ (c .words .ensures)
 
 pub put-answer-spec : {M : Type 1} → statement M
 put-answer-spec =
     tie.close
     (tie.spec
-    enum-known-a
-    put-four-requires
-    enum-known-a-2
-    put-four-requires-2
+    words-requires
+    add-b
+    add-c
+    add-d
+    array-read-out
+    mul-out
+    slice-write-out
+    array-read-out-2
+    mul-out-2
+    slice-write-out-2
+    array-read-out-3
+    mul-out-3
+    slice-write-out-3
+    array-read-out-4
+    mul-out-4
+    slice-write-out-4
+    add-result
     same-length
-    returns
-    same-length-2
-    returns-2)
+    returns)

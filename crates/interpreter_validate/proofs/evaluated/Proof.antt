@@ -12,6 +12,9 @@ lookup-type-requires c κs = search needs
 enum-told : tie.Need-enum-told
 enum-told c = search needs
 
+plain-requires : tie.Need-plain-requires
+plain-requires c κs = search needs
+
 enum-known-i : tie.Need-enum-known-i
 enum-known-i c = search needs
 
@@ -43,8 +46,9 @@ returns : tie.Need-returns
 returns c = (
   omega arith,
   λ t rd a. type-unknown
-      (c .before .before .lookup-type .ensures)
-      (c .enum-told .given .1) t rd _ _,
+      (c .before .before .before .lookup-type .ensures)
+      (c .before .enum-told .given .1) t rd _ _ _
+      (c .plain .ensures),
 )
 
 same-length : tie.Need-same-length
@@ -74,6 +78,7 @@ evaluated-spec =
     (tie.spec
     lookup-type-requires
     enum-told
+    plain-requires
     enum-known-i
     root-requires
     eval-node-requires

@@ -48,8 +48,8 @@ slice-aggregate-build-set-3 c = search needs
 build-set-requires : tie.Need-build-set-requires
 build-set-requires c κs = search needs
 
-enum-known-q-2 : tie.Need-enum-known-q-2
-enum-known-q-2 c = search needs
+enum-known-r : tie.Need-enum-known-r
+enum-known-r c = search needs
 
 print-stopped-requires-3 : tie.Need-print-stopped-requires-3
 print-stopped-requires-3 c κs = search needs
@@ -105,7 +105,7 @@ main-spec =
     slice-aggregate-build-set-2
     slice-aggregate-build-set-3
     build-set-requires
-    enum-known-q-2
+    enum-known-r
     print-stopped-requires-3
     enum-known-m
     array-share-prefix-layout

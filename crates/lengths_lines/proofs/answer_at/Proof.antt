@@ -8,31 +8,40 @@ use Rattle.lengths_lines.proofs.answer_at.Tie as tie
 validate-run-requires : tie.Need-validate-run-requires
 validate-run-requires c κs = search needs
 
-enum-known-n : tie.Need-enum-known-n
-enum-known-n c = search needs
+enum-known-count : tie.Need-enum-known-count
+enum-known-count c = search needs
 
 -- The places, each seen from a later one: what was known there.
-abbrev at-validate-run : tie.After-n → tie.After-validate-run
-at-validate-run r = r .before .before .before .before
+abbrev at-count : tie.After-low → tie.After-count
+at-count r = r .before .before
+
+abbrev at-validate-run : tie.After-low → tie.After-validate-run
+at-validate-run r = at-count r .before .before .before .before
+
+low-requires : tie.Need-low-requires
+low-requires c κs = search needs
 
 run-length-requires : tie.Need-run-length-requires
 run-length-requires c κs =
-    let at-n = c .before in
-    run-accepted _ _ _ (at-validate-run at-n .validate-run .ensures .0) (at-n .n .given .1)
+    run-accepted _ _ _
+    (at-validate-run c .validate-run .ensures .0)
+    (at-count c .count .given .1)
+    (c .low .ensures)
 
 fill-requires : tie.Need-fill-requires
 fill-requires c κs =
-    let at-n = c .before .before in
+    let at-low = c .before in
     run-within _ _ _
-    (at-validate-run at-n .validate-run .ensures .0)
-    (at-n .n .given .1)
+    (at-validate-run at-low .validate-run .ensures .0)
+    (at-count at-low .count .given .1)
+    (at-low .low .ensures)
     (c .run-length .ensures)
 
 put-line-requires : tie.Need-put-line-requires
 put-line-requires c κs = search needs
 
-enum-known-number : tie.Need-enum-known-number
-enum-known-number c = search needs
+enum-known-r : tie.Need-enum-known-r
+enum-known-r c = search needs
 
 put-stopped-requires : tie.Need-put-stopped-requires
 put-stopped-requires c κs = search needs
@@ -47,15 +56,18 @@ returns : tie.Need-returns
 returns c =
     let at-put-stopped = c .before .before in
     let at-then1 = at-put-stopped .before .before in
-    let at-number = at-then1 .before .before in
-    let at-validate-run = at-number .before .before .before .before in (
+    let at-r = at-then1 .before .before .before in
+    let at-validate-run = at-r .before .before .before .before in (
       answers-stop _ _ _
           (at-validate-run .validate-run .ensures .0)
-          (at-number .number .given .1) _
+          (at-r .r .given .1) _
           (at-then1 .if1 .taken)
           (at-put-stopped .put-stopped .ensures .0),
       (at-validate-run .validate-run .ensures .1, omega arith),
     )
+
+low-requires-2 : tie.Need-low-requires-2
+low-requires-2 c κs = search needs
 
 put-line-requires-2 : tie.Need-put-line-requires-2
 put-line-requires-2 c κs = search needs
@@ -71,14 +83,15 @@ returns-2 c =
     let at-put-line = c .before .before in
     let at-fill = at-put-line .before .before in
     let at-run-length = at-fill .before in
-    let at-n = at-run-length .before .before in (
+    let at-low = at-run-length .before in (
       answers-count _ _ _
-          (at-validate-run at-n .validate-run .ensures .0)
-          (at-n .n .given .1) _
+          (at-validate-run at-low .validate-run .ensures .0)
+          (at-count at-low .count .given .1)
+          (at-low .low .ensures) _
           (at-run-length .run-length .ensures)
           (at-fill .fill .ensures)
           (at-put-line .put-line .ensures .0),
-      (at-validate-run at-n .validate-run .ensures .1, omega arith),
+      (at-validate-run at-low .validate-run .ensures .1, omega arith),
     )
 
 same-length-5 : tie.Need-same-length-5
@@ -90,13 +103,15 @@ same-length-6 c = search needs
 returns-3 : tie.Need-returns-3
 returns-3 c =
     let at-put-line2 = c .before .before in
-    let at-else1 = at-put-line2 .before .before in
-    let at-number = at-else1 .before .before in
-    let at-validate-run = at-number .before .before .before .before in (
+    let at-low2 = at-put-line2 .before in
+    let at-else1 = at-low2 .before .before in
+    let at-r = at-else1 .before .before .before in
+    let at-validate-run = at-r .before .before .before .before in (
       answers-refused _ _ _
           (at-validate-run .validate-run .ensures .0)
-          (at-number .number .given .1) _
+          (at-r .r .given .1) _
           (at-else1 .if1 .left)
+          (at-low2 .low2 .ensures)
           (at-put-line2 .put-line2 .ensures .0),
       (at-validate-run .validate-run .ensures .1, omega arith),
     )
@@ -106,15 +121,17 @@ answer-at-spec =
     tie.close
     (tie.spec
     validate-run-requires
-    enum-known-n
+    enum-known-count
+    low-requires
     run-length-requires
     fill-requires
     put-line-requires
-    enum-known-number
+    enum-known-r
     put-stopped-requires
     same-length
     same-length-2
     returns
+    low-requires-2
     put-line-requires-2
     same-length-3
     same-length-4
