@@ -8,7 +8,7 @@ use lib.ListN.{length, getD, set, take, drop, length-drop, drop-of-length-le}
 use lib.Seq.{take-all, drop-length, drop-drop, getD-drop}
 use Rattle.errors.specs.Refusal.{Outcome, done, refused}
 use Rattle.errors.specs.Answer.{answerWords}
-use Rattle.blocks.specs.Bytes.{le4}
+use Rattle.blocks.specs.Bytes.{le, le4}
 use Rattle.wire.specs.Poke.{poke, Wrote}
 use Rattle.interpreter.specs.Runs.{first-run, later-runs}
 use Rattle.interpreter_runs.specs.Held.{Ends}
@@ -18,10 +18,12 @@ use Rattle.interpreter_runs.specs.Held.{Ends}
 module _ (s : List ℕ) (i : ℕ) (lies : i < length s) where
   -- the length field of the run that begins at i
   length-at : le4 (drop i s) 0 ≡ le4 s i
+  unfolding le
   length-at =
       let a : i + 0 ≡ i = omega arith in
-      let b : i + 3 ≡ i + 2 + 1 = omega arith in
-      rw (getD-drop i s 0 0, getD-drop i s 1 0, getD-drop i s 2 0, getD-drop i s 3 0, a, b)
+      let b : i + 1 + 1 ≡ i + 2 = omega arith in
+      let d : i + 2 + 1 ≡ i + 3 = omega arith in
+      rw (getD-drop i s 0 0, getD-drop i s 1 0, getD-drop i s 2 0, getD-drop i s 3 0, a, b, d)
 
   -- what is there is no longer than the run
   ends-all : length s ≤ i + 4 + le4 (drop i s) 0 → Ends s i (length s)

@@ -12,7 +12,7 @@ use lib.ListN.{length, take, length-take}
 use lib.Seq.{getD-take}
 use Rattle.errors.specs.Refusal.{done, refused, _>>=_, ask, plain, enough, BufferTooSmall}
 use Rattle.errors.proofs.Laws.{done-one, not-done, asked, bound}
-use Rattle.blocks.specs.Bytes.{le2, le4, le8}
+use Rattle.blocks.specs.Bytes.{le, le2, le4, le8}
 use Rattle.blocks.specs.Name.{Name}
 use Rattle.blocks.specs.Tree.{Tree}
 use Rattle.blocks.specs.Read.{small, readLayout, readRun}
@@ -132,6 +132,7 @@ module _ (h s : List ℕ) (e : take 4 s ≡ take 4 h) where
 
   -- both have the same length field
   same-number : le4 h 0 ≡ le4 s 0
+  unfolding le
   same-number = sym (first-four h) ∙ ap (λ (z : List ℕ). le4 z 0) (sym e) ∙ first-four s
     where
       first-four : (z : List ℕ) → le4 (take 4 z) 0 ≡ le4 z 0
