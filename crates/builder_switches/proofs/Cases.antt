@@ -8,7 +8,7 @@ use native.Mathlib.Numerals.{add-one}
 use native.Mathlib.Omega.{arith}
 use lib.ListN.{length}
 use lib.Dec.{eqb}
-use Rattle.errors.specs.Refusal.{Outcome, done, MissingDynamicRefs}
+use Rattle.errors.specs.Refusal.{done, MissingDynamicRefs}
 use Rattle.errors.specs.Refusal.{_>>=_ as _andThen_}
 use Rattle.answers.specs.Answers.{Answers, AnswersIn}
 use Rattle.blocks.specs.Bytes.{bytes, le4, nameAt}
@@ -157,7 +157,9 @@ module _ {s xs ws : List ℕ} {at references : ℕ} (n : ℕ) (x : Choice) where
       ((a : Accepted s 32 32 references) → PathsFound s o (ownersOf (tree a)) f) → f ≡ Missing → (a : Accepted s 32 32 references) →
       Builds s xs at ws ys (record { at = at; count = n; number = 11 }) (nodeOf a x (entriesOf s ws n))
   unfolding build-alternative
-  node-missing v d p h a = rw (v, need-none {o = get (nameAt s (x .name)) (ownersOf (tree a))} MissingDynamicRefs _ (entriesOf s ws n) (no-paths (x .name) d p h a)) (AnswersIn.not 11 refl (omega arith))
+  node-missing v d p h a =
+      rw (v, need-none {o = get (nameAt s (x .name)) (ownersOf (tree a))} MissingDynamicRefs _ (entriesOf s ws n) (no-paths (x .name) d p h a))
+      (AnswersIn.not 11 refl (omega arith))
 
   module _ {f : Paths} {o : Name} {zs y : List ℕ} {b t : ℕ} {r : Built} (v : x .variable ≡ true) (d : o ≡ nameAt s (x .name))
       (p : (a : Accepted s 32 32 references) → PathsFound s o (ownersOf (tree a)) f) (h : f ≡ At b)
