@@ -155,10 +155,6 @@ behind-fits nm p e = (subst (Split-parts nm) e p) .0
 behind-whole : (nm : Name) (j : ℕ) → take (length nm - j) (drop j nm) ≡ drop j nm
 behind-whole nm j = take-all (length nm - j) (drop j nm) (rw length-drop (omega arith))
 
--- what stands behind it is as short as a name
-pub behind-short : (nm : Name) (j : ℕ) → length nm ≤ 255 → length (take (length nm - j) (drop j nm)) ≤ 255
-behind-short nm j h = rw (behind-whole nm j, length-drop) (omega arith)
-
 -- the key is what stands behind the last `::`
 pub key-behind : (nm : Name) {r : Split} {i : ℕ} → Split-parts nm r → r ≡ SplitAt i → fieldKey (rsplit-once nm) ≡ take (length nm - (i + 2)) (drop (i + 2) nm)
 key-behind nm {i} p k = ap fieldKey ((subst (Split-parts nm) k p) .1) ∙ sym (behind-whole nm (i + 2))

@@ -1,8 +1,8 @@
 -- `select_array_owner` meets its contract: the key is what stands behind the last `::` of the name, or else `array`.
-use Prim.Native.Nat.{_+_}
 use mathlib.Core.Path.{sym, _∙_}
 use native.Mathlib.Omega.{arith}
-use Rattle.builder_arrays.proofs.Owner.{selects, key-behind, key-array, behind-fits, behind-short, array-short}
+use lib.ListN.{length-take, length-drop}
+use Rattle.builder_arrays.proofs.Owner.{selects, key-behind, key-array, behind-fits, array-short}
 use borrow.Author.Needs.{needs}
 use Rattle.builder_arrays.proofs.select_array_owner.Statement.{statement}
 use Rattle.builder_arrays.proofs.select_array_owner.Tie as tie
@@ -32,12 +32,11 @@ part-owner-under-start c =
 
 owner-under-requires : tie.Need-owner-under-requires
 owner-under-requires c κs =
-    let at-i = c .before .before in
-    let at-last-colons = at-i .before .before in
+    let at-last-colons = c .before .before .before .before in
     let at-start = start at-last-colons in (
       at-start .pre .0,
       at-start .pre .1,
-      behind-short (at-start .args .name .now) (at-i .i .given .0 .0 + 2) (at-start .pre .1),
+      simp (length-take, length-drop) (omega (arith, at-start .pre .1)),
     )
 
 owner-under-requires-2 : tie.Need-owner-under-requires-2
