@@ -153,35 +153,26 @@ pub data Fourth : Part → Type 0 where
   simple : {p : Part} → Simple p → Fourth p
   list : {p : Part} → Listing p → Fourth p
 
--- the fourth part of a kind
-fourth : (k : ℕ) {p : Part} → Fourth p → codeAt k 3 ≡ codeOf p → drop 3 (partsOf k) ≡ p ∷ drop 4 (partsOf k) → 3 < length (partsOf k) → Column Fourth k 3
-fourth k {p} x c r h = record { part = p; is = x; code = c; rest = r }
+-- the fourth part of a kind, where it has one
+abbrev FourthOf : ℕ → Type 0
+FourthOf k = 3 < length (partsOf k) → (p : Part) × Fourth p × (codeAt k 3 ≡ codeOf p) × (drop 3 (partsOf k) ≡ p ∷ drop 4 (partsOf k))
 
--- by kind: the fourth part of each that has one
-pub fourth-column : Columns Fourth 3
+-- it is an optional text, a node, a list or a text
+fourths : (k : ℕ) → 128 ≤ k → k ≤ 144 → FourthOf k
 unfolding partsOf nodeTable codeAt
-fourth-column k lo hi =
-    let n = Fourth.simple Simple.node in
-    each (λ (k : ℕ). 3 < length (partsOf k) → Column Fourth k 3) 17 128 (
-      (λ h. absurd (omega arith)),
-      (
-        (λ h. absurd (omega arith)),
-        (
-          fourth 130 (Fourth.simple Simple.optText) refl refl,
-          (
-            fourth 131 n refl refl,
-            (
-              fourth 132 (Fourth.list Listing.cases) refl refl,
-              (
-                fourth 133 (Fourth.list Listing.arguments) refl refl,
-                (fourth 134 n refl refl, (fourth 135 n refl refl, (fourth 136 n refl refl, (fourth 137 n refl refl, (fourth 138 n refl refl, (fourth 139 n refl refl, (fourth 140 n refl refl, (fourth 141 n refl refl, (fourth 142 n refl refl, (fourth 143 n refl refl, (fourth 144 (Fourth.simple Simple.text) refl refl, tt))))))))))),
-              ),
-            ),
-          ),
-        ),
-      ),
-    )
+fourths k lo hi =
+    let o : FourthOf 130 = λ h. (OptText, Fourth.simple Simple.optText, refl, refl) in
+    let n : FourthOf 131 = λ h. (Block 128 144, Fourth.simple Simple.node, refl, refl) in
+    let c : FourthOf 132 = λ h. (Blocks 163 163 64, Fourth.list Listing.cases, refl, refl) in
+    let a : FourthOf 133 = λ h. (Blocks 164 164 512, Fourth.list Listing.arguments, refl, refl) in
+    let t : FourthOf 144 = λ h. (Text, Fourth.simple Simple.text, refl, refl) in
+    each FourthOf 17 128
+    ((λ h. absurd (omega arith)), ((λ h. absurd (omega arith)), (o, (n, (c, (a, (n, (n, (n, (n, (n, (n, (n, (n, (n, (n, (t, tt)))))))))))))))))
     k lo (omega arith)
+
+-- so it is with every kind that has four
+pub fourth-column : Columns Fourth 3
+fourth-column k lo hi h = let f = fourths k lo hi h in record { part = f .0; is = f .1; code = f .2; rest = f .3 }
 
 -- a simple part has no list's code
 no-list : {p q : Part} → Simple p → Listing q → codeOf p ≡ codeOf q → ⊥
