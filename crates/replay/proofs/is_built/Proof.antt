@@ -36,8 +36,8 @@ is-all-requires c κs = search needs
 enum-known-got-2 : tie.Need-enum-known-got-2
 enum-known-got-2 c = search needs
 
-is-stored-requires-2 : tie.Need-is-stored-requires-2
-is-stored-requires-2 c κs = search needs
+is-refusal-requires : tie.Need-is-refusal-requires
+is-refusal-requires c κs = search needs
 
 is-all-requires-2 : tie.Need-is-all-requires-2
 is-all-requires-2 c κs = search needs
@@ -68,7 +68,7 @@ is-built-spec =
     part-is-all-end
     is-all-requires
     enum-known-got-2
-    is-stored-requires-2
+    is-refusal-requires
     is-all-requires-2
     returns-2
     returns-3

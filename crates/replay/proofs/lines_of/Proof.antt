@@ -25,8 +25,8 @@ slice-aggregate-build-set c =
 build-set-requires : tie.Need-build-set-requires
 build-set-requires c κs = search needs
 
-enum-known-q-2 : tie.Need-enum-known-q-2
-enum-known-q-2 c = search needs
+enum-known-r : tie.Need-enum-known-r
+enum-known-r c = search needs
 
 put-stopped-requires-2 : tie.Need-put-stopped-requires-2
 put-stopped-requires-2 c κs = search needs
@@ -105,7 +105,7 @@ lines-of-spec =
     enum-known-n
     slice-aggregate-build-set
     build-set-requires
-    enum-known-q-2
+    enum-known-r
     put-stopped-requires-2
     enum-known-m
     same-length
