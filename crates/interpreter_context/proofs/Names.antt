@@ -13,7 +13,6 @@ use Rattle.accepted.specs.Accepted.{nameAt}
 use Rattle.blocks.proofs.Name.{same-eq}
 use Rattle.ir.specs.Ir.{IrArgument, IrParameter}
 use Rattle.interpreter.specs.Eval.{Binding, ParamMap, find, refusalAt, valueOr, collect-arguments, bindFound, inherited}
-use Rattle.lookup.proofs.Slices.{slice-is}
 use Rattle.interpreter.proofs.Lookup.{first-of, find-append}
 use Rattle.interpreter_context.specs.Names.{chosen, lastArgument, lists, callersName}
 
@@ -84,9 +83,3 @@ find-behind n γ b = find-append n γ (b ∷ []) ∙ ap (first-of (find n γ)) (
     last : (t : Bool) (v : ℕ) → _≡_ {A = Option ℕ} (elim t [ true ↦ some v | false ↦ none ]) (cond t (some v) none)
     last true v = refl
     last false v = refl
-
--- ---- bytes
-
--- a comparison with the part of a slice that holds a name is one with the name
-pub same-slice : (s : List ℕ) (at u : ℕ) (m : Name) {r : Bool} → u ≡ le2 s at → r ≡ same (take (at + 2 + u - (at + 2)) (drop (at + 2) s)) m → r ≡ same (nameAt s at) m
-same-slice s at u m e h = h ∙ ap (λ (n : Name). same n m) (slice-is s at u e)

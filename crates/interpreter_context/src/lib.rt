@@ -118,9 +118,7 @@ fn same_at(s: &[u8], a: usize, b: usize) -> bool
     requires { ⌜ (a + 2 + le2 (now s) a ≤ length (now s)) × (b + 2 + le2 (now s) b ≤ length (now s)) ⌝ }
     ensures { λ r. ⌜ r ≡ same (nameAt (now (s .entry)) a) (nameAt (now (s .entry)) b) ⌝ }
 {
-    let from = a + 2;
-    let to = from + wire::read2(s, a);
-    lookup::is_named(s, b, &s[from..to])
+    wire::same_name(wire::name_at(s, a), wire::name_at(s, b))
 }
 
 // The argument's value name where the argument has this name, else what was found before.
@@ -199,12 +197,11 @@ fn at_root(s: &[u8], name: usize, values: &[u8], root: Root) -> Held
     requires { ⌜ (name + 2 + le2 (now s) name ≤ length (now s)) × Accepted (now values) 192 192 (root .block) ⌝ }
     ensures { λ r. ⌜ ((a : Accepted (now (values .entry)) 192 192 (root .block)) → foundIn r ≡ finding (nameAt (now (s .entry)) name) (with-buffer-size (root .len) (valuesOf (tree a)))) ⌝ }
 {
-    let from = name + 2;
-    let to = from + wire::read2(s, name);
-    match lookup::value_in(values, root.block, &s[from..to]) {
+    let sought = wire::name_at(s, name);
+    match lookup::value_in(values, root.block, sought) {
         InBlock::At(o) => Held::Value(value_at(values, o)),
         InBlock::Missing => {
-            if wire::same_name(&s[from..to], b"__buffer_size") {
+            if wire::same_name(sought, b"__buffer_size") {
                 return Held::Value(Value::of(root.len));
             }
             Held::Absent

@@ -30,7 +30,6 @@ use Rattle.interpreter_context.specs.declared.Held.{Held}
 use Rattle.interpreter_context.specs.declared.Held.the-variants.{Value as HeldValue, Absent}
 use Rattle.interpreter_context.specs.Names.{foundIn}
 use Rattle.interpreter_context.specs.Context.{Context, Here, treeAt}
-use Rattle.lookup.proofs.Slices.{slice-is}
 use Rattle.interpreter_leaves.specs.Steps.{FieldName}
 
 -- ---- arithmetic
@@ -127,9 +126,9 @@ pub tag-is : {s values : List ℕ} {block len : ℕ} {words : List ℕ} {depth a
 tag-is r st k e γ c a = e γ c ∙ ap (λ (n : Name). find n γ) (sym (switch-tag st a k .1))
 
 -- what was found of the type's name is the type
-pub type-is : {s : List ℕ} {at p u : ℕ} {r : Place} → Standing s at 2 p → le2 s (at + 4) ≡ 133 → u ≡ le2 s p → (t : Tree) →
-    TreeFound s (take (p + 2 + u - (p + 2)) (drop (p + 2) s)) (layoutOf t) r → (a : Accepted s 128 144 at) → TreeFound s (text (part 2 (body (tree a)))) (layoutOf t) r
-type-is {s} {p} {u} {r} st k eu t f a = subst (λ (n : Name). TreeFound s n (layoutOf t) r) (slice-is s p u eu ∙ sym (call-type st a k .1)) f
+pub type-is : {s : List ℕ} {at p : ℕ} {m : Name} {r : Place} → Standing s at 2 p → le2 s (at + 4) ≡ 133 → m ≡ nameAt s p → (t : Tree) →
+    TreeFound s m (layoutOf t) r → (a : Accepted s 128 144 at) → TreeFound s (text (part 2 (body (tree a)))) (layoutOf t) r
+type-is {s} {r} st k e t f a = subst (λ (n : Name). TreeFound s n (layoutOf t) r) (e ∙ sym (call-type st a k .1)) f
 
 -- the type that holds a node, where a call has opened it
 pub held-here : (s words : List ℕ) (depth place : ℕ) → Here s words depth place → (depth ≡ 0 → ⊥) → (depth - 1 < length words) × Placed s place (treeAt (getD words (depth - 1) 0))

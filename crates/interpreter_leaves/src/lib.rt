@@ -184,16 +184,14 @@ pub fn called(s: &[u8], words: &[u64], f: Frame, at: usize) -> Place
     requires { ⌜ Accepted (now s) 128 144 at × (le2 (now s) (at + 4) ≡ 133) × ((t : Tree) × (readLayout (now s) ≡ done t)) × Here (now s) (now words) (f .depth) (f .place) ⌝ }
     ensures { λ r. ⌜ ((t : Tree) → readLayout (now (s .entry)) ≡ done t → (a : Accepted (now (s .entry)) 128 144 at) → TreeFound (now (s .entry)) (text (part 2 (body (tree a)))) (layoutOf t) r) ⌝ }
 {
-    let p = interpreter_context::first_part(s, at);
-    let from = p + 2;
-    let to = from + wire::read2(s, p);
+    let name = wire::name_at(s, interpreter_context::first_part(s, at));
     let depth = f.depth;
     if depth == 0 {
-        return lookup::lookup_type(s, &s[from..to]);
+        return lookup::lookup_type(s, name);
     }
     let d = depth - 1;
     let here = (words[d] / 4294967296) as usize;
-    lookup::lookup_near(s, &s[from..to], f.place, here)
+    lookup::lookup_near(s, name, f.place, here)
 }
 
 // The root of a type tree.

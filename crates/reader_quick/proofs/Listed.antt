@@ -20,7 +20,7 @@ use Rattle.reader_leaf.specs.declared.Read.the-variants.{Ok}
 use Rattle.reader_leaf.specs.declared.Seen.the-variants.{Types}
 use Rattle.reader_leaf.specs.Answer.{forget}
 use Rattle.reader_leaf.specs.Seen.{nameAt, NameIn, behind, namesBefore, Stand, Valid, earlierOf, grownOf}
-use Rattle.reader_leaf.proofs.Laws.{taken, name-part, text-done, key-yes}
+use Rattle.reader_leaf.proofs.Laws.{taken, text-done, key-yes}
 use Rattle.reader_leaf.proofs.Lists.{entries-none}
 use Rattle.reader.specs.Before.{Here, Before}
 use Rattle.reader.specs.Input.{inputOf}
@@ -90,10 +90,10 @@ module _ (marks s : List ℕ) (first count i : ℕ) where
       go false q = kept marks (placeOf (nameAt s (i + 6))) (placeOf (nameAt s (behind s first k + 6))) l (h k (omega (arith, g, eqb-false k count q)))
 
 -- as the code finds the place of a name
-module _ (marks s : List ℕ) (at n p : ℕ) (e : n ≡ le2 s at) (q : p ≡ placeOf (take (at + 2 + n - (at + 2)) (drop (at + 2) s))) where
+module _ (marks s : List ℕ) (at p : ℕ) {m : Name} (e : m ≡ nameAt s at) (q : p ≡ placeOf m) where
   -- the place is that of the name there
   placed : p ≡ placeOf (nameAt s at)
-  placed = q ∙ ap placeOf (name-part s at n e)
+  placed = q ∙ ap placeOf e
 
   -- the mark that is set is the name's
   pub fresh-mark : set marks p 1 ≡ set marks (placeOf (nameAt s at)) 1

@@ -424,10 +424,7 @@ fn fresh(s: &[u8], marks: &mut [u8; 4096], first: usize, count: usize, at: usize
     ensures { λ r. ⌜ (r ≡ true → among (nameAt (now (s .entry)) at) (namesBefore (now (s .entry)) first count) ≡ false) ⌝ }
     ensures { λ _. ⌜ now (marks .exit) ≡ set (now (marks .entry)) (placeOf (nameAt (now (s .entry)) at)) 1 ⌝ }
 {
-    let n = wire::read2(s, at);
-    let from = at + 2;
-    let to = at + 2 + n;
-    let p = place(&s[from..to]);
+    let p = place(wire::name_at(s, at));
     let old = marks[p];
     marks[p] = 1;
     if old == 0 {

@@ -1,9 +1,7 @@
 -- `at_root` meets its contract: the value of the name in the block of values, or else the buffer length where the name is
 -- `__buffer_size`: as `with-buffer-size` puts it behind the values.
 use mathlib.Core.Path.{_∙_, ap}
-use Prim.Native.Nat.{_-_}
 use Rattle.blocks.specs.Name.{Name}
-use Rattle.lookup.proofs.Slices.{slice-is}
 use Rattle.interpreter.specs.Eval.{find}
 use Rattle.interpreter.specs.Validate.{with-buffer-size, valuesOf}
 use Rattle.accepted.specs.Accepted.{tree}
@@ -12,23 +10,8 @@ use borrow.Author.Needs.{needs}
 use Rattle.interpreter_context.proofs.at_root.Statement.{statement}
 use Rattle.interpreter_context.proofs.at_root.Tie as tie
 
-add-from : tie.Need-add-from
-add-from c = search needs
-
-read2-requires : tie.Need-read2-requires
-read2-requires c κs = search needs
-
-add-to : tie.Need-add-to
-add-to c = search needs
-
-sub-value-in : tie.Need-sub-value-in
-sub-value-in c = search needs
-
-part-value-in-start : tie.Need-part-value-in-start
-part-value-in-start c = search needs
-
-part-value-in-end : tie.Need-part-value-in-end
-part-value-in-end c = search needs
+name-at-requires : tie.Need-name-at-requires
+name-at-requires c κs = search needs
 
 value-in-requires : tie.Need-value-in-requires
 value-in-requires c κs = search needs
@@ -37,11 +20,11 @@ enum-known-o : tie.Need-enum-known-o
 enum-known-o c = search needs
 
 -- The places, each seen from a later one: what was known there.
-abbrev at-read2 : tie.After-value-in → tie.After-read2
-at-read2 r = r .before .before
+abbrev at-name : tie.After-value-in → tie.After-name-at
+at-name r = r .before
 
 abbrev at-start : tie.After-value-in → tie.Start
-at-start r = at-read2 r .before .before .before
+at-start r = at-name r .before .before .before
 
 value-at-requires : tie.Need-value-at-requires
 value-at-requires c κs =
@@ -52,15 +35,6 @@ value-at-requires c κs =
 
 enum-told : tie.Need-enum-told
 enum-told c = search needs
-
-sub-same-name : tie.Need-sub-same-name
-sub-same-name c = search needs
-
-part-same-name-start : tie.Need-part-same-name-start
-part-same-name-start c = search needs
-
-part-same-name-end : tie.Need-part-same-name-end
-part-same-name-end c = search needs
 
 slice-aggregate-same-name : tie.Need-slice-aggregate-same-name
 slice-aggregate-same-name c = search needs
@@ -74,7 +48,7 @@ of-requires c κs = search needs
 returns : tie.Need-returns
 returns c =
     let at-then1 = c .before in
-    let at-enum-told = at-then1 .before .before .before .before in
+    let at-enum-told = at-then1 .before .before .before in
     let at-value-in = at-enum-told .before .before in
     λ a. held-length _
     (at-value-in .value-in .ensures .1 a) _
@@ -84,7 +58,7 @@ returns c =
     (c .of .ensures)
     ∙ ap
     (λ (n : Name). find n (with-buffer-size (at-start at-value-in .args .root .len) (valuesOf (tree a))))
-    (slice-is _ _ _ (at-read2 at-value-in .read2 .ensures .0))
+    (at-name at-value-in .name-at .ensures)
 
 returns-2 : tie.Need-returns-2
 returns-2 c =
@@ -93,11 +67,11 @@ returns-2 c =
     λ a. held-value _ (at-value-in .value-in .ensures .1 a) _ (at-o .o .given .1) (c .value-at .ensures)
     ∙ ap
     (λ (n : Name). find n (with-buffer-size (at-start at-value-in .args .root .len) (valuesOf (tree a))))
-    (slice-is _ _ _ (at-read2 at-value-in .read2 .ensures .0))
+    (at-name at-value-in .name-at .ensures)
 
 returns-3 : tie.Need-returns-3
 returns-3 c =
-    let at-enum-told = c .before .before .before .before in
+    let at-enum-told = c .before .before .before in
     let at-value-in = at-enum-told .before .before in
     λ a. held-absent _
     (at-value-in .value-in .ensures .1 a)
@@ -106,25 +80,17 @@ returns-3 c =
     (c .if1 .left)
     ∙ ap
     (λ (n : Name). find n (with-buffer-size (at-start at-value-in .args .root .len) (valuesOf (tree a))))
-    (slice-is _ _ _ (at-read2 at-value-in .read2 .ensures .0))
+    (at-name at-value-in .name-at .ensures)
 
 pub at-root-spec : {M : Type 1} → statement M
 at-root-spec =
     tie.close
     (tie.spec
-    add-from
-    read2-requires
-    add-to
-    sub-value-in
-    part-value-in-start
-    part-value-in-end
+    name-at-requires
     value-in-requires
     enum-known-o
     value-at-requires
     enum-told
-    sub-same-name
-    part-same-name-start
-    part-same-name-end
     slice-aggregate-same-name
     same-name-requires
     of-requires
