@@ -77,6 +77,14 @@ opened {s} {lo} {hi} {at} {k} {ps} a = go (a .room) (a .earlier) (a .end) (a .go
     go zero e end got fits read ek ep = absurd (not-done (bound (readHeader s lo hi at end) _ _ read .2))
     go (suc room) e end got fits read ek ep = opened-suc s lo hi at k ps room e end got fits read ek ep
 
+-- a block's header lies inside the bytes
+pub header-inside : {s : List ℕ} {lo hi at : ℕ} → Accepted s lo hi at → at + 6 ≤ length s
+header-inside a = let o = opened a refl refl in omega (arith, o .long, o .high, a .fits)
+
+-- where one kind was asked for, the block has it
+pub sole-kind : {s : List ℕ} {k at : ℕ} (a : Accepted s k k at) → le2 s (at + 4) ≡ k
+sole-kind a = let o = opened a refl refl in omega (arith, o .least, o .most)
+
 -- what holds of d kinds, from k on, one by one
 abbrev pub Each : (ℕ → Type 0) → ℕ → ℕ → Type 0
 Each P k zero = Unit

@@ -4,7 +4,7 @@ use mathlib.Core.Bool.{Bool, true, false, _&&_}
 use mathlib.Core.List.{List, _++_}
 use Prim.Native.Nat.{ℕ, _+_, _*_, _^_, _≤_, _<_}
 use native.Mathlib.Omega.{arith}
-use lib.ListN.{length, length-take}
+use lib.ListN.{length}
 use Rattle.errors.specs.Refusal.{Outcome, refused, plain, UnsupportedArrayElement}
 use Rattle.answers.specs.Answers.{AnswersIn}
 use Rattle.answers.proofs.Laws.{refuses, makes}
@@ -259,10 +259,6 @@ pub sum-ends : {at q u v i j room : ℕ} {c : Built} → q ≡ at + 38 → Withi
     i ≤ 255 → j ≤ 255 → (at + 38 ≤ v) × Within at (2048 + room) (record { at = v; count = c .count; number = 0 })
 sum-ends e w f g h k =
     (omega (arith, w .low), record { low = omega (arith, w .low); high = omega (arith, w .high); count = w .count })
-
--- a name of the set is short
-pub named-short : {s n : List ℕ} {q : ℕ} → Named s q → n ≡ nameAt s q → length n ≤ 255
-named-short {s} {q} h e = rw e (simp length-take (omega (arith, h .short)))
 
 -- ---- what calls stand on
 

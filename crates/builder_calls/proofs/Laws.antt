@@ -40,7 +40,6 @@ use Rattle.resolved_parts.specs.Types.{Named, PathsAt, OwnerAt, HeadAt, TargetA
 use Rattle.builder_registry.specs.declared.Held.{Held}
 use Rattle.builder_registry.specs.Words.{Kept, held, entriesOf}
 use Rattle.builder_registry.proofs.Laws.{held-name}
-use Rattle.builder_registry.proofs.Keys.{held-bound}
 use Rattle.builder_nodes.specs.declared.Built.{Built}
 use Rattle.builder_nodes.specs.Built.{Builds, Within, nodeStart, textFlag, countPart}
 use Rattle.builder_nodes.proofs.Laws.{node-closed, step-passes}
@@ -51,10 +50,6 @@ use Rattle.builder_calls.specs.Call.{callOf}
 use Rattle.builder_calls.proofs.Collecting.{entered, one-long, one-short, owners-count, paths-walk, owners-walk, walk-stops, walk-goes}
 
 -- ---- an argument
-
--- a name of an accepted set has at most 255 bytes
-pub short-name : {s o : List ℕ} (owner : ℕ) → o ≡ nameAt s owner → Named s owner → length o ≤ 255
-short-name {s} owner e n = rw (e, ← held-name n) (held-bound s owner refl)
 
 -- where an argument ends: the head of its block has 6 bytes, and its name stands there twice, each behind its length
 pub argument-ends : (c : Collected) {b u v m k n : ℕ} → b ≡ c .at + 6 → u ≡ b + (2 + k) → v ≡ u + (2 + k) → m ≡ k → m ≤ 255 → c .made < 512 → n ≤ 512 →

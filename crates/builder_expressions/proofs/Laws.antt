@@ -18,7 +18,7 @@ use Rattle.blocks.specs.Tree.{Tree, nil, cons}
 use Rattle.blocks.specs.Write.{write}
 use Rattle.blocks.proofs.Name.{same-eq}
 use Rattle.accepted.specs.Accepted.{Accepted, tree}
-use Rattle.accepted.proofs.Laws.{opened, each}
+use Rattle.accepted.proofs.Laws.{opened, header-inside, each}
 use Rattle.expr.specs.Expr.{ExprKind, LiteralExpr, literals, literal-to-u64, unlessNegative, exprOf}
 use Rattle.expr_parts.proofs.Laws.{literal-at, field-ref-at, sizeof-at, alignof-at, unary-at, binary-at, compare-at}
 use Rattle.ir.specs.Ir.{BinaryOp, IrNode, aligned, default-metadata, default-alignment, unplaced}
@@ -42,10 +42,6 @@ use Rattle.builder_expressions.specs.Ready.{Ready}
 use Rattle.builder_expressions.specs.Operation.{Operation, Operates}
 
 -- ---- accepted expressions
-
--- a block's header lies inside the bytes
-pub header-inside : {s : List ℕ} {lo hi at : ℕ} → Accepted s lo hi at → at + 6 ≤ length s
-header-inside a = let o = opened a refl refl in omega (arith, o .long, o .high, a .fits)
 
 -- ---- literals
 

@@ -32,6 +32,7 @@ use Rattle.resolved_parts.specs.declared.Paths.{Paths}
 use Rattle.resolved_parts.specs.declared.Paths.the-variants.{At, Missing}
 use Rattle.resolved_parts.specs.Types.{HeadAt, PathsAt, PathsFound, ownersOf, textsOf, sized}
 use Rattle.resolved_parts.proofs.Laws.{inside, long, kind-of, primitive}
+use Rattle.resolved_parts.proofs.Owners.{found-paths, found-none}
 use Rattle.resolved_parts.proofs.Each.{array-at, enum-at, fields-at, sized-at, target-at}
 use Rattle.builder_registry.specs.declared.Held.{Held}
 use Rattle.builder_registry.specs.Words.{Kept, entriesOf}
@@ -223,20 +224,10 @@ module _ (types : List ResolvedType) (n : Name) (h : Head) (g : Registry) where
 
 -- ---- the struct's references for a field
 
--- paths that the code found are those that the definition finds
-found-at : {s : List ℕ} {n : Name} {os : List Owner} {f : Paths} {q : ℕ} → f ≡ At q → PathsFound s n os f → (p : PathsAt s q) × (get n os ≡ some (textsOf (p .list .got .0)))
-found-at {s} {n} {os} {q} e (PathsFound.at {q = u} p g) = let i : u ≡ q = cc in subst (λ (k : ℕ). (p : PathsAt s k) × (get n os ≡ some (textsOf (p .list .got .0)))) i (p, g)
-found-at e (PathsFound.missing g) = let z : _≡_ {A = ℕ} 0 1 = cc in absurd (omega arith)
-
--- where the code finds none, neither does the definition
-found-none : {s : List ℕ} {n : Name} {os : List Owner} {f : Paths} → f ≡ Missing → PathsFound s n os f → get n os ≡ none
-found-none e (PathsFound.at p g) = let z : _≡_ {A = ℕ} 0 1 = cc in absurd (omega arith)
-found-none e (PathsFound.missing g) = g
-
 -- the paths that were found are accepted
 pub paths-found : {s : List ℕ} {references q : ℕ} {o : Name} {f : Paths} → f ≡ At q → ((b : Accepted s 32 32 references) → PathsFound s o (ownersOf (tree b)) f) →
     Accepted s 32 32 references → PathsAt s q
-paths-found e k b = found-at e (k b) .0
+paths-found e k b = found-paths e (k b) .0
 
 module _ {s : List ℕ} {references : ℕ} {o : List ℕ} {f : Paths} (kind name : ℕ) (g : Registry) (eo : o ≡ nameAt s name)
     (k : (b : Accepted s 32 32 references) → PathsFound s o (ownersOf (tree b)) f) where
@@ -255,7 +246,7 @@ module _ {s : List ℕ} {references : ℕ} {o : List ℕ} {f : Paths} (kind name
       ((p : PathsAt s q) (a : Accepted s 1 7 kind) → Builds s xs at us ys r (sumOf (nameAt s name) (head (typeOf (tree a))) (textsOf (p .list .got .0)) g)) →
       (b : Accepted s 32 32 references) (a : Accepted s 1 7 kind) → Builds s xs at us ys r (build-field-refs (ownersOf (tree b)) (nameAt s name) (head (typeOf (tree a))) g)
   unfolding build-field-refs withOwn
-  refs-found {xs} {us} {ys} {at} {r} e h b a = let w = found-at e (refs-named b) in subst (Builds s xs at us ys r) (sym (need-some 11 _ g (w .1))) (h (w .0) a)
+  refs-found {xs} {us} {ys} {at} {r} e h b a = let w = found-paths e (refs-named b) in subst (Builds s xs at us ys r) (sym (need-some 11 _ g (w .1))) (h (w .0) a)
 
   -- ---- enums
 
@@ -296,7 +287,7 @@ module _ {s : List ℕ} {references : ℕ} {o : List ℕ} {f : Paths} (kind name
           VariableLeft s xs at us ys r references name kind g
       unfolding withAlign
       enum-payload e has y h t b a d =
-          let w = found-at e (refs-named b) in
+          let w = found-paths e (refs-named b) in
           let T : List Name = textsOf (w .0 .list .got .0) in
           let i = enum-at ek refl refl refl a .is in
           subst (Builds s xs at us ys r)
@@ -306,7 +297,7 @@ module _ {s : List ℕ} {references : ℕ} {o : List ℕ} {f : Paths} (kind name
       pub enum-plain : f ≡ At q → ((p : PathsAt s q) → v ≡ someName (payload-paths (textsOf (p .list .got .0)))) → v ≡ false →
           AlignedLeft s xs at us ys r kind g → VariableLeft s xs at us ys r references name kind g
       enum-plain e has y h t b a d =
-          let w = found-at e (refs-named b) in
+          let w = found-paths e (refs-named b) in
           let T : List Name = textsOf (w .0 .list .got .0) in
           let i = enum-at ek refl refl refl a .is in
           subst (Builds s xs at us ys r)

@@ -32,6 +32,7 @@ use Rattle.resolved_parts.specs.declared.FieldParts.{FieldParts}
 use Rattle.resolved_parts.specs.declared.VariantParts.{VariantParts}
 use Rattle.resolved_parts.specs.declared.Paths.{Paths}
 use Rattle.resolved_parts.specs.declared.Paths.the-variants.{At, Missing}
+use Rattle.resolved_parts.proofs.Owners.{found-paths, found-none}
 use Rattle.resolved_parts.specs.Types.{HeadAt, FieldAt, VariantAt, PathsAt, PathsFound, ownersOf, textsOf, sized}
 use Rattle.builder_registry.specs.Words.{entriesOf}
 use Rattle.builder_nodes.specs.declared.Built.{Built}
@@ -112,29 +113,16 @@ none-more k i = go (eqb k 33) (eqb k 34)
 
 -- ---- the node of an alternative
 
--- references of a name that were found are accepted, and the definition's
-pub paths-found : {s : List ℕ} {n : Name} {os : List Owner} {f : Paths} {q : ℕ} → f ≡ At q → PathsFound s n os f →
-    (p : PathsAt s q) × (get n os ≡ some (textsOf (p .list .got .0)))
-paths-found {s} {n} {os} {q = q} e (PathsFound.at {q = u} p g) =
-    let i : u ≡ q = cc in
-    subst (λ (k : ℕ). (p : PathsAt s k) × (get n os ≡ some (textsOf (p .list .got .0)))) i (p, g)
-paths-found e (PathsFound.missing g) = let z : _≡_ {A = ℕ} 0 1 = cc in absurd (omega arith)
-
--- where none were found, the definition has none
-pub paths-missing : {s : List ℕ} {n : Name} {os : List Owner} {f : Paths} → f ≡ Missing → PathsFound s n os f → get n os ≡ none
-paths-missing e (PathsFound.at p g) = let z : _≡_ {A = ℕ} 0 1 = cc in absurd (omega arith)
-paths-missing e (PathsFound.missing g) = g
-
 module _ {s : List ℕ} {references : ℕ} {f : Paths} {o : Name} (q : ℕ) (d : o ≡ nameAt s q)
     (p : (a : Accepted s 32 32 references) → PathsFound s o (ownersOf (tree a)) f) where
   -- no references have the name
   no-paths : f ≡ Missing → (a : Accepted s 32 32 references) → get (nameAt s q) (ownersOf (tree a)) ≡ none
-  no-paths h a = paths-missing h (rw d at (p a))
+  no-paths h a = found-none h (rw d at (p a))
 
   -- its references, accepted
   some-paths : {b : ℕ} → f ≡ At b → (a : Accepted s 32 32 references) →
       (y : PathsAt s b) × (get (nameAt s q) (ownersOf (tree a)) ≡ some (textsOf (y .list .got .0)))
-  some-paths h a = paths-found h (rw d at (p a))
+  some-paths h a = found-paths h (rw d at (p a))
 
   -- the same, as `sum_refs` asks for it
   pub paths-at : {b : ℕ} → f ≡ At b → Accepted s 32 32 references → PathsAt s b

@@ -25,10 +25,6 @@ use Rattle.builder_paths.specs.Joined.{prefixOf, pathOf, noNames}
 use Rattle.builder_registry.specs.Words.{Standing, entriesOf}
 use Rattle.builder_registry.proofs.Laws.{long-mark}
 
--- a block's header lies inside the bytes
-pub block-in : {s : List ℕ} {lo hi at : ℕ} → Accepted s lo hi at → at + 6 ≤ length s
-block-in a = let o = opened a refl refl in omega (arith, o .long, o .high, a .fits)
-
 -- ---- the path of a field reference
 
 -- without a prefix the path is the segments joined

@@ -10,11 +10,7 @@ use Rattle.blocks.specs.Grammar.{partsOf, findRow, grammar}
 use Rattle.blocks.specs.Tree.{Tree, name, num, block, cons, first, rest, body, part}
 use Rattle.ir.specs.Layout.{nodeOf, argumentOf, parameterOf, typeIrOf}
 use Rattle.accepted.specs.Accepted.{Accepted, tree, Parts, Listed, nameAt, Counted}
-use Rattle.accepted.proofs.Laws.{opened, key-part, text-part, number-part, block-part, list-part}
-
--- the kind is known
-pub sole-kind : {s : List ℕ} {k at : ℕ} (a : Accepted s k k at) → le2 s (at + 4) ≡ k
-sole-kind a = let o = opened a refl refl in omega (arith, o .least, o .most)
+use Rattle.accepted.proofs.Laws.{opened, sole-kind, key-part, text-part, number-part, block-part, list-part}
 
 -- 164: name, value name
 pub record IsArgument {s : List ℕ} {at : ℕ} (a : Accepted s 164 164 at) (v : ℕ) : Type 0 where

@@ -15,11 +15,10 @@ use Rattle.blocks.specs.Tree.{Tree, num, block, nil, cons, first, rest, number,
 use Rattle.ir.specs.Ir.{IrNode, IrParameter, SwitchCases, DefaultNode}
 use Rattle.ir.specs.Layout.{Thing, formOf, makeThing, thingOf, nodeOf, casesIn, withCase, parameterOf}
 use Rattle.accepted.specs.Accepted.{Accepted, tree, Parts, Listed, Optional, Counted}
-use Rattle.accepted.proofs.Laws.{opened, number-part, block-part, optional-part, list-part, block-entry, none-left}
+use Rattle.accepted.proofs.Laws.{opened, sole-kind, number-part, block-part, optional-part, list-part, block-entry, none-left}
 use Rattle.interpreter_context.specs.Located.{Located}
 use Rattle.interpreter_context.proofs.Laws.{Standing}
 use Rattle.interpreter_context.proofs.Shape.{bodyOf, part-rests, located, node-in}
-use Rattle.interpreter_context.proofs.Blocks.{sole-kind}
 use Rattle.interpreter_leaves.specs.declared.Choice.{Choice}
 use Rattle.interpreter_leaves.specs.declared.Choice.the-variants.{Node, Nothing}
 use Rattle.interpreter_leaves.specs.Steps.{pick, casesOf, defaultOf, Picked}

@@ -1,6 +1,7 @@
 // Runs that stand one behind the other, over one layout, which is read once and not again for each run: the answers of
 // `validate_run`, four words each.
 use errors::Answer;
+use errors::Refusal;
 use reader_leaf::Read;
 ghost use mathlib.Core.Path.{_≡_};
 ghost use mathlib.Core.List.{_++_};
@@ -20,8 +21,10 @@ fn answer(n: usize, layout: &[u8], first: Read, run: &[u8], calls: &mut [u64]) -
     ensures { λ _. ⌜ length (now (calls .exit)) ≡ length (now (calls .entry)) ⌝ }
     ensures { λ r. ⌜ outcomeOf r ≡ validate-run n (now (layout .entry)) (now (run .entry)) ⌝ }
 {
-    let judged = reader_calls::other_read(n, first, run, 193);
-    interpreter_validate::counted_run(judged, layout, run, calls)
+    match reader_calls::other_read(n, first, run, 193) {
+        Read::Refused(q, o) => Answer::Refused(Refusal::unread(q, o)),
+        Read::Ok(_) => interpreter_validate::evaluated_run(layout, run, calls),
+    }
 }
 
 // Where the run at i ends.

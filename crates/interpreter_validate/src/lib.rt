@@ -124,8 +124,9 @@ pub fn length_of(layout: &[u8], name: &[u8], values: &[u8], len: u64) -> Answer
     counted(judged, layout, name, values, len, &mut calls)
 }
 
-// The count of a run: its name, its buffer length and its values stand one behind the other.
-fn evaluated_run(layout: &[u8], run: &[u8], words: &mut [u64]) -> Answer
+// The count of a run: its name, its buffer length and its values stand one behind the other. Of the words nothing is said but their
+// number: who lends them clears them.
+pub fn evaluated_run(layout: &[u8], run: &[u8], words: &mut [u64]) -> Answer
     requires { ⌜ GivenRun (now layout) (now run) (now words) ⌝ }
     ensures { λ _. ⌜ length (now (words .exit)) ≡ length (now (words .entry)) ⌝ }
     ensures { λ r. ⌜ ((t : Tree) → readLayout (now (layout .entry)) ≡ done t → (u : Tree) → readRun (now (run .entry)) ≡ done u → outcomeOf r ≡ validate-type (layoutOf t) (runOf u .type-name) (runOf u .buffer-length) (runOf u .values)) ⌝ }
@@ -136,9 +137,8 @@ fn evaluated_run(layout: &[u8], run: &[u8], words: &mut [u64]) -> Answer
     evaluated(layout, &run[from..to], run, to + 8, len, words)
 }
 
-// The same, where the questions before evaluating are answered. Of the words nothing is said but their number: who lends them clears
-// them.
-pub fn counted_run(judged: Read, layout: &[u8], run: &[u8], words: &mut [u64]) -> Answer
+// The same, where the questions before evaluating are answered.
+fn counted_run(judged: Read, layout: &[u8], run: &[u8], words: &mut [u64]) -> Answer
     requires { ⌜ ((n : ℕ) × Asked (now layout) (now run) 193 judged (now words) n) ⌝ }
     ensures { λ _. ⌜ length (now (words .exit)) ≡ length (now (words .entry)) ⌝ }
     ensures { λ r. ⌜ ((n : ℕ) → Asked (now (layout .entry)) (now (run .entry)) 193 judged (now (words .entry)) n → outcomeOf r ≡ validate-run n (now (layout .entry)) (now (run .entry))) ⌝ }

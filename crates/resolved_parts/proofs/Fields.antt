@@ -16,10 +16,10 @@ use Rattle.blocks.specs.Tree.{Tree, name, num, block, nil, cons, number, text, 
 use Rattle.resolved.specs.Resolved.{fields, variants}
 use Rattle.resolved.specs.Set.{ownerOf, typeOf, thingOf, makeThing, formOf, fieldsIn, variantsIn}
 use Rattle.accepted.specs.Accepted.{Accepted, tree, nameAt, Counted}
-use Rattle.accepted.proofs.Laws.{opened, each, behind-at, optionalTree, text-part, key-part, number-part, opt-number-part, block-part, list-part}
+use Rattle.accepted.proofs.Laws.{opened, sole-kind, each, behind-at, optionalTree, text-part, key-part, number-part, opt-number-part, block-part, list-part}
 use Rattle.resolved_parts.specs.Places.{nameEnd}
 use Rattle.resolved_parts.specs.Types.{Named, FieldAt, VariantAt, PathsAt, OwnerAt}
-use Rattle.resolved_parts.proofs.Laws.{sole-kind, named}
+use Rattle.resolved_parts.proofs.Laws.{named}
 
 -- ---- 37 owner
 

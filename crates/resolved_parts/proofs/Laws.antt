@@ -4,7 +4,7 @@ use mathlib.Core.Bool.{true}
 use mathlib.Core.List.{List}
 use Prim.Native.Nat.{ℕ, _+_, _≤_, _<_}
 use native.Mathlib.Omega.{arith}
-use lib.ListN.{length, drop, length-drop}
+use lib.ListN.{length, drop, length-drop, length-take}
 use lib.Seq.{length-take-le}
 use borrow.Author.Tests.{leb-true}
 use Rattle.blocks.specs.Bytes.{le2, le4}
@@ -30,10 +30,6 @@ module _ {s : List ℕ} {lo hi at : ℕ} (a : Accepted s lo hi at) where
   pub kind-of : (lo ≤ le2 s (at + 4)) × (le2 s (at + 4) ≤ hi)
   kind-of = let o = opened a refl refl in (o .least, o .most)
 
--- the kind is known
-pub sole-kind : {s : List ℕ} {k at : ℕ} (a : Accepted s k k at) → le2 s (at + 4) ≡ k
-sole-kind a = let o = kind-of a in omega (arith, o .0, o .1)
-
 -- a type of kind 1 is a primitive
 pub primitive : {s : List ℕ} {at : ℕ} (a : Accepted s 1 7 at) → le2 s (at + 4) ≡ 1 → kindOf (typeOf (tree a)) ≡ ResolvedTypeKind.Primitive
 unfolding typeOf view thingOf makeThing formOf
@@ -50,3 +46,7 @@ named {s} {at} h t =
 -- a name of an accepted list of names
 pub entry-named : {s : List ℕ} {n at : ℕ} → Entries s Item.names n at → 0 < n → Named s at
 entry-named l h = let e = name-entry l h in named (omega (arith, e .2 .inside, l .fits)) (e .0)
+
+-- a name of the set is short
+pub named-short : {s n : List ℕ} {q : ℕ} → Named s q → n ≡ nameAt s q → length n ≤ 255
+named-short {s} {q} h e = rw e (simp length-take (omega (arith, h .short)))

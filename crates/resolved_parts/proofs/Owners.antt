@@ -24,7 +24,7 @@ use Rattle.accepted.proofs.Named.{Keys, headed, firstNamed, stand, named-first,
 use Rattle.resolved_parts.specs.declared.Paths.{Paths}
 use Rattle.resolved_parts.specs.declared.Paths.the-variants.{At, Missing}
 use Rattle.resolved_parts.specs.Places.{nameEnd}
-use Rattle.resolved_parts.specs.Types.{OwnerAt, PathsFound, pathsFrom, pathsIn, ownersOf}
+use Rattle.resolved_parts.specs.Types.{OwnerAt, PathsAt, PathsFound, pathsFrom, pathsIn, ownersOf, textsOf}
 use Rattle.resolved_parts.proofs.Fields.{owner-at}
 
 -- ---- the owners of a references block
@@ -134,3 +134,18 @@ module _ {s : List ℕ} (b : ℕ) {n : Name} {u : ℕ} {r : Block} (g : u ≡ le
             PathsFound.missing (ap (get n) (owners-are a) ∙ owners-same n 0 (all-entries Titled titled l) ∙ ap pathsOf (named-none owner-keyed p l)),
         sym (paths-none p),
       )
+
+-- ---- what a search for paths answered
+
+-- references of a name that were found are accepted, and the definition's
+pub found-paths : {s : List ℕ} {n : Name} {os : List Owner} {f : Paths} {q : ℕ} → f ≡ At q → PathsFound s n os f →
+    (p : PathsAt s q) × (get n os ≡ some (textsOf (p .list .got .0)))
+found-paths {s} {n} {os} {q = q} e (PathsFound.at {q = u} p g) =
+    let i : u ≡ q = cc in
+    subst (λ (k : ℕ). (p : PathsAt s k) × (get n os ≡ some (textsOf (p .list .got .0)))) i (p, g)
+found-paths e (PathsFound.missing g) = let z : _≡_ {A = ℕ} 0 1 = cc in absurd (omega arith)
+
+-- where none were found, the definition has none
+pub found-none : {s : List ℕ} {n : Name} {os : List Owner} {f : Paths} → f ≡ Missing → PathsFound s n os f → get n os ≡ none
+found-none e (PathsFound.at p g) = let z : _≡_ {A = ℕ} 0 1 = cc in absurd (omega arith)
+found-none e (PathsFound.missing g) = g

@@ -4,7 +4,7 @@
 use mathlib.Core.Path.{sym, _∙_}
 use Rattle.blocks.specs.Bytes.{le4}
 use Rattle.builder_nodes.proofs.Laws.{stopped, ends-at}
-use Rattle.builder_expressions.proofs.Laws.{header-inside}
+use Rattle.accepted.proofs.Laws.{header-inside}
 use Rattle.builder_arrays.specs.Shapes.{ShapeAt}
 use Rattle.builder_arrays.proofs.Laws.{sums-leave, counted-stops, element-stops, element-nests, element-made}
 use Rattle.builder_arrays.proofs.Laws.{count-at, count-ready, sum-within, nested-ready, constant-cursor, finish-ready, finish-within}

@@ -3,7 +3,7 @@ use mathlib.Core.Path.{refl}
 use native.Mathlib.Omega.{arith}
 use Rattle.resolved_parts.proofs.Owners.{references-inside}
 use Rattle.builder_nodes.proofs.Laws.{stopped}
-use Rattle.builder_arrays.proofs.Laws.{named-short}
+use Rattle.resolved_parts.proofs.Laws.{named-short}
 use Rattle.builder_arrays.proofs.Owner.{inside-ready, root-ready, root-none, root-is}
 use borrow.Author.Needs.{needs}
 use Rattle.builder_arrays.proofs.build_array_node.Statement.{statement}

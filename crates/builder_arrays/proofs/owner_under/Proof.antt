@@ -3,7 +3,7 @@
 use Prim.Native.Nat.{_+_}
 use native.Mathlib.Omega.{arith}
 use Rattle.resolved_parts.specs.Types.{Named}
-use Rattle.builder_arrays.proofs.Laws.{named-short}
+use Rattle.resolved_parts.proofs.Laws.{named-short}
 use Rattle.builder_arrays.proofs.Owner.{first-is, under-key, under-name, under-first}
 use borrow.Author.Needs.{needs}
 use Rattle.builder_arrays.proofs.owner_under.Statement.{statement}

@@ -2,8 +2,9 @@
 -- the count. Names have 255 bytes at most, which bounds the cursor.
 use native.Mathlib.Omega.{arith}
 use Rattle.builder_nodes.proofs.Laws.{stopped}
-use Rattle.builder_expressions.proofs.Laws.{header-inside}
-use Rattle.builder_arrays.proofs.Laws.{count-at, named-short, sum-ends, sum-count-stops, sum-element-stops, sum-made}
+use Rattle.accepted.proofs.Laws.{header-inside}
+use Rattle.resolved_parts.proofs.Laws.{named-short}
+use Rattle.builder_arrays.proofs.Laws.{count-at, sum-ends, sum-count-stops, sum-element-stops, sum-made}
 use borrow.Author.Needs.{needs}
 use Rattle.builder_arrays.proofs.sum_over_array.Statement.{statement}
 use Rattle.builder_arrays.proofs.sum_over_array.Tie as tie

@@ -1,7 +1,8 @@
 -- `build_typeref_node`: the target is looked up by its name; where it is not in the set, the refusal is 15, else `put_call` writes the call.
 use borrow.Author.Needs.{needs}
 use Rattle.builder_nodes.proofs.Laws.{stopped}
-use Rattle.builder_calls.proofs.Laws.{short-name, callee-at, typeref-missing, typeref-done}
+use Rattle.resolved_parts.proofs.Laws.{named-short}
+use Rattle.builder_calls.proofs.Laws.{callee-at, typeref-missing, typeref-done}
 use Rattle.builder_calls.proofs.build_typeref_node.Statement.{statement}
 use Rattle.builder_calls.proofs.build_typeref_node.Tie as tie
 
@@ -27,7 +28,7 @@ put-call-requires c κs =
     record {
       standing = at-start .pre .standing;
       type-at = callee-at (at-offset .offset .given .1) (at-start .pre .set) (at-get-type-info .get-type-info .ensures);
-      short = short-name _ (at-name-at .name-at .ensures) (at-target .target .ensures (at-start .pre .type-at) .named);
+      short = named-short (at-target .target .ensures (at-start .pre .type-at) .named) (at-name-at .name-at .ensures);
       cursor = at-start .pre .cursor;
     }
 

@@ -4,7 +4,8 @@
 use borrow.Author.Needs.{needs}
 use native.Mathlib.Omega.{arith}
 use Rattle.builder_calls.proofs.Collecting.{fills-none}
-use Rattle.builder_calls.proofs.Laws.{Names, argument-ends, argument-long, argument-full, argument-many, argument-done, short-name}
+use Rattle.builder_calls.proofs.Laws.{Names, argument-ends, argument-long, argument-full, argument-many, argument-done}
+use Rattle.resolved_parts.proofs.Laws.{named-short}
 use denote.Ref.{now}
 use Rattle.builder_calls.proofs.put_argument.Statement.{statement}
 use Rattle.builder_calls.proofs.put_argument.Tie as tie
@@ -110,8 +111,8 @@ put-canonical-name-requires c κs =
       at-open-block .open-block .ensures .1,
       at-start .pre .room .cursor,
       at-start .pre .room .most,
-      short-name _ (at-name-at .name-at .ensures) (at-start .pre .owned),
-      short-name _ (at-name-at2 .name-at2 .ensures) (at-start .pre .named),
+      named-short (at-start .pre .owned) (at-name-at .name-at .ensures),
+      named-short (at-start .pre .named) (at-name-at2 .name-at2 .ensures),
     )
 
 put-canonical-name-requires-2 : tie.Need-put-canonical-name-requires-2
@@ -132,8 +133,8 @@ put-canonical-name-requires-2 c κs =
       at-open-block .open-block .ensures .1,
       at-start .pre .room .cursor,
       at-start .pre .room .most,
-      short-name _ (at-name-at .name-at .ensures) (at-start .pre .owned),
-      short-name _ (at-name-at2 .name-at2 .ensures) (at-start .pre .named),
+      named-short (at-start .pre .owned) (at-name-at .name-at .ensures),
+      named-short (at-start .pre .named) (at-name-at2 .name-at2 .ensures),
     )
 
 close-block-requires : tie.Need-close-block-requires

@@ -1,7 +1,8 @@
 -- `build_expr_ir` meets its contract, with the node of two operands, each of which is a shorter block: the measure is twice the
 -- length of the expression's block, and one more before it is known that there are two operands.
 use Rattle.blocks.specs.Bytes.{le4}
-use Rattle.builder_expressions.proofs.Laws.{header-inside, summed, is-operation, other-stops, left-ready, right-ready, both-within, left-stops, right-stops, both-made}
+use Rattle.accepted.proofs.Laws.{header-inside}
+use Rattle.builder_expressions.proofs.Laws.{summed, is-operation, other-stops, left-ready, right-ready, both-within, left-stops, right-stops, both-made}
 use Rattle.builder_nodes.proofs.Laws.{stopped, widened}
 use borrow.Author.Needs.{needs}
 use native.Mathlib.Omega.{arith}

@@ -3,8 +3,7 @@ use borrow.Author.Needs.{needs}
 use native.Mathlib.Omega.{arith}
 use Rattle.builder_registry.proofs.Laws.{standing}
 use Rattle.builder_nodes.proofs.Laws.{widened}
-use Rattle.resolved_parts.proofs.Laws.{inside}
-use Rattle.builder_calls.proofs.Laws.{short-name}
+use Rattle.resolved_parts.proofs.Laws.{inside, named-short}
 use Rattle.builder_structs.proofs.Field.{own-within, array-built}
 use Rattle.builder_structs.proofs.field_array.Statement.{statement}
 use Rattle.builder_structs.proofs.field_array.Tie as tie
@@ -29,7 +28,7 @@ build-array-node-with-prefix-requires c κs =
           at-start .pre .field .base .cursor,
         );
       };
-      owned = short-name _ (at-name-at .name-at .ensures) (at-start .pre .field .named);
+      owned = named-short (at-start .pre .field .named) (at-name-at .name-at .ensures);
       deep = omega (
         arith,
         inside (at-start .pre .field .base .type-at),

@@ -1,7 +1,7 @@
 -- `put_payload` meets its contract: the sum of the paths that end in `.payload_size`, and the AlignUp node around it.
 use borrow.Author.Needs.{needs}
 use native.Mathlib.Omega.{arith}
-use Rattle.builder_calls.proofs.Laws.{short-name}
+use Rattle.resolved_parts.proofs.Laws.{named-short}
 use Rattle.builder_structs.proofs.Field.{close-ready, aligned-within, payload-built}
 use Rattle.builder_structs.proofs.put_payload.Statement.{statement}
 use Rattle.builder_structs.proofs.put_payload.Tie as tie
@@ -22,7 +22,7 @@ sum-refs-requires c κs =
     let at-name-at = at-open-align .before .before .before in
     let at-start = at-name-at .before .before .before .before in record {
       standing = at-start .pre .field .base .standing;
-      owned = short-name _ (at-name-at .name-at .ensures) (at-start .pre .field .named);
+      owned = named-short (at-start .pre .field .named) (at-name-at .name-at .ensures);
       list = at-start .pre .list;
       cursor = omega (arith, at-open-align .open-align .ensures .1, at-start .pre .field .base .cursor);
     }

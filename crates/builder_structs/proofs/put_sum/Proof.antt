@@ -3,7 +3,7 @@ use borrow.Author.Needs.{needs}
 use native.Mathlib.Omega.{arith}
 use Rattle.builder_registry.proofs.Laws.{standing}
 use Rattle.builder_nodes.proofs.Laws.{widened}
-use Rattle.builder_calls.proofs.Laws.{short-name}
+use Rattle.resolved_parts.proofs.Laws.{named-short}
 use Rattle.builder_structs.proofs.Field.{own-within, sum-built}
 use Rattle.builder_structs.proofs.put_sum.Statement.{statement}
 use Rattle.builder_structs.proofs.put_sum.Tie as tie
@@ -18,7 +18,7 @@ sum-refs-requires c κs =
     let at-name-at = c .before .before in
     let at-start = at-name-at .before .before .before .before in record {
       standing = at-start .pre .field .base .standing;
-      owned = short-name _ (at-name-at .name-at .ensures) (at-start .pre .field .named);
+      owned = named-short (at-start .pre .field .named) (at-name-at .name-at .ensures);
       list = at-start .pre .list;
       cursor = omega (arith, at-start .pre .field .base .cursor);
     }

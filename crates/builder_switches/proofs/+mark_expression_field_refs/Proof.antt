@@ -6,7 +6,8 @@ use mathlib.Core.Path.{sym, _∙_}
 use Rattle.blocks.specs.Bytes.{le4}
 use Rattle.accepted.specs.Accepted.{Accepted}
 use Rattle.builder_registry.proofs.Laws.{standing}
-use Rattle.builder_switches.proofs.Marks.{block-in, low-marks, high-marks, unary-marks, binary-marks, left-in, right-in}
+use Rattle.accepted.proofs.Laws.{header-inside}
+use Rattle.builder_switches.proofs.Marks.{low-marks, high-marks, unary-marks, binary-marks, left-in, right-in}
 use Rattle.wire.proofs.read2.Reads as read2-reads
 use Rattle.wire.proofs.read4.Reads as read4-reads
 use Rattle.builder_switches.proofs.mark_path.Reads as mark-path-reads
@@ -87,12 +88,12 @@ right-operand r =
 add-read2 : (t : ℕ) → walk.Need-add-read2 (callees t) (entered t) self.Post
 add-read2 t c =
     let at-start = c .before .before .before in
-    omega (arith, block-in (at-start .pre .1 .expr))
+    omega (arith, header-inside (at-start .pre .1 .expr))
 
 read2-requires : (t : ℕ) → walk.Need-read2-requires (callees t) (entered t) self.Post
 read2-requires t c κs =
     let at-start = c .before .before .before in
-    omega (arith, block-in (at-start .pre .1 .expr))
+    omega (arith, header-inside (at-start .pre .1 .expr))
 
 mark-path-requires : (t : ℕ) → walk.Need-mark-path-requires (callees t) (entered t) self.Post
 mark-path-requires t c κs =
@@ -121,7 +122,7 @@ returns-3 t c =
 add-mark-expression-field-refs : (t : ℕ) → walk.Need-add-mark-expression-field-refs (callees t) (entered t) self.Post
 add-mark-expression-field-refs t c =
     let at-start = c .before .before .before .before .before .before .before .before in
-    omega (arith, block-in (at-start .pre .1 .expr))
+    omega (arith, header-inside (at-start .pre .1 .expr))
 
 mark-expression-field-refs-requires : (t : ℕ) → walk.Need-mark-expression-field-refs-requires (callees t) (entered t) self.Post
 mark-expression-field-refs-requires t c κs =
@@ -147,18 +148,18 @@ returns-4 t c =
 add-read4 : (t : ℕ) → walk.Need-add-read4 (callees t) (entered t) self.Post
 add-read4 t c =
     let at-start = c .before .before .before .before .before .before .before .before .before .before .before .before in
-    omega (arith, block-in (at-start .pre .1 .expr))
+    omega (arith, header-inside (at-start .pre .1 .expr))
 
 read4-requires : (t : ℕ) → walk.Need-read4-requires (callees t) (entered t) self.Post
-read4-requires t c κs = omega (arith, block-in (left-operand (c .before .before .before .before .before) .0))
+read4-requires t c κs = omega (arith, header-inside (left-operand (c .before .before .before .before .before) .0))
 
 add-mark-expression-field-refs-2 : (t : ℕ) → walk.Need-add-mark-expression-field-refs-2 (callees t) (entered t) self.Post
 add-mark-expression-field-refs-2 t c =
     let at-start = c .before .before .before .before .before .before .before .before .before .before .before .before .before .before in
-    omega (arith, block-in (at-start .pre .1 .expr))
+    omega (arith, header-inside (at-start .pre .1 .expr))
 
 add-mark-expression-field-refs-3 : (t : ℕ) → walk.Need-add-mark-expression-field-refs-3 (callees t) (entered t) self.Post
-add-mark-expression-field-refs-3 t c = omega (arith, block-in (right-operand (c .before) .0))
+add-mark-expression-field-refs-3 t c = omega (arith, header-inside (right-operand (c .before) .0))
 
 mark-expression-field-refs-requires-2 : (t : ℕ) → walk.Need-mark-expression-field-refs-requires-2 (callees t) (entered t) self.Post
 mark-expression-field-refs-requires-2 t c κs =

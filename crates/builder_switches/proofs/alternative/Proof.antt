@@ -1,13 +1,13 @@
 -- `alternative`: by the kind of the list, 33, 34 or 35, the laws `alt-..` say which tag, size and alignment the definition reads from the block.
 use borrow.Author.Needs.{needs}
 use native.Mathlib.Omega.{arith}
-use Rattle.builder_switches.proofs.Marks.{block-in}
+use Rattle.accepted.proofs.Laws.{header-inside}
 use Rattle.builder_switches.proofs.Cases.{at-kind, not-union, alt-union, alt-enum, alt-sized}
 use Rattle.builder_switches.proofs.alternative.Statement.{statement}
 use Rattle.builder_switches.proofs.alternative.Tie as tie
 
 add-name : tie.Need-add-name
-add-name c = omega (arith, block-in (c .before .pre .block))
+add-name c = omega (arith, header-inside (c .before .pre .block))
 
 field-parts-requires : tie.Need-field-parts-requires
 field-parts-requires c κs = search (needs, at-kind (c .if1 .taken) (c .before .before .pre .block))

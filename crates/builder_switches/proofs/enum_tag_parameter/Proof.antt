@@ -4,7 +4,7 @@ use borrow.Author.Needs.{needs}
 use native.Mathlib.Omega.{arith}
 use mathlib.Core.Path.{sym, _∙_}
 use Rattle.builder_registry.proofs.Laws.{standing}
-use Rattle.builder_switches.proofs.Marks.{block-in}
+use Rattle.accepted.proofs.Laws.{header-inside}
 use Rattle.builder_switches.proofs.Tags.{owned, tag-known, tag-unknown, tag-made}
 use Rattle.builder_switches.proofs.enum_tag_parameter.Statement.{statement}
 use Rattle.builder_switches.proofs.enum_tag_parameter.Tie as tie
@@ -22,10 +22,10 @@ name-at-requires : tie.Need-name-at-requires
 name-at-requires c κs = search needs
 
 add-read2 : tie.Need-add-read2
-add-read2 c = omega (arith, block-in (at-start c .pre .expr))
+add-read2 c = omega (arith, header-inside (at-start c .pre .expr))
 
 read2-requires : tie.Need-read2-requires
-read2-requires c κs = omega (arith, block-in (at-start c .pre .expr))
+read2-requires c κs = omega (arith, header-inside (at-start c .pre .expr))
 
 tag-lookup-requires : tie.Need-tag-lookup-requires
 tag-lookup-requires c κs =

@@ -5,7 +5,7 @@ use native.Mathlib.Omega.{arith}
 use borrow.Author.Needs.{needs}
 use mathlib.Core.Path.{refl, _∙_}
 use Prim.Native.Nat.{_+_, _^_, _≤_}
-use Rattle.builder_calls.proofs.Laws.{short-name}
+use Rattle.resolved_parts.proofs.Laws.{named-short}
 use Rattle.builder_type.proofs.Root.{short-type}
 use Rattle.builder_type.proofs.Whole.{not-entered, no-root, tree-built, root-ready, list-ready}
 use Rattle.builder_type.proofs.build_type.Statement.{statement}
@@ -73,9 +73,9 @@ put-name-requires c κs =
       arith,
       at-start at-else1 .pre .cursor,
       at-open-block .open-block .ensures .1,
-      short-name _
-          (at-name-at .name-at .ensures)
-          (at-type-head at-else1 .type-head .ensures (at-start at-else1 .pre .type-at) .named),
+      named-short
+          (at-type-head at-else1 .type-head .ensures (at-start at-else1 .pre .type-at) .named)
+          (at-name-at .name-at .ensures),
     )
 
 put-le-requires : tie.Need-put-le-requires
@@ -89,18 +89,18 @@ put-le-requires c κs =
       at-start at-else1 .pre .cursor,
       at-open-block .open-block .ensures .1,
       at-put-name .put-name .ensures .1,
-      short-name _
-          (at-name-at .name-at .ensures)
-          (at-type-head at-else1 .type-head .ensures (at-start at-else1 .pre .type-at) .named),
+      named-short
+          (at-type-head at-else1 .type-head .ensures (at-start at-else1 .pre .type-at) .named)
+          (at-name-at .name-at .ensures),
     )
 
 -- the root stands behind the header of a block, a name and a number: 271 bytes at most
 root-at : (r : tie.After-put-le) →
     (at-start (at-else1 r) .args .at + 6 ≤ r .put-le .result) × (r .put-le .result ≤ at-start (at-else1 r) .args .at + 271)
 root-at r =
-    let n = short-name _
-    (at-name-at r .name-at .ensures)
-    (at-type-head (at-else1 r) .type-head .ensures (at-start (at-else1 r) .pre .type-at) .named) in (
+    let n = named-short
+    (at-type-head (at-else1 r) .type-head .ensures (at-start (at-else1 r) .pre .type-at) .named)
+    (at-name-at r .name-at .ensures) in (
       omega (arith, at-open-block r .open-block .ensures .1, at-put-name r .put-name .ensures .1, r .put-le .ensures .1),
       omega (arith, at-open-block r .open-block .ensures .1, at-put-name r .put-name .ensures .1, r .put-le .ensures .1),
     )

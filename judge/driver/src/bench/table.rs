@@ -76,9 +76,10 @@ impl Aim {
 
 /// A part that a call does not have took no time.
 fn micro(ns: f64) -> String {
-    match ns == 0.0 {
-        true => "-".to_string(),
-        false => format!("{:.2}", ns / 1000.0),
+    match ns {
+        0.0 => "-".to_string(),
+        ns if ns < 1000.0 => format!("{:.3}", ns / 1000.0),
+        ns => format!("{:.2}", ns / 1000.0),
     }
 }
 
