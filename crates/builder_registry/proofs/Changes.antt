@@ -19,10 +19,11 @@ use Rattle.builder.specs.Names.{normalize-path}
 use Rattle.builder.specs.Registry.{Entry, Registry, _>>=_, give, refuse, require, reads, change, findKey, enter, ensure, add-synthetic, derivedEntry, mark-derived, entryOf as pathEntry}
 use Rattle.builder_registry.specs.declared.Held.{Held}
 use Rattle.builder_registry.specs.Word.{ownerAt, madeOf, derivedOf, wordOf, derivedWord}
-use Rattle.builder_registry.specs.Words.{held, madePath, madeParameter, madeEntry, entryOf, entriesOf, entryName, Kept, Tags}
+use Rattle.builder_registry.specs.Words.{held, madePath, madeParameter, madeEntry, entryOf, entriesOf, entryName, Indexed, Kept, Tags}
 use Rattle.builder_registry.specs.Place.{placeOf}
 use Rattle.builder_registry.proofs.Word.{word-owner, word-path, word-made, word-plain, still-owner, still-path, still-made, now-derived}
 use Rattle.builder_registry.proofs.Names.{made-flagged}
+use Rattle.builder_registry.proofs.Index.{index-more, index-marked}
 use Rattle.builder_registry.proofs.Places.{entries-length, entry-at, found-at, found-none, marked-at, marked-none}
 
 -- ---- the definition, by its tests
@@ -89,12 +90,12 @@ module _ (s ws : List ℕ) (n w l : ℕ) (fit : n ≤ length ws) (e : l ≡ leng
       rw (enter-full (entryOf s w) (entriesOf s ws n) (omega arith) (omega (arith, entries-length s ws n fit))) (AnswersIn.not 17 refl (omega arith))
 
   -- its answer else, and where the new word stands
-  pub entered : l ≤ 255 → n < 512 → n < length ws →
+  pub entered : l ≤ 255 → n < 512 → n < length ws → Indexed s ws n →
       Kept s (set ws n w) (record { count = n + 1; number = 0 }) (enter (entryOf s w) (entriesOf s ws n)) ×
       (_≡_ {A = ℕ} 0 0 → (n + 1 ≡ n + 1) × (getD (set ws n w) n 0 ≡ w))
-  entered h k g = (
+  entered h k g x = (
     rw (enter-room (entryOf s w) (entriesOf s ws n) (omega arith) (omega (arith, entries-length s ws n fit)))
-        (AnswersIn.made _ refl (record { entries = pushed s ws n w g })),
+        (AnswersIn.made _ refl (record { entries = pushed s ws n w g; index = index-more w x })),
     λ z. (refl, getD-set-same ws n w 0 g),
   )
 
@@ -113,8 +114,10 @@ packed s a b h k =
 module _ (s ws : List ℕ) (n owner path : ℕ) (fit : n ≤ length ws) (o p : Name) (f : o ≡ held s owner) (g : p ≡ held s path)
     (i : ℕ) (e : i ≡ placeOf o (normalize-path o p) (entriesOf s ws n)) where
   -- the answer of `ensure` where the key is there
-  pub ensure-has : i < n → Kept s ws (record { count = n; number = 0 }) (ensure (held s owner) (held s path) (entriesOf s ws n))
-  ensure-has h = rw (← f, ← g, ensure-found o p (entriesOf s ws n) _ (found-at s ws n fit o (normalize-path o p) i e h)) (AnswersIn.made _ refl (record { entries = refl }))
+  pub ensure-has : i < n → Indexed s ws n → Kept s ws (record { count = n; number = 0 }) (ensure (held s owner) (held s path) (entriesOf s ws n))
+  ensure-has h x =
+      rw (← f, ← g, ensure-found o p (entriesOf s ws n) _ (found-at s ws n fit o (normalize-path o p) i e h))
+      (AnswersIn.made _ refl (record { entries = refl; index = x }))
 
   -- it is not: its word is entered
   pub ensure-more : {us : List ℕ} {r : Held} {w : ℕ} → w ≡ wordOf owner path 0 → n ≤ i → owner < 65536 → path < 65536 →
@@ -153,13 +156,13 @@ module _ (s ws : List ℕ) (n owner made : ℕ) (fit : n ≤ length ws) (o p : N
   place-is = rw (← f, ← g) e
 
   -- the answer of `add_synthetic` where the key is there: the first entry that has it
-  pub synthetic-has : i < n →
+  pub synthetic-has : i < n → Indexed s ws n →
       Tags s ws (record { at = i; count = n; number = 0 })
       (add-synthetic (held s owner) (madePath made) (madeParameter made (held s owner)) (entriesOf s ws n)) ×
       (i ≡ placeOf (held s owner) (normalize-path (held s owner) (madePath made)) (entriesOf s ws n))
-  synthetic-has h = (
+  synthetic-has h x = (
     rw (← f, ← g, synthetic-found o p (entriesOf s ws n) (madeParameter made o) _ (found-at s ws n fit o (normalize-path o p) i e h))
-        (AnswersIn.made _ refl (record { named = refl; entries = refl; within = h })),
+        (AnswersIn.made _ refl (record { named = refl; entries = refl; within = h; index = x })),
     place-is,
   )
 
@@ -168,7 +171,7 @@ module _ (s ws : List ℕ) (n owner made : ℕ) (fit : n ≤ length ws) (o p : N
       (r .number ≡ 0 → m ≡ entryName s (getD us n 0)) → (r .number ≡ 0 → r .count ≡ n + 1) →
       Tags s us (record { at = n; count = r .count; number = r .number }) (_andThen_ x (λ y. done (m, y .1)))
   unfolding _andThen_
-  tagged m (AnswersIn.made x z q) k l = AnswersIn.made _ z (record { named = k z; entries = q .entries; within = omega (arith, l z) })
+  tagged m (AnswersIn.made x z q) k l = AnswersIn.made _ z (record { named = k z; entries = q .entries; within = omega (arith, l z); index = q .index })
   tagged m (AnswersIn.not j z q) k l = AnswersIn.not j z q
 
   -- its answer where the word is entered: the new entry, behind the others
@@ -214,22 +217,27 @@ changed s ws n i w h = rw (take-set-lt n ws i w h) (map-set (entryOf s) (take n 
 
 module _ (s ws : List ℕ) (n : ℕ) (fit : n ≤ length ws) (o p : Name) (i : ℕ) (e : i ≡ placeOf o (normalize-path o p) (entriesOf s ws n)) where
   -- no entry has the key: nothing is marked
-  pub mark-nothing : n ≤ i → entriesOf s ws n ≡ mark-derived o p (entriesOf s ws n)
+  pub mark-nothing : n ≤ i → Indexed s ws n → (entriesOf s ws n ≡ mark-derived o p (entriesOf s ws n)) × Indexed s ws n
   unfolding mark-derived
-  mark-nothing h = sym (marked-none s ws n fit o (normalize-path o p) i e h)
+  mark-nothing h x = (sym (marked-none s ws n fit o (normalize-path o p) i e h), x)
 
   module _ (h : i < n) (b : Bool) (f : b ≡ derivedOf (getD ws i 0)) where
     -- the entry is derived already
-    pub mark-again : b ≡ true → entriesOf s ws n ≡ mark-derived o p (entriesOf s ws n)
+    pub mark-again : b ≡ true → Indexed s ws n → (entriesOf s ws n ≡ mark-derived o p (entriesOf s ws n)) × Indexed s ws n
     unfolding mark-derived
-    mark-again d =
-        sym (marked-at s ws n fit o (normalize-path o p) i e h ∙
-        (ap (set (entriesOf s ws n) i) (marked-word s (getD ws i 0) (sym f ∙ d) ∙ sym (entry-at s ws n fit i h)) ∙
-        set-getD (entriesOf s ws n) i (entryOf s 0)))
+    mark-again d x = (
+      sym (marked-at s ws n fit o (normalize-path o p) i e h ∙
+          (ap (set (entriesOf s ws n) i) (marked-word s (getD ws i 0) (sym f ∙ d) ∙ sym (entry-at s ws n fit i h)) ∙
+          set-getD (entriesOf s ws n) i (entryOf s 0))),
+      x,
+    )
 
     -- its word is made a derived one
-    pub mark-first : {r : ℕ} → r ≡ derivedWord (getD ws i 0) → b ≡ false → entriesOf s (set ws i r) n ≡ mark-derived o p (entriesOf s ws n)
+    pub mark-first : {r : ℕ} → r ≡ derivedWord (getD ws i 0) → b ≡ false → Indexed s ws n →
+        (entriesOf s (set ws i r) n ≡ mark-derived o p (entriesOf s ws n)) × Indexed s (set ws i r) n
     unfolding mark-derived
-    mark-first {r} er d =
-        changed s ws n i r h ∙
-        (ap (set (entriesOf s ws n) i) (ap (entryOf s) er ∙ mark-word s (getD ws i 0) (sym f ∙ d)) ∙ sym (marked-at s ws n fit o (normalize-path o p) i e h))
+    mark-first {r} er d x = (
+      changed s ws n i r h ∙
+          (ap (set (entriesOf s ws n) i) (ap (entryOf s) er ∙ mark-word s (getD ws i 0) (sym f ∙ d)) ∙ sym (marked-at s ws n fit o (normalize-path o p) i e h)),
+      index-marked i r x,
+    )

@@ -21,7 +21,7 @@ use Rattle.resolved_parts.proofs.Laws.{entry-named}
 use Rattle.resolved_parts.proofs.Owners.{listed}
 use Rattle.resolved_parts.specs.Types.{ownersOf, textsOf, PathsAt, OwnerAt}
 use Rattle.builder_registry.specs.declared.Held.{Held}
-use Rattle.builder_registry.specs.Words.{held, entriesOf, Kept}
+use Rattle.builder_registry.specs.Words.{held, entriesOf, Indexed, Kept}
 use Rattle.builder_registry.proofs.Laws.{held-name, kept-done}
 
 -- ---- any such list
@@ -68,10 +68,11 @@ module _ {A : Type 0} (all : List A → Build Unit) (one : A → Build Unit) (ea
         refuses (b .1) e
 
   -- no entry is left
-  pub end : {s us : List ℕ} {i : Item} {n at left q : ℕ} {g : Registry} (count : ℕ) → left ≤ 0 → Left (Met all make g (entriesOf s us count)) s i n at left q →
+  pub end : {s us : List ℕ} {i : Item} {n at left q : ℕ} {g : Registry} (count : ℕ) → left ≤ 0 → Indexed s us count → Left (Met all make g (entriesOf s us count)) s i n at left q →
       (w : Entries s i n at) → Kept s us (record { count = count; number = 0 }) (all (entries make (w .got .0)) g)
   unfolding entries
-  end {s} {us} count h l w = rw (ended h l w .0 .is, each .none (entriesOf s us count)) (AnswersIn.made _ refl (record { entries = refl }))
+  end {s} {us} count h x l w =
+      rw (ended h l w .0 .is, each .none (entriesOf s us count)) (AnswersIn.made _ refl (record { entries = refl; index = x }))
 
 -- ---- the paths of an owner
 
@@ -107,10 +108,10 @@ module _ {s : List ℕ} (o : Name) (q : ℕ) where
     paths-stop z c p = stop (ensure-all o) (ensure o) (each-path o) text (λ m. name (nameAt s at)) (λ m. name-entry m l .2) path-kept z c (p .list)
 
   -- none is left: the words hold what the whole list makes
-  pub paths-end : {us : List ℕ} {left at : ℕ} {g : Registry} (count : ℕ) → left ≤ 0 →
+  pub paths-end : {us : List ℕ} {left at : ℕ} {g : Registry} (count : ℕ) → left ≤ 0 → Indexed s us count →
       Paths s o g (entriesOf s us count) q left at → (p : PathsAt s q) →
       Kept s us (record { count = count; number = 0 }) (ensure-all o (textsOf (p .list .got .0)) g)
-  paths-end count l c p = end (ensure-all o) (ensure o) (each-path o) text count l c (p .list)
+  paths-end count l x c p = end (ensure-all o) (ensure o) (each-path o) text count l x c (p .list)
 
 -- ---- the owners of a references block
 
@@ -162,7 +163,7 @@ module _ {s : List ℕ} (b : ℕ) where
         (stop extend-with all-paths each-owner ownerOf (λ m. block-entry m l .child .got .0) (λ m. block-entry m l .after) owner-kept z c (listed a .list))
 
   -- none is left: the words hold what the whole list makes
-  pub owners-end : {us : List ℕ} {left at : ℕ} {g : Registry} (count : ℕ) → left ≤ 0 →
+  pub owners-end : {us : List ℕ} {left at : ℕ} {g : Registry} (count : ℕ) → left ≤ 0 → Indexed s us count →
       Owners s g (entriesOf s us count) b left at → (a : Accepted s 32 32 b) →
       Kept s us (record { count = count; number = 0 }) (extend-with (ownersOf (tree a)) g)
-  owners-end count l c a = rw (listed a .tree) (end extend-with all-paths each-owner ownerOf count l c (listed a .list))
+  owners-end count l x c a = rw (listed a .tree) (end extend-with all-paths each-owner ownerOf count l x c (listed a .list))

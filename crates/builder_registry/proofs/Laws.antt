@@ -18,7 +18,7 @@ use Rattle.builder_registry.specs.declared.Held.{Held}
 use Rattle.builder_registry.specs.declared.Tagged.{Tagged}
 use Rattle.builder_registry.specs.declared.Found.{Found}
 use Rattle.builder_registry.specs.declared.Found.the-variants.{At, Missing}
-use Rattle.builder_registry.specs.Words.{held, entriesOf, entryName, Standing, Kept, Tags, Looked}
+use Rattle.builder_registry.specs.Words.{held, entriesOf, entryName, Indexed, Standing, Kept, Tags, Looked}
 use Rattle.builder_registry.proofs.Long.{find-long, mark-long, normal-long}
 
 -- a name of an accepted set is held whole
@@ -26,9 +26,9 @@ pub held-name : {s : List ℕ} {at : ℕ} → Named s at → held s at ≡ nameA
 unfolding held
 held-name {s} {at} n = rw (le-leb (at + 2 + le2 s at) (length s) (n .inside), le-leb (le2 s at) 255 (n .short)) refl
 
--- the same words with other entries
-pub standing : {s ws us : List ℕ} {n m : ℕ} → Standing s ws n → length us ≡ length ws → m ≤ 512 → Standing s us m
-standing a e h = record { size = a .size; words = rw e (a .words); count = h }
+-- the same words with other entries, and their index
+pub standing : {s ws us : List ℕ} {n m : ℕ} → Standing s ws n → length us ≡ length ws → m ≤ 512 → Indexed s us m → Standing s us m
+standing a e h i = record { size = a .size; words = rw e (a .words); count = h; index = i }
 
 -- ---- what an answer says, by its number or its variant
 
@@ -36,12 +36,20 @@ standing a e h = record { size = a .size; words = rw e (a .words); count = h }
 pub kept-done : {s us : List ℕ} {r : Held} {o : Outcome (Unit × Registry)} → r .number ≡ 0 → Kept s us r o → o ≡ done (tt, entriesOf s us (r .count))
 kept-done z k = let a = answered z k in a .1 ∙ ap (λ (g : Registry). done (tt, g)) (sym (a .2 .entries))
 
+-- and leaves the index of it
+pub kept-index : {s us : List ℕ} {r : Held} {o : Outcome (Unit × Registry)} → r .number ≡ 0 → Kept s us r o → Indexed s us (r .count)
+kept-index z k = answered z k .2 .index
+
 -- with a name: that of the entry at the place
 pub tags-done : {s us : List ℕ} {r : Tagged} {o : Outcome (Name × Registry)} → r .number ≡ 0 → Tags s us r o →
     (r .at < r .count) × (o ≡ done (entryName s (getD us (r .at) 0), entriesOf s us (r .count)))
 tags-done z t =
     let a = answered z t in
     (a .2 .within, a .1 ∙ ap₂ (λ (n : Name) (g : Registry). done (n, g)) (a .2 .named) (sym (a .2 .entries)))
+
+-- and the index
+pub tags-index : {s us : List ℕ} {r : Tagged} {o : Outcome (Name × Registry)} → r .number ≡ 0 → Tags s us r o → Indexed s us (r .count)
+tags-index z t = answered z t .2 .index
 
 -- a name that was found is that of the entry at the place
 pub looked-entry : {s ws : List ℕ} {n i : ℕ} {f : Found} {o : Option Name} → f ≡ At i → Looked s ws n f o → (i < n) × (o ≡ some (entryName s (getD ws i 0)))

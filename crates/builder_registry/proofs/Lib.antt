@@ -2,6 +2,7 @@ pub mod Word
 pub mod Keys
 pub mod Places
 pub mod Names
+pub mod Index
 pub mod Changes
 pub mod Puts
 pub mod Long

@@ -64,16 +64,23 @@ entriesOf s ws n = map (entryOf s) (take n ws)
 abbrev pub entryName : List ℕ → ℕ → Name
 entryName s w = entryOf s w .parameter .name
 
--- what every call of the builder stands on: a set of at most 65,536 bytes, room for the registry, and n entries in it
+-- the index of the first n entries, behind them in the words
+pub record Indexed (s ws : List ℕ) (n : ℕ) : Type 0 where
+  pub room : 1663 ≤ length ws
+
+-- what every call of the builder stands on: a set of at most 65,536 bytes, room for the registry and its index, n entries in it,
+-- and the index of them
 pub record Standing (s ws : List ℕ) (n : ℕ) : Type 0 where
   pub size : length s ≤ 65536
-  pub words : 512 ≤ length ws
+  pub words : 1663 ≤ length ws
   pub count : n ≤ 512
+  pub index : Indexed s ws n
 
--- What a change of the registry leaves: the entries in the words us, or the refusal, of which nothing is said but its number.
--- Nothing is said of the words behind the entries.
+-- What a change of the registry leaves: the entries in the words us and their index, or the refusal, of which nothing is said but
+-- its number.
 pub record KeptIn (s us : List ℕ) (r : Held) (x : Unit {0} × Registry) : Type 0 where
   pub entries : entriesOf s us (r .count) ≡ x .1
+  pub index : Indexed s us (r .count)
 
 abbrev pub Kept : (s us : List ℕ) (r : Held) → Outcome (Unit × Registry) → Type 0
 Kept s us r = Answers (r .number) (KeptIn s us r)
@@ -83,6 +90,7 @@ pub record TagIn (s us : List ℕ) (r : Tagged) (x : Name × Registry) : Type 0 
   pub named : x .0 ≡ entryName s (getD us (r .at) 0)
   pub entries : entriesOf s us (r .count) ≡ x .1
   pub within : r .at < r .count
+  pub index : Indexed s us (r .count)
 
 abbrev pub Tags : (s us : List ℕ) (r : Tagged) → Outcome (Name × Registry) → Type 0
 Tags s us r = Answers (r .number) (TagIn s us r)

@@ -18,9 +18,12 @@ ghost use Rattle.builder.specs.Names.{qualify-parent-path, normalize-path};
 ghost use Rattle.builder.specs.Registry.{enter, ensure, ensure-all, extend-with, lookup-name, owner-parameters, add-synthetic, mark-derived, keyedBy, entryOf as pathEntry};
 ghost use Rattle.builder.specs.Nodes.{lookupQualified};
 ghost use Rattle.builder_registry.specs.Word.{ownerAt, pathAt, madeOf, derivedOf, wordOf, derivedWord};
-ghost use Rattle.builder_registry.specs.Words.{Standing, Kept, Tags, Looked, held, madePath, madeParameter, madeEntry, entryOf, entriesOf, entryName};
+ghost use Rattle.builder_registry.specs.Words.{Indexed, Standing, Kept, Tags, Looked, held, madePath, madeParameter, madeEntry, entryOf, entriesOf, entryName};
 ghost use Rattle.builder_registry.specs.Texts.{describing};
 ghost use Rattle.builder_registry.specs.Place.{placeOf, foundIn, owned};
+
+// How many working words the registry and its index take.
+pub const WORDS: usize = 1663;
 
 // How many entries the registry has, and the number of a refusal or 0. Of a refusal, a count of at most 512.
 pub struct Held {
@@ -271,6 +274,14 @@ pub fn lookup_qualified(s: &[u8], words: &[u64], n: usize, owner: &[u8], path: &
     }
 }
 
+// The index of no entries.
+pub fn begin(words: &mut [u64])
+    requires { ⌜ 1663 ≤ length (now words) ⌝ }
+    ensures { λ _. ⌜ ((s : List ℕ) → Indexed s (now (words .exit)) 0) ⌝ }
+{
+    words[512] = 0;
+}
+
 // How many bytes an entry's name has.
 pub fn name_length(s: &[u8], w: u64) -> usize
     requires { ⌜ length (now s) ≤ 65536 ⌝ }
@@ -411,10 +422,11 @@ pub fn add_synthetic(s: &[u8], words: &mut [u64], n: usize, owner: usize, made: 
     }
 }
 
-// The entry that has the path's key becomes a derived one. Nothing is said of the words behind the entries.
+// The entry that has the path's key becomes a derived one. The index stays.
 pub fn mark_derived(s: &[u8], words: &mut [u64], n: usize, owner: &[u8], path: &[u8])
     requires { ⌜ Standing (now s) (now words) n ⌝ }
     ensures { λ _. ⌜ entriesOf (now (s .entry)) (now (words .exit)) n ≡ mark-derived (now (owner .entry)) (now (path .entry)) (entriesOf (now (s .entry)) (now (words .entry)) n) ⌝ }
+    ensures { λ _. ⌜ Indexed (now (s .entry)) (now (words .exit)) n ⌝ }
 {
     let i = path_place(s, words, n, owner, path);
     if n <= i {

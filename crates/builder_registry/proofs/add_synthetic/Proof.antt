@@ -39,7 +39,8 @@ returns c =
           (at-held-at .held-at .ensures .0)
           (made-text _ _ (at-pick .pick .ensures)) _
           (c .before .path-place .ensures .0)
-          (c .if1 .taken),
+          (c .if1 .taken)
+          (at-start .pre .0 .index),
     )
 
 made-word-requires : tie.Need-made-word-requires

@@ -20,14 +20,16 @@ same-length c = search needs
 returns : tie.Need-returns
 returns c =
     let at-held-at2 = c .before .before .before in
-    let at-held-at = at-held-at2 .before in (
+    let at-held-at = at-held-at2 .before in
+    let at-start = at-held-at .before .before .before in (
       omega arith,
       ensure-has _ _ _ _ _
           (omega arith) _ _
           (at-held-at .held-at .ensures .0)
           (at-held-at2 .held-at2 .ensures .0) _
           (c .before .path-place .ensures .0)
-          (c .if1 .taken),
+          (c .if1 .taken)
+          (at-start .pre .0 .index),
     )
 
 pack-requires : tie.Need-pack-requires

@@ -4,9 +4,9 @@ use Prim.Native.Nat.{_≤_}
 use native.Mathlib.Omega.{arith}
 use mathlib.Core.Path.{_≡_}
 use lib.ListN.{length}
-use Rattle.builder_registry.specs.Words.{held, entriesOf}
+use Rattle.builder_registry.specs.Words.{held, entriesOf, Indexed}
 use Rattle.resolved_parts.proofs.Laws.{entry-named}
-use Rattle.builder_registry.proofs.Laws.{standing}
+use Rattle.builder_registry.proofs.Laws.{standing, kept-index}
 use Rattle.builder_registry.proofs.Extend.{Paths, paths-begin, paths-more, paths-stop, paths-end}
 use Rattle.builder_registry.proofs.ensure_all.Statement.{statement}
 use Rattle.builder_registry.proofs.ensure_all.Tie as tie
@@ -17,7 +17,8 @@ Inv-loop s words₀ n owner paths left₀ at₀ count₀ words left at count =
     (length words ≡ length words₀) × Paths s
     (held s owner)
     (entriesOf s words₀ n)
-    (entriesOf s words count) paths left at
+    (entriesOf s words count) paths left at ×
+    Indexed s words count
 
 abbrev μ-loop : tie.MeasureT-loop
 μ-loop s words₀ n owner paths left₀ at₀ count₀ words left at count = left
@@ -31,13 +32,13 @@ add-at c = omega arith
 loop-holds : tie.Need-loop-holds Inv-loop μ-loop
 loop-holds c =
     let at-start = c .before .before .before in
-    (omega arith, search needs, paths-begin _ _ (c .read2 .ensures .0) (at-start .pre .2))
+    (omega arith, search needs, paths-begin _ _ (c .read2 .ensures .0) (at-start .pre .2), at-start .pre .0 .index)
 
 ensure-requires : tie.Need-ensure-requires Inv-loop μ-loop
 ensure-requires c κs =
     let at-loop = c .before .before in
     let at-start = at-loop .before .before .before .before in (
-      standing (at-start .pre .0) (at-loop .loop .inv .1) (at-loop .loop .inv .0),
+      standing (at-start .pre .0) (at-loop .loop .inv .1) (at-loop .loop .inv .0) (at-loop .loop .inv .3),
       omega arith,
       omega (arith, entry-named (at-loop .loop .inv .2 .here) (c .before .loop-test .taken)),
     )
@@ -83,13 +84,16 @@ loop-again c =
           (c .next-name .ensures)
           (c .before .if1 .left)
           (at-loop .loop .inv .2),
+      kept-index (c .before .if1 .left) (at-ensure .ensure .ensures .1),
     )
 
 same-length-2 : tie.Need-same-length-2 Inv-loop μ-loop
 same-length-2 c = search needs
 
 returns-2 : tie.Need-returns-2 Inv-loop μ-loop
-returns-2 c = (omega arith, paths-end _ _ _ (c .loop-test .left) (c .before .loop .inv .2))
+returns-2 c =
+    let at-loop = c .before in
+    (omega arith, paths-end _ _ _ (c .loop-test .left) (at-loop .loop .inv .3) (at-loop .loop .inv .2))
 
 pub ensure-all-spec : {M : Type 1} → statement M
 ensure-all-spec =

@@ -43,15 +43,18 @@ same-length : tie.Need-same-length
 same-length c = search needs
 
 returns-3 : tie.Need-returns-3
-returns-3 c = (
-  omega arith,
-  entered _ _ _ _ _
-      (omega arith)
-      (c .before .before .name-length .ensures .0)
-      (c .before .if1 .left)
-      (c .if2 .left)
-      (omega arith),
-)
+returns-3 c =
+    let at-name-length = c .before .before in
+    let at-start = at-name-length .before .before .before in (
+      omega arith,
+      entered _ _ _ _ _
+          (omega arith)
+          (at-name-length .name-length .ensures .0)
+          (c .before .if1 .left)
+          (c .if2 .left)
+          (omega arith)
+          (at-start .pre .index),
+    )
 
 pub enter-spec : {M : Type 1} → statement M
 enter-spec =

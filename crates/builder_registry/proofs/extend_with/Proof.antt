@@ -5,9 +5,9 @@ use native.Mathlib.Omega.{arith}
 use mathlib.Core.Path.{_≡_}
 use lib.ListN.{length}
 use Rattle.accepted.specs.Accepted.{Accepted}
-use Rattle.builder_registry.specs.Words.{entriesOf}
+use Rattle.builder_registry.specs.Words.{entriesOf, Indexed}
 use Rattle.resolved_parts.proofs.Owners.{references-inside}
-use Rattle.builder_registry.proofs.Laws.{standing}
+use Rattle.builder_registry.proofs.Laws.{standing, kept-index}
 use Rattle.builder_registry.proofs.Extend.{Owners, owners-begin, owner-at, owner-inside, owners-more, owners-stop, owners-end}
 use Rattle.builder_registry.proofs.extend_with.Statement.{statement}
 use Rattle.builder_registry.proofs.extend_with.Tie as tie
@@ -17,7 +17,8 @@ Inv-loop s words₀ n references left₀ at₀ count₀ words left at count =
     (count ≤ 512) ×
     (length words ≡ length words₀) × Owners s
     (entriesOf s words₀ n)
-    (entriesOf s words count) references left at
+    (entriesOf s words count) references left at ×
+    Indexed s words count
 
 abbrev μ-loop : tie.MeasureT-loop
 μ-loop s words₀ n references left₀ at₀ count₀ words left at count = left
@@ -46,6 +47,7 @@ loop-holds c = (
   omega arith,
   search needs,
   owners-begin _ (c .read2 .ensures .0) (at-start c .pre .1),
+  at-start c .pre .0 .index,
 )
 
 owner-paths-requires : tie.Need-owner-paths-requires Inv-loop μ-loop
@@ -65,7 +67,7 @@ ensure-all-requires c κs =
     let at-start = at-loop .before .before .before .before in
     let o = c .before .owner-paths .ensures
     (owner-at _ (in-loop .loop-test .taken) (at-loop .loop .inv .2)) in (
-      standing (at-start .pre .0) (at-loop .loop .inv .1) (at-loop .loop .inv .0),
+      standing (at-start .pre .0) (at-loop .loop .inv .1) (at-loop .loop .inv .0) (at-loop .loop .inv .3),
       omega (arith, o .named),
       o .paths,
     )
@@ -116,7 +118,9 @@ loop-again : tie.Need-loop-again Inv-loop μ-loop
 loop-again c =
     let at-ensure-all = c .before .before .before .before .before in
     let at-owner-paths = at-ensure-all .before .before in
-    let in-loop = at-owner-paths .before in (
+    let in-loop = at-owner-paths .before in
+    let owner = at-owner-paths .owner-paths .ensures
+    (owner-at _ (in-loop .loop-test .taken) (at-loop in-loop .loop .inv .2)) in (
       omega arith,
       search needs,
       owners-more _ _ _
@@ -126,13 +130,17 @@ loop-again c =
           (c .read4 .ensures .0)
           (c .before .if1 .left)
           (at-loop in-loop .loop .inv .2),
+      kept-index (c .before .if1 .left) (at-ensure-all .ensure-all .ensures .1 (owner .paths)),
     )
 
 same-length-2 : tie.Need-same-length-2 Inv-loop μ-loop
 same-length-2 c = search needs
 
 returns-2 : tie.Need-returns-2 Inv-loop μ-loop
-returns-2 c = (omega arith, owners-end _ _ (c .loop-test .left) (c .before .loop .inv .2))
+returns-2 c = (
+  omega arith,
+  owners-end _ _ (c .loop-test .left) (c .before .loop .inv .3) (c .before .loop .inv .2),
+)
 
 pub extend-with-spec : {M : Type 1} → statement M
 extend-with-spec =

@@ -13,7 +13,10 @@ same-length : tie.Need-same-length
 same-length c = search needs
 
 returns : tie.Need-returns
-returns c = mark-nothing _ _ _ (omega arith) _ _ _ (c .before .path-place .ensures .0) (c .if1 .taken)
+returns c =
+    let at-path-place = c .before in
+    let at-start = at-path-place .before .before .before .before .before .before in
+    mark-nothing _ _ _ (omega arith) _ _ _ (at-path-place .path-place .ensures .0) (c .if1 .taken) (at-start .pre .index)
 
 mul-w : tie.Need-mul-w
 mul-w c = search needs
@@ -31,12 +34,14 @@ returns-2 : tie.Need-returns-2
 returns-2 c =
     let at-else1 = c .before .before .before in
     let at-path-place = at-else1 .before in
+    let at-start = at-path-place .before .before .before .before .before .before in
     mark-again _ _ _
     (omega arith) _ _ _
     (at-path-place .path-place .ensures .0)
     (at-else1 .if1 .left) _
     (c .before .is-derived .ensures)
     (c .if2 .taken)
+    (at-start .pre .index)
 
 derived-word-requires : tie.Need-derived-word-requires
 derived-word-requires c κs = sym (c .before .is-derived .ensures) ∙ c .if2 .left
@@ -55,6 +60,7 @@ returns-3 c =
     let at-is-derived = c .before .before in
     let at-else1 = at-is-derived .before .before in
     let at-path-place = at-else1 .before in
+    let at-start = at-path-place .before .before .before .before .before .before in
     mark-first _ _ _
     (omega arith) _ _ _
     (at-path-place .path-place .ensures .0)
@@ -62,6 +68,7 @@ returns-3 c =
     (at-is-derived .is-derived .ensures)
     (c .derived-word .ensures)
     (c .before .if2 .left)
+    (at-start .pre .index)
 
 pub mark-derived-spec : {M : Type 1} → statement M
 mark-derived-spec =
