@@ -1,0 +1,3 @@
+pub mod Marks
+pub mod Tables
+pub mod Walks

@@ -1,0 +1,2 @@
+pub mod Mark
+pub mod Table
