@@ -17,13 +17,14 @@ use Rattle.blocks.specs.Name.{Name}
 use Rattle.ir.specs.Ir.{IrParameter}
 use Rattle.builder.specs.Names.{normalize-path}
 use Rattle.builder.specs.Registry.{Entry, Registry, _>>=_, give, refuse, require, reads, change, findKey, enter, ensure, add-synthetic, derivedEntry, mark-derived, entryOf as pathEntry}
+use Rattle.builder_registry.specs.declared.Alias.{Alias}
 use Rattle.builder_registry.specs.declared.Held.{Held}
 use Rattle.builder_registry.specs.Word.{ownerAt, madeOf, derivedOf, wordOf, derivedWord}
-use Rattle.builder_registry.specs.Words.{held, madePath, madeParameter, madeEntry, entryOf, entriesOf, entryName, Indexed, Kept, Tags}
+use Rattle.builder_registry.specs.Words.{held, madePath, madeParameter, madeEntry, entryOf, entriesOf, entryName, keyIn, aliasIn, keyMark, aliasMark, Indexed, AliasIs, Linking, Kept, Tags}
 use Rattle.builder_registry.specs.Place.{placeOf}
 use Rattle.builder_registry.proofs.Word.{word-owner, word-path, word-made, word-plain, still-owner, still-path, still-made, now-derived}
 use Rattle.builder_registry.proofs.Names.{made-flagged}
-use Rattle.builder_registry.proofs.Index.{index-more, index-marked}
+use Rattle.builder_registry.proofs.Index.{word-here, entries-here, index-more, index-marked}
 use Rattle.builder_registry.proofs.Places.{entries-length, entry-at, found-at, found-none, marked-at, marked-none}
 
 -- ---- the definition, by its tests
@@ -89,14 +90,18 @@ module _ (s ws : List ℕ) (n w l : ℕ) (fit : n ≤ length ws) (e : l ≡ leng
   entered-full us h k =
       rw (enter-full (entryOf s w) (entriesOf s ws n) (omega arith) (omega (arith, entries-length s ws n fit))) (AnswersIn.not 17 refl (omega arith))
 
-  -- its answer else, and where the new word stands
-  pub entered : l ≤ 255 → n < 512 → n < length ws → Indexed s ws n →
-      Kept s (set ws n w) (record { count = n + 1; number = 0 }) (enter (entryOf s w) (entriesOf s ws n)) ×
-      (_≡_ {A = ℕ} 0 0 → (n + 1 ≡ n + 1) × (getD (set ws n w) n 0 ≡ w))
-  entered h k g x = (
+  -- its answer else, where the word's slots are linked, and where the new word stands
+  pub entered : (us : List ℕ) (key : ℕ) (alias : Alias) → l ≤ 255 → n < 512 → Indexed s ws n → Linking (set ws n w) n key alias us → length us ≡ length ws →
+      key ≡ keyMark (held s (ownerAt w)) (keyIn s w) → AliasIs (aliasMark (entriesOf s ws n) (held s (ownerAt w)) (aliasIn s w)) alias →
+      Kept s us (record { count = n + 1; number = 0 }) (enter (entryOf s w) (entriesOf s ws n)) ×
+      (_≡_ {A = ℕ} 0 0 → (n + 1 ≡ n + 1) × (getD us n 0 ≡ w))
+  entered us key alias h k x q same-length ek ea = (
     rw (enter-room (entryOf s w) (entriesOf s ws n) (omega arith) (omega (arith, entries-length s ws n fit)))
-        (AnswersIn.made _ refl (record { entries = pushed s ws n w g; index = index-more w x })),
-    λ z. (refl, getD-set-same ws n w 0 g),
+        (AnswersIn.made _ refl (record {
+          entries = entries-here s ws us n w key alias k (x .room) q ∙ pushed s ws n w (omega (arith, x .room));
+          index = index-more s ws us n w key alias k (x .room) q x same-length ek ea;
+        })),
+    λ z. (refl, word-here s ws us n w key alias k (x .room) q),
   )
 
 -- a refusal has no number 0
@@ -233,11 +238,11 @@ module _ (s ws : List ℕ) (n : ℕ) (fit : n ≤ length ws) (o p : Name) (i : �
     )
 
     -- its word is made a derived one
-    pub mark-first : {r : ℕ} → r ≡ derivedWord (getD ws i 0) → b ≡ false → Indexed s ws n →
+    pub mark-first : {r : ℕ} → r ≡ derivedWord (getD ws i 0) → b ≡ false → n ≤ 512 → Indexed s ws n →
         (entriesOf s (set ws i r) n ≡ mark-derived o p (entriesOf s ws n)) × Indexed s (set ws i r) n
     unfolding mark-derived
-    mark-first {r} er d x = (
+    mark-first {r} er d few x = (
       changed s ws n i r h ∙
           (ap (set (entriesOf s ws n) i) (ap (entryOf s) er ∙ mark-word s (getD ws i 0) (sym f ∙ d)) ∙ sym (marked-at s ws n fit o (normalize-path o p) i e h)),
-      index-marked i r x,
+      rw er (index-marked s ws n i fit h few x),
     )

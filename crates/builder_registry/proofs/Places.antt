@@ -69,7 +69,7 @@ path-place o p k g i e f = f ∙ ap (λ (x : Name). placeOf o x g) e
 
 -- What holds of every search for a key holds where nothing is left, where the first entry has the key, and, where it has
 -- another, of the entries behind it.
-by-place : (o q : Name) (P : Registry → ℕ → Type 0) → P [] 0 →
+pub by-place : (o q : Name) (P : Registry → ℕ → Type 0) → P [] 0 →
     ((e : Entry) (es : Registry) → keyedBy o q e ≡ true → P (e ∷ es) 0) →
     ((e : Entry) (es : Registry) (i : ℕ) → keyedBy o q e ≡ false → P es i → P (e ∷ es) (suc i)) →
     (es : Registry) → P es (placeOf o q es)

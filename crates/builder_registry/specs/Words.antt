@@ -1,19 +1,25 @@
 -- The registry in working words: an entry in each word (specs/Word.antt), in order of entry.
-use Prim.Native.Nat.{ℕ, _+_, _≤_, _<_}
+use Prim.Native.Nat.{ℕ, _+_, _*_, _/_, _%_, _≤_, _<_}
 use mathlib.Core.Path.{_≡_}
-use mathlib.Core.Bool.{Bool, true, false, _&&_, cond}
+use mathlib.Core.Bool.{Bool, true, false, _&&_, _||_, cond}
 use mathlib.Core.List.{List, [], _∷_, _++_, map}
 use mathlib.Core.Option.{Option, some, none}
-use lib.Dec.{leb, eqb}
-use lib.ListN.{length, take, getD}
+use lib.Dec.{leb, ltb, eqb}
+use lib.ListN.{length, take, drop, getD}
 use Rattle.errors.specs.Refusal.{Outcome}
 use Rattle.answers.specs.Answers.{Answers}
 use Rattle.blocks.specs.Bytes.{le2, nameAt}
-use Rattle.blocks.specs.Name.{Name, ascii}
+use Rattle.blocks.specs.Name.{Name, ascii, same}
 use Rattle.ir.specs.Ir.{IrParameter}
-use Rattle.builder.specs.Names.{normalize-path}
+use Rattle.marks.specs.Mark.{markOf}
+use Rattle.marks.specs.Table.{Linked}
+use Rattle.builder.specs.Names.{isEmpty, normalize-path}
 use Rattle.builder.specs.Registry.{Entry, Registry, entryOf as pathEntry}
+use Rattle.builder_names.specs.Views.{aliasOf}
+use Rattle.builder_registry.specs.Place.{placeOf}
 use Rattle.builder_registry.specs.Word.{ownerAt, pathAt, madeOf, derivedOf}
+use Rattle.builder_registry.specs.declared.Alias.{Alias}
+use Rattle.builder_registry.specs.declared.Alias.the-variants.{Mark, LeftOut}
 use Rattle.builder_registry.specs.declared.Held.{Held}
 use Rattle.builder_registry.specs.declared.Tagged.{Tagged}
 use Rattle.builder_registry.specs.declared.Found.{Found}
@@ -64,9 +70,58 @@ entriesOf s ws n = map (entryOf s) (take n ws)
 abbrev pub entryName : List ℕ → ℕ → Name
 entryName s w = entryOf s w .parameter .name
 
+-- ---- the index: from word 512 on, a table of marks (crate marks) with two slots for each entry
+
+-- the first key of the entry that a word holds: its normal path
+unfoldable pub keyIn : List ℕ → ℕ → Name
+keyIn s w = normalize-path (held s (ownerAt w)) (cond (eqb (madeOf w) 0) (held s (pathAt w)) (madePath (madeOf w)))
+
+-- its other key, the alias; empty where it has none
+unfoldable pub aliasIn : List ℕ → ℕ → Name
+aliasIn s w = cond (eqb (madeOf w) 0) (aliasOf (held s (pathAt w)) (keyIn s w)) []
+
+-- the mark of a key of an owner
+abbrev pub keyMark : Name → Name → ℕ
+keyMark owner key = markOf (markOf 0 owner) key
+
+-- The mark of an entry's alias. It is left out, by a number that is no mark, where the entry has none, and where the alias is a key of
+-- one of the entries g before it: the first entry for a key decides.
+unfoldable pub aliasMark : Registry → Name → Name → ℕ
+aliasMark g owner alias = cond (isEmpty alias || ltb (placeOf owner alias g) (length g)) 18446744073709551616 (keyMark owner alias)
+
+-- the mark of a slot of the entry that a word holds, behind the entries g: of the slot 0 its normal path, else its alias
+unfoldable pub slotOf : List ℕ → Registry → ℕ → ℕ → ℕ
+slotOf s g w b =
+    cond (eqb b 0) (keyMark (held s (ownerAt w)) (keyIn s w)) (aliasMark g (held s (ownerAt w)) (aliasIn s w))
+
+-- the mark of the slot 2 e of entry e, and of its slot 2 e + 1
+unfoldable pub slotMark : List ℕ → List ℕ → ℕ → ℕ
+slotMark s ws k = slotOf s (entriesOf s ws (k / 2)) (getD ws (k / 2) 0) (k % 2)
+
 -- the index of the first n entries, behind them in the words
 pub record Indexed (s ws : List ℕ) (n : ℕ) : Type 0 where
   pub room : 1663 ≤ length ws
+  pub linked : Linked (drop 512 ws) (slotMark s ws) (2 * n)
+
+-- what is searched for: m is the mark of the key, and the name of the owner o stands at the offset, if that is one
+pub record Sought (s : List ℕ) (m at : ℕ) (o key : Name) : Type 0 where
+  pub mark : m ≡ keyMark o key
+  pub owner : at < 65536 → true ≡ same o (held s at)
+
+-- the marks by which the entry of a word is linked: that of its owner, o, and that of its first key, k
+pub record Marked (s : List ℕ) (w o k : ℕ) : Type 0 where
+  pub owner : o ≡ markOf 0 (held s (ownerAt w))
+  pub key : k ≡ keyMark (held s (ownerAt w)) (keyIn s w)
+
+-- what the code says of an alias's mark m
+abbrev pub AliasIs : ℕ → Alias → Type 0
+AliasIs m (Mark x) = m ≡ x
+AliasIs m LeftOut = 18446744073709551616 ≤ m
+
+-- What linking the entry n by these marks leaves: the entries' words as they were, and in the index two slots more.
+pub record Linking (ws : List ℕ) (n key : ℕ) (alias : Alias) (us : List ℕ) : Type 0 where
+  pub same : take 512 us ≡ take 512 ws
+  pub linked : (f : ℕ → ℕ) → Linked (drop 512 ws) f (2 * n) → f (2 * n) ≡ key → AliasIs (f (2 * n + 1)) alias → Linked (drop 512 us) f (2 * n + 2)
 
 -- what every call of the builder stands on: a set of at most 65,536 bytes, room for the registry and its index, n entries in it,
 -- and the index of them

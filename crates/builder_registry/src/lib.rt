@@ -1,7 +1,7 @@
 // builder.rs, `ParameterRegistry`, in working words.
 use builder_names::Key;
 ghost use mathlib.Core.Path.{_≡_};
-ghost use mathlib.Core.Bool.{false, cond};
+ghost use mathlib.Core.Bool.{true, false, cond};
 ghost use mathlib.Core.List.{List, _++_};
 ghost use mathlib.Core.Option.{some};
 ghost use Prim.Native.Nat.{ℕ, _+_, _^_, _≤_, _<_};
@@ -14,11 +14,12 @@ ghost use Rattle.accepted.specs.Accepted.{Accepted, tree};
 ghost use Rattle.resolved_parts.specs.Types.{ownersOf, textsOf, PathsAt};
 ghost use Rattle.ir.specs.Layout.{parameterTree, listTree, entriesTree, optionalTree};
 ghost use Rattle.wire.specs.Poke.{Wrote};
+ghost use Rattle.marks.specs.Mark.{markOf};
 ghost use Rattle.builder.specs.Names.{qualify-parent-path, normalize-path};
 ghost use Rattle.builder.specs.Registry.{enter, ensure, ensure-all, extend-with, lookup-name, owner-parameters, add-synthetic, mark-derived, keyedBy, entryOf as pathEntry};
 ghost use Rattle.builder.specs.Nodes.{lookupQualified};
 ghost use Rattle.builder_registry.specs.Word.{ownerAt, pathAt, madeOf, derivedOf, wordOf, derivedWord};
-ghost use Rattle.builder_registry.specs.Words.{Indexed, Standing, Kept, Tags, Looked, held, madePath, madeParameter, madeEntry, entryOf, entriesOf, entryName};
+ghost use Rattle.builder_registry.specs.Words.{Indexed, Sought, Marked, Linking, AliasIs, aliasMark, aliasIn, Standing, Kept, Tags, Looked, held, madePath, madeParameter, madeEntry, entryOf, entriesOf, entryName};
 ghost use Rattle.builder_registry.specs.Texts.{describing};
 ghost use Rattle.builder_registry.specs.Place.{placeOf, foundIn, owned};
 
@@ -42,6 +43,31 @@ pub struct Tagged {
 pub enum Found {
     At(usize),
     Missing,
+}
+
+// What is searched for: among how many entries, the mark of the key, and the offset of the owner's name; 65,536 where none is known.
+struct Search {
+    count: usize,
+    mark: u64,
+    owner: usize,
+}
+
+// An owner: the offset of its name, and its mark.
+struct Owner {
+    at: usize,
+    mark: u64,
+}
+
+// By what an entry is linked: the mark of its owner, and that of its first key.
+struct Marks {
+    owner: u64,
+    key: u64,
+}
+
+// The mark of an alias, if its slot is linked.
+enum Alias {
+    Mark(u64),
+    LeftOut,
 }
 
 // The name at an offset; empty where it does not lie inside the bytes, or is longer than any name of a set.
@@ -205,42 +231,51 @@ fn has_key(s: &[u8], w: u64, mine: bool, owner: &[u8], head: &[u8], rest: &[u8])
     false
 }
 
-// The place of the first entry of the owner that has the key, or how many entries there are.
-fn place(s: &[u8], words: &[u64], n: usize, owner: &[u8], head: &[u8], rest: &[u8]) -> usize
-    requires { ⌜ n ≤ length (now words) ⌝ }
-    ensures { λ r. ⌜ r ≡ placeOf (now (owner .entry)) (now (head .entry) ++ now (rest .entry)) (entriesOf (now (s .entry)) (now (words .entry)) n) ⌝ }
-    ensures { λ r. ⌜ r ≤ n ⌝ }
+// Whether an entry is the owner's and has the key; the owner's name stands at the offset `known`, if that is one.
+fn is_keyed(s: &[u8], w: u64, known: usize, owner: &[u8], head: &[u8], rest: &[u8]) -> bool
+    requires { ⌜ (known < 65536 → true ≡ same (now owner) (held (now s) known)) ⌝ }
+    ensures { λ r. ⌜ r ≡ keyedBy (now (owner .entry)) (now (head .entry) ++ now (rest .entry)) (entryOf (now (s .entry)) w) ⌝ }
 {
-    let mut known = 65536;
-    let mut mine = false;
-    let mut i = 0;
-    while i < n {
-        let w = words[i];
-        let at = owner_at(w);
-        mine = is_owner(s, at, known, mine, owner);
-        known = at;
-        if has_key(s, w, mine, owner, head, rest) {
-            return i;
+    let mine = is_owner(s, owner_at(w), known, true, owner);
+    has_key(s, w, mine, owner, head, rest)
+}
+
+// The place of the first entry of the owner that has the key, or how many entries there are. Of the entries that may have it by their
+// mark, from the last to the first, the earliest that has it is kept.
+fn place(s: &[u8], words: &[u64], search: Search, owner: &[u8], head: &[u8], rest: &[u8]) -> usize
+    requires { ⌜ Standing (now s) (now words) (search .count) × Sought (now s) (search .mark) (search .owner) (now owner) (now head ++ now rest) ⌝ }
+    ensures { λ r. ⌜ r ≡ placeOf (now (owner .entry)) (now (head .entry) ++ now (rest .entry)) (entriesOf (now (s .entry)) (now (words .entry)) (search .count)) ⌝ }
+    ensures { λ r. ⌜ r ≤ search .count ⌝ }
+{
+    let mark = search.mark;
+    let known = search.owner;
+    let table = &words[512..];
+    let mut found = search.count;
+    let mut j = marks::last(table, mark);
+    while 0 < j {
+        let e = (j - 1) / 2;
+        if is_keyed(s, words[e], known, owner, head, rest) {
+            found = e;
         }
-        i += 1;
+        j = marks::before(table, mark, j);
     }
-    n
+    found
 }
 
 // The same for the key of a path.
 fn path_place(s: &[u8], words: &[u64], n: usize, owner: &[u8], path: &[u8]) -> usize
-    requires { ⌜ n ≤ length (now words) ⌝ }
+    requires { ⌜ Standing (now s) (now words) n ⌝ }
     ensures { λ r. ⌜ r ≡ placeOf (now (owner .entry)) (normalize-path (now (owner .entry)) (now (path .entry))) (entriesOf (now (s .entry)) (now (words .entry)) n) ⌝ }
     ensures { λ r. ⌜ r ≤ n ⌝ }
 {
-    place(
-        s,
-        words,
-        n,
-        owner,
-        b"",
-        builder_names::normalize_path(owner, path),
-    )
+    let key = builder_names::normalize_path(owner, path);
+    let mark = marks::mark(marks::mark(0, owner), key);
+    let search = Search {
+        count: n,
+        mark,
+        owner: 65536,
+    };
+    place(s, words, search, owner, b"", key)
 }
 
 // The entry that names a path under an owner: the first that has the path's key.
@@ -264,7 +299,15 @@ pub fn lookup_qualified(s: &[u8], words: &[u64], n: usize, owner: &[u8], path: &
 {
     match builder_names::qualified_key(owner, path) {
         Key::Joined(a, b) => {
-            let at = place(s, words, n, owner, &owner[..a], &path[b..]);
+            let head = &owner[..a];
+            let rest = &path[b..];
+            let mark = marks::mark(marks::mark(marks::mark(0, owner), head), rest);
+            let search = Search {
+                count: n,
+                mark,
+                owner: 65536,
+            };
+            let at = place(s, words, search, owner, head, rest);
             if at < n {
                 return Found::At(at);
             }
@@ -279,7 +322,7 @@ pub fn begin(words: &mut [u64])
     requires { ⌜ 1663 ≤ length (now words) ⌝ }
     ensures { λ _. ⌜ ((s : List ℕ) → Indexed s (now (words .exit)) 0) ⌝ }
 {
-    words[512] = 0;
+    marks::clear(&mut words[512..]);
 }
 
 // How many bytes an entry's name has.
@@ -297,9 +340,50 @@ pub fn name_length(s: &[u8], w: u64) -> usize
     o.len() + end.len()
 }
 
+// The mark of the alias of a word's entry, behind n entries: left out where it has none, or one of these has it.
+fn alias_mark(s: &[u8], words: &[u64], n: usize, w: u64, owner: u64) -> Alias
+    requires { ⌜ Standing (now s) (now words) n × (owner ≡ markOf 0 (held (now s) (ownerAt w))) ⌝ }
+    ensures { λ r. ⌜ AliasIs (aliasMark (entriesOf (now (s .entry)) (now (words .entry)) n) (held (now (s .entry)) (ownerAt w)) (aliasIn (now (s .entry)) w)) r ⌝ }
+{
+    if made_of(w) != 0 {
+        return Alias::LeftOut;
+    }
+    let at = owner_at(w);
+    let o = held_at(s, at);
+    let p = path_of(s, w);
+    let a = builder_names::alias(p, builder_names::normalize_path(o, p));
+    if a.len() == 0 {
+        return Alias::LeftOut;
+    }
+    let mark = marks::mark(owner, a);
+    let search = Search {
+        count: n,
+        mark,
+        owner: at,
+    };
+    if place(s, words, search, o, b"", a) < n {
+        return Alias::LeftOut;
+    }
+    Alias::Mark(mark)
+}
+
+// Entry n is linked by the marks of its keys.
+fn link(words: &mut [u64], n: usize, key: u64, alias: Alias)
+    requires { ⌜ (1663 ≤ length (now words)) × (n < 512) ⌝ }
+    ensures { λ _. ⌜ Linking (now (words .entry)) n key alias (now (words .exit)) ⌝ }
+{
+    let table = &mut words[512..];
+    let k = 2 * n;
+    marks::link(table, k, key);
+    match alias {
+        Alias::Mark(mark) => marks::link(table, k + 1, mark),
+        Alias::LeftOut => {}
+    }
+}
+
 // A new entry, if its name is short and there is room.
-fn enter(s: &[u8], words: &mut [u64], n: usize, w: u64) -> Held
-    requires { ⌜ Standing (now s) (now words) n ⌝ }
+fn enter(s: &[u8], words: &mut [u64], n: usize, w: u64, by: Marks) -> Held
+    requires { ⌜ Standing (now s) (now words) n × Marked (now s) w (by .owner) (by .key) ⌝ }
     ensures { λ r. ⌜ r .count ≤ 512 ⌝ }
     ensures { λ r. ⌜ Kept (now (s .entry)) (now (words .exit)) r (enter (entryOf (now (s .entry)) w) (entriesOf (now (s .entry)) (now (words .entry)) n)) ⌝ }
     ensures { λ r. ⌜ (r .number ≡ 0 → (r .count ≡ n + 1) × (getD (now (words .exit)) n 0 ≡ w)) ⌝ }
@@ -316,29 +400,53 @@ fn enter(s: &[u8], words: &mut [u64], n: usize, w: u64) -> Held
             number: 17,
         };
     }
+    let alias = alias_mark(s, words, n, w, by.owner);
     words[n] = w;
+    link(words, n, by.key, alias);
     Held {
         count: n + 1,
         number: 0,
     }
 }
 
-// A path of an owner, whose names stand at these offsets, entered if its key is new.
-pub fn ensure(s: &[u8], words: &mut [u64], n: usize, owner: usize, path: usize) -> Held
-    requires { ⌜ Standing (now s) (now words) n × (owner < 65536) × (path < 65536) ⌝ }
+// A path of an owner, whose name stands at an offset, entered if its key is new.
+fn ensure_of(s: &[u8], words: &mut [u64], n: usize, owner: Owner, path: usize) -> Held
+    requires { ⌜ Standing (now s) (now words) n × (owner .at < 65536) × (owner .mark ≡ markOf 0 (held (now s) (owner .at))) × (path < 65536) ⌝ }
     ensures { λ r. ⌜ r .count ≤ 512 ⌝ }
-    ensures { λ r. ⌜ Kept (now (s .entry)) (now (words .exit)) r (ensure (held (now (s .entry)) owner) (held (now (s .entry)) path) (entriesOf (now (s .entry)) (now (words .entry)) n)) ⌝ }
+    ensures { λ r. ⌜ Kept (now (s .entry)) (now (words .exit)) r (ensure (held (now (s .entry)) (owner .at)) (held (now (s .entry)) path) (entriesOf (now (s .entry)) (now (words .entry)) n)) ⌝ }
 {
-    let o = held_at(s, owner);
+    let at = owner.at;
+    let o = held_at(s, at);
     let p = held_at(s, path);
-    let i = path_place(s, words, n, o, p);
+    let key = builder_names::normalize_path(o, p);
+    let mark = marks::mark(owner.mark, key);
+    let search = Search {
+        count: n,
+        mark,
+        owner: at,
+    };
+    let i = place(s, words, search, o, b"", key);
     if i < n {
         return Held {
             count: n,
             number: 0,
         };
     }
-    enter(s, words, n, pack(owner, path, 0))
+    let by = Marks {
+        owner: owner.mark,
+        key: mark,
+    };
+    enter(s, words, n, pack(at, path, 0), by)
+}
+
+// The same, with the offset of the owner's name.
+pub fn ensure(s: &[u8], words: &mut [u64], n: usize, owner: usize, path: usize) -> Held
+    requires { ⌜ Standing (now s) (now words) n × (owner < 65536) × (path < 65536) ⌝ }
+    ensures { λ r. ⌜ r .count ≤ 512 ⌝ }
+    ensures { λ r. ⌜ Kept (now (s .entry)) (now (words .exit)) r (ensure (held (now (s .entry)) owner) (held (now (s .entry)) path) (entriesOf (now (s .entry)) (now (words .entry)) n)) ⌝ }
+{
+    let mark = marks::mark(0, held_at(s, owner));
+    ensure_of(s, words, n, Owner { at: owner, mark }, path)
 }
 
 // Every path of the owner whose name stands at an offset. The paths stand behind their count.
@@ -347,11 +455,12 @@ fn ensure_all(s: &[u8], words: &mut [u64], n: usize, owner: usize, paths: usize)
     ensures { λ r. ⌜ r .count ≤ 512 ⌝ }
     ensures { λ r. ⌜ ((p : PathsAt (now (s .entry)) paths) → Kept (now (s .entry)) (now (words .exit)) r (ensure-all (held (now (s .entry)) owner) (textsOf (p .list .got .0)) (entriesOf (now (s .entry)) (now (words .entry)) n))) ⌝ }
 {
+    let mark = marks::mark(0, held_at(s, owner));
     let mut left = wire::read2(s, paths);
     let mut at = paths + 2;
     let mut count = n;
     while 0 < left {
-        let e = ensure(s, words, count, owner, at);
+        let e = ensure_of(s, words, count, Owner { at: owner, mark }, at);
         if e.number != 0 {
             return e;
         }
@@ -406,7 +515,15 @@ pub fn add_synthetic(s: &[u8], words: &mut [u64], n: usize, owner: usize, made: 
 {
     let o = held_at(s, owner);
     let text = pick(made, b"__computed_tag", b"__variant", b"__payload_size");
-    let i = path_place(s, words, n, o, text);
+    let key = builder_names::normalize_path(o, text);
+    let owner_mark = marks::mark(0, o);
+    let mark = marks::mark(owner_mark, key);
+    let search = Search {
+        count: n,
+        mark,
+        owner,
+    };
+    let i = place(s, words, search, o, b"", key);
     if i < n {
         return Tagged {
             at: i,
@@ -414,7 +531,11 @@ pub fn add_synthetic(s: &[u8], words: &mut [u64], n: usize, owner: usize, made: 
             number: 0,
         };
     }
-    let e = enter(s, words, n, made_word(owner, made));
+    let by = Marks {
+        owner: owner_mark,
+        key: mark,
+    };
+    let e = enter(s, words, n, made_word(owner, made), by);
     Tagged {
         at: n,
         count: e.count,

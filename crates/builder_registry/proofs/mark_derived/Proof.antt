@@ -68,6 +68,7 @@ returns-3 c =
     (at-is-derived .is-derived .ensures)
     (c .derived-word .ensures)
     (c .before .if2 .left)
+    (at-start .pre .count)
     (at-start .pre .index)
 
 pub mark-derived-spec : {M : Type 1} → statement M
