@@ -160,10 +160,6 @@ module _ (s : List ℕ) (w : ℕ) where
   unfolding entryOf
   entry-made e = rw (ne-eqb (madeOf w) 0 e)
 
-  -- the answer of `has_owner`
-  pub owner-test : (o n : Name) (b : Bool) → n ≡ held s (ownerAt w) → b ≡ same o n → b ≡ same o (entryOf s w .owner)
-  owner-test o n b e f = f ∙ ap (same o) (e ∙ sym owner-is)
-
   module _ (o k : Name) (t : Bool) (e : t ≡ same o (held s (ownerAt w))) where
     -- the answer of `has_key` for another owner
     pub word-other : t ≡ false → false ≡ keyedBy o k (entryOf s w)

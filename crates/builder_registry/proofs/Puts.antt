@@ -20,7 +20,8 @@ use Rattle.builder.specs.Registry.{Entry, Registry, owner-parameters}
 use Rattle.builder_registry.specs.Word.{ownerAt, pathAt, madeOf, derivedOf}
 use Rattle.builder_registry.specs.Words.{held, entryOf, entriesOf, entryName}
 use Rattle.builder_registry.specs.Texts.{madeEnd, madeText, describing}
-use Rattle.builder_registry.specs.Place.{owned}
+use Rattle.builder_registry.specs.Place.{ifOwned, owned}
+use Rattle.builder_registry.proofs.Keys.{owner-is}
 use Rattle.builder_registry.proofs.Names.{name-path, name-made, entry-short, text-short, described}
 use Rattle.builder_registry.proofs.Places.{entries-from, entries-end}
 
@@ -89,39 +90,37 @@ puts-parameter s w m d em ed f g h i j =
 
 -- ---- the parameters of an owner
 
-module _ (o : Name) (s : List ℕ) (w : ℕ) (b : Bool) (e : b ≡ same o (entryOf s w .owner)) where
-  -- an entry of the owner adds its parameter
-  owned-yes : b ≡ true → owned o (entryOf s w) ≡ entryOf s w .parameter ∷ []
-  unfolding owned
-  owned-yes h = let q : same o (entryOf s w .owner) ≡ true = sym e ∙ h in rw q
+-- what an entry adds, where b says that the name at an offset is the owner's, and the offset is its word's
+pub owned-is : (o : Name) (s : List ℕ) (w at : ℕ) (b : Bool) → b ≡ same o (held s at) → at ≡ ownerAt w → ifOwned b (entryOf s w) ≡ owned o (entryOf s w)
+unfolding owned
+owned-is o s w at b e f =
+    ap (λ (t : Bool). ifOwned t (entryOf s w)) (e ∙ ap (same o) (ap (held s) f ∙ sym (owner-is s w)))
 
-  -- another adds none
-  owned-no : b ≡ false → owned o (entryOf s w) ≡ []
-  unfolding owned
-  owned-no h = let q : same o (entryOf s w .owner) ≡ false = sym e ∙ h in rw q
+-- how many parameters that are
+pub count-is : (o : Name) (s : List ℕ) (w at : ℕ) (b : Bool) {r : ℕ} → r ≡ cond b 1 0 → b ≡ same o (held s at) → at ≡ ownerAt w →
+    r ≡ length (owned o (entryOf s w))
+unfolding ifOwned
+count-is o s w at b g e f = g ∙ (go b ∙ ap length (owned-is o s w at b e f))
+  where
+    go : (b : Bool) → cond b 1 0 ≡ length (ifOwned b (entryOf s w))
+    go true = refl
+    go false = refl
 
-  -- the answer of `count_one` for an entry of the owner
-  pub count-yes : b ≡ true → 1 ≡ length (owned o (entryOf s w))
-  count-yes h = sym (ap length (owned-yes h))
-
-  -- and for another
-  pub count-no : b ≡ false → 0 ≡ length (owned o (entryOf s w))
-  count-no h = sym (ap length (owned-no h))
-
+module _ (s : List ℕ) (w : ℕ) (b : Bool) where
   -- what `put_one` writes for an entry of the owner
   pub puts-yes : {xs ys : List ℕ} {at r : ℕ} → b ≡ true → Wrote xs at (write (parameterTree (entryOf s w .parameter))) ys r →
-      Wrote xs at (write (entriesTree parameterTree (owned o (entryOf s w)))) ys r
-  unfolding entriesTree
-  puts-yes h f = rw (owned-yes h) (parts _ nil f (no-parts _ _))
+      Wrote xs at (write (entriesTree parameterTree (ifOwned b (entryOf s w)))) ys r
+  unfolding entriesTree ifOwned
+  puts-yes h f = rw h (parts _ nil f (no-parts _ _))
 
   -- and for another
-  pub puts-no : (xs : List ℕ) (at : ℕ) → b ≡ false → Wrote xs at (write (entriesTree parameterTree (owned o (entryOf s w)))) xs at
-  unfolding entriesTree
-  puts-no xs at h = rw (owned-no h) (no-parts xs at)
+  pub puts-no : (xs : List ℕ) (at : ℕ) → b ≡ false → Wrote xs at (write (entriesTree parameterTree (ifOwned b (entryOf s w)))) xs at
+  unfolding entriesTree ifOwned
+  puts-no xs at h = rw h (no-parts xs at)
 
 -- the parameters of an owner are those of the first entry and of the others
 owned-first : (o : Name) (e : Entry) (es : Registry) → owner-parameters o (e ∷ es) ≡ owned o e ++ owner-parameters o es
-unfolding owner-parameters owned
+unfolding owner-parameters owned ifOwned
 owned-first o e es = go (same o (e .owner))
   where
     go : (b : Bool) → cond b (e .parameter ∷ owner-parameters o es) (owner-parameters o es) ≡ cond b (e .parameter ∷ []) [] ++ owner-parameters o es

@@ -1,6 +1,6 @@
 -- Where the code finds a key in the registry.
 use Prim.Native.Nat.{ℕ, suc}
-use mathlib.Core.Bool.{cond}
+use mathlib.Core.Bool.{Bool, cond}
 use mathlib.Core.List.{List, [], _∷_}
 use mathlib.Core.Option.{Option, some, none}
 use lib.Dec.{ltb}
@@ -26,6 +26,9 @@ abbrev pub foundIn : Name → Option Name → Registry → Found
 foundIn owner none es = Missing
 foundIn owner (some path) es = foundAt owner (normalize-path owner path) es
 
--- what an entry adds to the parameters of an owner
+-- what an entry adds to the parameters of an owner, where b says whether it is the owner's
+unfoldable pub ifOwned : Bool → Entry → List IrParameter
+ifOwned b e = cond b (e .parameter ∷ []) []
+
 unfoldable pub owned : Name → Entry → List IrParameter
-owned owner e = cond (same owner (e .owner)) (e .parameter ∷ []) []
+owned owner e = ifOwned (same owner (e .owner)) e

@@ -21,7 +21,7 @@ ghost use Rattle.builder.specs.Nodes.{lookupQualified};
 ghost use Rattle.builder_registry.specs.Word.{ownerAt, pathAt, madeOf, derivedOf, wordOf, derivedWord};
 ghost use Rattle.builder_registry.specs.Words.{Indexed, Sought, Marked, Linking, AliasIs, aliasMark, aliasIn, Standing, Kept, Tags, Looked, held, madePath, madeParameter, madeEntry, entryOf, entriesOf, entryName};
 ghost use Rattle.builder_registry.specs.Texts.{describing};
-ghost use Rattle.builder_registry.specs.Place.{placeOf, foundIn, owned};
+ghost use Rattle.builder_registry.specs.Place.{placeOf, foundIn, ifOwned};
 
 // How many working words the registry and its index take.
 pub const WORDS: usize = 1663;
@@ -195,13 +195,6 @@ fn made_has(owner: &[u8], made: u64, head: &[u8], rest: &[u8]) -> bool
 {
     let text = pick(made, b"__computed_tag", b"__variant", b"__payload_size");
     builder_names::same_behind(head, rest, builder_names::normalize_path(owner, text))
-}
-
-// Whether an entry is the owner's.
-fn has_owner(s: &[u8], w: u64, owner: &[u8]) -> bool
-    ensures { λ r. ⌜ r ≡ same (now (owner .entry)) (entryOf (now (s .entry)) w .owner) ⌝ }
-{
-    wire::same_name(owner, owner_of(s, w))
 }
 
 // Whether the name at an offset is the owner's, where `mine` says it of the offset `known`, if that is one: most entries have the
@@ -610,12 +603,11 @@ pub fn put_parameter(s: &[u8], w: u64, out: &mut [u8], at: usize) -> usize
     e
 }
 
-// How many parameters of the owner an entry is.
-fn count_one(s: &[u8], w: u64, owner: &[u8]) -> usize
-    ensures { λ r. ⌜ r ≡ length (owned (now (owner .entry)) (entryOf (now (s .entry)) w)) ⌝ }
-    ensures { λ r. ⌜ r ≤ 1 ⌝ }
+// How many parameters of an owner an entry is, if it is the owner's.
+fn count_one(mine: bool) -> usize
+    ensures { λ r. ⌜ (r ≡ cond mine 1 0) × (r ≤ 1) ⌝ }
 {
-    if has_owner(s, w, owner) {
+    if mine {
         return 1;
     }
     0
@@ -626,22 +618,27 @@ fn count_owned(s: &[u8], words: &[u64], n: usize, owner: &[u8]) -> usize
     requires { ⌜ n ≤ length (now words) ⌝ }
     ensures { λ r. ⌜ r ≡ length (owner-parameters (now (owner .entry)) (entriesOf (now (s .entry)) (now (words .entry)) n)) ⌝ }
 {
+    let mut known = 65536;
+    let mut mine = false;
     let mut count = 0;
     let mut i = 0;
     while i < n {
-        count = count + count_one(s, words[i], owner);
+        let o = owner_at(words[i]);
+        mine = is_owner(s, o, known, mine, owner);
+        known = o;
+        count = count + count_one(mine);
         i += 1;
     }
     count
 }
 
 // An entry's parameter, if it is the owner's.
-fn put_one(s: &[u8], w: u64, owner: &[u8], out: &mut [u8], at: usize) -> usize
+fn put_one(s: &[u8], w: u64, mine: bool, out: &mut [u8], at: usize) -> usize
     requires { ⌜ (length (now s) ≤ 65536) × (at < 2 ^ 58) ⌝ }
-    ensures { λ r. ⌜ Wrote (now (out .entry)) at (write (entriesTree parameterTree (owned (now (owner .entry)) (entryOf (now (s .entry)) w)))) (now (out .exit)) r ⌝ }
+    ensures { λ r. ⌜ Wrote (now (out .entry)) at (write (entriesTree parameterTree (ifOwned mine (entryOf (now (s .entry)) w)))) (now (out .exit)) r ⌝ }
     ensures { λ r. ⌜ (at ≤ r) × (r ≤ at + 700) ⌝ }
 {
-    if has_owner(s, w, owner) {
+    if mine {
         return put_parameter(s, w, out, at);
     }
     at
@@ -653,10 +650,16 @@ fn put_owned(s: &[u8], words: &[u64], n: usize, owner: &[u8], out: &mut [u8], at
     ensures { λ r. ⌜ Wrote (now (out .entry)) at (write (entriesTree parameterTree (owner-parameters (now (owner .entry)) (entriesOf (now (s .entry)) (now (words .entry)) n)))) (now (out .exit)) r ⌝ }
     ensures { λ r. ⌜ (at ≤ r) × (r ≤ at + 358400) ⌝ }
 {
+    let mut known = 65536;
+    let mut mine = false;
     let mut p = at;
     let mut i = 0;
     while i < n {
-        p = put_one(s, words[i], owner, out, p);
+        let w = words[i];
+        let o = owner_at(w);
+        mine = is_owner(s, o, known, mine, owner);
+        known = o;
+        p = put_one(s, w, mine, out, p);
         i += 1;
     }
     p

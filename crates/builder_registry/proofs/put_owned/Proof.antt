@@ -1,42 +1,58 @@
--- `builder_registry::put_owned` meets its contract. The loop's invariant: whatever writes the parameters that are left makes the whole write. Assumes nothing.
-use borrow.Author.Needs.{needs}
-use Prim.Native.Nat.{ℕ, _+_, _*_, _-_, _≤_}
-use native.Mathlib.Omega.{arith}
-use mathlib.Core.Path.{_≡_}
-use mathlib.Core.List.{List}
-use lib.ListN.{length, drop}
+-- `builder_registry::put_owned` meets its contract. The loop's invariant: whatever writes the parameters that are left makes the whole write, and
+-- `mine` says whether the name at `known` is the owner's, once that is an offset. Assumes nothing.
+use Prim.Native.Nat.{ℕ, _+_, _*_, _-_, _≤_, _<_}
+use Rattle.blocks.specs.Name.{same}
 use Rattle.blocks.specs.Write.{write}
+use Rattle.builder.specs.Registry.{owner-parameters}
+use Rattle.builder_registry.proofs.Puts.{owned-is, put-more, put-end}
+use Rattle.builder_registry.specs.Words.{held, entriesOf}
 use Rattle.ir.specs.Layout.{entriesTree, parameterTree}
 use Rattle.wire.specs.Poke.{Wrote}
-use Rattle.builder.specs.Registry.{owner-parameters}
-use Rattle.builder_registry.specs.Words.{entriesOf}
-use Rattle.builder_registry.proofs.Puts.{put-more, put-end}
+use borrow.Author.Needs.{needs}
+use lib.ListN.{length, drop}
+use mathlib.Core.List.{List}
+use mathlib.Core.Path.{_≡_}
+use native.Mathlib.Omega.{arith}
 use Rattle.builder_registry.proofs.put_owned.Statement.{statement}
 use Rattle.builder_registry.proofs.put_owned.Tie as tie
 
 abbrev Inv-loop : tie.InvT-loop
-Inv-loop s words n owner out₀ at p₀ i₀ out p i =
+Inv-loop s words n owner out₀ at known₀ mine₀ p₀ i₀ out known mine p i =
     (i ≤ n) ×
     (at ≤ p) ×
     (p ≤ at + 700 * i) ×
     (length out ≡ length out₀) ×
-    ((zs : List ℕ)
-    (r : ℕ) → Wrote out p
-    (write (entriesTree parameterTree (owner-parameters owner (drop i (entriesOf s words n))))) zs r
-    → Wrote out₀ at
-    (write (entriesTree parameterTree (owner-parameters owner (entriesOf s words n)))) zs r)
+    (known < 65536 → mine ≡ same owner (held s known)) ×
+    ((zs : List ℕ) (r : ℕ) →
+    Wrote out p (write (entriesTree parameterTree (owner-parameters owner (drop i (entriesOf s words n))))) zs r →
+    Wrote out₀ at (write (entriesTree parameterTree (owner-parameters owner (entriesOf s words n)))) zs r)
 
 abbrev μ-loop : tie.MeasureT-loop
-μ-loop s words n owner out₀ at p₀ i₀ out p i = n - i
+μ-loop s words n owner out₀ at known₀ mine₀ p₀ i₀ out known mine p i = n - i
 
 loop-holds : tie.Need-loop-holds Inv-loop μ-loop
-loop-holds c = (omega arith, omega arith, omega arith, search needs, λ zs r g. g)
+loop-holds c = (
+  omega arith,
+  omega arith,
+  omega arith,
+  search needs,
+  (λ l. absurd (let z : ⊥ = omega arith in z)),
+  λ zs r g. g,
+)
 
-mul-put-one : tie.Need-mul-put-one Inv-loop μ-loop
-mul-put-one c = search needs
+mul-w : tie.Need-mul-w Inv-loop μ-loop
+mul-w c = search needs
 
-shared-slice-read-put-one : tie.Need-shared-slice-read-put-one Inv-loop μ-loop
-shared-slice-read-put-one c = search needs
+shared-slice-read-w : tie.Need-shared-slice-read-w Inv-loop μ-loop
+shared-slice-read-w c = search needs
+
+owner-at-requires : tie.Need-owner-at-requires Inv-loop μ-loop
+owner-at-requires c κs = search needs
+
+is-owner-requires : tie.Need-is-owner-requires Inv-loop μ-loop
+is-owner-requires c κs =
+    let at-loop = c .before .before .before in
+    (c .owner-at .ensures .1, at-loop .loop .inv .4)
 
 put-one-requires : tie.Need-put-one-requires Inv-loop μ-loop
 put-one-requires c κs = (omega arith, omega arith)
@@ -50,27 +66,32 @@ loop-less c = omega arith
 loop-again : tie.Need-loop-again Inv-loop μ-loop
 loop-again c =
     let at-put-one = c .before .before in
-    let in-loop = at-put-one .before .before .before in
-    let at-loop = in-loop .before in (
+    let at-is-owner = at-put-one .before .before in
+    let at-owner-at = at-is-owner .before in
+    let at-loop-test = at-owner-at .before .before in
+    let at-loop = at-loop-test .before in
+    let at-start = at-loop .before .before .before .before .before in
+    let mine = owned-is _ (at-start .args .s .now) _ _ _ (at-is-owner .is-owner .ensures)
+    (at-owner-at .owner-at .ensures .0) in (
       omega arith,
       omega arith,
       omega arith,
       search needs,
-      λ zs r g. at-loop .loop .inv .4 zs r
-          (put-more _ _ _
-          (omega arith) _ _
-          (in-loop .loop-test .taken)
-          (at-put-one .put-one .ensures .0) g),
+      λ l. at-is-owner .is-owner .ensures,
+      λ zs r g. at-loop .loop .inv .5 zs r
+          (put-more _ _ _ (omega arith) _ _ (at-loop-test .loop-test .taken)
+          (rw mine at (at-put-one .put-one .ensures .0)) g),
     )
 
 same-length : tie.Need-same-length Inv-loop μ-loop
 same-length c = search needs
 
 returns : tie.Need-returns Inv-loop μ-loop
-returns c = (
-  c .before .loop .inv .4 _ _ (put-end _ _ _ (omega arith) _ _ _ _ (c .loop-test .left)),
-  (omega arith, omega arith),
-)
+returns c =
+    let at-loop = c .before in (
+      at-loop .loop .inv .5 _ _ (put-end _ _ _ (omega arith) _ _ _ _ (c .loop-test .left)),
+      (omega arith, omega arith),
+    )
 
 pub put-owned-spec : {M : Type 1} → statement M
 put-owned-spec =
@@ -79,8 +100,10 @@ put-owned-spec =
     Inv-loop
     μ-loop
     loop-holds
-    mul-put-one
-    shared-slice-read-put-one
+    mul-w
+    shared-slice-read-w
+    owner-at-requires
+    is-owner-requires
     put-one-requires
     add-i
     loop-less
