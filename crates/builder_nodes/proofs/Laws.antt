@@ -16,7 +16,7 @@ use Rattle.builder.specs.Registry.{Registry, Build, _>>=_}
 use Rattle.builder.specs.Nodes.{align-node}
 use Rattle.wire.specs.Poke.{Wrote, opened}
 use Rattle.wire.proofs.Laws.{both, closed}
-use Rattle.builder_registry.specs.Words.{entriesOf}
+use Rattle.builder_registry.specs.Words.{entriesOf, Indexed}
 use Rattle.builder_nodes.specs.declared.Built.{Built}
 use Rattle.builder_nodes.specs.Built.{Builds, Within, nodeStart}
 
@@ -62,6 +62,10 @@ module _ {s xs us ys : List ℕ} {at : ℕ} {r : Built} {o : Outcome (IrNode × 
   builds-done z b =
       let a = answered z b in
       (a .0 .0, a .1 ∙ ap (λ (g : Registry). done (a .0 .0, g)) (sym (a .2 .entries)), a .2 .wrote)
+
+  -- and the words hold the index of that registry
+  pub builds-index : r .number ≡ 0 → Builds s xs at us ys r o → Indexed s us (r .count)
+  builds-index z b = answered z b .2 .index
 
   -- another number: the definition refuses with it
   pub builds-refused : (r .number ≡ 0 → ⊥) → Builds s xs at us ys r o → (o ≡ refused (plain (r .number))) × (0 < r .number)

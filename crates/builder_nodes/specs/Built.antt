@@ -15,13 +15,13 @@ use Rattle.ir.specs.Layout.{nodeTree}
 use Rattle.ir_nodes.specs.Codes.{codeOf}
 use Rattle.builder.specs.Registry.{Registry}
 use Rattle.wire.specs.Poke.{Wrote, opened}
-use Rattle.builder_registry.specs.Words.{entriesOf}
+use Rattle.builder_registry.specs.Words.{entriesOf, Indexed}
 use Rattle.builder_nodes.specs.declared.Built.{Built}
 
--- a node that was made: its bytes in the output ys, up to the next cursor, and the entries in the words us. Nothing is said of
--- the words behind the entries.
+-- a node that was made: its bytes in the output ys, up to the next cursor, and the entries in the words us with their index
 pub record BuiltIn (s xs : List ℕ) (at : ℕ) (us ys : List ℕ) (r : Built) (x : IrNode × Registry) : Type 0 where
   pub entries : entriesOf s us (r .count) ≡ x .1
+  pub index : Indexed s us (r .count)
   pub wrote : Wrote xs at (write (nodeTree (x .0))) ys (r .at)
 
 -- that, or the refusal, of which nothing is said but its number
