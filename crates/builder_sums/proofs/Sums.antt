@@ -25,7 +25,7 @@ use Rattle.wire.proofs.Laws.{parts, no-parts}
 use Rattle.resolved_parts.specs.Types.{PathsAt, textsOf}
 use Rattle.builder_registry.specs.declared.Found.{Found}
 use Rattle.builder_registry.specs.declared.Found.the-variants.{At, Missing}
-use Rattle.builder_registry.specs.Words.{Looked, entriesOf, entryName}
+use Rattle.builder_registry.specs.Words.{Looked, entriesOf, entryName, Indexed}
 use Rattle.builder_registry.proofs.Laws.{looked-entry, looked-missing}
 use Rattle.builder_nodes.specs.declared.Built.{Built}
 use Rattle.builder_nodes.specs.Built.{Builds, Within, nodeStart}
@@ -123,13 +123,14 @@ module _ {s ws xs ys : List ℕ} {n at : ℕ} {f : Found} (owner : Name) {path n
       rw (← e, looked-entry m l .1, lt-leb (length (refText owner path)) 255 (omega (arith, ref-length owner path))) (AnswersIn.not 17 refl (omega arith))
 
   -- the reference was written
-  pub ref-done : {i w r : ℕ} → f ≡ At i → length owner + (1 + length path) ≤ 255 → w ≡ getD ws i 0 →
+  pub ref-done : {i w r : ℕ} → Indexed s ws n → f ≡ At i → length owner + (1 + length path) ≤ 255 → w ≡ getD ws i 0 →
       Wrote xs at (write (nodeTree (refNode owner path (entryName s w)))) ys r →
       Builds s xs at ws ys (record { at = r; count = n; number = 0 }) (build-ref owner name (entriesOf s ws n))
   unfolding build-ref _>>=_ _andThen_ reads need require give
-  ref-done {i} m h d v =
+  ref-done {i} x m h d v =
       rw (← e, looked-entry m l .1, le-leb (length (refText owner path)) 255 (omega (arith, ref-length owner path)))
-      (AnswersIn.made (refNode owner path (entryName s (getD ws i 0)), entriesOf s ws n) refl (record { entries = refl; wrote = rw d at v }))
+      (AnswersIn.made (refNode owner path (entryName s (getD ws i 0)), entriesOf s ws n) refl
+      (record { entries = refl; index = x; wrote = rw d at v }))
 
 -- ---- a sum, in the code's form
 
@@ -177,6 +178,7 @@ module _ {s xs ws x₁ x₂ : List ℕ} {at k p : ℕ} {l : Built} (owner : Name
         (λ x e. step-goes (build-ref owner (getD cs (k - 1) [])) _ (x .1) y (rw (e .entries) at v)
         (λ r f. AnswersIn.made (added (x .0) (r .0), r .1) refl (record {
           entries = f .entries;
+          index = f .index;
           wrote = node-closed 134 1
               (cons (nodeTree (x .0)) (cons (nodeTree (r .0)) nil)) w
               (parts (nodeTree (x .0)) (cons (nodeTree (r .0)) nil) (e .wrote) (parts (nodeTree (r .0)) nil (f .wrote) (no-parts x₃ (m .at)))) u;

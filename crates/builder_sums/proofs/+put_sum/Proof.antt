@@ -1,7 +1,7 @@
 -- `put_sum`: the sum of k references is the head of an Add, the sum of k - 1, the last reference, and the length patched in. It calls itself
 -- with k - 1, so k is the measure. `whole` says that the definition's sum of k is that Add; a refusal of either part is the whole's.
 use Rattle.builder_registry.proofs.Laws.{standing}
-use Rattle.builder_nodes.proofs.Laws.{stopped, widened}
+use Rattle.builder_nodes.proofs.Laws.{builds-index, stopped, widened}
 use Rattle.builder_sums.proofs.Sums.{sum-first, sum-stops, sum-stops-last, sum-done, sum-within}
 use borrow.Author.Needs.{needs}
 use mathlib.Core.Path.{refl}
@@ -130,7 +130,9 @@ put-ref-requires-2 t c κs =
     let at-open-add = at-put-sum .before .before .before .before in
     let known = at-start at-open-add .pre .1 .0 in (
       record {
-        standing = standing (known .standing) refl (at-put-sum .put-sum .ensures .0 .count);
+        standing = standing (known .standing) refl
+            (at-put-sum .put-sum .ensures .0 .count)
+            (builds-index (c .before .if2 .left) (at-put-sum .put-sum .ensures .1));
         owned = known .owned;
         list = known .list;
       },

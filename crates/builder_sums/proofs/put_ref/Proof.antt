@@ -80,6 +80,7 @@ returns-2 c =
       ref-done _
           (at-name-at .name-at .ensures ∙ at-name-at .before .chosen-path .ensures .1)
           (at-lookup-name at-e .lookup-name .ensures .0)
+          (at-start at-e .pre .0 .standing .index)
           (at-e .e .given .1)
           (at-else1 .if1 .left) refl
           (at-put-size-ref .put-size-ref .ensures .0),
