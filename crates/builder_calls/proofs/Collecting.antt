@@ -5,13 +5,13 @@ use mathlib.Core.List.{List, [], _∷_, _++_, append-assoc, append-nil}
 use Prim.Native.Nat.{ℕ, _+_, _≤_, _<_}
 use native.Mathlib.Omega.{arith}
 use lib.Dec.{leb, ltb}
-use lib.ListN.{length, length-append}
+use lib.ListN.{length, replicate, length-append, length-replicate}
 use borrow.Author.Tests.{le-leb, lt-leb}
 use Rattle.errors.specs.Refusal.{Outcome, done, refused, plain}
 use Rattle.errors.specs.Refusal.{_>>=_ as _andThen_}
 use Rattle.errors.proofs.Laws.{done-one, bound}
 use Rattle.answers.specs.Answers.{AnswersIn}
-use Rattle.answers.proofs.Laws.{passes, goes, reads-as}
+use Rattle.answers.proofs.Laws.{answered, passes, goes, reads-as}
 use Rattle.blocks.specs.Name.{Name}
 use Rattle.blocks.specs.Tree.{Tree, text, entries, nil, cons}
 use Rattle.blocks.specs.Write.{write}
@@ -25,7 +25,7 @@ use Rattle.builder.specs.Names.{canonical-name}
 use Rattle.builder.specs.Registry.{Registry, Build, _>>=_, give, refuse, require, ensure}
 use Rattle.builder.specs.Nodes.{argument, collect-paths, collect-callee-arguments}
 use Rattle.wire.proofs.Laws.{both, no-parts}
-use Rattle.builder_registry.specs.Words.{entriesOf}
+use Rattle.builder_registry.specs.Words.{Indexed, entriesOf}
 use Rattle.builder_registry.proofs.Laws.{standing}
 use Rattle.builder_calls.specs.declared.Collected.{Collected}
 use Rattle.builder_calls.specs.Collected.{pathsIn, CollectedIn, Collects, Behind, Fills, Room}
@@ -101,11 +101,11 @@ entries-append (a ∷ as′) bs =
     ∙ sym (append-assoc (write (argumentTree a)) (write (entriesTree argumentTree as′)) (write (entriesTree argumentTree bs)))
 
 -- nothing is collected
-collects-none : {s xs ws : List ℕ} {c : Collected} (before : List IrArgument) → c .number ≡ 0 → length before ≡ c .made →
+collects-none : {s xs ws : List ℕ} {c : Collected} (before : List IrArgument) → c .number ≡ 0 → Indexed s ws (c .count) → length before ≡ c .made →
     Collects s xs c before ws xs c (done (before, entriesOf s ws (c .count)))
 unfolding entriesTree
-collects-none {xs = xs} {c = c} before z e =
-    AnswersIn.made _ z (record { new = []; are = sym (append-nil before); made = sym e; entries = refl; bytes = no-parts xs (c .at) })
+collects-none {xs = xs} {c = c} before z i e =
+    AnswersIn.made _ z (record { new = []; are = sym (append-nil before); made = sym e; entries = refl; index = i; bytes = no-parts xs (c .at) })
 
 -- arguments collected behind those of a first step are collected behind what was there before it
 behind-both : {s xs vs zs us ys : List ℕ} {c a r : Collected} {before : List IrArgument} {y x : List IrArgument × Registry} →
@@ -116,8 +116,14 @@ behind-both {before} m v =
       are = v .are ∙ ap (λ (l : List IrArgument). l ++ v .new) (m .are) ∙ append-assoc before (m .new) (v .new);
       made = v .made;
       entries = v .entries;
+      index = v .index;
       bytes = rw (entries-append (m .new) (v .new)) (both (m .bytes) (v .bytes));
     }
+
+-- where collecting was not refused, the words hold the index of the entries
+pub behind-index : {s xs ws us ys : List ℕ} {c r : Collected} {x : List IrArgument → Build (List IrArgument)} → r .number ≡ 0 →
+    Behind s xs c ws us ys r x → Indexed s us (r .count)
+behind-index {c = c} z b = answered z (b .collects (replicate (c .made) (argument [])) (length-replicate (c .made) (argument []))) .2 .index
 
 -- ---- a list, entry by entry
 
@@ -141,7 +147,7 @@ module _ {one all : Tree → List IrArgument → Build (List IrArgument)} (w : W
   -- no entry is left: nothing is collected
   pub walk-none : {s xs ws : List ℕ} {i : Item} {left at : ℕ} {c : Collected} → Room s ws c → left ≡ 0 → (l : Entries s i left at) →
       Behind s xs c ws ws xs c (all (l .got .0))
-  walk-none r z l = record { collects = λ before e. rw (none-left l (omega arith), w .none before _) (collects-none before (r .goes) e) }
+  walk-none r z l = record { collects = λ before e. rw (none-left l (omega arith), w .none before _) (collects-none before (r .goes) (r .standing .index) e) }
 
   module _ {s xs ws vs zs : List ℕ} {i : Item} {left at q : ℕ} {c a : Collected} {t : Tree} {l : Entries s i left at} (n : After l t q)
       (f : Behind s xs c ws vs zs a (one t)) where
@@ -170,5 +176,6 @@ pub fills-both : {c a r : Collected} → Fills c a → Fills a r → Fills c r
 fills-both f g = record { low = omega arith; high = omega arith; more = omega arith; most = g .most; count = g .count }
 
 -- behind a step there is room for the next
-pub room-more : {s ws us : List ℕ} {c r : Collected} → Room s ws c → length us ≡ length ws → r .number ≡ 0 → Fills c r → Room s us r
-room-more m e z f = record { standing = standing (m .standing) e (f .count); most = f .most; cursor = omega (arith, m .cursor, f .high); goes = z }
+pub room-more : {s ws us : List ℕ} {c r : Collected} → Room s ws c → length us ≡ length ws → r .number ≡ 0 → Fills c r → Indexed s us (r .count) → Room s us r
+room-more m e z f i =
+    record { standing = standing (m .standing) e (f .count) i; most = f .most; cursor = omega (arith, m .cursor, f .high); goes = z }

@@ -126,6 +126,7 @@ module _ {s xs ws us : List ℕ} {c : Collected} {h : Held} {owner path : ℕ} {
           are = refl;
           made = omega (arith, length-append before (argument (canonical-name o p) ∷ []));
           entries = m .entries;
+          index = m .index;
           bytes = argument-puts (canonical-name o p) w₁ w₂ w₃ w₄;
         })))
 
@@ -296,7 +297,7 @@ module _ {s x₃ x₄ ws us : List ℕ} {callee left : ℕ} {h : TypeHead} {c r 
         let i = owners-count (head (typeOf (tree a)) .dynamic-params) [] (entriesOf s ws (c .count)) y d in
         let e : count ≡ length (k .new) = omega (arith, i, ef (hd a .references), ap pathsIn (hd a .owners), ap length (k .are)) in
         rw (step-done _ _ (entriesOf s ws (c .count)) d, k .are)
-        (AnswersIn.made _ refl (record { entries = k .entries; wrote = call-puts count (k .new) e w₁ w₂ w₃ (k .bytes) w₅ }))
+        (AnswersIn.made _ refl (record { entries = k .entries; index = k .index; wrote = call-puts count (k .new) e w₁ w₂ w₃ (k .bytes) w₅ }))
 
 -- where a call ends: the head of its node, the name, the count of arguments, and the arguments
 pub call-ends : {at p u k : ℕ} {c r : Collected} → p ≡ at + 15 → (p ≤ u) × (u ≤ p + 3 + k) → (u ≤ c .at) × (c .at ≤ u + 2) → k ≤ 255 → c .made ≡ 0 → Fills c r →

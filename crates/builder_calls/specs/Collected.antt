@@ -13,7 +13,7 @@ use Rattle.ir.specs.Layout.{entriesTree, argumentTree}
 use Rattle.builder.specs.Registry.{Registry, Build}
 use Rattle.wire.specs.Poke.{Wrote}
 use Rattle.resolved_parts.specs.Types.{Named}
-use Rattle.builder_registry.specs.Words.{Standing, entriesOf}
+use Rattle.builder_registry.specs.Words.{Standing, Indexed, entriesOf}
 use Rattle.builder_calls.specs.declared.Collected.{Collected}
 
 -- how many paths owners have
@@ -22,12 +22,13 @@ pathsIn [] = 0
 pathsIn (o ∷ os) = length (o .paths) + pathsIn os
 
 -- What is collected behind the arguments before: those that are new, their bytes in the output ys and the next cursor, and the
--- entries in the words us. Collecting began at c.
+-- entries in the words us with their index. Collecting began at c.
 pub record CollectedIn (s xs : List ℕ) (c : Collected) (before : List IrArgument) (us ys : List ℕ) (r : Collected) (x : List IrArgument × Registry) : Type 0 where
   pub new : List IrArgument
   pub are : x .0 ≡ before ++ new
   pub made : r .made ≡ length (x .0)
   pub entries : entriesOf s us (r .count) ≡ x .1
+  pub index : Indexed s us (r .count)
   pub bytes : Wrote xs (c .at) (write (entriesTree argumentTree new)) ys (r .at)
 
 -- the same, or the refusal

@@ -2,7 +2,7 @@
 -- measure. The definition goes the same way (`paths-walk`).
 use borrow.Author.Needs.{needs}
 use native.Mathlib.Omega.{arith}
-use Rattle.builder_calls.proofs.Collecting.{fills-none, fills-both, room-more, paths-walk, walk-none}
+use Rattle.builder_calls.proofs.Collecting.{behind-index, fills-none, fills-both, room-more, paths-walk, walk-none}
 use Rattle.builder_calls.proofs.Laws.{above, next-path, paths-stop, paths-go}
 use Prim.Native.Nat.{ℕ, _<_}
 use Rattle.resolved_parts.specs.Types.{Named}
@@ -93,7 +93,11 @@ put-arguments-requires t c κs =
     let at-start = start at-else1 in (
       omega (arith, at-start .pre .0, at-else1 .if1 .left),
       record {
-        room = room-more (at-start .pre .1 .room) (search needs) (at-else2 .if2 .left) (at-put-argument .put-argument .ensures .0);
+        room = room-more
+            (at-start .pre .1 .room) (search needs)
+            (at-else2 .if2 .left)
+            (at-put-argument .put-argument .ensures .0)
+            (behind-index (at-else2 .if2 .left) (at-put-argument .put-argument .ensures .1));
         owned = at-start .pre .1 .owned;
         list = rw (at-next-name .next-name .ensures) (next-path (above (at-else1 .if1 .left)) (at-start .pre .1 .list) .rest);
       },

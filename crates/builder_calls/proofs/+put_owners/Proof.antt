@@ -2,7 +2,7 @@
 -- are left is the measure. The definition goes the same way (`owners-walk`).
 use borrow.Author.Needs.{needs}
 use native.Mathlib.Omega.{arith}
-use Rattle.builder_calls.proofs.Collecting.{fills-none, fills-both, room-more, owners-walk, walk-none}
+use Rattle.builder_calls.proofs.Collecting.{behind-index, fills-none, fills-both, room-more, owners-walk, walk-none}
 use Rattle.builder_calls.proofs.Laws.{above, owner-here, next-owner, owner-inside, owners-stop, owners-go, paths-list}
 use Prim.Native.Nat.{ℕ, _<_}
 use Rattle.accepted.specs.Accepted.{Accepted}
@@ -127,11 +127,18 @@ put-owners-requires t c κs =
     let at-next-block = c .before .before in
     let at-else2 = at-next-block .before in
     let at-put-arguments = at-else2 .before .before .before .before .before .before in
-    let at-else1 = at-put-arguments .before .before .before .before .before in
-    let at-start = start at-else1 in (
+    let at-read2 = first-read at-put-arguments in
+    let at-owner-paths = at-read2 .before in
+    let at-else1 = at-owner-paths .before in
+    let at-start = start at-else1 in
+    let paths = paths-list (at-read2 .read2 .ensures .0) (owner-at at-owner-paths .paths) in (
       omega (arith, at-start .pre .0, at-else1 .if1 .left),
       record {
-        room = room-more (at-start .pre .1 .room) (search needs) (at-else2 .if2 .left) (at-put-arguments .put-arguments .ensures .0);
+        room = room-more
+            (at-start .pre .1 .room) (search needs)
+            (at-else2 .if2 .left)
+            (at-put-arguments .put-arguments .ensures .0)
+            (behind-index (at-else2 .if2 .left) (at-put-arguments .put-arguments .ensures .1 paths));
         list = rw (at-next-block .next-block .ensures) (next-owner (above (at-else1 .if1 .left)) (at-start .pre .1 .list) .rest);
       },
     )
