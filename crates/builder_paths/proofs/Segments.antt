@@ -31,10 +31,6 @@ use Rattle.builder_paths.proofs.Match.{Stands, segment-dot, segment-las
 name-length : (s : List ℕ) (at : ℕ) → at + 2 + le2 s at ≤ length s → length (nameAt s at) ≡ le2 s at
 name-length s at h = length-take-le (le2 s at) (drop (at + 2) s) (omega (arith, length-drop (at + 2) s))
 
--- a name inside the bytes is short
-pub short-name : {s : List ℕ} {at : ℕ} {n : Name} → n ≡ nameAt s at → Named s at → length n ≤ 255
-short-name {s} {at} e h = omega (arith, ap length e, name-length s at (h .inside), h .short)
-
 -- a segment, which the code has as n
 module _ {s : List ℕ} {at : ℕ} (h : Named s at) where
   module _ {n : Name} (e : n ≡ nameAt s at) where

@@ -1,7 +1,8 @@
 -- `builder_paths::put_segment` meets its contract: the name, and a dot unless it is the last. Assumes nothing.
 use native.Mathlib.Omega.{arith}
 use borrow.Author.Needs.{needs}
-use Rattle.builder_paths.proofs.Segments.{short-name, put-dot, put-last}
+use Rattle.resolved_parts.proofs.Laws.{named-short}
+use Rattle.builder_paths.proofs.Segments.{put-dot, put-last}
 use Rattle.builder_paths.proofs.put_segment.Statement.{statement}
 use Rattle.builder_paths.proofs.put_segment.Tie as tie
 
@@ -11,7 +12,7 @@ name-at-requires c κs = search needs
 put-from-requires : tie.Need-put-from-requires
 put-from-requires c κs =
     let at-start = c .before .before .before .before in
-    omega (arith, short-name (c .name-at .ensures) (at-start .pre .0), at-start .pre .2)
+    omega (arith, named-short (at-start .pre .0) (c .name-at .ensures), at-start .pre .2)
 
 put-byte-requires : tie.Need-put-byte-requires
 put-byte-requires c κs =
@@ -21,7 +22,7 @@ put-byte-requires c κs =
     omega (
       arith,
       at-put-from .put-from .ensures .1,
-      short-name (at-name-at .name-at .ensures) (at-start .pre .0),
+      named-short (at-start .pre .0) (at-name-at .name-at .ensures),
       at-start .pre .2,
     )
 
