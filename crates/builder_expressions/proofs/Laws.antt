@@ -30,7 +30,7 @@ use Rattle.builder.proofs.Steps.{require-yes, require-no, need-some, need-none,
 use Rattle.wire.specs.Poke.{Wrote}
 use Rattle.wire.proofs.Laws.{poke-length, poke-whole, parts, no-parts}
 use Rattle.resolved_parts.specs.Types.{textsOf}
-use Rattle.builder_registry.specs.Words.{Standing, Looked, entriesOf, entryName}
+use Rattle.builder_registry.specs.Words.{Standing, Indexed, Looked, entriesOf, entryName}
 use Rattle.builder_registry.specs.declared.Found.{Found}
 use Rattle.builder_registry.specs.declared.Found.the-variants.{At, Missing}
 use Rattle.builder_registry.proofs.Laws.{standing, looked-entry, looked-missing, long-lookup}
@@ -108,24 +108,25 @@ abbrev pub Leaves : (s xs : List ℕ) (at : ℕ) (ws ys : List ℕ) (r : Built) 
 Leaves s xs at ws ys r owner depth expr n =
     (a : Accepted s 64 91 expr) → Builds s xs at ws ys r (build-expr-ir owner (prefixOf depth) (exprOf (tree a)) (entriesOf s ws n))
 
--- what `build_literal` leaves: the same under every owner and prefix, and over every registry
+-- what `build_literal` leaves: the same under every owner and prefix, and over every registry with its index
 abbrev pub LeavesLiteral : (s xs : List ℕ) (at : ℕ) (ys : List ℕ) (r : Built) (expr n : ℕ) → Type 0
 LeavesLiteral s xs at ys r expr n =
-    (owner prefix : Name) (ws : List ℕ) (a : Accepted s 64 91 expr) → Builds s xs at ws ys r (build-expr-ir owner prefix (exprOf (tree a)) (entriesOf s ws n))
+    (owner prefix : Name) (ws : List ℕ) → Indexed s ws n → (a : Accepted s 64 91 expr) →
+    Builds s xs at ws ys r (build-expr-ir owner prefix (exprOf (tree a)) (entriesOf s ws n))
 
 module _ {s xs ys : List ℕ} {at expr n : ℕ} (k : le2 s (expr + 4) ≡ 64) {b : Bool} (neg : Negative s expr b) where
   -- the answer of `build_literal` for a negative literal
   pub literal-stops : {u : ℕ} → b ≡ true → LeavesLiteral s xs at ys (record { at = u; count = n; number = 14 }) expr n
-  literal-stops t owner prefix ws a =
+  literal-stops t owner prefix ws x a =
       let p = literal-at a k in
       refuses (omega arith) (rw (p .is) (literal-refused owner prefix _ _ (neg a _ (p .is) ∙ rw t)))
 
   -- its answer else
   pub literal-made : {v u d : ℕ} → b ≡ false → v ≡ le8 s (expr + 7) → d ≡ default-alignment →
       Wrote xs at (write (nodeTree (IrNode.Const unplaced (aligned d) v))) ys u → LeavesLiteral s xs at ys (record { at = u; count = n; number = 0 }) expr n
-  literal-made t e f w owner prefix ws a =
+  literal-made t e f w owner prefix ws x a =
       let p = literal-at a k in
-      makes _ refl (rw (p .is) (literal-gives owner prefix _ _ (neg a _ (p .is) ∙ rw t))) (record { entries = refl; wrote = rw (e, f) at w })
+      makes _ refl (rw (p .is) (literal-gives owner prefix _ _ (neg a _ (p .is) ∙ rw t))) (record { entries = refl; index = x; wrote = rw (e, f) at w })
 
 -- ---- paths
 
@@ -152,10 +153,10 @@ module _ (owner path : Name) (g : Registry) where
 
 module _ {s xs ws ys : List ℕ} {at n : ℕ} (owner path : Name) {r : Found} (l : Looked s ws n r (lookup-name owner path (entriesOf s ws n))) where
   -- the answer of `build_path` for a path that is found and short
-  pub ref-made : {i u : ℕ} → r ≡ At i → length path ≤ 255 →
+  pub ref-made : {i u : ℕ} → Indexed s ws n → r ≡ At i → length path ≤ 255 →
       Wrote xs at (write (nodeTree (IrNode.FieldRef unplaced default-metadata path (some (entryName s (getD ws i 0)))))) ys u →
       Builds s xs at ws ys (record { at = u; count = n; number = 0 }) (build-path owner path (entriesOf s ws n))
-  ref-made e h w = makes _ refl (path-gives owner path _ (looked-entry e l .1) h) (record { entries = refl; wrote = w })
+  ref-made x e h w = makes _ refl (path-gives owner path _ (looked-entry e l .1) h) (record { entries = refl; index = x; wrote = w })
 
   -- for a long one
   pub ref-long : {i u : ℕ} → r ≡ At i → 255 < length path →
@@ -215,12 +216,12 @@ module _ {s : List ℕ} {expr : ℕ} (k : le2 s (expr + 4) ≡ 65) where
 
   module _ {xs ws ys : List ℕ} {at : ℕ} (owner : Name) (depth n : ℕ) {b : Bool} (is : BufferSize s expr b) where
     -- the answer of `build_field_ref` for `__buffer_size`
-    pub buffer-made : {u : ℕ} → b ≡ true →
+    pub buffer-made : {u : ℕ} → Indexed s ws n → b ≡ true →
         Wrote xs at (write (nodeTree (IrNode.FieldRef unplaced default-metadata buffer-size none))) ys u →
         Leaves s xs at ws ys (record { at = u; count = n; number = 0 }) owner depth expr n
-    buffer-made t w a =
+    buffer-made x t w a =
         let f = field-ref-at a k in
-        makes _ refl (rw (f .is) (buffer-gives owner (prefixOf depth) _ _ (sym (is a _ (f .is)) ∙ t))) (record { entries = refl; wrote = w })
+        makes _ refl (rw (f .is) (buffer-gives owner (prefixOf depth) _ _ (sym (is a _ (f .is)) ∙ t))) (record { entries = refl; index = x; wrote = w })
 
     -- longer than any path of the registry
     pub path-stops : {l u : ℕ} → Standing s ws n → length owner ≤ 255 → b ≡ false → Long s expr depth l → 511 < l →
@@ -380,10 +381,18 @@ module _ {s ws : List ℕ} {n depth expr at kind p : ℕ} {owner : Name} (r : Re
         rw f (b .right, b .room)
 
     -- the second operand
-    pub right-ready : (le4 s q < le4 s expr) × Ready s ws (l .count) owner depth q (l .at)
-    right-ready =
-        let b = right-at in
-        (omega (arith, b .1), record { standing = standing (r .standing) refl (w .count); owned = r .owned; deep = r .deep; expression = b .0; cursor = omega (arith, r .cursor, b .1, w .high) })
+    pub right-ready : Indexed s ws (l .count) → (le4 s q < le4 s expr) × Ready s ws (l .count) owner depth q (l .at)
+    right-ready x =
+        let b = right-at in (
+          omega (arith, b .1),
+          record {
+            standing = standing (r .standing) refl (w .count) x;
+            owned = r .owned;
+            deep = r .deep;
+            expression = b .0;
+            cursor = omega (arith, r .cursor, b .1, w .high);
+          },
+        )
 
     -- the cursor behind both stays in the room of the whole
     pub both-within : {m : Built} → Within (l .at) (1024 * (4 + le4 s q)) m →
@@ -435,4 +444,4 @@ module _ {s ws : List ℕ} {kind : ℕ} (owner : Name) (depth n expr : ℕ) (o :
         rw (b .is, binary-steps owner (prefixOf depth) _ _ _ (entriesOf s ws n) (o .is))
         (step-goes _ _ _ z (f (b .left)) (λ _ m. step-goes _ _ _ y (right-leaves (m .entries) (b .right))
         (λ _ k. AnswersIn.made _ refl
-        (record { entries = k .entries; wrote = rw (o .node) (two-written _ _ _ _ (rw t at w) (m .wrote) (k .wrote) c) }))))
+        (record { entries = k .entries; index = k .index; wrote = rw (o .node) (two-written _ _ _ _ (rw t at w) (m .wrote) (k .wrote) c) }))))

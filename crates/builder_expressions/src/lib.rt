@@ -12,7 +12,7 @@ ghost use Rattle.blocks.specs.Name.{Name};
 ghost use Rattle.accepted.specs.Accepted.{Accepted, tree};
 ghost use Rattle.expr.specs.Expr.{ExprKind, LiteralExpr, literal-to-u64, exprOf};
 ghost use Rattle.builder.specs.Nodes.{build-path, build-expr-ir};
-ghost use Rattle.builder_registry.specs.Words.{Standing, entriesOf};
+ghost use Rattle.builder_registry.specs.Words.{Standing, Indexed, entriesOf};
 ghost use Rattle.builder_paths.specs.Joined.{prefixOf};
 ghost use Rattle.builder_nodes.specs.Built.{Builds, Within};
 ghost use Rattle.builder_expressions.specs.Ready.{Ready};
@@ -43,11 +43,11 @@ fn is_negative(s: &[u8], expr: usize) -> bool
     9223372036854775808 <= wire::read8(s, expr + 7)
 }
 
-// A literal: a Const node, unless it is negative. The registry stays as it is, whatever it holds.
+// A literal: a Const node, unless it is negative. The registry and its index stay as they are, whatever they hold.
 fn build_literal(s: &[u8], n: usize, expr: usize, out: &mut [u8], at: usize) -> Built
     requires { ⌜ Accepted (now s) 64 91 expr × (le2 (now s) (expr + 4) ≡ 64) × (n ≤ 512) × (at < 2 ^ 58) ⌝ }
     ensures { λ r. ⌜ Within at 1000 r ⌝ }
-    ensures { λ r. ⌜ ((owner prefix : Name) (ws : List ℕ) (a : Accepted (now (s .entry)) 64 91 expr) → Builds (now (s .entry)) (now (out .entry)) at ws (now (out .exit)) r (build-expr-ir owner prefix (exprOf (tree a)) (entriesOf (now (s .entry)) ws n))) ⌝ }
+    ensures { λ r. ⌜ ((owner prefix : Name) (ws : List ℕ) → Indexed (now (s .entry)) ws n → (a : Accepted (now (s .entry)) 64 91 expr) → Builds (now (s .entry)) (now (out .entry)) at ws (now (out .exit)) r (build-expr-ir owner prefix (exprOf (tree a)) (entriesOf (now (s .entry)) ws n))) ⌝ }
 {
     if is_negative(s, expr) {
         return Built {

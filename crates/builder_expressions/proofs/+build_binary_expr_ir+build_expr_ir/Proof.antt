@@ -3,7 +3,7 @@
 use Rattle.blocks.specs.Bytes.{le4}
 use Rattle.accepted.proofs.Laws.{header-inside}
 use Rattle.builder_expressions.proofs.Laws.{summed, is-operation, other-stops, left-ready, right-ready, both-within, left-stops, right-stops, both-made}
-use Rattle.builder_nodes.proofs.Laws.{stopped, widened}
+use Rattle.builder_nodes.proofs.Laws.{builds-index, stopped, widened}
 use borrow.Author.Needs.{needs}
 use native.Mathlib.Omega.{arith}
 use Prim.Native.Nat.{ℕ, _<_, _+_, _*_}
@@ -145,16 +145,19 @@ binary-add-second-2 t c =
 binary-build-expr-ir-requires-2 : (t : ℕ) → binary-walk.Need-build-expr-ir-requires-2 (binary-calls t) (binary-at t) binary.Post
 binary-build-expr-ir-requires-2 t c κs =
     let at-read4 = c .before in
+    let at-else1 = at-read4 .before .before in
     let at-build-expr-ir = binary-left at-read4 in
     let at-open-node = binary-opened at-build-expr-ir in
     let at-start = binary-start at-open-node in
+    let left = left-ready (at-start .pre .1 .0) (at-start .pre .1 .1) (at-open-node .open-node .ensures .1) .1 in
     let ready =
     right-ready
     (at-start .pre .1 .0)
     (at-start .pre .1 .1)
     (at-open-node .open-node .ensures .1)
     (at-build-expr-ir .build-expr-ir .ensures .0)
-    (summed _ (at-read4 .read4 .ensures .0)) in
+    (summed _ (at-read4 .read4 .ensures .0))
+    (builds-index (at-else1 .if1 .left) (at-build-expr-ir .build-expr-ir .ensures .1 (left .expression))) in
     (omega (arith, at-start .pre .0, ready .0), ready .1)
 
 binary-same-length-2 : (t : ℕ) → binary-walk.Need-same-length-2 (binary-calls t) (binary-at t) binary.Post
@@ -251,9 +254,11 @@ expr-same-length t c = search needs
 
 expr-returns : (t : ℕ) → expr-walk.Need-returns (expr-calls t) (expr-at t) expr.Post
 expr-returns t c =
-    let at-build-literal = c .before .before in (
+    let at-build-literal = c .before .before in
+    let at-read2 = at-build-literal .before .before .before in
+    let at-start = expr-start at-read2 in (
       widened (omega arith) (at-build-literal .build-literal .ensures .0),
-      at-build-literal .build-literal .ensures .1 _ _ _,
+      at-build-literal .build-literal .ensures .1 _ _ _ (at-start .pre .1 .standing .index),
     )
 
 expr-build-field-ref-requires : (t : ℕ) → expr-walk.Need-build-field-ref-requires (expr-calls t) (expr-at t) expr.Post

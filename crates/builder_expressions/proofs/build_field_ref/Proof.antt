@@ -28,6 +28,7 @@ returns c =
       buffer-made
           (at-start at-is-buffer-size .pre .1) _ _ _
           (at-is-buffer-size .is-buffer-size .ensures)
+          (at-start at-is-buffer-size .pre .0 .standing .index)
           (at-then1 .if1 .taken)
           (at-put-buffer-size .put-buffer-size .ensures .0),
     )

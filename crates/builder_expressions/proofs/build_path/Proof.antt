@@ -48,8 +48,10 @@ returns-2 c = (
       let at-else1 = at-put-path-ref .before .before .before in
       let at-i = at-else1 .before .before in
       let at-lookup-name = at-i .before .before in
+      let at-start = at-lookup-name .before .before .before .before .before .before in
       ref-made _ _
       (at-lookup-name .lookup-name .ensures .0)
+      (at-start .pre .0 .index)
       (at-i .i .given .1)
       (at-else1 .if1 .left)
       (at-put-path-ref .put-path-ref .ensures .0),
