@@ -16,7 +16,7 @@ use Rattle.accepted.specs.Accepted.{Accepted, tree, nameAt}
 use Rattle.expr.specs.Expr.{ExprKind, exprOf}
 use Rattle.resolved.specs.Resolved.{Owner, Size, Head, head, kindOf, targetOf}
 use Rattle.resolved.specs.Set.{typeOf}
-use Rattle.resolved_parts.specs.Types.{Named, HeadAt, ArrayAt, TargetAt, sized, ownersOf}
+use Rattle.resolved_parts.specs.Types.{HeadAt, ArrayAt, TargetAt, sized, ownersOf}
 use Rattle.resolved_parts.specs.declared.TypeHead.{TypeHead}
 use Rattle.resolved_parts.specs.declared.ArrayParts.{ArrayParts}
 use Rattle.ir.specs.Ir.{BinaryOp, IrNode, aligned, unplaced}
@@ -27,13 +27,13 @@ use Rattle.builder.specs.Nodes.{align-node, product, isVariable, build-expr-ir,
 use Rattle.builder.proofs.Steps.{step-refused, need-some, need-none}
 use Rattle.wire.specs.Poke.{Wrote}
 use Rattle.wire.proofs.Laws.{parts, no-parts}
-use Rattle.builder_registry.specs.Words.{Kept, entriesOf}
+use Rattle.builder_registry.specs.Words.{Kept, Indexed, entriesOf}
 use Rattle.builder_registry.specs.declared.Held.{Held}
 use Rattle.builder_registry.proofs.Laws.{standing}
 use Rattle.builder_paths.specs.Joined.{prefixOf}
 use Rattle.builder_nodes.specs.declared.Built.{Built}
 use Rattle.builder_nodes.specs.Built.{Builds, Within, nodeStart, textFlag}
-use Rattle.builder_nodes.proofs.Laws.{node-closed, align-closed, step-passes, step-goes, step-then, stopped, widened}
+use Rattle.builder_nodes.proofs.Laws.{node-closed, align-closed, builds-index, step-passes, step-goes, step-then, stopped, widened}
 use Rattle.builder_nodes.proofs.Parts.{sum-element, sum-field}
 use Rattle.builder_expressions.specs.Ready.{Ready as ReadyCount}
 use Rattle.builder_expressions.proofs.Laws.{two-written}
@@ -100,7 +100,7 @@ module _ {s xs ws y₁ us : List ℕ} {at : ℕ} {c : Built} (owner prefix : Nam
   unfolding counted give
   count-goes z h =
       step-goes _ _ g z b (λ y m. step-then (extend-with os) (λ _. give (y .0)) (y .1) (rw (m .entries) at h)
-      (λ x e k. AnswersIn.made _ e (record { entries = k .entries; wrote = m .wrote })))
+      (λ x e k. AnswersIn.made _ e (record { entries = k .entries; index = k .index; wrote = m .wrote })))
 
 -- ---- the end of an array
 
@@ -139,7 +139,11 @@ module _ {s xs y₀ ws y₁ : List ℕ} {at alignment q : ℕ} {c : Built} (h : 
   unfolding give
   multiplies f (Finished.closed p t) =
       step-goes m _ g z i (λ x v. step-goes e _ (x .1) p (f (x .1) (v .entries))
-      (λ y w. AnswersIn.made _ refl (record { entries = w .entries; wrote = product-written h (x .0) d (v .wrote) (y .0) o (w .wrote) t })))
+      (λ y w. AnswersIn.made _ refl (record {
+        entries = w .entries;
+        index = w .index;
+        wrote = product-written h (x .0) d (v .wrote) (y .0) o (w .wrote) t;
+      })))
   multiplies f (Finished.stopped p) = step-goes m _ g z i (λ x v. step-passes e _ (x .1) refl p (f (x .1) (v .entries)))
 
   -- the element is refused, over whatever registry
@@ -227,7 +231,7 @@ module _ {s : List ℕ} {array : ℕ} {p : Shape} (owner : Name) (depth : ℕ) (
           let k : head (typeOf (tree (q .element))) .size ≡ Size.Const (p .constant) = q .inner-size ∙ rw e in
           rw (multiplied a)
           (multiplies (head (typeOf (tree a))) (countAt a) (elementAt a) g (q .alignment) o z (counts a)
-          (λ j i. makes _ refl (element-constant _ _ _ j k ∙ rw (q .inner-alignment)) (record { entries = i; wrote = w })) h)
+          (λ j i. makes _ refl (element-constant _ _ _ j k ∙ rw (q .inner-alignment)) (record { entries = i; index = builds-index z (counts a); wrote = w })) h)
 
 -- ---- a sum over an array
 
@@ -252,7 +256,7 @@ module _ {s xs y₀ ws y₁ : List ℕ} {at q : ℕ} {c : Built} (owner : Name) 
     unfolding summed sum-over-array give
     sum-made x y a b f e t h d =
         step-goes _ _ g z (k e) (λ n m. makes _ refl (need-some UnsupportedArrayElement _ (n .1) (ap targetOf (x t .is)))
-        (record { entries = m .entries; wrote = sum-written h (n .0) d (m .wrote) _ owner o (rw y at a) b f }))
+        (record { entries = m .entries; index = m .index; wrote = sum-written h (n .0) d (m .wrote) _ owner o (rw y at a) b f }))
 
 -- where a sum ends: the two nodes' heads, the count, and two names
 pub sum-ends : {at q u v i j room : ℕ} {c : Built} → q ≡ at + 38 → Within q room c → (c .at ≤ u) × (u ≤ c .at + 3 + i) → (u ≤ v) × (v ≤ u + 3 + j) →
@@ -284,10 +288,16 @@ module _ {s ws : List ℕ} {n depth array at : ℕ} {owner : Name} {p : Shape} (
 
   module _ {u : ℕ} {c : Built} (e : u ≡ at + 38) (w : Within u (1024 * (4 + le4 s (p .size))) c) where
     -- what an array inside this one stands on: it is shorter, and one array deeper
-    pub nested-ready : {us : List ℕ} → length us ≡ length ws → le2 s (p .element + 4) ≡ 5 → ReadyInside s us (c .count) owner (p .depth + 1) (p .element) (c .at)
-    nested-ready l k =
+    pub nested-ready : {us : List ℕ} → length us ≡ length ws → Indexed s us (c .count) → le2 s (p .element + 4) ≡ 5 →
+        ReadyInside s us (c .count) owner (p .depth + 1) (p .element) (c .at)
+    nested-ready l x k =
         record {
-          ready = record { standing = standing (r .ready .standing) l (w .count); type = q .element; kind = k; cursor = omega (arith, r .ready .cursor, q .room, w .high) };
+          ready = record {
+            standing = standing (r .ready .standing) l (w .count) x;
+            type = q .element;
+            kind = k;
+            cursor = omega (arith, r .ready .cursor, q .room, w .high);
+          };
           owned = r .owned;
           deep = omega (arith, r .deep, q .room, q .inside);
         }

@@ -30,6 +30,7 @@ use Rattle.resolved_parts.specs.declared.Paths.the-variants.{At, Missing}
 use Rattle.resolved_parts.specs.Types.{Named, HeadAt, PathsFound, ownersOf}
 use Rattle.resolved_parts.proofs.Laws.{inside}
 use Rattle.resolved_parts.proofs.Fields.{owner-named, owner-at}
+use Rattle.resolved_parts.proofs.Owners.{found-paths, found-none}
 use Rattle.builder_paths.specs.Joined.{prefixOf}
 use Rattle.builder_nodes.specs.declared.Built.{Built}
 use Rattle.builder_nodes.specs.Built.{Builds}
@@ -41,16 +42,6 @@ use Rattle.builder_arrays.specs.Owner.{SomeOwner, first-owner, owner-und
 -- an array that is a root is inside no other
 pub inside-ready : {s ws owner : List ℕ} {n array at : ℕ} → Ready s ws n array at → length owner ≤ 255 → ReadyInside s ws n owner 0 array at
 inside-ready r h = record { ready = r; owned = h; deep = omega (arith, inside (r .type), r .standing .size) }
-
--- a name found among the owners
-found-has : {s : List ℕ} {n : Name} {os : List Owner} {r : Paths} {q : ℕ} → PathsFound s n os r → r ≡ At q → has n os ≡ true
-found-has (PathsFound.at p e) h = rw e refl
-found-has (PathsFound.missing e) h = let z : _≡_ {A = ℕ} 0 1 = cc in absurd (omega arith)
-
--- a name not found among the owners
-found-not : {s : List ℕ} {n : Name} {os : List Owner} {r : Paths} → PathsFound s n os r → r ≡ Missing → has n os ≡ false
-found-not (PathsFound.at p e) h = let z : _≡_ {A = ℕ} 0 1 = cc in absurd (omega arith)
-found-not (PathsFound.missing e) h = rw e refl
 
 -- the first owner
 pub first-is : {s : List ℕ} {b : ℕ} (g : Accepted s 32 32 b) → 0 < le2 s (b + 6) → Named s (b + 6 + 2 + 6) × (first-owner (ownersOf (tree g)) ≡ nameAt s (b + 6 + 2 + 6))
@@ -65,23 +56,17 @@ first-is {s} {b} g h =
 module _ {s : List ℕ} {b : ℕ} {key : Name} (name : Name) {x : Paths} (f : (g : Accepted s 32 32 b) → PathsFound s key (ownersOf (tree g)) x) where
   -- the key is an owner
   pub under-key : {q : ℕ} → x ≡ At q → (g : Accepted s 32 32 b) → key ≡ owner-under key name (ownersOf (tree g))
-  under-key e g = let h : has key (ownersOf (tree g)) ≡ true = found-has (f g) e in rw h refl
+  under-key e g = rw (found-paths e (f g) .1) refl
 
   module _ {y : Paths} (e : x ≡ Missing) (k : (g : Accepted s 32 32 b) → PathsFound s name (ownersOf (tree g)) y) where
     -- it is none, but the type's name is one
     pub under-name : {q : ℕ} → y ≡ At q → (g : Accepted s 32 32 b) → name ≡ owner-under key name (ownersOf (tree g))
-    under-name d g =
-        let h : has key (ownersOf (tree g)) ≡ false = found-not (f g) e in
-        let i : has name (ownersOf (tree g)) ≡ true = found-has (k g) d in
-        rw (h, i) refl
+    under-name d g = rw (found-none e (f g), found-paths d (k g) .1) refl
 
     -- neither is: the first owner
     pub under-first : {o : Name} → y ≡ Missing → 0 < le2 s (b + 6) → o ≡ nameAt s (b + 6 + 2 + 6) → (g : Accepted s 32 32 b) →
         o ≡ owner-under key name (ownersOf (tree g))
-    under-first d p q g =
-        let h : has key (ownersOf (tree g)) ≡ false = found-not (f g) e in
-        let i : has name (ownersOf (tree g)) ≡ false = found-not (k g) d in
-        q ∙ sym (first-is g p .1) ∙ rw (h, i) refl
+    under-first d p q g = q ∙ sym (first-is g p .1) ∙ rw (found-none e (f g), found-none d (k g)) refl
 
 -- ---- at the root
 

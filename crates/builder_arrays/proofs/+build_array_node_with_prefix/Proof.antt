@@ -3,7 +3,7 @@
 -- built one deeper. The measure is the length of the array's block: its element is shorter.
 use mathlib.Core.Path.{sym, _∙_}
 use Rattle.blocks.specs.Bytes.{le4}
-use Rattle.builder_nodes.proofs.Laws.{stopped, ends-at}
+use Rattle.builder_nodes.proofs.Laws.{builds-index, stopped, ends-at}
 use Rattle.accepted.proofs.Laws.{header-inside}
 use Rattle.builder_arrays.specs.Shapes.{ShapeAt}
 use Rattle.builder_arrays.proofs.Laws.{sums-leave, counted-stops, element-stops, element-nests, element-made}
@@ -189,6 +189,7 @@ build-array-node-with-prefix-requires t c κs =
           (at-open-array .open-array .ensures .1)
           (at-build-counted .build-counted .ensures .0)
           (search needs)
+          (builds-index (at-else2 .if2 .left) (at-build-counted .build-counted .ensures .1 (shape at-read-shape .size) (shape at-read-shape .references)))
           (sym (at-read2 .read2 .ensures .0) ∙ at-else4 .if4 .left),
     )
 

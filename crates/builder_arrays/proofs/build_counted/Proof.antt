@@ -1,5 +1,8 @@
 -- `build_counted` meets its contract: the count, then the element's references, unless the count was refused.
 use Rattle.builder_arrays.proofs.Laws.{count-stops, count-goes}
+use mathlib.Core.Path.{refl}
+use Rattle.builder_registry.proofs.Laws.{standing}
+use Rattle.builder_nodes.proofs.Laws.{builds-index}
 use borrow.Author.Needs.{needs}
 use Rattle.builder_arrays.proofs.build_counted.Statement.{statement}
 use Rattle.builder_arrays.proofs.build_counted.Tie as tie
@@ -34,7 +37,16 @@ same-length-2 : tie.Need-same-length-2
 same-length-2 c = search needs
 
 extend-with-requires : tie.Need-extend-with-requires
-extend-with-requires c κs = search needs
+extend-with-requires c κs =
+    let at-else1 = c .before in
+    let at-build-expr-ir = at-else1 .before .before .before .before in
+    let at-start = at-build-expr-ir .before .before .before .before .before .before .before in
+    let known = at-start .pre .0 in (
+      standing (known .standing) refl
+          (at-build-expr-ir .build-expr-ir .ensures .0 .count)
+          (builds-index (at-else1 .if1 .left) (at-build-expr-ir .build-expr-ir .ensures .1 (known .expression))),
+      at-start .pre .1,
+    )
 
 same-length-3 : tie.Need-same-length-3
 same-length-3 c = search needs
