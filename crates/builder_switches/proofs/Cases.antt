@@ -11,6 +11,7 @@ use lib.Dec.{eqb}
 use Rattle.errors.specs.Refusal.{done, MissingDynamicRefs}
 use Rattle.errors.specs.Refusal.{_>>=_ as _andThen_}
 use Rattle.answers.specs.Answers.{Answers, AnswersIn}
+use Rattle.answers.proofs.Laws.{answered}
 use Rattle.blocks.specs.Bytes.{bytes, le4, nameAt}
 use Rattle.blocks.specs.Name.{Name}
 use Rattle.blocks.specs.Tree.{Tree, num, nil, cons, view}
@@ -34,7 +35,7 @@ use Rattle.resolved_parts.specs.declared.Paths.{Paths}
 use Rattle.resolved_parts.specs.declared.Paths.the-variants.{At, Missing}
 use Rattle.resolved_parts.proofs.Owners.{found-paths, found-none}
 use Rattle.resolved_parts.specs.Types.{HeadAt, FieldAt, VariantAt, PathsAt, PathsFound, ownersOf, textsOf, sized}
-use Rattle.builder_registry.specs.Words.{entriesOf}
+use Rattle.builder_registry.specs.Words.{Indexed, entriesOf}
 use Rattle.builder_nodes.specs.declared.Built.{Built}
 use Rattle.builder_nodes.specs.Built.{Builds, Within, nodeStart}
 use Rattle.builder_nodes.proofs.Laws.{align-closed, ends-at, step-passes, step-goes, step-then, step-assoc}
@@ -134,11 +135,12 @@ nodeOf {s} a x = build-alternative (ownersOf (tree a)) (nameAt s (x .name)) (siz
 
 module _ {s xs ws : List ℕ} {at references : ℕ} (n : ℕ) (x : Choice) where
   -- of constant size: the constant was written
-  pub node-const : {ys : List ℕ} {r : ℕ} → x .variable ≡ false →
+  pub node-const : {ys : List ℕ} {r : ℕ} → Indexed s ws n → x .variable ≡ false →
       Wrote xs at (write (nodeTree (const-or-zero (x .size) (x .alignment)))) ys r → (a : Accepted s 32 32 references) →
       Builds s xs at ws ys (record { at = r; count = n; number = 0 }) (nodeOf a x (entriesOf s ws n))
   unfolding build-alternative give
-  node-const h w a = rw h (AnswersIn.made (const-or-zero (x .size) (x .alignment), entriesOf s ws n) refl (record { entries = refl; wrote = w }))
+  node-const i h w a =
+      rw h (AnswersIn.made (const-or-zero (x .size) (x .alignment), entriesOf s ws n) refl (record { entries = refl; index = i; wrote = w }))
 
   -- of variable size: the name has no references
   pub node-missing : {ys : List ℕ} {f : Paths} {o : Name} → x .variable ≡ true → o ≡ nameAt s (x .name) →
@@ -181,6 +183,7 @@ module _ {s xs ws : List ℕ} {at references : ℕ} (n : ℕ) (x : Choice) where
         (step-goes (sum-refs (nameAt s (x .name)) (pathsOf a)) _ (entriesOf s ws n) z (summed a)
         (λ w e. AnswersIn.made (align-node (w .0) (x .alignment), w .1) z (record {
           entries = e .entries;
+          index = e .index;
           wrote = align-closed (x .alignment) (w .0) u (e .wrote) c;
         })))
 
@@ -228,6 +231,7 @@ module _ {s xs ws x₁ x₂ x₃ : List ℕ} {k q i at b p references : ℕ} {x 
         rw (reads-then {B = IrNode × List IrParameter} (owner-parameters (nameAt s (x .name))) (λ ps. give (y .0, ps)) (y .1))
         (AnswersIn.made ((y .0, ps), y .1) refl (record {
           entries = e .entries;
+          index = e .index;
           wrote = case-write (x .tag) (y .0) ps w₁ w₂ (e .wrote) (rw (d, e .entries) at w₃) w₄;
         })));
   }
@@ -261,6 +265,7 @@ case-more os x xs′ j g z c d =
     (λ y e. step-then (build-cases os xs′) _ (y .1) (rw (e .entries) at d)
     (λ w f h. AnswersIn.made (SwitchCases.case (x .tag) (y .0 .0) (y .0 .1) (w .0), w .1) f (record {
       entries = h .entries;
+      index = h .index;
       counted = omega (arith, h .counted);
       wrote = parts (caseTree (x .tag) (y .0 .0) (y .0 .1)) (casesTree (w .0)) (e .wrote) (h .wrote);
     }))))
@@ -312,23 +317,25 @@ Goes s xs at ws n references k count j i ys p m w u =
     Cases s ys p ws zs r j (build-cases (ownersOf (tree a)) (alternatives k i u) (entriesOf s ws m)) →
     Cases s xs at ws zs r count (build-cases (ownersOf (tree a)) (alternatives k 0 w) (entriesOf s ws n))
 
--- and so far the cursor and the entries are within their bounds
+-- and so far the cursor and the entries are within their bounds, and the words hold the index of the entries
 pub record Written (s xs : List ℕ) (at : ℕ) (ws : List ℕ) (n references k count first i q : ℕ) (ys : List ℕ) (p m : ℕ) : Type 0 where
   pub low : at ≤ p
   pub high : p ≤ at + 540000 * i
   pub within : i ≤ count
   pub entries : m ≤ 512
+  pub index : Indexed s ws m
   pub long : length ys ≡ length xs
   pub rest : Left (Goes s xs at ws n references k count (count - i) i ys p m) s (Item.blocks k k) count first (count - i) q
 
 -- before the loop no case is written
-pub cases-begin : {s xs ws : List ℕ} {at n references k count first : ℕ} → n ≤ 512 → Listed s k k count first →
+pub cases-begin : {s xs ws : List ℕ} {at n references k count first : ℕ} → n ≤ 512 → Indexed s ws n → Listed s k k count first →
     Written s xs at ws n references k count first 0 first xs at n
-cases-begin {s} {xs} {ws} {at} {n} {references} {k} {count} {first} h l = record {
+cases-begin {s} {xs} {ws} {at} {n} {references} {k} {count} {first} h x l = record {
   low = omega arith;
   high = omega arith;
   within = omega arith;
   entries = h;
+  index = x;
   long = refl;
   rest =
       let e : count ≡ count - 0 = omega arith in
@@ -379,14 +386,15 @@ module _ {s xs ws : List ℕ} {at n references k count first i q : ℕ} {ys : Li
         (case-more (ownersOf (tree a)) (x .alternative) (alternatives k (i + 1) u) (count - i - 1) (entriesOf s ws m) z (x .made) d))
 
     -- the loop goes on behind it
-    pub cases-more : {v : ℕ} → r .number ≡ 0 → Within p 540000 r → length y ≡ length ys → v ≡ le4 s q →
+    pub cases-more : {v : ℕ} → Accepted s 32 32 references → r .number ≡ 0 → Within p 540000 r → length y ≡ length ys → v ≡ le4 s q →
         Written s xs at ws n references k count first (i + 1) (q + 4 + v) y (r .at) (r .count)
-    cases-more {v} z b e d =
+    cases-more {v} a z b e d =
         let j : count - i - 1 ≡ count - (i + 1) = omega arith in record {
           low = omega (arith, b .low, inv .low);
           high = omega (arith, b .high, inv .high);
           within = omega arith;
           entries = b .count;
+          index = answered z (put next-block a .made) .2 .index;
           long = e ∙ inv .long;
           rest = rw
               (d, ← j)
@@ -409,7 +417,8 @@ cases-end {s} {ws} {k} {count} {i} {ys} {p} {m} h inv l a =
     (inv .rest) l .0 a ys
     (record { at = p; count = m; number = 0 })
     (rw (none-more k i, no-cases (ownersOf (tree a)) (entriesOf s ws m))
-    (AnswersIn.made (SwitchCases.noCase, entriesOf s ws m) refl (record { entries = refl; counted = z; wrote = no-parts ys p })))
+    (AnswersIn.made (SwitchCases.noCase, entriesOf s ws m) refl
+    (record { entries = refl; index = inv .index; counted = z; wrote = no-parts ys p })))
 
 -- the cursor of a switch is small enough for its head
 pub start-60 : (at : ℕ) → at < 2 ^ 56 → at < 2 ^ 60

@@ -31,8 +31,8 @@ use Rattle.resolved_parts.specs.declared.ListParts.{ListParts}
 use Rattle.resolved_parts.specs.Types.{HeadAt, EnumAt, FieldsAt, SizedAt, ownersOf}
 use Rattle.builder_registry.specs.declared.Held.{Held}
 use Rattle.builder_registry.specs.declared.Tagged.{Tagged}
-use Rattle.builder_registry.specs.Words.{Kept, Tags, held, madePath, madeParameter, entriesOf, entryName}
-use Rattle.builder_registry.proofs.Laws.{held-name, standing, tags-done}
+use Rattle.builder_registry.specs.Words.{Standing, Kept, Tags, held, madePath, madeParameter, entriesOf, entryName}
+use Rattle.builder_registry.proofs.Laws.{held-name, standing, kept-index, tags-done, tags-index}
 use Rattle.builder_nodes.specs.declared.Built.{Built}
 use Rattle.builder_nodes.specs.Built.{Builds, nodeStart, textFlag, countPart, noNode}
 use Rattle.builder_nodes.proofs.Laws.{node-closed, step-passes, step-goes}
@@ -93,6 +93,7 @@ module _ {s xs ws : List ℕ} {at kind first k count : ℕ} (t : Tagged) where
         (step-goes (build-cases (head (typeOf (tree a)) .dynamic-params) (alternatives k 0 (l .got .0))) _ _ y (cases-of a l)
         (λ v f. AnswersIn.made (IrNode.Switch unplaced (aligned (head (typeOf (tree a)) .alignment)) (entryName s (getD ws (t .at) 0)) (v .0) DefaultNode.noDefault, v .1) refl (record {
           entries = f .entries;
+          index = f .index;
           wrote = rw (hd a .alignment) (switch-write (h .alignment) (entryName s (getD ws (t .at) 0)) count (v .0) (f .counted) w₁ w₂ w₃ (f .wrote) w₄ w₅);
         }))))
 
@@ -102,7 +103,8 @@ module _ {s xs ws : List ℕ} {at kind first k count : ℕ} (t : Tagged) where
 pub switching : {s ws us : List ℕ} {n kind type at k count first : ℕ} {t : Tagged} {o : Outcome (Name × Registry)} → Ready s ws n kind type at →
     length us ≡ length ws → t .count ≤ 512 → Tags s us t o → 33 ≤ k → k ≤ 35 → Listed s k k count first → count ≤ 64 → Switching s us type t k count first at
 switching p e c tg low high l h = record {
-  standing = standing (p .standing) e c;
+  entries = c;
+  standing = λ z. standing (p .standing) e c (tags-index z tg);
   type-at = p .type-at;
   within = λ z. tags-done z tg .0;
   kind = record { low = low; high = high };
@@ -178,6 +180,12 @@ owners-kept : {s us : List ℕ} {kind : ℕ} {h : TypeHead} {x : Held} (g : Regi
     ((a : Accepted s 32 32 (h .references)) → Kept s us x (extend-with (ownersOf (tree a)) g)) →
     (a : Accepted s 1 7 kind) → Kept s us x (extend-with (head (typeOf (tree a)) .dynamic-params) g)
 owners-kept g hd kp a = rw (hd a .owners) (kp (hd a .references))
+
+-- with them entered, what comes next has the registry and its index
+pub refs-standing : {s ws us : List ℕ} {n k kind at : ℕ} {h : TypeHead} {x : Held} (g : Registry) → Ready s ws n k kind at →
+    ((a : Accepted s 1 7 kind) → HeadAt a h) → length us ≡ length ws → x .count ≤ 512 →
+    ((a : Accepted s 32 32 (h .references)) → Kept s us x (extend-with (ownersOf (tree a)) g)) → x .number ≡ 0 → Standing s us (x .count)
+refs-standing g r hd e c kp z = standing (r .standing) e c (kept-index z (kp (hd (r .type-at) .references)))
 
 module _ {s xs us : List ℕ} {at kind : ℕ} {h : TypeHead} {x : Held} (g : Registry) (hd : (a : Accepted s 1 7 kind) → HeadAt a h)
     (kp : (a : Accepted s 32 32 (h .references)) → Kept s us x (extend-with (ownersOf (tree a)) g)) where

@@ -24,9 +24,8 @@ use Rattle.builder_paths.specs.Joined.{pathOf}
 use Rattle.builder_registry.specs.declared.Found.{Found}
 use Rattle.builder_registry.specs.declared.Found.the-variants.{At, Missing}
 use Rattle.builder_registry.specs.declared.Tagged.{Tagged}
-use Rattle.builder_registry.specs.Words.{Standing, Looked, Tags, held, madePath, madeParameter, entriesOf}
+use Rattle.builder_registry.specs.Words.{Standing, Indexed, Looked, Tags, held, madePath, madeParameter, entriesOf}
 use Rattle.builder_registry.proofs.Laws.{held-name, looked-entry, looked-missing, long-lookup, long-qualified}
-use Rattle.builder_registry.proofs.Keys.{held-bound}
 use Rattle.builder_switches.proofs.Marks.{path-is, path-held}
 
 -- ---- a path's entry
@@ -76,13 +75,13 @@ module _ {s ws : List ℕ} {n e : ℕ} {f : Found} (o owner : Name) (d : o ≡ o
   l a path x = rw d at (l₀ a path x)
 
   -- the path has an entry
-  pub tag-known : {i : ℕ} → f ≡ At i → (a : Accepted s 64 91 e) →
+  pub tag-known : {i : ℕ} → Indexed s ws n → f ≡ At i → (a : Accepted s 64 91 e) →
       Tags s ws (record { at = i; count = n; number = 0 }) (enum-tag-parameter owner (exprOf (tree a)) (entriesOf s ws n))
   unfolding enum-tag-parameter _>>=_ _andThen_ reads need give
-  tag-known h a =
+  tag-known x h a =
       let p = field-ref-at a k in
       let found = looked-entry h (l a (textsOf (p .list .got .0)) (p .is)) in
-      rw (p .is, found .1) (AnswersIn.made _ refl (record { named = refl; entries = refl; within = found .0 }))
+      rw (p .is, found .1) (AnswersIn.made _ refl (record { named = refl; entries = refl; within = found .0; index = x }))
 
   -- it has none
   pub tag-unknown : f ≡ Missing → {i : ℕ} (a : Accepted s 64 91 e) →
@@ -124,7 +123,3 @@ pub tag-made : {s us : List ℕ} {e : ℕ} {r : Tagged} (ws : List ℕ) (n : ℕ
 tag-made {s} ws n g o q u b h d z m t a =
     let marked : entriesOf s ws n ≡ mark-all (nameAt s q) (field-refs (exprOf (tree a))) g = rw b at (m a) in
     rw (not-path (nameAt s q) g u d z a, made-tag (nameAt s q) (exprOf (tree a)) g, ← marked, ← held-name h) t
-
--- a name of the set is short
-pub owned : {s : List ℕ} {o : Name} (q : ℕ) → Named s q → o ≡ nameAt s q → length o ≤ 255
-owned {s} q n e = rw (e, ← held-name n) (held-bound s q refl)

@@ -21,7 +21,7 @@ use Rattle.builder.specs.Nodes.{Alternative, enum-alternatives, union-alternati
 use Rattle.wire.specs.Poke.{Wrote}
 use Rattle.resolved_parts.specs.Types.{Named, sized}
 use Rattle.builder_registry.specs.declared.Tagged.{Tagged}
-use Rattle.builder_registry.specs.Words.{Standing, entriesOf}
+use Rattle.builder_registry.specs.Words.{Standing, Indexed, entriesOf}
 use Rattle.builder_nodes.specs.declared.Built.{Built}
 use Rattle.builder_switches.specs.declared.Choice.{Choice}
 
@@ -59,14 +59,16 @@ build-case refs x = do
 abbrev pub caseTree : ℕ → IrNode → List IrParameter → Tree
 caseTree v n ps = block unplaced 163 (cons (num 8 v) (cons (nodeTree n) (cons (listTree parameterTree ps) nil)))
 
--- a case that was made: its bytes in the output ys, up to the next cursor, and the entries in the words us
+-- a case that was made: its bytes in the output ys, up to the next cursor, and the entries in the words us with their index
 pub record CaseIn (s xs : List ℕ) (at : ℕ) (us ys : List ℕ) (r : Built) (tag : ℕ) (x : (IrNode × List IrParameter) × Registry) : Type 0 where
   pub entries : entriesOf s us (r .count) ≡ x .1
+  pub index : Indexed s us (r .count)
   pub wrote : Wrote xs at (write (caseTree tag (x .0 .0) (x .0 .1))) ys (r .at)
 
 -- the same of so many cases
 pub record CasesIn (s xs : List ℕ) (at : ℕ) (us ys : List ℕ) (r : Built) (count : ℕ) (x : SwitchCases × Registry) : Type 0 where
   pub entries : entriesOf s us (r .count) ≡ x .1
+  pub index : Indexed s us (r .count)
   pub counted : caseCount (x .0) ≡ count
   pub wrote : Wrote xs at (write (casesTree (x .0))) ys (r .at)
 
@@ -116,9 +118,10 @@ pub record Listed-cases (s ws : List ℕ) (n references k count first at : ℕ) 
   pub most : count ≤ 64
   pub cursor : at < 2 ^ 56 + 1000
 
--- a type with such a list, and the answer that its tag is the name of an entry
+-- a type with such a list, and the answer that its tag is the name of an entry; of a refused tag no index is known
 pub record Switching (s ws : List ℕ) (type : ℕ) (tag : Tagged) (k count first at : ℕ) : Type 0 where
-  pub standing : Standing s ws (tag .count)
+  pub entries : tag .count ≤ 512
+  pub standing : tag .number ≡ 0 → Standing s ws (tag .count)
   pub type-at : Accepted s 1 7 type
   pub within : tag .number ≡ 0 → tag .at < tag .count
   pub kind : Kind k

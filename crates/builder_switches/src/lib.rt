@@ -16,7 +16,7 @@ ghost use Rattle.builder.specs.Names.{join};
 ghost use Rattle.builder.specs.Registry.{Registry, Build};
 ghost use Rattle.builder.specs.Nodes.{mark-all, field-refs, tag-lookup, enum-tag-parameter, build-alternative, build-cases, build-enum-node, build-union-node, build-size-discriminated-union-node};
 ghost use Rattle.resolved_parts.specs.Types.{ownersOf, sized};
-ghost use Rattle.builder_registry.specs.Words.{Looked, Tags, entriesOf};
+ghost use Rattle.builder_registry.specs.Words.{Indexed, Looked, Tags, entriesOf};
 ghost use Rattle.builder_nodes.specs.Built.{Builds, Within};
 ghost use Rattle.builder_switches.specs.Cases.{alternatives, Listing, AltAt, Cases, CaseAt, Marking, Tagging, Choosing, Casing, Listed-cases, Switching, switchBy};
 ghost use Rattle.builder_switches.specs.Ready.{Ready};
@@ -49,6 +49,7 @@ struct Alternatives {
 fn mark_path(s: &[u8], words: &mut [u64], n: usize, owner: &[u8], e: usize)
     requires { ⌜ Marking (now s) (now words) n (now owner) e × (le2 (now s) (e + 4) ≡ 65) ⌝ }
     ensures { λ _. ⌜ ((a : Accepted (now (s .entry)) 64 91 e) → entriesOf (now (s .entry)) (now (words .exit)) n ≡ mark-all (now (owner .entry)) (field-refs (exprOf (tree a))) (entriesOf (now (s .entry)) (now (words .entry)) n)) ⌝ }
+    ensures { λ _. ⌜ Indexed (now (s .entry)) (now (words .exit)) n ⌝ }
 {
     if builder_paths::no_segments(s, e) {
         return;
@@ -66,6 +67,7 @@ fn mark_path(s: &[u8], words: &mut [u64], n: usize, owner: &[u8], e: usize)
 fn mark_expression_field_refs(s: &[u8], words: &mut [u64], n: usize, owner: &[u8], e: usize)
     requires { ⌜ Marking (now s) (now words) n (now owner) e ⌝ }
     ensures { λ _. ⌜ ((a : Accepted (now (s .entry)) 64 91 e) → entriesOf (now (s .entry)) (now (words .exit)) n ≡ mark-all (now (owner .entry)) (field-refs (exprOf (tree a))) (entriesOf (now (s .entry)) (now (words .entry)) n)) ⌝ }
+    ensures { λ _. ⌜ Indexed (now (s .entry)) (now (words .exit)) n ⌝ }
 {
     let k = wire::read2(s, e + 4);
     if k == 65 {

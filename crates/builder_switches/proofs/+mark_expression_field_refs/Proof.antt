@@ -109,15 +109,22 @@ returns t c = c .before .before .mark-path .ensures
 
 returns-2 : (t : ℕ) → walk.Need-returns-2 (callees t) (entered t) self.Post
 returns-2 t c =
-    λ a. low-marks _ _ _
-    (c .before .before .read2 .ensures .0)
-    (c .before .if1 .left)
-    (c .if2 .taken) a
+    let at-read2 = c .before .before in
+    let at-start = at-read2 .before .before .before .before in (
+      λ a. low-marks _ _ _
+          (at-read2 .read2 .ensures .0)
+          (c .before .if1 .left)
+          (c .if2 .taken) a,
+      at-start .pre .1 .standing .index,
+    )
 
 returns-3 : (t : ℕ) → walk.Need-returns-3 (callees t) (entered t) self.Post
 returns-3 t c =
     let at-read2 = c .before .before .before in
-    λ a. high-marks _ _ _ (at-read2 .read2 .ensures .0) (omega (arith, c .if3 .taken)) a
+    let at-start = at-read2 .before .before .before .before in (
+      λ a. high-marks _ _ _ (at-read2 .read2 .ensures .0) (omega (arith, c .if3 .taken)) a,
+      at-start .pre .1 .standing .index,
+    )
 
 add-mark-expression-field-refs : (t : ℕ) → walk.Need-add-mark-expression-field-refs (callees t) (entered t) self.Post
 add-mark-expression-field-refs t c =
@@ -138,12 +145,14 @@ same-length-2 t c = search needs
 returns-4 : (t : ℕ) → walk.Need-returns-4 (callees t) (entered t) self.Post
 returns-4 t c =
     let at-left = c .before .before .before in
-    let at-else3 = at-left .before .before in
-    λ a. unary-marks _ _ _
-    (at-read2 at-else3 .read2 .ensures .0)
-    (c .if4 .taken)
-    (at-else3 .if3 .left)
-    (at-left .mark-expression-field-refs .ensures) a
+    let at-else3 = at-left .before .before in (
+      λ a. unary-marks _ _ _
+          (at-read2 at-else3 .read2 .ensures .0)
+          (c .if4 .taken)
+          (at-else3 .if3 .left)
+          (at-left .mark-expression-field-refs .ensures .0) a,
+      at-left .mark-expression-field-refs .ensures .1,
+    )
 
 add-read4 : (t : ℕ) → walk.Need-add-read4 (callees t) (entered t) self.Post
 add-read4 t c =
@@ -164,10 +173,11 @@ add-mark-expression-field-refs-3 t c = omega (arith, header-inside (right-operan
 mark-expression-field-refs-requires-2 : (t : ℕ) → walk.Need-mark-expression-field-refs-requires-2 (callees t) (entered t) self.Post
 mark-expression-field-refs-requires-2 t c κs =
     let at-read4 = c .before in
+    let at-left = at-read4 .before .before .before .before in
     let known = at-start (at-else3 at-read4) .pre in (
       omega (arith, known .0, right-operand at-read4 .1),
       record {
-        standing = standing (known .1 .standing) (omega arith) (known .1 .standing .count);
+        standing = standing (known .1 .standing) (omega arith) (known .1 .standing .count) (at-left .mark-expression-field-refs .ensures .1);
         owned = known .1 .owned;
         expr = right-operand at-read4 .0;
       },
@@ -181,14 +191,16 @@ returns-5 t c =
     let at-right = c .before .before in
     let at-read4 = at-right .before .before in
     let at-else4 = at-read4 .before in
-    let at-left = at-else4 .before .before .before in
-    λ a. binary-marks _ _ _ _
-    (at-read2 (at-else3 at-read4) .read2 .ensures .0)
-    (at-else3 at-read4 .before .if2 .left)
-    (at-else4 .if4 .left)
-    (at-read4 .read4 .ensures .0)
-    (at-left .mark-expression-field-refs .ensures)
-    (at-right .mark-expression-field-refs2 .ensures) a
+    let at-left = at-else4 .before .before .before in (
+      λ a. binary-marks _ _ _ _
+          (at-read2 (at-else3 at-read4) .read2 .ensures .0)
+          (at-else3 at-read4 .before .if2 .left)
+          (at-else4 .if4 .left)
+          (at-read4 .read4 .ensures .0)
+          (at-left .mark-expression-field-refs .ensures .0)
+          (at-right .mark-expression-field-refs2 .ensures .0) a,
+      at-right .mark-expression-field-refs2 .ensures .1,
+    )
 
 pub +mark-expression-field-refs-spec : {M : Type 1} → statement M
 +mark-expression-field-refs-spec =

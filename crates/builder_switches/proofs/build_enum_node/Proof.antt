@@ -4,9 +4,8 @@ use borrow.Author.Needs.{needs}
 use native.Mathlib.Omega.{arith}
 use mathlib.Core.Path.{_∙_}
 use Rattle.builder.specs.Nodes.{build-enum-node}
-use Rattle.builder_registry.proofs.Laws.{standing}
 use Rattle.builder_nodes.proofs.Laws.{stopped}
-use Rattle.builder_switches.proofs.Switch.{switching, refs-stop, enum-done}
+use Rattle.builder_switches.proofs.Switch.{switching, refs-standing, refs-stop, enum-done}
 use Rattle.builder_switches.proofs.build_enum_node.Statement.{statement}
 use Rattle.builder_switches.proofs.build_enum_node.Tie as tie
 
@@ -44,13 +43,17 @@ enum-parts-requires c κs = search needs
 
 enum-tag-parameter-requires : tie.Need-enum-tag-parameter-requires
 enum-tag-parameter-requires c κs =
-    let at-extend-with = c .before .before .before .before .before .before in
+    let at-else1 = c .before .before in
+    let at-extend-with = at-else1 .before .before .before .before in
     let at-type-head = at-extend-with .before .before in
     let at-start = at-type-head .before .before .before .before in record {
-      standing = standing
-          (at-start .pre .standing)
+      standing = refs-standing _
+          (at-start .pre)
+          (at-type-head .type-head .ensures)
           (omega arith)
-          (at-extend-with .extend-with .ensures .0);
+          (at-extend-with .extend-with .ensures .0)
+          (at-extend-with .extend-with .ensures .1)
+          (at-else1 .if1 .left);
       named = at-type-head .type-head .ensures (at-start .pre .type-at) .named;
       expr = c .before .enum-parts .ensures (at-start .pre .type-at) .tag;
     }

@@ -3,9 +3,10 @@
 use borrow.Author.Needs.{needs}
 use native.Mathlib.Omega.{arith}
 use mathlib.Core.Path.{sym, _∙_}
+use Rattle.resolved_parts.proofs.Laws.{named-short}
 use Rattle.builder_registry.proofs.Laws.{standing}
 use Rattle.accepted.proofs.Laws.{header-inside}
-use Rattle.builder_switches.proofs.Tags.{owned, tag-known, tag-unknown, tag-made}
+use Rattle.builder_switches.proofs.Tags.{tag-known, tag-unknown, tag-made}
 use Rattle.builder_switches.proofs.enum_tag_parameter.Statement.{statement}
 use Rattle.builder_switches.proofs.enum_tag_parameter.Tie as tie
 
@@ -33,7 +34,7 @@ tag-lookup-requires c κs =
     let at-name-at = at-read2 .before in (
       record {
         standing = at-start at-name-at .pre .standing;
-        owned = owned _ (at-start at-name-at .pre .named) (at-name-at .name-at .ensures);
+        owned = named-short (at-start at-name-at .pre .named) (at-name-at .name-at .ensures);
         expr = at-start at-name-at .pre .expr;
       },
       sym (at-read2 .read2 .ensures .0) ∙ c .before .if1 .taken,
@@ -56,6 +57,7 @@ returns c =
           (at-name-at .name-at .ensures)
           (sym (at-read2 .read2 .ensures .0) ∙ at-then1 .if1 .taken)
           (at-tag-lookup .tag-lookup .ensures)
+          (at-start at-name-at .pre .standing .index)
           (c .before .i .given .1) a,
     )
 
@@ -83,7 +85,7 @@ mark-expression-field-refs-requires : tie.Need-mark-expression-field-refs-requir
 mark-expression-field-refs-requires c κs =
     let at-name-at = c .before .before .before in record {
       standing = at-start at-name-at .pre .standing;
-      owned = owned _ (at-start at-name-at .pre .named) (at-name-at .name-at .ensures);
+      owned = named-short (at-start at-name-at .pre .named) (at-name-at .name-at .ensures);
       expr = at-start at-name-at .pre .expr;
     }
 
@@ -94,8 +96,11 @@ add-add-synthetic c =
 
 add-synthetic-requires : tie.Need-add-synthetic-requires
 add-synthetic-requires c κs =
-    let at-start = c .before .before .before .before .before .before .before .before .before .before in (
-      standing (at-start .pre .standing) (omega arith) (at-start .pre .standing .count),
+    let at-mark-expression-field-refs = c .before .before .before in
+    let at-start = at-mark-expression-field-refs .before .before .before .before .before .before .before in (
+      standing (at-start .pre .standing) (omega arith)
+          (at-start .pre .standing .count)
+          (at-mark-expression-field-refs .mark-expression-field-refs .ensures .1),
       omega (arith, at-start .pre .named .inside, at-start .pre .standing .size),
       (omega arith, omega arith),
     )
@@ -116,7 +121,7 @@ returns-3 c =
           (at-start at-name-at .pre .named)
           (at-read2 .read2 .ensures .0)
           (at-else1 .if1 .left)
-          (at-mark-expression-field-refs .mark-expression-field-refs .ensures)
+          (at-mark-expression-field-refs .mark-expression-field-refs .ensures .0)
           (at-add-synthetic .add-synthetic .ensures .1 .0) a,
     )
 

@@ -12,8 +12,10 @@ no-segments-requires c κs = search needs
 
 returns : tie.Need-returns
 returns c =
-    let at-start = c .before .before .before .before .before in
-    λ a. mark-none _ _ (at-start .pre .1) (c .before .no-segments .ensures) (c .if1 .taken) a
+    let at-start = c .before .before .before .before .before in (
+      λ a. mark-none _ _ (at-start .pre .1) (c .before .no-segments .ensures) (c .if1 .taken) a,
+      at-start .pre .0 .standing .index,
+    )
 
 joined-length-requires : tie.Need-joined-length-requires
 joined-length-requires c κs = search needs
@@ -22,15 +24,17 @@ returns-2 : tie.Need-returns-2
 returns-2 c =
     let at-else1 = c .before .before in
     let at-no-segments = at-else1 .before in
-    let at-start = at-no-segments .before .before .before .before in
-    λ a. mark-long _ _
-    (at-start .pre .1)
-    (at-no-segments .no-segments .ensures)
-    (c .before .joined-length .ensures)
-    (at-else1 .if1 .left)
-    (c .if2 .taken)
-    (at-start .pre .0 .standing)
-    (at-start .pre .0 .owned) refl a
+    let at-start = at-no-segments .before .before .before .before in (
+      λ a. mark-long _ _
+          (at-start .pre .1)
+          (at-no-segments .no-segments .ensures)
+          (c .before .joined-length .ensures)
+          (at-else1 .if1 .left)
+          (c .if2 .taken)
+          (at-start .pre .0 .standing)
+          (at-start .pre .0 .owned) refl a,
+      at-start .pre .0 .standing .index,
+    )
 
 slice-aggregate-put-joined : tie.Need-slice-aggregate-put-joined
 slice-aggregate-put-joined c = search needs
@@ -65,15 +69,17 @@ returns-3 c =
     let at-joined-length = at-else2 .before in
     let at-else1 = at-joined-length .before in
     let at-no-segments = at-else1 .before in
-    let at-start = at-no-segments .before .before .before .before in
-    λ a. mark-path _ _
-    (at-start .pre .1)
-    (at-no-segments .no-segments .ensures)
-    (at-joined-length .joined-length .ensures)
-    (at-else1 .if1 .left)
-    (at-else2 .if2 .left) refl
-    (at-put-joined .put-joined .ensures)
-    (at-mark-derived .mark-derived .ensures) a
+    let at-start = at-no-segments .before .before .before .before in (
+      λ a. mark-path _ _
+          (at-start .pre .1)
+          (at-no-segments .no-segments .ensures)
+          (at-joined-length .joined-length .ensures)
+          (at-else1 .if1 .left)
+          (at-else2 .if2 .left) refl
+          (at-put-joined .put-joined .ensures)
+          (at-mark-derived .mark-derived .ensures .0) a,
+      at-mark-derived .mark-derived .ensures .1,
+    )
 
 pub mark-path-spec : {M : Type 1} → statement M
 mark-path-spec =

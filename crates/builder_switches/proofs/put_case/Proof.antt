@@ -4,7 +4,7 @@ use borrow.Author.Needs.{needs}
 use native.Mathlib.Omega.{arith}
 use mathlib.Core.Path.{refl}
 use Rattle.builder_registry.proofs.Laws.{standing}
-use Rattle.builder_nodes.proofs.Laws.{stopped}
+use Rattle.builder_nodes.proofs.Laws.{builds-index, stopped}
 use Rattle.builder_switches.proofs.Cases.{Ends, ended-at, case-ends, case-stops, case-done}
 use Rattle.builder_switches.proofs.put_case.Statement.{statement}
 use Rattle.builder_switches.proofs.put_case.Tie as tie
@@ -90,9 +90,12 @@ name-at-requires c κs =
 
 put-owner-parameters-requires : tie.Need-put-owner-parameters-requires
 put-owner-parameters-requires c κs =
-    let at-put-node = c .before .before .before .before .before .before in
+    let at-else1 = c .before .before in
+    let at-put-node = at-else1 .before .before .before .before in
     let at-put-le = at-put-node .before .before .before .before in (
-      standing (at-start at-put-le .pre .standing) refl (at-put-node .put-node .ensures .0 .count),
+      standing (at-start at-put-le .pre .standing) refl
+          (at-put-node .put-node .ensures .0 .count)
+          (builds-index (at-else1 .if1 .left) (at-put-node .put-node .ensures .1 (at-start at-put-le .pre .references-at))),
       omega (
         arith,
         at-start at-put-le .pre .cursor,

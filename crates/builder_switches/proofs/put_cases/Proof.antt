@@ -27,13 +27,13 @@ at-loop r = in-loop r .before
 loop-holds : tie.Need-loop-holds Inv-loop μ-loop
 loop-holds c =
     let at-start = c .before .before .before in
-    cases-begin (at-start .pre .standing .count) (at-start .pre .list)
+    cases-begin (at-start .pre .standing .count) (at-start .pre .standing .index) (at-start .pre .list)
 
 put-case-requires : tie.Need-put-case-requires Inv-loop μ-loop
 put-case-requires c κs =
     let at-loop = c .before .before in
     let at-start = at-loop .before .before .before .before in record {
-      standing = standing (at-start .pre .standing) refl (at-loop .loop .inv .entries);
+      standing = standing (at-start .pre .standing) refl (at-loop .loop .inv .entries) (at-loop .loop .inv .index);
       references-at = at-start .pre .references-at;
       kind = at-start .pre .kind;
       block = next-block (c .before .loop-test .taken) (at-loop .loop .inv);
@@ -86,10 +86,12 @@ loop-again c =
     let at-put-case = c .before .before .before .before .before in
     let in-loop = at-put-case .before .before in
     let at-loop = in-loop .before in
+    let at-start = at-loop .before .before .before .before in
     cases-more
     (in-loop .loop-test .taken)
     (at-loop .loop .inv)
     (at-put-case .put-case .ensures .1)
+    (at-start .pre .references-at)
     (c .before .if1 .left)
     (at-put-case .put-case .ensures .0)
     (omega arith)

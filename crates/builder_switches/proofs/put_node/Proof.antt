@@ -2,8 +2,8 @@
 -- references the refusal is 11; a refusal of the sum is the node's.
 use borrow.Author.Needs.{needs}
 use native.Mathlib.Omega.{arith}
+use Rattle.resolved_parts.proofs.Laws.{named-short}
 use Rattle.builder_nodes.proofs.Laws.{stopped, behind, ends-at}
-use Rattle.builder_switches.proofs.Tags.{owned}
 use Rattle.builder_switches.proofs.Cases.{below-60, paths-at, node-const, node-missing, node-stops, node-done}
 use Rattle.builder_switches.proofs.put_node.Statement.{statement}
 use Rattle.builder_switches.proofs.put_node.Tie as tie
@@ -38,7 +38,7 @@ sum-refs-requires c κs =
     let at-paths = at-open-align .before .before .before in
     let at-get = at-paths .before .before in record {
       standing = at-start at-get .pre .standing;
-      owned = owned _ (at-start at-get .pre .named) (at-name-at at-get .name-at .ensures);
+      owned = named-short (at-start at-get .pre .named) (at-name-at at-get .name-at .ensures);
       list = paths-at _
           (at-name-at at-get .name-at .ensures)
           (at-get .get .ensures .0)
@@ -146,6 +146,7 @@ returns-4 c =
           (at-start .pre .standing .count),
       λ a. node-const _
           (at-start .args .x)
+          (at-start .pre .standing .index)
           (at-else1 .if1 .left)
           (at-put-const-or-zero .put-const-or-zero .ensures .0) a,
     )

@@ -35,7 +35,7 @@ at-put-count-part r = at-put-cases r .before .before .before .before
 returns : tie.Need-returns
 returns c =
     let at-start = c .before .before .before .before .before in
-    (stopped (at-start .pre .standing .count), λ a l m g t. tag-stops _ (c .if1 .taken) a l m g t)
+    (stopped (at-start .pre .entries), λ a l m g t. tag-stops _ (c .if1 .taken) a l m g t)
 
 type-head-requires : tie.Need-type-head-requires
 type-head-requires c κs = search needs
@@ -48,19 +48,20 @@ open-node-requires c κs =
 mul-put-entry-part : tie.Need-mul-put-entry-part
 mul-put-entry-part c =
     let at-else1 = c .before .before .before .before .before in
-    omega (arith, at-start at-else1 .pre .within (at-else1 .if1 .left), at-start at-else1 .pre .standing .count)
+    omega (arith, at-start at-else1 .pre .within (at-else1 .if1 .left), at-start at-else1 .pre .entries)
 
 shared-slice-read-put-entry-part : tie.Need-shared-slice-read-put-entry-part
 shared-slice-read-put-entry-part c =
     let at-else1 = c .before .before .before .before .before .before in
     let known = at-start at-else1 .pre in
-    omega (arith, known .within (at-else1 .if1 .left), known .standing .count, known .standing .words)
+    omega (arith, known .within (at-else1 .if1 .left), known .entries, known .standing (at-else1 .if1 .left) .words)
 
 put-entry-part-requires : tie.Need-put-entry-part-requires
 put-entry-part-requires c κs =
     let at-open-node = c .before .before .before .before in
-    let known = at-start (at-open-node .before .before .before) .pre in
-    (known .standing .size, omega (arith, known .cursor, at-open-node .open-node .ensures .1), omega arith, omega arith, omega arith)
+    let at-else1 = at-open-node .before .before .before in
+    let known = at-start at-else1 .pre in
+    (known .standing (at-else1 .if1 .left) .size, omega (arith, known .cursor, at-open-node .open-node .ensures .1), omega arith, omega arith, omega arith)
 
 put-count-part-requires : tie.Need-put-count-part-requires
 put-count-part-requires c κs =
@@ -77,7 +78,7 @@ put-cases-requires : tie.Need-put-cases-requires
 put-cases-requires c κs =
     let count = c .before .before .before in
     let known = at-start (at-else1 count) .pre in record {
-      standing = known .standing;
+      standing = known .standing (at-else1 count .if1 .left);
       references-at = at-type-head count .type-head .ensures (known .type-at) .references;
       kind = known .kind;
       list = known .list;
@@ -98,7 +99,7 @@ returns-2 : tie.Need-returns-2
 returns-2 c =
     let at-put-cases = c .before .before .before .before in
     let count = at-put-cases .before .before .before .before in (
-      stopped (at-start (at-else1 count) .pre .standing .count),
+      stopped (at-start (at-else1 count) .pre .entries),
       λ a l m g t. switch-stops _
           (at-else1 count .if1 .left)
           (at-type-head count .type-head .ensures)
