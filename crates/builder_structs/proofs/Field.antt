@@ -2,7 +2,6 @@
 use mathlib.Core.Path.{_≡_, refl, sym, _∙_, ap, subst}
 use mathlib.Core.Bool.{Bool, true, false}
 use mathlib.Core.List.{List, [], _∷_, _++_}
-use mathlib.Core.Option.{some, none}
 use Prim.Native.Nat.{ℕ, _+_, _-_, _^_, _≤_, _<_}
 use native.Mathlib.Omega.{arith}
 use lib.Dec.{eqb}
@@ -24,7 +23,8 @@ use Rattle.ir.specs.Ir.{IrNode}
 use Rattle.ir.specs.Layout.{nodeTree}
 use Rattle.builder.specs.Names.{orElse}
 use Rattle.builder.specs.Registry.{Registry, Build, _>>=_, give, extend-with}
-use Rattle.builder.specs.Nodes.{align-node, const-or-zero, sum-refs, payload-paths, build-enum-node, build-size-discriminated-union-node, build-array-node-with-prefix, build-typeref-node, build-field-enum, build-field-refs, build-variable-field, build-field, build-variable}
+use Rattle.builder.specs.Nodes.{align-node, const-or-zero, sum-refs, payload-paths, build-enum-node, build-size-discriminated-union-node}
+use Rattle.builder.specs.Nodes.{build-array-node-with-prefix, build-typeref-node, build-field-enum, build-field-refs, build-variable-field, build-field, build-variable}
 use Rattle.builder.proofs.Steps.{need-some, need-none}
 use Rattle.wire.specs.Poke.{Wrote}
 use Rattle.resolved_parts.specs.declared.TypeHead.{TypeHead}
@@ -35,15 +35,16 @@ use Rattle.resolved_parts.proofs.Laws.{inside, long, kind-of, primitive}
 use Rattle.resolved_parts.proofs.Owners.{found-paths, found-none}
 use Rattle.resolved_parts.proofs.Each.{array-at, enum-at, fields-at, sized-at, target-at}
 use Rattle.builder_registry.specs.declared.Held.{Held}
-use Rattle.builder_registry.specs.Words.{Kept, entriesOf}
+use Rattle.builder_registry.specs.Words.{Standing, Kept, Indexed, entriesOf}
+use Rattle.builder_registry.proofs.Laws.{standing}
 use Rattle.builder_paths.specs.Joined.{prefixOf}
 use Rattle.builder_nodes.specs.declared.Built.{Built}
 use Rattle.builder_nodes.specs.Built.{Builds, Within, nodeStart}
-use Rattle.builder_nodes.proofs.Laws.{align-closed, step-passes, step-goes, step-then}
+use Rattle.builder_nodes.proofs.Laws.{align-closed, builds-index, step-passes, step-goes, step-then}
 use Rattle.builder_sums.specs.Ready.{someName}
 use Rattle.builder_arrays.proofs.Steps.{between}
 use Rattle.builder_structs.specs.Field.{withOwn, withAlign, inner, sumOf, payloadOf, EntersOwn, ClosesAligned}
-use Rattle.builder_structs.specs.Ready.{ReadyType, ReadyInner}
+use Rattle.builder_structs.specs.Ready.{ReadyType, ReadyBehind, ReadyInner}
 
 -- ---- what follows a field's node
 
@@ -59,7 +60,7 @@ unfolding withOwn give
 own-enters {s} {us} {k} h z e xs ys at m g b =
     step-goes m _ g z b (λ x n.
     step-then (extend-with (h .dynamic-params)) _ (x .1) (subst (λ (l : Registry). Kept s us k (extend-with (h .dynamic-params) l)) (n .entries) e) (λ y i q.
-    AnswersIn.made (x .0, y .1) i (record { entries = q .entries; wrote = n .wrote })))
+    AnswersIn.made (x .0, y .1) i (record { entries = q .entries; index = q .index; wrote = n .wrote })))
 
 -- around a node that was refused nothing is closed
 pub aligned-stops : {ys zs : List ℕ} {at : ℕ} {node : Built} → (node .number ≡ 0 → ⊥) → ClosesAligned ys at node zs node
@@ -70,7 +71,13 @@ aligned-stops z s us xs x₁ p a m g w b = step-passes m _ g refl z b
 pub aligned-closes : {ys zs : List ℕ} {at q : ℕ} {node : Built} → node .number ≡ 0 → Wrote ys at (bytes 4 (node .at - at - 4)) zs q → ClosesAligned ys at node zs node
 unfolding withAlign give
 aligned-closes z c s us xs x₁ p a m g w b =
-    step-goes m _ g z b (λ x n. AnswersIn.made (align-node (x .0) a, x .1) z (record { entries = n .entries; wrote = align-closed a (x .0) w (n .wrote) c }))
+    step-goes m _ g z b (λ x n. AnswersIn.made (align-node (x .0) a, x .1) z
+    (record { entries = n .entries; index = n .index; wrote = align-closed a (x .0) w (n .wrote) c }))
+
+-- what enters behind a node stands on what was built of it, and on its index unless it was refused
+pub behind-ready : {s ws us : List ℕ} {n at room : ℕ} {node : Built} → Standing s ws n → length us ≡ length ws → Within at room node →
+    (node .number ≡ 0 → Indexed s us (node .count)) → ReadyBehind s us node
+behind-ready a e w i = record { entries = w .count; standing = λ z. standing a e (w .count) (i z) }
 
 -- a node with the references of its type ends where it ended
 pub own-within : {at room : ℕ} {node r : Built} → Within at room node → (r .at ≡ node .at) × (r .count ≤ 512) → Within at room r
@@ -180,6 +187,12 @@ module _ {s xs us ys : List ℕ} {at kind : ℕ} {r : Built} (g : Registry) wher
       let i = enum-at ek refl refl refl a .is in
       inner-at t a i (k a xs ys at (build-enum-node (head (typeOf (tree a))) _ _) g (b a _ _ i))
 
+  -- the index behind such a switch
+  pub enum-index : le2 s (kind + 4) ≡ 4 →
+      ((a : Accepted s 1 7 kind) (e : ExprKind) (vs : Variants) → kindOf (typeOf (tree a)) ≡ ResolvedTypeKind.Enum e vs → Builds s xs at us ys r (build-enum-node (head (typeOf (tree a))) e vs g)) →
+      Accepted s 1 7 kind → r .number ≡ 0 → Indexed s us (r .count)
+  enum-index ek b a z = builds-index z (b a _ _ (enum-at ek refl refl refl a .is))
+
   -- the switch of a size-discriminated union, and what enters behind it
   pub sized-inner : {ws : List ℕ} {node : Built} → le2 s (kind + 4) ≡ 6 →
       ((a : Accepted s 1 7 kind) (vs : Variants) → kindOf (typeOf (tree a)) ≡ ResolvedTypeKind.SizeDiscriminatedUnion vs →
@@ -189,6 +202,13 @@ module _ {s xs us ys : List ℕ} {at kind : ℕ} {r : Built} (g : Registry) wher
   sized-inner ek b k t a q =
       let i = sized-at refl refl ek a .is in
       inner-at t a i (k a xs ys at (build-size-discriminated-union-node (head (typeOf (tree a))) _) g (b a _ i))
+
+  -- the index behind such a switch
+  pub sized-index : le2 s (kind + 4) ≡ 6 →
+      ((a : Accepted s 1 7 kind) (vs : Variants) → kindOf (typeOf (tree a)) ≡ ResolvedTypeKind.SizeDiscriminatedUnion vs →
+      Builds s xs at us ys r (build-size-discriminated-union-node (head (typeOf (tree a))) vs g)) →
+      Accepted s 1 7 kind → r .number ≡ 0 → Indexed s us (r .count)
+  sized-index ek b a z = builds-index z (b a _ (sized-at refl refl ek a .is))
 
   -- the call of a type reference, which enters none of its own references
   pub call-inner : le2 s (kind + 4) ≡ 7 →
@@ -345,7 +365,9 @@ module _ {s xs us ys : List ℕ} {at references kind k : ℕ} {r : Built} (name 
   by-kind : (t : Tree) (b : Accepted s 32 32 references) (a : Accepted s 1 7 kind) (z : ResolvedTypeKind) {m : Outcome (IrNode × Registry)} → kindOf (typeOf (tree a)) ≡ z →
       build-variable-field (typesOf t) (ownersOf (tree b)) (nameAt s name) (head (typeOf (tree a))) z g ≡ m → Builds s xs at us ys r m →
       Builds s xs at us ys r (build-variable-field (typesOf t) (ownersOf (tree b)) (nameAt s name) (head (typeOf (tree a))) (kindOf (typeOf (tree a))) g)
-  by-kind t b a z i e h = subst (Builds s xs at us ys r) (sym (ap (λ (z : ResolvedTypeKind). build-variable-field (typesOf t) (ownersOf (tree b)) (nameAt s name) (head (typeOf (tree a))) z g) i ∙ e)) h
+  by-kind t b a z i e h =
+      subst (Builds s xs at us ys r)
+      (sym (ap (λ (z : ResolvedTypeKind). build-variable-field (typesOf t) (ownersOf (tree b)) (nameAt s name) (head (typeOf (tree a))) z g) i ∙ e)) h
 
   -- a primitive type, a struct or a union is the sum of the struct's references for it
   pub refs-kind : k < 4 →
@@ -413,4 +435,4 @@ module _ {s : List ℕ} {kind : ℕ} {h : TypeHead} (references name : ℕ) (g :
     field-done {xs} {ys} {at} {u} z w t b a d =
         let w′ = subst (λ (m : ℕ). Wrote xs at (write (nodeTree (const-or-zero (h .size) m))) ys u) (sym (hd a .alignment)) w in
         subst (Builds s xs at us ys (record { at = u; count = e .count; number = 0 })) (sym (size-is (typesOf t) (ownersOf (tree b)) a false v))
-        (step-goes (extend-with (head (typeOf (tree a)) .dynamic-params)) _ g z (k a) (λ x n. AnswersIn.made _ refl (record { entries = n .entries; wrote = w′ })))
+        (step-goes (extend-with (head (typeOf (tree a)) .dynamic-params)) _ g z (k a) (λ x n. AnswersIn.made _ refl (record { entries = n .entries; index = n .index; wrote = w′ })))

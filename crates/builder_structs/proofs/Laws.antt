@@ -11,7 +11,7 @@ use borrow.Author.Tests.{lt-ltb, le-ltb}
 use Rattle.errors.specs.Refusal.{Outcome, done, refused, plain}
 use Rattle.errors.specs.Refusal.{_>>=_ as _andThen_}
 use Rattle.answers.specs.Answers.{AnswersIn}
-use Rattle.answers.proofs.Laws.{refuses, makes, passes, goes}
+use Rattle.answers.proofs.Laws.{answered, refuses, makes, passes, goes}
 use Rattle.blocks.specs.Bytes.{le2, le4, bytes}
 use Rattle.blocks.specs.Tree.{Tree, nil, cons, view}
 use Rattle.blocks.specs.Read.{readSet}
@@ -31,7 +31,7 @@ use Rattle.resolved_parts.specs.declared.TypeHead.{TypeHead}
 use Rattle.resolved_parts.specs.declared.FieldParts.{FieldParts}
 use Rattle.resolved_parts.specs.declared.ListParts.{ListParts}
 use Rattle.resolved_parts.specs.Types.{HeadAt, FieldAt, FieldsAt, ownersOf, offsetOf}
-use Rattle.builder_registry.specs.Words.{entriesOf}
+use Rattle.builder_registry.specs.Words.{Indexed, entriesOf}
 use Rattle.builder_registry.proofs.Laws.{standing}
 use Rattle.builder_nodes.specs.declared.Built.{Built}
 use Rattle.builder_nodes.specs.Built.{Builds, nodeStart}
@@ -226,7 +226,12 @@ module _ {s : List ℕ} {left field : ℕ} {f : FieldParts} (h : 0 < left) (fp :
           (next (typesOf t) (ownersOf (tree d)) (stateOf g (fieldsOf (l .got .0)) end true))) (sym eu)
           (rw (node-at (typesOf t) (ownersOf (tree d)) g end pe e l)
           (goes (nodeOf n fs) z (b t d (kindAt l) q) (λ x m.
-          AnswersIn.made _ refl (record { list = restAt l; state = ap (λ (w : Registry). stateOf w fs n false) (sym (m .entries)); wrote = m .wrote }))))
+          AnswersIn.made _ refl (record {
+            list = restAt l;
+            state = ap (λ (w : Registry). stateOf w fs n false) (sym (m .entries));
+            index = m .index;
+            wrote = m .wrote;
+          }))))
 
 -- ---- padding, or the field
 
@@ -250,15 +255,15 @@ module _ {s xs us ys : List ℕ} {at references left field : ℕ} {r : Run} (g :
       (subst (Ran s xs at us ys r) (sym (next-same h fp (typesOf t) (ownersOf (tree d)) g end ev z l)) (k t d l q))
 
 -- there is padding
-pub child-pad : {s xs ws ys : List ℕ} {at u n references left field end v : ℕ} {half : Bool} {f : FieldParts} → half ≡ false → 0 < left →
+pub child-pad : {s xs ws ys : List ℕ} {at u n references left field end v : ℕ} {half : Bool} {f : FieldParts} → Indexed s ws n → half ≡ false → 0 < left →
     ((a : Accepted s 33 33 field) → FieldAt a f) → v ≡ padSize end (offsetOf (f .placed) (f .offset)) → (v ≡ 0 → ⊥) →
     Wrote xs at (write (nodeTree (const-or-zero v 1))) ys u →
     NextLeft s xs at ws ys (record { at = u; rest = record { count = n; field = field; left = left; end = end; half = true }; number = 0 }) references left field (entriesOf s ws n) end half
-child-pad {s} {xs} {ws} {ys} {at} {u} {n} {left} {field} {end} {v} e h fp ev z w t d l q =
+child-pad {s} {xs} {ws} {ys} {at} {u} {n} {left} {field} {end} {v} x e h fp ev z w t d l q =
     subst (λ (b : Bool).
     Ran s xs at ws ys (record { at = u; rest = record { count = n; field = field; left = left; end = end; half = true }; number = 0 })
     (next (typesOf t) (ownersOf (tree d)) (stateOf (entriesOf s ws n) (fieldsOf (l .got .0)) end b))) (sym e)
-    (makes _ refl (next-pad h fp (typesOf t) (ownersOf (tree d)) (entriesOf s ws n) end ev z l) (record { list = l; state = refl; wrote = w }))
+    (makes _ refl (next-pad h fp (typesOf t) (ownersOf (tree d)) (entriesOf s ws n) end ev z l) (record { list = l; state = refl; index = x; wrote = w }))
 
 -- ---- sums
 
@@ -298,7 +303,12 @@ module _ {s x₁ x₂ us : List ℕ} {k p : ℕ} {a : Run} (nx : State → Outco
     sum-done {xs} {ys} {at} w z c =
         subst (Ran s xs at vs ys r) (sym sum-is)
         (goes (more nx) y g (λ x m.
-        goes (plus x) z (last x m) (λ o q. AnswersIn.made _ z (record { list = q .list; state = q .state; wrote = sum-puts (x .1) (o .1) w (m .wrote) (q .wrote) c }))))
+        goes (plus x) z (last x m) (λ o q. AnswersIn.made _ z
+        (record { list = q .list; state = q .state; index = q .index; wrote = sum-puts (x .1) (o .1) w (m .wrote) (q .wrote) c }))))
+
+-- where a sum was not refused, the words hold the index of the entries
+pub ran-index : {s xs us ys : List ℕ} {at : ℕ} {r : Run} {o : Outcome (State × IrNode)} → r .number ≡ 0 → Ran s xs at us ys r o → Indexed s us (r .rest .count)
+ran-index z g = answered z g .2 .index
 
 -- what the next node stands on, from what a sum of nodes stands on
 pub next-ready : {s ws : List ℕ} {references k at p : ℕ} {from : Rest} → ReadySum s ws references from k at → p + 100 < 2 ^ 56 → ReadyNext s ws references from p
@@ -311,8 +321,15 @@ module _ {s : List ℕ} {at p : ℕ} (k : ℕ) {a : Run} (e : p ≡ at + 15) (h 
   first-goes = record { low = omega (arith, x .low); high = omega (arith, x .high); count = x .count; list = x .list }
 
   -- what the last node stands on
-  pub last-ready : {ws us : List ℕ} {references : ℕ} {from : Rest} → ReadySum s ws references from k at → length us ≡ length ws → ReadyNext s us references (a .rest) (a .at)
-  last-ready r l = record { standing = standing (r .standing) l (x .count); set = r .set; refs = r .refs; list = x .list; cursor = omega (arith, x .high, r .room) }
+  pub last-ready : {ws us : List ℕ} {references : ℕ} {from : Rest} → ReadySum s ws references from k at → length us ≡ length ws →
+      Indexed s us (a .rest .count) → ReadyNext s us references (a .rest) (a .at)
+  last-ready r l i = record {
+    standing = standing (r .standing) l (x .count) i;
+    set = r .set;
+    refs = r .refs;
+    list = x .list;
+    cursor = omega (arith, x .high, r .room);
+  }
 
   module _ {r : Run} (y : Goes s (a .at) (2 ^ 28) r) where
     -- where the Add node ends, how many entries there are, and the fields behind it
@@ -387,7 +404,8 @@ nodeOut y = done (y .1, y .0 .registry)
 ran-built : {s xs us ys : List ℕ} {at : ℕ} {r : Run} {x : Outcome (State × IrNode)} → Ran s xs at us ys r x →
     Builds s xs at us ys (record { at = r .at; count = r .rest .count; number = r .number }) (_andThen_ x nodeOut)
 unfolding _andThen_
-ran-built (AnswersIn.made y z m) = AnswersIn.made (y .1, y .0 .registry) z (record { entries = ap (λ (c : State). c .registry) (sym (m .state)); wrote = m .wrote })
+ran-built (AnswersIn.made y z m) = AnswersIn.made (y .1, y .0 .registry) z
+    (record { entries = ap (λ (c : State). c .registry) (sym (m .state)); index = m .index; wrote = m .wrote })
 ran-built (AnswersIn.not k z l) = AnswersIn.not k z l
 
 -- that node, aligned

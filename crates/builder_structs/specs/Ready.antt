@@ -13,7 +13,8 @@ use Rattle.ir.specs.Ir.{IrNode}
 use Rattle.ir.specs.Layout.{nodeTree}
 use Rattle.wire.specs.Poke.{Wrote}
 use Rattle.resolved_parts.specs.Types.{Named, PathsAt}
-use Rattle.builder_registry.specs.Words.{Standing}
+use Rattle.builder_registry.specs.Words.{Standing, Indexed}
+use Rattle.builder_nodes.specs.declared.Built.{Built}
 use Rattle.builder_structs.specs.declared.Rest.{Rest}
 use Rattle.builder_structs.specs.declared.Run.{Run}
 use Rattle.builder_structs.specs.Next.{State, stateAt}
@@ -24,6 +25,11 @@ pub record ReadyType (s ws : List ℕ) (n type at : ℕ) : Type 0 where
   pub set : (t : Tree) × (readSet s ≡ done t)
   pub type-at : Accepted s 1 7 type
   pub cursor : at + 100 < 2 ^ 56
+
+-- whatever was built of a field: its entries, and the registry unless it was refused
+pub record ReadyBehind (s ws : List ℕ) (node : Built) : Type 0 where
+  pub entries : node .count ≤ 512
+  pub standing : node .number ≡ 0 → Standing s ws (node .count)
 
 -- a type of kind k that stands in an AlignUp node: an enum, a size-discriminated union or a type reference
 pub record ReadyInner (s ws : List ℕ) (n type k at : ℕ) : Type 0 where
@@ -77,10 +83,12 @@ pub record ReadySum (s ws : List ℕ) (references : ℕ) (from : Rest) (k at : �
   pub some : 0 < k
   pub room : at + 2 ^ 29 * k < 2 ^ 56
 
--- the node's bytes in the output ys up to the next cursor, the entries in the words us, and the fields that are left
+-- the node's bytes in the output ys up to the next cursor, the entries in the words us with their index, and the fields that are
+-- left
 pub record RanIn (s xs : List ℕ) (at : ℕ) (us ys : List ℕ) (r : Run) (y : State × IrNode) : Type 0 where
   pub list : Listed s 33 33 (r .rest .left) (r .rest .field)
   pub state : y .0 ≡ stateAt s us (r .rest) list
+  pub index : Indexed s us (r .rest .count)
   pub wrote : Wrote xs at (write (nodeTree (y .1))) ys (r .at)
 
 -- the next node and the state behind it, or the refusal

@@ -21,7 +21,7 @@ ghost use Rattle.builder_calls.specs.Ready.{Ready};
 ghost use Rattle.builder_structs.specs.Fold.{summed};
 ghost use Rattle.builder_structs.specs.Next.{padSize, prefixEnd, endOf, stateOf, stateAt, fieldsOf, next, nodesOf, countOf};
 ghost use Rattle.builder_structs.specs.Field.{inner, withAlign, sumOf, payloadOf, EntersOwn, ClosesAligned};
-ghost use Rattle.builder_structs.specs.Ready.{ReadyInner, ReadyArray, ReadyPaths, ReadyField, ReadyEnum, ReadyNext, ReadySum, Ran, Goes};
+ghost use Rattle.builder_structs.specs.Ready.{ReadyBehind, ReadyInner, ReadyArray, ReadyPaths, ReadyField, ReadyEnum, ReadyNext, ReadySum, Ran, Goes};
 
 // The end of the prefix behind a field, unless it is 2^64 or more.
 pub enum End {
@@ -65,7 +65,7 @@ fn enter_own(s: &[u8], words: &mut [u64], n: usize, kind: usize) -> Held
 
 // What was built of a field, then its type's own references: "a field's own references enter after its node".
 fn enter_behind(s: &[u8], words: &mut [u64], kind: usize, node: Built) -> Built
-    requires { ⌜ Standing (now s) (now words) (node .count) × Accepted (now s) 1 7 kind ⌝ }
+    requires { ⌜ ReadyBehind (now s) (now words) node × Accepted (now s) 1 7 kind ⌝ }
     ensures { λ r. ⌜ (r .at ≡ node .at) × (r .count ≤ 512) ⌝ }
     ensures { λ r. ⌜ ((a : Accepted (now (s .entry)) 1 7 kind) → EntersOwn (now (s .entry)) (now (words .entry)) node (head (typeOf (tree a))) (now (words .exit)) r) ⌝ }
 {

@@ -1,9 +1,9 @@
 -- `sum` meets its contract: the sum of one node is that node; the sum of more is an Add node of the sum of the first ones, which the
 -- function makes itself, and the last. The measure is the number of nodes.
 use borrow.Author.Needs.{needs}
-use Rattle.builder_structs.proofs.Laws.{sum-one, sum-stops, sum-stops-last, sum-done, next-ready, first-goes, last-ready, sum-goes, sum-ends}
+use Rattle.builder_structs.proofs.Laws.{sum-one, sum-stops, sum-stops-last, sum-done, ran-index, next-ready, first-goes, last-ready, sum-goes, sum-ends}
 use native.Mathlib.Omega.{arith}
-use Prim.Native.Nat.{ℕ, _<_, _+_, _-_}
+use Prim.Native.Nat.{ℕ, _<_}
 use borrow.Fn.Kinds.{In}
 use borrow.Fn.PlainCycle.{Measures, is, falls, and}
 use Rattle.builder_structs.proofs.sum.Reads as reads
@@ -114,9 +114,11 @@ returns-2 t c =
 
 child-requires-2 : (t : ℕ) → lts.Need-child-requires-2 (calls t) (within t) reads.Post
 child-requires-2 t c κs =
-    let first = c .before .before .before .before .before .before .before .before in
+    let at-else2 = c .before .before in
+    let first = at-else2 .before .before .before .before .before .before in
     let ready = at-start t first .pre .1 in
     last-ready _ (at-open-add t first .open-add .ensures .1) (ready .some) (first .sum .ensures .0) ready (search needs)
+    (ran-index (at-else2 .if2 .left) (first .sum .ensures .1 (ready .set .0) (ready .refs) (ready .list) (ready .set .1)))
 
 same-length-6 : (t : ℕ) → lts.Need-same-length-6 (calls t) (within t) reads.Post
 same-length-6 t c =

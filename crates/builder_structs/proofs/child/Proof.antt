@@ -79,6 +79,7 @@ returns-4 c =
         list = at-start .pre .list;
       },
       child-pad
+          (at-start .pre .standing .index)
           (at-else2 .if2 .left)
           (omega (arith, at-else1 .if1 .left))
           (at-field-parts .field-parts .ensures)

@@ -9,12 +9,13 @@ use Rattle.builder_structs.proofs.enter_behind.Tie as tie
 returns : tie.Need-returns
 returns c =
     let at-start = c .before .before .before .before in
-    ((refl, at-start .pre .0 .count), λ a. own-stops _ (c .if1 .taken))
+    ((refl, at-start .pre .0 .entries), λ a. own-stops _ (c .if1 .taken))
 
 enter-own-requires : tie.Need-enter-own-requires
 enter-own-requires c κs =
-    let at-start = c .before .before .before .before .before in
-    at-start .pre
+    let at-else1 = c .before in
+    let at-start = at-else1 .before .before .before .before in
+    (at-start .pre .0 .standing (at-else1 .if1 .left), at-start .pre .1)
 
 returns-2 : tie.Need-returns-2
 returns-2 c =

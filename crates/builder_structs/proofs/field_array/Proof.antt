@@ -1,10 +1,9 @@
 -- `field_array` meets its contract: the array under the field's name, with what enters behind it.
 use borrow.Author.Needs.{needs}
 use native.Mathlib.Omega.{arith}
-use Rattle.builder_registry.proofs.Laws.{standing}
-use Rattle.builder_nodes.proofs.Laws.{widened}
+use Rattle.builder_nodes.proofs.Laws.{builds-index, widened}
 use Rattle.resolved_parts.proofs.Laws.{inside, named-short}
-use Rattle.builder_structs.proofs.Field.{own-within, array-built}
+use Rattle.builder_structs.proofs.Field.{behind-ready, own-within, array-built}
 use Rattle.builder_structs.proofs.field_array.Statement.{statement}
 use Rattle.builder_structs.proofs.field_array.Tie as tie
 
@@ -40,7 +39,9 @@ enter-behind-requires : tie.Need-enter-behind-requires
 enter-behind-requires c κs =
     let at-node = c .before .before .before .before .before in
     let at-start = at-node .before .before .before .before .before .before .before in (
-      standing (at-start .pre .field .base .standing) (search needs) (at-node .build-array-node-with-prefix .ensures .0 .count),
+      behind-ready (at-start .pre .field .base .standing) (search needs)
+          (at-node .build-array-node-with-prefix .ensures .0)
+          (λ z. builds-index z (at-node .build-array-node-with-prefix .ensures .1 (at-start .pre .field .base .type-at))),
       at-start .pre .field .base .type-at,
     )
 

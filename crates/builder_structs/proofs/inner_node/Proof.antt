@@ -3,9 +3,8 @@ use borrow.Author.Needs.{needs}
 use mathlib.Core.Path.{_≡_, _∙_}
 use native.Mathlib.Omega.{arith}
 use Rattle.resolved_parts.proofs.Laws.{kind-of}
-use Rattle.builder_registry.proofs.Laws.{standing}
 use Rattle.builder_nodes.proofs.Laws.{widened}
-use Rattle.builder_structs.proofs.Field.{own-within, enum-inner, sized-inner, call-inner}
+use Rattle.builder_structs.proofs.Field.{behind-ready, own-within, enum-inner, enum-index, sized-inner, sized-index, call-inner}
 use Rattle.builder_structs.proofs.inner_node.Statement.{statement}
 use Rattle.builder_structs.proofs.inner_node.Tie as tie
 
@@ -29,8 +28,11 @@ build-enum-node-requires c κs =
 enter-behind-requires : tie.Need-enter-behind-requires
 enter-behind-requires c κs =
     let at-node = c .before .before .before .before .before in
-    let at-start = start-of-then (at-node .before .before .before) in (
-      standing (at-start .pre .standing) (search needs) (at-node .build-enum-node .ensures .0 .count),
+    let at-then1 = at-node .before .before .before in
+    let at-start = start-of-then at-then1 in (
+      behind-ready (at-start .pre .standing) (search needs)
+          (at-node .build-enum-node .ensures .0)
+          (enum-index _ (at-start .pre .kind-is ∙ at-then1 .if1 .taken) (at-node .build-enum-node .ensures .1) (at-start .pre .type-at)),
       at-start .pre .type-at,
     )
 
@@ -59,8 +61,14 @@ build-size-discriminated-union-node-requires c κs =
 enter-behind-requires-2 : tie.Need-enter-behind-requires-2
 enter-behind-requires-2 c κs =
     let at-node = c .before .before .before .before .before in
-    let at-start = start-of-else (at-node .before .before .before .before) in (
-      standing (at-start .pre .standing) (search needs) (at-node .build-size-discriminated-union-node .ensures .0 .count),
+    let at-then2 = at-node .before .before .before in
+    let at-start = start-of-else (at-then2 .before) in (
+      behind-ready (at-start .pre .standing) (search needs)
+          (at-node .build-size-discriminated-union-node .ensures .0)
+          (sized-index _
+          (at-start .pre .kind-is ∙ at-then2 .if2 .taken)
+          (at-node .build-size-discriminated-union-node .ensures .1)
+          (at-start .pre .type-at)),
       at-start .pre .type-at,
     )
 

@@ -1,10 +1,9 @@
 -- `put_sum` meets its contract: the sum of the paths, with what enters behind it.
 use borrow.Author.Needs.{needs}
 use native.Mathlib.Omega.{arith}
-use Rattle.builder_registry.proofs.Laws.{standing}
-use Rattle.builder_nodes.proofs.Laws.{widened}
+use Rattle.builder_nodes.proofs.Laws.{builds-index, widened}
 use Rattle.resolved_parts.proofs.Laws.{named-short}
-use Rattle.builder_structs.proofs.Field.{own-within, sum-built}
+use Rattle.builder_structs.proofs.Field.{behind-ready, own-within, sum-built}
 use Rattle.builder_structs.proofs.put_sum.Statement.{statement}
 use Rattle.builder_structs.proofs.put_sum.Tie as tie
 
@@ -27,7 +26,9 @@ enter-behind-requires : tie.Need-enter-behind-requires
 enter-behind-requires c κs =
     let at-sum-refs = c .before .before .before in
     let at-start = at-sum-refs .before .before .before .before .before .before .before in (
-      standing (at-start .pre .field .base .standing) (search needs) (at-sum-refs .sum-refs .ensures .0 .count),
+      behind-ready (at-start .pre .field .base .standing) (search needs)
+          (at-sum-refs .sum-refs .ensures .0)
+          (λ z. builds-index z (at-sum-refs .sum-refs .ensures .1 (at-start .pre .list))),
       at-start .pre .field .base .type-at,
     )
 
