@@ -25,8 +25,9 @@ use Rattle.resolved_parts.proofs.Laws.{inside, long, kind-of, primitive}
 use Rattle.resolved_parts.proofs.Each.{fields-at, sized-at, enum-at, array-at, target-at}
 use Rattle.wire.specs.Poke.{Wrote}
 use Rattle.builder.specs.Registry.{Registry, Build, give, refuse}
-use Rattle.builder.specs.Nodes.{unlessTarget, build-typeref-node, build-variable, build-variable-struct, build-union-node, build-enum-node, build-array-node, build-size-discriminated-union-node, node-from-resolved}
-use Rattle.builder_registry.specs.Words.{entriesOf}
+use Rattle.builder.specs.Nodes.{unlessTarget, build-typeref-node, build-variable, build-variable-struct, node-from-resolved}
+use Rattle.builder.specs.Nodes.{build-union-node, build-enum-node, build-array-node, build-size-discriminated-union-node}
+use Rattle.builder_registry.specs.Words.{Indexed, entriesOf}
 use Rattle.builder_nodes.specs.declared.Built.{Built}
 use Rattle.builder_nodes.specs.Built.{Builds, Within}
 use Rattle.builder_nodes.proofs.Laws.{widened}
@@ -49,17 +50,16 @@ module _ {s ws : List ℕ} {n k kind at : ℕ} (a : Ready s ws n kind at) (e : k
   switch-ready = record { standing = a .standing; type-at = a .type-at; kind-is = sym e ∙ f; cursor = omega (arith, a .cursor) }
 
 -- a type is at most as long as the set
-pub short-type : {s ws : List ℕ} {n kind at : ℕ} → Ready s ws n kind at → kind + 6 ≤ length s × (le4 s kind ≤ 65536)
-short-type a =
-    let i = inside (a .type-at) in
-    let l = long (a .type-at) in
-    let z = a .standing .size in
+pub short-type : {s : List ℕ} {kind : ℕ} → Accepted s 1 7 kind → length s ≤ 65536 → kind + 6 ≤ length s × (le4 s kind ≤ 65536)
+short-type a z =
+    let i = inside a in
+    let l = long a in
     (omega arith, omega arith)
 
 -- what an array stands on
 pub array-ready : {s ws : List ℕ} {n k kind at : ℕ} → Ready s ws n kind at → k ≡ le2 s (kind + 4) → k ≡ 5 → ArrayReady s ws n kind at
 array-ready a e f =
-    let z = short-type a .1 in
+    let z = short-type (a .type-at) (a .standing .size) .1 in
     let w = a .cursor in
     record { standing = a .standing; type = a .type-at; kind = sym e ∙ f; cursor = omega arith }
 
@@ -67,7 +67,7 @@ array-ready a e f =
 
 -- an array is short, as the set is
 pub array-wide : {s ws : List ℕ} {n kind at : ℕ} {r : Built} → Ready s ws n kind at → Within at (1024 * (4 + le4 s kind)) r → Within at (2 ^ 41) r
-array-wide a w = let z = short-type a .1 in widened (omega arith) w
+array-wide a w = let z = short-type (a .type-at) (a .standing .size) .1 in widened (omega arith) w
 
 -- ---- the definition, by kind
 
@@ -186,9 +186,10 @@ module _ {s : List ℕ} {k kind : ℕ} {xs : List ℕ} {at : ℕ} {us ys : List 
       primitive-built f n t a d = variable-built t a v (primitive a (sym e ∙ f)) refl (AnswersIn.not 10 n (omega arith))
 
     -- of constant size, and no type reference
-    pub const-built : not (h .variable) ≡ true → (k ≡ 7 → ⊥) → r .number ≡ 0 → entriesOf s us (r .count) ≡ g →
+    pub const-built : not (h .variable) ≡ true → (k ≡ 7 → ⊥) → r .number ≡ 0 → entriesOf s us (r .count) ≡ g → Indexed s us (r .count) →
         Wrote xs at (write (nodeTree (IrNode.Const unplaced (aligned (h .alignment)) (h .size)))) ys (r .at) → Root s kind xs at us ys r g
-    const-built v f n c o t a d =
+    const-built v f n c x o t a d =
         let z : head (typeOf (tree a)) .size ≡ Size.Const (h .size) = w a .size ∙ ap (λ (b : Bool). sized b (h .size)) (not-true (h .variable) v) in
         let i = const-root (typesOf t) (typeOf (tree a)) g (not-target a (λ u. f (e ∙ u))) z in
-        subst (Builds s xs at us ys r) (sym (i ∙ ap (λ (l : ℕ). done (IrNode.Const unplaced (aligned l) (h .size), g)) (w a .alignment))) (AnswersIn.made _ n (record { entries = c; wrote = o }))
+        subst (Builds s xs at us ys r) (sym (i ∙ ap (λ (l : ℕ). done (IrNode.Const unplaced (aligned l) (h .size), g)) (w a .alignment)))
+        (AnswersIn.made _ n (record { entries = c; index = x; wrote = o }))

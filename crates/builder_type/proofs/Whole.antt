@@ -26,14 +26,13 @@ use Rattle.builder.specs.BuildType.{filter-jagged-element-parameters, build-typ
 use Rattle.builder.specs.Build.{build-type}
 use Rattle.builder.proofs.Steps.{reads-then}
 use Rattle.builder_registry.specs.declared.Held.{Held}
-use Rattle.builder_registry.specs.Words.{KeptIn, Kept, entriesOf}
-use Rattle.builder_registry.proofs.Laws.{standing}
+use Rattle.builder_registry.specs.Words.{Standing, Indexed, KeptIn, Kept, entriesOf}
 use Rattle.builder_nodes.specs.declared.Built.{Built}
 use Rattle.builder_nodes.specs.Built.{Builds}
 use Rattle.builder_nodes.proofs.Laws.{step-passes, step-goes}
 use Rattle.builder_parameters.specs.Ready.{Ready as ListReady}
 use Rattle.builder_type.specs.declared.TypeTree.{TypeTree}
-use Rattle.builder_type.specs.Built.{Ready, TypeIn, BuildsType}
+use Rattle.builder_type.specs.Built.{Ready, ReadyWords, TypeIn, BuildsType}
 use Rattle.builder_type.proofs.Root.{Root}
 
 -- ---- the definition, step by step
@@ -129,11 +128,15 @@ module _ {s xs ys : List ℕ} {kind at : ℕ} {r : TypeTree} where
 
 -- ---- what the calls stand on
 
-module _ {s ws us : List ℕ} {n kind at : ℕ} (a : Ready s ws n kind at) (e : length us ≡ length ws) where
+module _ {s ws us : List ℕ} {m kind at : ℕ} (a : ReadyWords s ws kind at) (e : length us ≡ length ws) (h : m ≤ 512) (i : Indexed s us m) where
+  -- m entries with their index
+  pub words-ready : Standing s us m
+  words-ready = record { size = a .size; words = rw e (a .words); count = h; index = i }
+
   -- what the root stands on
-  pub root-ready : {m p : ℕ} → m ≤ 512 → p < 2 ^ 55 → Ready s us m kind p
-  root-ready h l = record { standing = standing (a .standing) e h; set = a .set; type-at = a .type-at; cursor = l }
+  pub root-ready : {p : ℕ} → p < 2 ^ 55 → Ready s us m kind p
+  root-ready l = record { standing = words-ready; set = a .set; type-at = a .type-at; cursor = l }
 
   -- what listing the parameters stands on
-  pub list-ready : {m p : ℕ} → m ≤ 512 → p < 2 ^ 57 → ListReady s us m kind p
-  list-ready h l = record { standing = standing (a .standing) e h; type-at = a .type-at; cursor = l }
+  pub list-ready : {p : ℕ} → p < 2 ^ 57 → ListReady s us m kind p
+  list-ready l = record { standing = words-ready; type-at = a .type-at; cursor = l }

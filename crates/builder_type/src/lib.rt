@@ -11,7 +11,7 @@ ghost use Rattle.builder.specs.Nodes.{node-from-resolved};
 ghost use Rattle.builder.specs.Build.{build-type};
 ghost use Rattle.builder_registry.specs.Words.{entriesOf};
 ghost use Rattle.builder_nodes.specs.Built.{Builds, Within};
-ghost use Rattle.builder_type.specs.Built.{Ready, BuildsType};
+ghost use Rattle.builder_type.specs.Built.{Ready, ReadyWords, BuildsType};
 
 // The cursor behind a type tree, and the number of a refusal or 0.
 pub struct TypeTree {
@@ -60,15 +60,17 @@ fn node_from_resolved(
     }
 }
 
-// The type tree of the type at `kind`, from an empty registry. Its root stands behind a name and a number. Nothing is said of the
-// words after: the next type begins with an empty registry again.
+// The type tree of the type at `kind`, from an empty registry, whatever the words hold before. Its root stands behind a name and a
+// number. A refusal leaves the cursor where it was. Nothing is said of the words after: the next type begins with an empty registry
+// again.
 pub fn build_type(s: &[u8], words: &mut [u64], kind: usize, out: &mut [u8], at: usize) -> TypeTree
-    requires { ⌜ Ready (now s) (now words) 0 kind (at + 512) ⌝ }
-    ensures { λ r. ⌜ (at ≤ r .at) × (r .at ≤ at + 2 ^ 42) ⌝ }
+    requires { ⌜ ReadyWords (now s) (now words) kind (at + 512) ⌝ }
+    ensures { λ r. ⌜ (at ≤ r .at) × (r .at ≤ at + 2 ^ 42) × ((r .number ≡ 0 → ⊥) → r .at ≡ at) ⌝ }
     ensures { λ r. ⌜ ((t : Tree) (a : Accepted (now (s .entry)) 1 7 kind) → readSet (now (s .entry)) ≡ done t → BuildsType (now (out .entry)) at (now (out .exit)) r (build-type (typesOf t) (typeOf (tree a)))) ⌝ }
 {
     let head = resolved_parts::type_head(s, kind);
     let references = head.references;
+    builder_registry::begin(words);
     let held = builder_registry::extend_with(s, words, 0, references);
     let entered = held.count;
     if held.number != 0 {

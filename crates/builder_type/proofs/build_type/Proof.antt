@@ -6,8 +6,10 @@ use borrow.Author.Needs.{needs}
 use mathlib.Core.Path.{refl, _∙_}
 use Prim.Native.Nat.{_+_, _^_, _≤_}
 use Rattle.resolved_parts.proofs.Laws.{named-short}
+use Rattle.builder_registry.proofs.Laws.{kept-index}
+use Rattle.builder_nodes.proofs.Laws.{builds-index}
 use Rattle.builder_type.proofs.Root.{short-type}
-use Rattle.builder_type.proofs.Whole.{not-entered, no-root, tree-built, root-ready, list-ready}
+use Rattle.builder_type.proofs.Whole.{not-entered, no-root, tree-built, words-ready, root-ready, list-ready}
 use Rattle.builder_type.proofs.build_type.Statement.{statement}
 use Rattle.builder_type.proofs.build_type.Tie as tie
 
@@ -15,8 +17,11 @@ use Rattle.builder_type.proofs.build_type.Tie as tie
 abbrev at-extend-with : tie.Else1 → tie.After-extend-with
 at-extend-with r = r .before .before .before .before
 
+abbrev at-begin : tie.Else1 → tie.After-begin
+at-begin r = at-extend-with r .before .before .before .before
+
 abbrev at-type-head : tie.Else1 → tie.After-type-head
-at-type-head r = at-extend-with r .before .before
+at-type-head r = at-begin r .before .before
 
 abbrev at-start : tie.Else1 → tie.Start
 at-start r = at-type-head r .before .before .before .before
@@ -39,16 +44,26 @@ type-head-requires c κs =
     let at-start = c .before .before .before in
     at-start .pre .type-at
 
+begin-requires : tie.Need-begin-requires
+begin-requires c κs =
+    let at-start = c .before .before .before .before .before in
+    at-start .pre .words
+
 extend-with-requires : tie.Need-extend-with-requires
 extend-with-requires c κs =
-    let at-start = c .before .before .before .before .before in
-    (at-start .pre .standing, c .before .type-head .ensures (at-start .pre .type-at) .references)
+    let at-begin = c .before .before .before in
+    let at-type-head = at-begin .before .before in
+    let at-start = at-type-head .before .before .before .before in (
+      words-ready (at-start .pre) (at-begin .begin .kept .0) (omega arith) (at-begin .begin .ensures _),
+      at-type-head .type-head .ensures (at-start .pre .type-at) .references,
+    )
 
 returns : tie.Need-returns
 returns c =
     let at-extend-with = c .before .before .before .before in
-    let at-type-head = at-extend-with .before .before in (
-      (omega arith, omega arith),
+    let at-begin = at-extend-with .before .before .before .before in
+    let at-type-head = at-begin .before .before in (
+      (omega arith, omega arith, λ z. refl),
       not-entered
           (at-type-head .type-head .ensures) _
           (at-extend-with .extend-with .ensures .1)
@@ -56,7 +71,7 @@ returns c =
     )
 
 add-name-at : tie.Need-add-name-at
-add-name-at c = omega (arith, short-type (at-start c .pre) .0)
+add-name-at c = omega (arith, short-type (at-start c .pre .type-at) (at-start c .pre .size) .0)
 
 name-at-requires : tie.Need-name-at-requires
 name-at-requires c κs = at-type-head c .type-head .ensures (at-start c .pre .type-at) .named
@@ -134,14 +149,25 @@ node-from-resolved-requires c κs =
     let held = at-else1 at-put-le in
     root-ready
     (at-start held .pre)
-    (at-extend-with held .extend-with .kept .1 .0)
+    (at-extend-with held .extend-with .kept .1 .0 ∙ at-begin held .begin .kept .0)
     (at-extend-with held .extend-with .ensures .0)
+    (kept-index
+    (held .if1 .left)
+    (at-extend-with held .extend-with .ensures .1 (at-type-head held .type-head .ensures (at-start held .pre .type-at) .references)))
     (omega (arith, at-start held .pre .cursor, root-at at-put-le))
+
+-- the words keep their length at each call
+same-length-2 : tie.Need-same-length-2
+same-length-2 c =
+    let root = c .before .before .before .before .before .before in
+    root .node-from-resolved .kept .1 .0
+    ∙ at-extend-with (entered root) .extend-with .kept .1 .0
+    ∙ at-begin (entered root) .begin .kept .0
 
 returns-2 : tie.Need-returns-2
 returns-2 c =
     let root = c .before .before .before .before .before .before in (
-      (omega arith, omega arith),
+      (omega arith, omega arith, λ z. refl),
       no-root
           (at-type-head (entered root) .type-head .ensures) _
           (at-extend-with (entered root) .extend-with .ensures .1)
@@ -152,12 +178,14 @@ returns-2 c =
 
 put-parameters-requires : tie.Need-put-parameters-requires
 put-parameters-requires c κs =
-    let root = c .before .before .before .before .before .before .before .before in
+    let at-else2 = c .before .before in
+    let root = at-else2 .before .before .before .before .before .before in
     let ready = at-start (entered root) .pre in
     list-ready
     ready
-    (root .node-from-resolved .kept .1 .0 ∙ at-extend-with (entered root) .extend-with .kept .1 .0)
+    (root .node-from-resolved .kept .1 .0 ∙ at-extend-with (entered root) .extend-with .kept .1 .0 ∙ at-begin (entered root) .begin .kept .0)
     (root .node-from-resolved .ensures .0 .count)
+    (builds-index (at-else2 .if2 .left) (root .node-from-resolved .ensures .1 (ready .set .0) (ready .type-at) (ready .set .1)))
     (omega (arith, ready .cursor, root-at (at-put-le root), root .node-from-resolved .ensures .0 .high))
 
 close-block-requires : tie.Need-close-block-requires
@@ -168,7 +196,9 @@ close-block-requires c κs =
 same-length-4 : tie.Need-same-length-4
 same-length-4 c =
     let root = at-root (c .before .before .before .before .before .before) in
-    root .node-from-resolved .kept .1 .0 ∙ at-extend-with (entered root) .extend-with .kept .1 .0
+    root .node-from-resolved .kept .1 .0
+    ∙ at-extend-with (entered root) .extend-with .kept .1 .0
+    ∙ at-begin (entered root) .begin .kept .0
 
 same-length-5 : tie.Need-same-length-5
 same-length-5 c =
@@ -188,7 +218,7 @@ returns-3 c =
     let listed = at-close-block .before .before .before .before in
     let root = at-root listed in
     let begun = at-put-le root in (
-      (omega (arith, ends listed .0), ends listed .1),
+      (omega (arith, ends listed .0), ends listed .1, λ z. absurd (z refl)),
       tree-built
           (at-type-head (entered root) .type-head .ensures) _
           (at-extend-with (entered root) .extend-with .ensures .1)
@@ -206,6 +236,6 @@ returns-3 c =
 pub build-type-spec : {M : Type 1} → statement M
 build-type-spec =
     tie.close
-    (tie.spec type-head-requires extend-with-requires (λ c. search needs) returns add-name-at name-at-requires
-    open-block-requires put-name-requires put-le-requires node-from-resolved-requires (λ c. search needs)
+    (tie.spec type-head-requires begin-requires extend-with-requires (λ c. search needs) returns add-name-at name-at-requires
+    open-block-requires put-name-requires put-le-requires node-from-resolved-requires same-length-2
     (λ c. search needs) returns-2 put-parameters-requires close-block-requires same-length-4 same-length-5 returns-3)

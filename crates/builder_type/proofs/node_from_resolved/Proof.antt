@@ -4,7 +4,8 @@ use native.Mathlib.Omega.{arith}
 use borrow.Author.Needs.{needs}
 use mathlib.Core.Path.{refl}
 use Rattle.builder_nodes.proofs.Laws.{stopped, widened}
-use Rattle.builder_type.proofs.Root.{call-ready, switch-ready, array-ready, short-type, array-wide, only-one, call-built, const-built, struct-built, union-built, enum-built, array-built, sized-built, primitive-built}
+use Rattle.builder_type.proofs.Root.{call-ready, switch-ready, array-ready, short-type, array-wide, only-one}
+use Rattle.builder_type.proofs.Root.{call-built, const-built, struct-built, union-built, enum-built, array-built, sized-built, primitive-built}
 use Rattle.builder_type.proofs.node_from_resolved.Statement.{statement}
 use Rattle.builder_type.proofs.node_from_resolved.Tie as tie
 
@@ -24,12 +25,12 @@ begun r = at-start (at-read2 r)
 add-read2 : tie.Need-add-read2
 add-read2 c =
     let at-start = c .before .before .before in
-    omega (arith, short-type (at-start .pre) .0)
+    omega (arith, short-type (at-start .pre .type-at) (at-start .pre .standing .size) .0)
 
 read2-requires : tie.Need-read2-requires
 read2-requires c κs =
     let at-start = c .before .before .before in
-    omega (arith, short-type (at-start .pre) .0)
+    omega (arith, short-type (at-start .pre .type-at) (at-start .pre .standing .size) .0)
 
 build-typeref-node-requires : tie.Need-build-typeref-node-requires
 build-typeref-node-requires c κs =
@@ -55,11 +56,13 @@ returns-2 c = (
       let at-then2 = at-put-const .before .before in
       let at-type-head = at-then2 .before .before in
       let at-else1 = at-type-head .before in
+      let at-read2 = at-else1 .before in
       const-built _
-      (at-else1 .before .read2 .ensures .0)
+      (at-read2 .read2 .ensures .0)
       (at-type-head .type-head .ensures)
       (at-then2 .if2 .taken)
       (at-else1 .if1 .left) refl refl
+      (at-start at-read2 .pre .standing .index)
       (at-put-const .put-const .ensures .0),
 )
 
