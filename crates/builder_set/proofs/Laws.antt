@@ -43,8 +43,7 @@ use Rattle.reader_calls.specs.Inputs.{readCall, passed, passedOf}
 use Rattle.reader_calls.proofs.Laws.{called, passed-no}
 use Rattle.lookup.proofs.Types.{set-list}
 use Rattle.builder_type.specs.declared.TypeTree.{TypeTree}
-use Rattle.builder_type.specs.Built.{BuildsType, Ready as TypeReady}
-use Rattle.builder_registry.proofs.Laws.{standing}
+use Rattle.builder_type.specs.Built.{BuildsType, ReadyWords as TypeReady}
 use Rattle.builder_set.specs.Sets.{TypesAt, Ready, holdsAt, layoutOf, Leaves}
 
 -- ---- the loop
@@ -192,16 +191,16 @@ no-more {place} h z c t e =
 -- ---- what the calls stand on
 
 -- what building the next type stands on
-pub type-ready : {s ws xs ys : List ℕ} {at left from place p : ℕ} → Ready s ws → 0 < left → Loop s xs at ys left from place p → p + 512 < 2 ^ 55 → TypeReady s ws 0 from (p + 512)
-type-ready r h c k = record { standing = r .standing; set = r .set; type-at = next-type h c (r .set .0) (r .set .1) .0; cursor = k }
+pub type-ready : {s ws xs ys : List ℕ} {at left from place p : ℕ} → Ready s ws → 0 < left → Loop s xs at ys left from place p → p + 512 < 2 ^ 55 → TypeReady s ws from (p + 512)
+type-ready r h c k = record { size = r .size; words = r .words; set = r .set; type-at = next-type h c (r .set .0) (r .set .1) .0; cursor = k }
 
 -- the words may hold other entries
 pub ready-again : {s ws us : List ℕ} → Ready s ws → length us ≡ length ws → Ready s us
-ready-again r e = record { standing = standing (r .standing) e (omega arith); set = r .set }
+ready-again r e = record { size = r .size; words = rw e (r .words); set = r .set }
 
 -- where the next type ends
 pub next-end : {s ws xs ys : List ℕ} {at left from place p : ℕ} → Ready s ws → 0 < left → Loop s xs at ys left from place p → from + 4 + le4 s from ≤ 65536
-next-end {s} {from} r h c = let n = next-type h c (r .set .0) (r .set .1) .1 in omega (arith, n, r .standing .size)
+next-end {s} {from} r h c = let n = next-type h c (r .set .0) (r .set .1) .1 in omega (arith, n, r .size)
 
 -- the next type stands inside the set
 pub next-inside : {s ws xs ys : List ℕ} {at left from place p : ℕ} → Ready s ws → 0 < left → Loop s xs at ys left from place p → from + 4 + le4 s from ≤ length s
@@ -400,8 +399,8 @@ module _ (n : ℕ) (set : List ℕ) {r : Read} (d : passedOf r ≡ passed (readC
         subst (Leaves xs ys a) (sym (asked-first n (length xs) set ∙ bound-done (layoutOf (length xs)) (j .is))) (g (j .tree) (j .input-read))
 
     -- building stands on a set that was read, and on the words
-    pub set-ready : {ws : List ℕ} → (8192 ≤ n → 512 ≤ length ws) → Ready set ws
-    set-ready h = let j = called d e in record { standing = record { size = j .size; words = h (j .words); count = omega arith }; set = (j .tree, j .input-read) }
+    pub set-ready : {ws : List ℕ} → (8192 ≤ n → 1663 ≤ length ws) → Ready set ws
+    set-ready h = let j = called d e in record { size = j .size; words = h (j .words); set = (j .tree, j .input-read) }
 
 -- ---- what a call leaves
 

@@ -1,5 +1,5 @@
 -- What building a set's types, and a set, leaves.
-use Prim.Native.Nat.{ℕ}
+use Prim.Native.Nat.{ℕ, _≤_}
 use mathlib.Core.Path.{_≡_}
 use mathlib.Core.List.{List, _++_}
 use lib.ListN.{length, take, drop}
@@ -17,11 +17,11 @@ use Rattle.builder.specs.Build.{build-types, write-layout}
 use Rattle.ir.specs.Ir.{TypeIr}
 use Rattle.ir.specs.Layout.{typeIrTree, entriesTree}
 use Rattle.wire.specs.Poke.{Wrote}
-use Rattle.builder_registry.specs.Words.{Standing}
 
--- an accepted set, and room for the registry
+-- an accepted set, and room for the registry with its index
 pub record Ready (s ws : List ℕ) : Type 0 where
-  pub standing : Standing s ws 0
+  pub size : length s ≤ 65536
+  pub words : 1663 ≤ length ws
   pub set : (t : Tree) × (readSet s ≡ done t)
 
 -- the type trees' bytes were written, and the next cursor

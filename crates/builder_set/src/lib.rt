@@ -5,7 +5,7 @@ use errors::Refusal;
 use reader_leaf::Read;
 use value::Value;
 ghost use mathlib.Core.Path.{_≡_};
-ghost use Prim.Native.Nat.{ℕ, _+_, _^_, _≤_, _<_};
+ghost use Prim.Native.Nat.{_+_, _^_, _≤_, _<_};
 ghost use lib.ListN.{length};
 ghost use Rattle.errors.specs.Refusal.{done, words-after};
 ghost use Rattle.errors.specs.Answer.{built};
@@ -98,7 +98,7 @@ fn build_layout(s: &[u8], words: &mut [u64], out: &mut [u8]) -> Length
 
 // The questions of a call with n working words, of which those for the registry are lent; then the layout.
 fn built(n: usize, set: &[u8], out: &mut [u8], words: &mut [u64]) -> Length
-    requires { ⌜ (8192 ≤ n → 512 ≤ length (now words)) ⌝ }
+    requires { ⌜ (8192 ≤ n → 1663 ≤ length (now words)) ⌝ }
     ensures { λ r. ⌜ Leaves (now (out .entry)) (now (out .exit)) r (build-set n (length (now (out .entry))) (now (set .entry))) ⌝ }
 {
     match reader_calls::one_read(n, set, 32, 36) {
@@ -109,7 +109,7 @@ fn built(n: usize, set: &[u8], out: &mut [u8], words: &mut [u64]) -> Length
 
 // The same, and a refusal leaves the output all zeros.
 fn settled(n: usize, set: &[u8], out: &mut [u8], words: &mut [u64]) -> Length
-    requires { ⌜ (8192 ≤ n → 512 ≤ length (now words)) ⌝ }
+    requires { ⌜ (8192 ≤ n → 1663 ≤ length (now words)) ⌝ }
     ensures { λ r. ⌜ lengthOf r ≡ built (build-set n (length (now (out .entry))) (now (set .entry))) ⌝ }
     ensures { λ _. ⌜ now (out .exit) ≡ output-after (now (out .entry)) (build-set n (length (now (out .entry))) (now (set .entry))) ⌝ }
 {
@@ -131,20 +131,19 @@ pub fn build_set(set: &[u8], out: &mut [u8], words: &mut [u64]) -> Length
 {
     let n = words.len();
     wire::clear_words(words);
-    // a word for each entry of the registry
-    let most = reader_calls::used(n, 512);
-    let entries = &mut words[..most];
-    let a = settled(n, set, out, entries);
-    wire::clear_words(entries);
+    let most = reader_calls::used(n, builder_registry::WORDS);
+    let registry = &mut words[..most];
+    let a = settled(n, set, out, registry);
+    wire::clear_words(registry);
     a
 }
 
-// The same with working words of its own, of which it needs one for each entry of the registry: the caller gives none, so that 19 is
-// never answered and no word has to be cleared.
+// The same with working words of its own, as many as the registry and its index take: the caller gives none, so that 19 is never
+// answered and no word has to be cleared.
 pub fn layout_of(set: &[u8], out: &mut [u8]) -> Length
     ensures { λ r. ⌜ lengthOf r ≡ built (build-set 8192 (length (now (out .entry))) (now (set .entry))) ⌝ }
     ensures { λ _. ⌜ now (out .exit) ≡ output-after (now (out .entry)) (build-set 8192 (length (now (out .entry))) (now (set .entry))) ⌝ }
 {
-    let mut entries = [0u64; 512];
-    settled(8192, set, out, &mut entries)
+    let mut registry = [0u64; builder_registry::WORDS];
+    settled(8192, set, out, &mut registry)
 }

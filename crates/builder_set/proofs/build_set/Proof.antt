@@ -18,17 +18,17 @@ clear-words-requires c κs = search needs
 used-requires : tie.Need-used-requires
 used-requires c κs = search needs
 
-slice-relend-prefix-entries : tie.Need-slice-relend-prefix-entries
-slice-relend-prefix-entries c =
-    part-within _ 512 _
+slice-relend-prefix-registry : tie.Need-slice-relend-prefix-registry
+slice-relend-prefix-registry c =
+    part-within _ _ _
     (at-clear-words c .clear-words .last .0)
     (at-clear-words c .clear-words .ensures)
     (c .used .ensures)
 
-slice-aggregate-entries : tie.Need-slice-aggregate-entries
-slice-aggregate-entries c =
+slice-aggregate-registry : tie.Need-slice-aggregate-registry
+slice-aggregate-registry c =
     let at-used = c .before in
-    part-length _ 512 _
+    part-length _ _ _
     (at-clear-words at-used .clear-words .last .0)
     (at-clear-words at-used .clear-words .ensures)
     (at-used .used .ensures)
@@ -36,7 +36,7 @@ slice-aggregate-entries c =
 settled-requires : tie.Need-settled-requires
 settled-requires c κs =
     let at-used = c .before .before .before in
-    λ h. part-enough _ 512 _
+    λ h. part-enough _ _ _
     (at-clear-words at-used .clear-words .last .0)
     (at-clear-words at-used .clear-words .ensures)
     (at-used .used .ensures)
@@ -60,7 +60,7 @@ returns c =
       at-settled .settled .ensures .0,
       (
         at-settled .settled .ensures .1,
-        part-clean _ 512 _
+        part-clean _ _ _
             (at-clear-words at-used .clear-words .last .0)
             (at-clear-words at-used .clear-words .ensures)
             (at-used .used .ensures)
@@ -74,8 +74,8 @@ build-set-spec =
     (tie.spec
     clear-words-requires
     used-requires
-    slice-relend-prefix-entries
-    slice-aggregate-entries
+    slice-relend-prefix-registry
+    slice-aggregate-registry
     settled-requires
     clear-words-requires-2
     same-length
