@@ -1,18 +1,19 @@
--- Names: the part of the bytes that is one; two of them a byte at a time, the same from a place on, or what stands from a
+-- Names: the part of the bytes that is one; two of them, some bytes at a step: the same from a place on, or what stands from a
 -- place on decides which is less. Assumes nothing.
-use mathlib.Core.Path.{_≡_, refl, sym, ap}
+use mathlib.Core.Path.{_≡_, refl, sym, _∙_, ap, ap₂}
 use mathlib.Core.Bool.{Bool, true, false, _&&_, _||_}
-use mathlib.Core.List.{List, []}
+use mathlib.Core.List.{List, [], _∷_, _++_}
 use Prim.Native.Nat.{ℕ, suc, _+_, _-_, _<_, _≤_}
 use native.Mathlib.Numerals.{add-one}
 use native.Mathlib.Nat.{le-antisymm, le-of-lt}
 use native.Mathlib.Omega.{arith}
 use lib.Dec.{ltb, eqb}
 use lib.ListN.{length, take, drop, getD, drop-of-length-le}
-use lib.Seq.{drop-cons}
-use borrow.Author.Tests.{lt-ltb, le-ltb, eq-eqb, ne-eqb, ltb-true, ltb-false}
-use Rattle.blocks.specs.Bytes.{le2, nameAt}
+use lib.Seq.{drop-cons, drop-drop}
+use borrow.Author.Tests.{lt-ltb, le-ltb, eq-eqb, ne-eqb, ltb-true, ltb-false, eqb-true, eqb-false}
+use Rattle.blocks.specs.Bytes.{le, le2, nameAt, bytes}
 use Rattle.blocks.specs.Name.{same, less}
+use Rattle.blocks.proofs.Bytes.{le-one, spelt}
 use Rattle.blocks.proofs.Name.{same-eq, same-refl}
 
 -- ---- name_at
@@ -37,33 +38,67 @@ differ a b h = go (same a b) refl
 pub same-long : (a b : List ℕ) → (length a ≡ length b → ⊥) → false ≡ same a b
 same-long a b h = differ a b (λ e. h (ap length e))
 
--- names that differ at a place are not the same
-pub same-not : (a b : List ℕ) (i : ℕ) → (getD a i 0 ≡ getD b i 0 → ⊥) → false ≡ same a b
-same-not a b i h = differ a b (λ e. h (ap (λ (l : List ℕ). getD l i 0) e))
+-- behind the last byte nothing is left to compare
+pub same-none : (a b : List ℕ) (n : ℕ) → length a ≤ n → length b ≤ n → drop n a ≡ drop n b
+same-none a b n h k = rw (drop-of-length-le a {i = n} h, drop-of-length-le b {i = n} k)
 
--- the bytes from i on are the same
-module _ (a b : List ℕ) (l : length a ≡ length b) where
-  -- behind the last byte nothing is left to compare
-  pub same-none : drop (length a) a ≡ drop (length a) b
-  same-none = rw (drop-of-length-le a {i = length a} (omega arith), drop-of-length-le b {i = length a} (omega arith))
+-- names of one length, whose elements are bytes
+module _ (a b : List ℕ) (bytes-a : (i : ℕ) → getD a i 0 < 256) (bytes-b : (i : ℕ) → getD b i 0 < 256) (l : length a ≡ length b) where
+  -- k bytes at j that make one number are the same: so are all from j on, if those from i on are
+  pub same-step : (k i j : ℕ) → drop i a ≡ drop i b → i ≤ j + k → j + k ≤ length a → {p q : ℕ} → p ≡ le k a j → q ≡ le k b j → p ≡ q → drop j a ≡ drop j b
+  same-step k i j d h g ea eb e =
+      let z : i + (j + k - i) ≡ j + k = omega arith in
+      let r : drop (j + k) a ≡ drop (j + k) b = rw z at (sym (drop-drop (j + k - i) i a) ∙ ap (drop (j + k - i)) d ∙ drop-drop (j + k - i) i b) in
+      let n : le k a j ≡ le k b j = sym ea ∙ e ∙ eb in
+      spelt a bytes-a k j g ∙ ap₂ (λ (v : ℕ) (t : List ℕ). bytes k v ++ t) n r ∙ sym (spelt b bytes-b k j (omega arith))
 
-  module _ (i : ℕ) (e : drop i a ≡ drop i b) where
-    -- one byte more, from the end on, is the same
-    pub same-more : 0 < i → i ≤ length a → getD a (i - 1) 0 ≡ getD b (i - 1) 0 → drop (i - 1) a ≡ drop (i - 1) b
-    same-more h k q =
-        let z : suc (i - 1) ≡ i = omega arith in
-        rw (drop-cons a (i - 1) 0 (omega arith), drop-cons b (i - 1) 0 (omega arith), z, e, q)
+  -- the first k bytes decide, if those from i on are the same
+  pub same-first : (k i : ℕ) → drop i a ≡ drop i b → i ≤ k → k ≤ length a → {p q : ℕ} → p ≡ le k a 0 → q ≡ le k b 0 → eqb p q ≡ same a b
+  same-first k i d h g {p} {q} ea eb = go (eqb p q) refl
+    where
+      go : (t : Bool) → eqb p q ≡ t → t ≡ same a b
+      go true e =
+          let z : a ≡ b = same-step k i 0 d (omega arith) (omega arith) ea eb (eqb-true p q e) in
+          rw z (sym (same-refl b))
+      go false e = differ a b (λ z. eqb-false p q e (ea ∙ ap (λ (s : List ℕ). le k s 0) z ∙ sym eb))
 
-    -- where all bytes are, the names are the same
-    pub same-end : i ≤ 0 → true ≡ same a b
-    same-end h =
-        let z : i ≡ 0 = omega arith in
-        let q : a ≡ b = rw z at e in
-        rw q (sym (same-refl b))
+  -- where the last k bytes are the same, and no byte stands between them and the first k, the first k decide
+  pub same-ends : (k : ℕ) → k ≤ length a → length a ≤ k + k → {p q x y : ℕ} → p ≡ le k a (length a - k) → q ≡ le k b (length a - k) → p ≡ q
+      → x ≡ le k a 0 → y ≡ le k b 0 → eqb x y ≡ same a b
+  same-ends k h g ea eb e fa fb =
+      let n : drop (length a) a ≡ drop (length a) b = same-none a b (length a) (omega arith) (omega arith) in
+      let d : drop (length a - k) a ≡ drop (length a - k) b = same-step k (length a) (length a - k) n (omega arith) (omega arith) ea eb e in
+      same-first k (length a - k) d (omega arith) h fa fb
 
-pub ruleset sames = (same-long, same-none, same-more, same-end)
+  -- names of one byte
+  pub same-one : length a ≡ 1 → eqb (getD a 0 0) (getD b 0 0) ≡ same a b
+  same-one h = same-first 1 1 (same-none a b 1 (omega arith) (omega arith)) (omega arith) (omega arith) (sym (le-one a 0)) (sym (le-one b 0))
+
+-- names that differ in a number of k bytes are not the same
+pub same-not : (a b : List ℕ) (k j : ℕ) {p q : ℕ} → p ≡ le k a j → q ≡ le k b j → (p ≡ q → ⊥) → false ≡ same a b
+same-not a b k j ea eb h = differ a b (λ e. h (ea ∙ ap (λ (s : List ℕ). le k s j) e ∙ sym eb))
+
+-- names without a byte are the same
+pub same-empty : (a b : List ℕ) → length a ≡ length b → length a ≤ 0 → true ≡ same a b
+same-empty a b l h =
+    let z : a ≡ b = same-none a b 0 h (omega arith) in
+    rw z (sym (same-refl b))
 
 -- ---- less_name
+
+-- the same bytes before two names take nothing from their order
+less-behind : (p x y : List ℕ) → less (p ++ x) (p ++ y) ≡ less x y
+unfolding less
+less-behind [] x y = refl
+less-behind (c ∷ p) x y = rw (le-ltb c c (omega arith), eq-eqb c c refl) (less-behind p x y)
+
+-- k bytes that make one number are the same: those behind them decide
+pub less-step : (a b : List ℕ) → ((i : ℕ) → getD a i 0 < 256) → ((i : ℕ) → getD b i 0 < 256) → (k i : ℕ) → i + k ≤ length a → i + k ≤ length b
+    → {p q : ℕ} → p ≡ le k a i → q ≡ le k b i → p ≡ q → less (drop i a) (drop i b) ≡ less (drop (i + k) a) (drop (i + k) b)
+less-step a b bytes-a bytes-b k i h g ea eb e =
+    let n : le k b i ≡ le k a i = sym (sym ea ∙ e ∙ eb) in
+    let r : drop i b ≡ bytes k (le k a i) ++ drop (i + k) b = spelt b bytes-b k i g ∙ ap (λ (v : ℕ). bytes k v ++ drop (i + k) b) n in
+    ap₂ less (spelt a bytes-a k i h) r ∙ less-behind (bytes k (le k a i)) (drop (i + k) a) (drop (i + k) b)
 
 module _ (a b : List ℕ) (i : ℕ) (e : less a b ≡ less (drop i a) (drop i b)) where
   -- b has ended, and a has not
@@ -73,21 +108,21 @@ module _ (a b : List ℕ) (i : ℕ) (e : less a b ≡ less (drop i a) (drop i b)
 
   module _ (h : i < length a) (k : i < length b) where
     -- `less` at the place i: its bytes decide, or what stands behind them
-    less-step : less a b ≡ (ltb (getD a i 0) (getD b i 0) || (eqb (getD a i 0) (getD b i 0) && less (drop (i + 1) a) (drop (i + 1) b)))
+    less-here : less a b ≡ (ltb (getD a i 0) (getD b i 0) || (eqb (getD a i 0) (getD b i 0) && less (drop (i + 1) a) (drop (i + 1) b)))
     unfolding less
-    less-step = rw (e, add-one, drop-cons a i 0 h, drop-cons b i 0 k)
+    less-here = rw (e, add-one, drop-cons a i 0 h, drop-cons b i 0 k)
 
     -- the byte of a is less
     pub less-yes : getD a i 0 < getD b i 0 → true ≡ less a b
-    less-yes l = rw (less-step, lt-ltb _ _ l)
+    less-yes l = rw (less-here, lt-ltb _ _ l)
 
     -- the byte of b is less
     pub less-no : getD b i 0 < getD a i 0 → false ≡ less a b
-    less-no l = rw (less-step, le-ltb _ _ (le-of-lt l), ne-eqb (getD a i 0) (getD b i 0) (λ q. omega arith))
+    less-no l = rw (less-here, le-ltb _ _ (le-of-lt l), ne-eqb (getD a i 0) (getD b i 0) (λ q. omega arith))
 
     -- the bytes at i are equal, so those behind them decide
     pub less-more : getD b i 0 ≤ getD a i 0 → getD a i 0 ≤ getD b i 0 → less a b ≡ less (drop (i + 1) a) (drop (i + 1) b)
-    less-more l m = rw (less-step, le-ltb _ _ l, eq-eqb _ _ (le-antisymm m l))
+    less-more l m = rw (less-here, le-ltb _ _ l, eq-eqb _ _ (le-antisymm m l))
 
   -- a has ended
   pub less-end : i ≤ length a → length a ≤ i → ltb (length a) (length b) ≡ less a b

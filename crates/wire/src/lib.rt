@@ -137,28 +137,73 @@ pub fn is_text(s: &[u8]) -> bool
     true
 }
 
-// Names are compared by their bytes, the last one first: names that differ mostly do so at their end, and there the loop ends.
-pub fn same_name(a: &[u8], b: &[u8]) -> bool
+// Whether two names of eight bytes or more, as many in both, are the same: eight are compared at a step, the last first, since names
+// that differ mostly do so at their end. The first eight may be compared twice.
+fn same_long(a: &[u8], b: &[u8]) -> bool
+    requires { ⌜ (8 ≤ length (now a)) × (length (now a) ≡ length (now b)) ⌝ }
     ensures { λ r. ⌜ r ≡ same (now (a .entry)) (now (b .entry)) ⌝ }
 {
-    if a.len() != b.len() {
-        return false;
-    }
     let mut i = a.len();
-    while 0 < i {
-        i -= 1;
-        if a[i] != b[i] {
+    while 8 < i {
+        i -= 8;
+        if read8(a, i) != read8(b, i) {
             return false;
         }
     }
+    read8(a, 0) == read8(b, 0)
+}
+
+// Names are compared by their bytes.
+pub fn same_name(a: &[u8], b: &[u8]) -> bool
+    ensures { λ r. ⌜ r ≡ same (now (a .entry)) (now (b .entry)) ⌝ }
+{
+    let n = a.len();
+    if n != b.len() {
+        return false;
+    }
+    if 8 <= n {
+        return same_long(a, b);
+    }
+    if 4 <= n {
+        if read4(a, n - 4) != read4(b, n - 4) {
+            return false;
+        }
+        return read4(a, 0) == read4(b, 0);
+    }
+    if 2 <= n {
+        if read2(a, n - 2) != read2(b, n - 2) {
+            return false;
+        }
+        return read2(a, 0) == read2(b, 0);
+    }
+    if n == 1 {
+        return a[0] == b[0];
+    }
     true
+}
+
+// How many bytes, eight at a step, two names begin with alike.
+fn alike(a: &[u8], b: &[u8]) -> usize
+    ensures { λ r. ⌜ (r ≤ length (now (a .entry))) × (less (now (a .entry)) (now (b .entry)) ≡ less (drop r (now (a .entry))) (drop r (now (b .entry)))) ⌝ }
+{
+    let mut i = 0;
+    while i + 8 <= a.len() {
+        if b.len() < i + 8 {
+            return i;
+        }
+        if read8(a, i) != read8(b, i) {
+            return i;
+        }
+        i += 8;
+    }
+    i
 }
 
 // Whether a stands before b in byte order.
 pub fn less_name(a: &[u8], b: &[u8]) -> bool
     ensures { λ r. ⌜ r ≡ less (now (a .entry)) (now (b .entry)) ⌝ }
 {
-    let mut i = 0;
+    let mut i = alike(a, b);
     while i < a.len() {
         if b.len() <= i {
             return false;

@@ -1,7 +1,8 @@
 -- `wire::less_name` meets its contract. The loop's invariant: the bytes from `i` on decide. Assumes nothing.
 use Prim.Native.Nat.{_≤_, _-_}
-use mathlib.Core.Path.{_≡_, refl}
+use mathlib.Core.Path.{_≡_}
 use native.Mathlib.Omega.{arith}
+use borrow.Author.Needs.{needs}
 use lib.ListN.{length, drop}
 use Rattle.blocks.specs.Name.{less}
 use Rattle.wire.proofs.Names.{lesses}
@@ -14,8 +15,11 @@ Inv-loop a b i₀ i = (i ≤ length a) × (less a b ≡ less (drop i a) (drop i 
 abbrev μ-loop : tie.MeasureT-loop
 μ-loop a b i₀ i = length a - i
 
+alike-requires : tie.Need-alike-requires Inv-loop μ-loop
+alike-requires c κs = search needs
+
 loop-holds : tie.Need-loop-holds Inv-loop μ-loop
-loop-holds c = (omega arith, refl)
+loop-holds c = c .alike .ensures
 
 returns : tie.Need-returns Inv-loop μ-loop
 returns c = search lesses
@@ -50,6 +54,7 @@ less-name-spec =
     (tie.spec
     Inv-loop
     μ-loop
+    alike-requires
     loop-holds
     returns
     shared-slice-read-x
