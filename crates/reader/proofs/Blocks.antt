@@ -1,21 +1,27 @@
 -- The parts of a block, and a block, one step at a time, as the code sees them.
-use mathlib.Core.Path.{_≡_, refl, _∙_, ap₂}
-use mathlib.Core.List.{List, [], _∷_}
+use mathlib.Core.Path.{_≡_, refl, sym, _∙_, ap₂}
+use mathlib.Core.Bool.{Bool, true, false, not, cond}
+use mathlib.Core.List.{List, [], _∷_, _++_}
+use mathlib.Core.Logic.{_⊎_, inl, inr}
 use Prim.Native.Nat.{ℕ, zero, suc, _+_, _-_, _/_, _%_}
 use native.Mathlib.Omega.{arith}
 use native.Mathlib.Numerals.{sub-one}
 use lib.Dec.{eqb}
+use lib.ListN.{getD, drop}
 use borrow.Author.Tests.{eq-eqb, ne-eqb}
 use Rattle.errors.specs.Refusal.{Outcome, done, refused, _>>=_, ask, unread}
 use Rattle.blocks.specs.declared.Part.{Part}
-use Rattle.blocks.specs.Grammar.{partsOf}
+use Rattle.blocks.specs.declared.Part.the-variants.{Key}
+use Rattle.blocks.specs.Grammar.{within, Row, grammar, findRow, metadata, nodeTable, partsOf}
+use Rattle.blocks.proofs.Name.{false-true, and-left, and-right}
 use Rattle.blocks.specs.Tree.{Tree, block}
 use Rattle.blocks.specs.Read.{Step, Earlier, Reader, readPart, readParts, readHeader, readBlock}
 use Rattle.reader_leaf.specs.declared.Read.the-variants.{Ok, Refused}
 use Rattle.reader_leaf.specs.declared.Head.the-variants.{Found, No}
 use Rattle.reader_leaf.specs.Answer.{forget, headOf}
 use Rattle.reader_leaf.proofs.Laws.{stopped, goes}
-use Rattle.ir_nodes.specs.Codes.{partOf, rowOf, Digits}
+use Rattle.ir_nodes.specs.Codes.{codeOf, partOf, rowOf, Digits}
+use Rattle.ir_nodes.proofs.Table.{each, passed}
 use Rattle.ir_nodes.proofs.Rows.{begins, digit, no-digit}
 
 module _ (rb : Reader) (s : List ℕ) (e : Earlier) (start end : ℕ) where
@@ -103,20 +109,61 @@ module _ (s : List ℕ) (e : Earlier) (lo hi at end : ℕ) where
       pub block-rest : {n : ℕ} → forget (inner (room - 1)) ≡ Ok n → (n ≡ stop → ⊥) → forget (readBlock room s e lo hi at end) ≡ Refused 2 at
       block-rest g x = opened room h ∙ last-rest at k stop (inner (room - 1)) g x
 
+-- ---- a name of question 6 is the first part of its block
+
+-- whether a part is no such name
+abbrev isOther : Part → Bool
+isOther p = not (eqb (codeOf p) 2)
+
+-- the row that is found among rows that pass a test does
+row-passed : (f : List Part → Bool) → f [] ≡ true → (k : ℕ) (rs : List Row) → each (λ r. f (r .parts)) rs ≡ true → f (findRow k rs) ≡ true
+unfolding findRow
+row-passed f e k [] t = e
+row-passed f e k (r ∷ rs) t = go (within (r .lo) (r .hi) k) (row-passed f e k rs (and-right (f (r .parts)) _ t))
+  where
+    go : (b : Bool) → f (findRow k rs) ≡ true → f (cond b (r .parts) (findRow k rs)) ≡ true
+    go true h = and-left _ _ t
+    go false h = h
+
+-- behind the first part of a kind no such name stands
+others-behind : (k : ℕ) → each isOther (drop 1 (partsOf k)) ≡ true
+unfolding partsOf grammar nodeTable
+others-behind k = go (within 128 144 k)
+  where
+    go : (b : Bool) → each isOther (drop 1 (cond b (metadata ++ getD nodeTable (k - 128) []) (findRow k grammar))) ≡ true
+    go true = passed (λ ps. each isOther (drop 1 (metadata ++ ps))) nodeTable (k - 128) [] refl refl
+    go false = row-passed (λ ps. each isOther (drop 1 ps)) refl k grammar refl
+
+-- parts of which only the first, if it stands where P says, may be such a name
+abbrev Keys : (ℕ → Type 0) → List Part → ℕ → Type 0
+Keys P ps here = (P here × (each isOther (drop 1 ps) ≡ true)) ⊎ (each isOther ps ≡ true)
+
+module _ (P : ℕ → Type 0) (p : Part) (ps : List Part) {here : ℕ} where
+  -- the first of them is one only where P holds
+  keys-first : Keys P (p ∷ ps) here → p ≡ Key → P here
+  keys-first (inl h) e = h .0
+  keys-first (inr h) e = let z : isOther p ≡ false = rw e in absurd (false-true (sym z ∙ and-left _ _ h))
+
+  -- the others are none
+  keys-rest : {next : ℕ} → Keys P (p ∷ ps) here → Keys P ps next
+  keys-rest (inl h) = inr (h .1)
+  keys-rest (inr h) = inr (and-right (isOther p) _ h)
+
 -- ---- the parts of a kind, from its row
 
--- All parts of a block read as those of the digits that are left, from here on.
-pub record Left (rb : Reader) (s : List ℕ) (e : Earlier) (start end kind at row here : ℕ) : Type 0 where
+-- All parts of a block read as those of the digits that are left, from here on. A name of question 6 is left only where P holds.
+pub record Left (P : ℕ → Type 0) (rb : Reader) (s : List ℕ) (e : Earlier) (start end kind at row here : ℕ) : Type 0 where
   pub parts : List Part
   pub digits : Digits row parts
+  pub keys : Keys P parts here
   pub same : forget (readParts rb s e start end (partsOf kind) at) ≡ forget (readParts rb s e start end parts here)
 
-module _ (rb : Reader) (s : List ℕ) (e : Earlier) (start end kind at : ℕ) where
+module _ (P : ℕ → Type 0) (rb : Reader) (s : List ℕ) (e : Earlier) (start end kind at : ℕ) where
   -- at first all digits of the kind's row are left
-  pub all-left : {row : ℕ} → row ≡ rowOf (partsOf kind) → Left rb s e start end kind at row at
-  all-left h = record { parts = partsOf kind; digits = begins kind h; same = refl }
+  pub all-left : {row : ℕ} → P at → row ≡ rowOf (partsOf kind) → Left P rb s e start end kind at row at
+  all-left p h = record { parts = partsOf kind; digits = begins kind h; keys = inl (p, others-behind kind); same = refl }
 
-  module _ {row here : ℕ} (l : Left rb s e start end kind at row here) where
+  module _ {row here : ℕ} (l : Left P rb s e start end kind at row here) where
     -- none is left: the block ends here
     pub none-left : row ≡ 0 → forget (readParts rb s e start end (partsOf kind) at) ≡ Ok here
     none-left h = l .same ∙ parts-none rb s e start end here (no-digit row (l .parts) (l .digits) h)
@@ -126,8 +173,17 @@ module _ (rb : Reader) (s : List ℕ) (e : Earlier) (start end kind at : ℕ) wh
       pub left-stop : {q o : ℕ} → forget (readPart rb s e start end (partOf (row % 32)) here) ≡ Refused q o → forget (readParts rb s e start end (partsOf kind) at) ≡ Refused q o
       left-stop d = let w = digit row (l .parts) (l .digits) h in l .same ∙ parts-stop rb s e start end (w .1) here d
 
+      -- it is a name of question 6 only where P holds
+      pub left-key : partOf (row % 32) ≡ Key → P here
+      left-key d = let w = digit row (l .parts) (l .digits) h in keys-first P (partOf (row % 32)) (w .0) (rw (w .1) at (l .keys)) d
+
       -- it is read: the others are left
-      pub left-go : {m : ℕ} → forget (readPart rb s e start end (partOf (row % 32)) here) ≡ Ok m → Left rb s e start end kind at (row / 32) m
+      pub left-go : {m : ℕ} → forget (readPart rb s e start end (partOf (row % 32)) here) ≡ Ok m → Left P rb s e start end kind at (row / 32) m
       left-go d =
           let w = digit row (l .parts) (l .digits) h in
-          record { parts = w .0; digits = w .2; same = l .same ∙ parts-go rb s e start end (w .1) here d }
+          record {
+            parts = w .0;
+            digits = w .2;
+            keys = keys-rest P (partOf (row % 32)) (w .0) (rw (w .1) at (l .keys));
+            same = l .same ∙ parts-go rb s e start end (w .1) here d;
+          }

@@ -28,10 +28,11 @@ use Rattle.reader_leaf.specs.declared.Seen.{Seen}
 use Rattle.reader_leaf.specs.declared.Seen.the-variants.{Nothing, Owners, Types, After}
 use Rattle.reader_leaf.specs.declared.Read.the-variants.{Ok}
 use Rattle.reader_leaf.specs.Answer.{forget}
-use Rattle.reader_leaf.specs.Seen.{Plain, nameAt, NameIn, behind, namesBefore, lastOf, Stand, Valid, earlierOf, grownOf, Grows}
+use Rattle.reader_leaf.specs.Seen.{Plain, nameAt, behind, namesBefore, Fresh, lastOf, Valid, Here, earlierOf, grownOf, Grows}
 use Rattle.reader_leaf.proofs.Laws.{taken}
 use Rattle.reader_leaf.proofs.Lists.{key-done, entries-go}
-use Rattle.reader.specs.Before.{Here, Suits, Before}
+use Rattle.reader_leaf.proofs.Distinct.{stand-more, behind-more, stand-none}
+use Rattle.reader.specs.Before.{Suits, Before}
 
 -- ---- an accepted block
 
@@ -167,20 +168,6 @@ behind-count s first zero = omega arith
 behind-count s first (suc n) = omega (arith, behind-count s first n)
 
 module _ (s : List ℕ) (first count at : ℕ) (h : at ≡ behind s first count) where
-  -- one name more lies inside
-  stand-more : Stand s first count → NameIn s (at + 6) → Stand s first (count + 1)
-  unfolding Stand
-  stand-more d g k l = go (leb (k + 1) count) refl
-    where
-      go : (b : Bool) → leb (k + 1) count ≡ b → NameIn s (behind s first k + 6)
-      go true e = d k (omega (arith, leb-true (k + 1) count e))
-      go false e = let z : k ≡ count = omega (arith, leb-false (k + 1) count e) in rw (z, ← h) g
-
-  -- the next block begins where this one ends
-  behind-more : {m : ℕ} → m ≡ at + 4 + le4 s at → m ≡ behind s first (count + 1)
-  unfolding behind
-  behind-more e = rw (e, add-one count, ← h)
-
   -- one name more stands before
   names-more : {n : Name} → n ≡ nameAt s (at + 6) → _≡_ {A = List Name} (n ∷ namesBefore s first count) (namesBefore s first (count + 1))
   unfolding namesBefore
@@ -199,18 +186,20 @@ pub record Next (s : List ℕ) (seen : Seen) (lo hi at : ℕ) (x : Tree × ℕ) 
 
 module _ (room : ℕ) (s : List ℕ) (lo hi at end : ℕ) (fits : end ≤ length s) (x : Tree × ℕ) where
   -- a type or a type tree was read: what is kept of the names grows by one
-  types-next : (first count : ℕ) → Before s (Types first count) lo hi at → readBlock room s (earlierOf s (Types first count)) lo hi at end ≡ done x → Next s (Types first count) lo hi at x
+  types-next : (first count fresh : ℕ) → Before s (Types first count fresh) lo hi at
+      → readBlock room s (earlierOf s (Types first count fresh)) lo hi at end ≡ done x → Next s (Types first count fresh) lo hi at x
   unfolding earlierOf grownOf Grows Valid Here Suits
-  types-next first count b d =
+  types-next first count fresh b d =
+      let h : at ≡ behind s first count = omega (arith, b .here) in
       let o = opened room s _ lo hi at end x d in
       let k = b .suits (le2 s (at + 4)) (o .kind) in
       let m = type-met o (k .0) (k .1) in
       record {
-        grows = (omega (arith, behind-count s first count, b .here), omega (arith, m .inside));
-        same = ap Earlier.distinct (names-more s first count at (b .here) (m .named));
+        grows = (omega (arith, behind-count s first count, h), omega (arith, m .inside));
+        same = ap Earlier.distinct (names-more s first count at h (m .named));
         before = record {
-          valid = stand-more s first count at (b .here) (b .valid) (omega (arith, m .inside));
-          here = behind-more s first count at (b .here) (m .stop);
+          valid = (stand-more s first count at h (b .valid .0) (omega (arith, m .inside)), b .valid .1);
+          here = ap (λ (i : ℕ). i + 6) (behind-more s first count at h (m .stop));
           suits = b .suits;
         };
       }
@@ -220,16 +209,17 @@ module _ (room : ℕ) (s : List ℕ) (lo hi at end : ℕ) (fits : end ≤ length
       → readBlock room s (earlierOf s (Owners first count last paths)) lo hi at end ≡ done x → Next s (Owners first count last paths) lo hi at x
   unfolding earlierOf grownOf Grows Valid Here Suits
   owners-next first count last paths b d =
+      let h : at ≡ behind s first count = omega (arith, b .here) in
       let o = opened room s _ lo hi at end x d in
       let k = only lo hi (le2 s (at + 4)) (b .suits .0) (b .suits .1) (o .kind) in
       let m = type-met o (Paths 64 ∷ []) (rw k owner-parts) in
       let w = owner-met o k in
       record {
-        grows = (omega (arith, behind-count s first count, b .here), omega (arith, w .inside), b .valid .2);
-        same = ap₂ (λ (ns : List Name) (p : ℕ). Earlier.ascending ns (paths + p)) (names-more s first count at (b .here) (m .named)) (w .paths);
+        grows = (omega (arith, behind-count s first count, h), omega (arith, w .inside), b .valid .2);
+        same = ap₂ (λ (ns : List Name) (p : ℕ). Earlier.ascending ns (paths + p)) (names-more s first count at h (m .named)) (w .paths);
         before = record {
-          valid = (stand-more s first count at (b .here) (b .valid .0) (omega (arith, m .inside)), last-more s first count at (b .here), omega (arith, w .bounded, b .valid .2));
-          here = behind-more s first count at (b .here) (m .stop);
+          valid = (stand-more s first count at h (b .valid .0) (omega (arith, m .inside)), last-more s first count at h, omega (arith, w .bounded, b .valid .2));
+          here = ap (λ (i : ℕ). i + 6) (behind-more s first count at h (m .stop));
           suits = b .suits;
         };
       }
@@ -239,7 +229,7 @@ module _ (room : ℕ) (s : List ℕ) (lo hi at end : ℕ) (fits : end ≤ length
   unfolding earlierOf grownOf Grows Valid Here Suits
   next Nothing b d = record { grows = tt; same = refl; before = record { valid = tt; here = tt; suits = tt } }
   next (Owners first count last paths) b d = owners-next first count last paths b d
-  next (Types first count) b d = types-next first count b d
+  next (Types first count fresh) b d = types-next first count fresh b d
   next (After last) b d = absurd (b .suits)
 
 -- ---- the list's loop
@@ -275,20 +265,20 @@ module _ (s : List ℕ) (lo hi at : ℕ) where
   unfolding Valid
   nothing-valid = tt
 
-  -- no name stands before the first block
-  stand-none : Stand s at 0
-  unfolding Stand
-  stand-none k l = absurd (omega arith)
+  -- wherever a block stands
+  pub nothing-here : Here s Nothing at
+  unfolding Here
+  nothing-here = tt
 
   -- at the start of a list of owners
   pub owners-before : (lo ≡ 37) × (hi ≡ 37) → Before s (Owners at 0 0 0) lo hi at
   unfolding Valid Here Suits behind lastOf
-  owners-before h = record { valid = (stand-none, refl, omega arith); here = refl; suits = h }
+  owners-before h = record { valid = (stand-none s at, refl, omega arith); here = refl; suits = h }
 
   -- at the start of a list of types or of type trees
-  pub types-before : ((lo ≡ 1) × (hi ≡ 7)) ⊎ ((lo ≡ 161) × (hi ≡ 161)) → Before s (Types at 0) lo hi at
+  pub types-before : {fresh : ℕ} → Fresh s at fresh → ((lo ≡ 1) × (hi ≡ 7)) ⊎ ((lo ≡ 161) × (hi ≡ 161)) → Before s (Types at 0 fresh) lo hi at
   unfolding Valid Here Suits behind
-  types-before h = record { valid = stand-none; here = refl; suits = λ k w. begins k (leb-true lo k (and-left (leb lo k) (leb k hi) w)) (leb-true k hi (and-right (leb lo k) (leb k hi) w)) h }
+  types-before f h = record { valid = (stand-none s at, f); here = refl; suits = λ k w. begins k (leb-true lo k (and-left (leb lo k) (leb k hi) w)) (leb-true k hi (and-right (leb lo k) (leb k hi) w)) h }
     where
       begins : (k : ℕ) → lo ≤ k → k ≤ hi → ((lo ≡ 1) × (hi ≡ 7)) ⊎ ((lo ≡ 161) × (hi ≡ 161)) → (ps : List Part) × (partsOf k ≡ Key ∷ ps)
       begins k a c (inl e) = (drop 1 (partsOf k), type-begins k (omega arith) (omega arith))

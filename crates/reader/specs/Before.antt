@@ -1,5 +1,5 @@
 -- What is known where a list of blocks goes on: the blocks before, and the kinds that may stand here.
-use Prim.Native.Nat.{ℕ}
+use Prim.Native.Nat.{ℕ, _+_}
 use mathlib.Core.Path.{_≡_}
 use mathlib.Core.Bool.{true}
 use mathlib.Core.List.{List, _∷_}
@@ -8,23 +8,16 @@ use Rattle.blocks.specs.declared.Part.the-variants.{Key}
 use Rattle.blocks.specs.Grammar.{partsOf, within}
 use Rattle.reader_leaf.specs.declared.Seen.{Seen}
 use Rattle.reader_leaf.specs.declared.Seen.the-variants.{Nothing, Owners, Types, After}
-use Rattle.reader_leaf.specs.Seen.{Valid, behind}
-
--- the blocks before end where the next begins
-unfoldable pub Here : List ℕ → Seen → ℕ → Type 0
-Here s Nothing at = Unit
-Here s (Owners first count last paths) at = at ≡ behind s first count
-Here s (Types first count) at = at ≡ behind s first count
-Here s (After last) at = Unit
+use Rattle.reader_leaf.specs.Seen.{Valid, Here}
 
 -- names ascend among owners (37); they are distinct among blocks that begin with a name
 unfoldable pub Suits : Seen → ℕ → ℕ → Type 0
 Suits Nothing lo hi = Unit
 Suits (Owners first count last paths) lo hi = (lo ≡ 37) × (hi ≡ 37)
-Suits (Types first count) lo hi = (k : ℕ) → within lo hi k ≡ true → (ps : List Part) × (partsOf k ≡ Key ∷ ps)
+Suits (Types first count fresh) lo hi = (k : ℕ) → within lo hi k ≡ true → (ps : List Part) × (partsOf k ≡ Key ∷ ps)
 Suits (After last) lo hi = ⊥
 
 pub record Before (s : List ℕ) (seen : Seen) (lo hi at : ℕ) : Type 0 where
   pub valid : Valid s seen
-  pub here : Here s seen at
+  pub here : Here s seen (at + 6)
   pub suits : Suits seen lo hi

@@ -7,11 +7,12 @@ use reader_leaf::Seen;
 ghost use mathlib.Core.Path.{_≡_};
 ghost use Prim.Native.Nat.{_+_, _≤_};
 ghost use lib.ListN.{length};
+ghost use Rattle.blocks.specs.declared.Part.the-variants.{Key};
 ghost use Rattle.blocks.specs.Grammar.{partsOf};
 ghost use Rattle.blocks.specs.Read.{readList, readPart, readParts, readBlock, readInput};
 ghost use Rattle.ir_nodes.specs.Codes.{partOf};
 ghost use Rattle.reader_leaf.specs.Answer.{forget, Inside};
-ghost use Rattle.reader_leaf.specs.Seen.{Valid, earlierOf};
+ghost use Rattle.reader_leaf.specs.Seen.{Valid, Here, earlierOf};
 ghost use Rattle.reader.specs.Before.{Before};
 ghost use Rattle.reader.specs.Input.{inputOf};
 
@@ -55,7 +56,7 @@ fn list(
 
 // The part of a block that a digit of its row stands for.
 fn piece(s: &[u8], room: usize, seen: Seen, digit: u64, start: usize, at: usize, end: usize) -> Read
-    requires { ⌜ (at ≤ end) × (end ≤ length (now s)) × (Valid (now s) seen) ⌝ }
+    requires { ⌜ (at ≤ end) × (end ≤ length (now s)) × (Valid (now s) seen) × (partOf digit ≡ Key → Here (now s) seen at) ⌝ }
     ensures { λ r. ⌜ (r ≡ forget (readPart (readBlock room (now (s .entry))) (now (s .entry)) (earlierOf (now (s .entry)) seen) start end (partOf digit) at)) × (Inside r end) ⌝ }
 {
     let p = reader_grammar::part_of(digit);
@@ -79,7 +80,8 @@ fn piece(s: &[u8], room: usize, seen: Seen, digit: u64, start: usize, at: usize,
         }
         Part::Distinct(lo, hi, limit) => {
             let first = at + 2;
-            let none = Seen::Types(first, 0);
+            let fresh = reader_leaf::fresh(s, at, end);
+            let none = Seen::Types(first, 0, fresh);
             list(s, room, none, lo, hi, limit, start, at, end)
         }
         // the others hold no block
@@ -97,7 +99,7 @@ fn parts(
     at: usize,
     end: usize,
 ) -> Read
-    requires { ⌜ (at ≤ end) × (end ≤ length (now s)) × (Valid (now s) seen) ⌝ }
+    requires { ⌜ (at ≤ end) × (end ≤ length (now s)) × (Valid (now s) seen) × (Here (now s) seen at) ⌝ }
     ensures { λ r. ⌜ (r ≡ forget (readParts (readBlock room (now (s .entry))) (now (s .entry)) (earlierOf (now (s .entry)) seen) start end (partsOf kind) at)) × (Inside r end) ⌝ }
 {
     let mut here = at;
@@ -118,7 +120,7 @@ fn parts(
 
 // A block of a kind from lo to hi, with room for so many open blocks.
 fn block(s: &[u8], room: usize, seen: Seen, lo: u64, hi: u64, at: usize, end: usize) -> Read
-    requires { ⌜ (at ≤ end) × (end ≤ length (now s)) × (Valid (now s) seen) ⌝ }
+    requires { ⌜ (at ≤ end) × (end ≤ length (now s)) × (Valid (now s) seen) × (Here (now s) seen (at + 6)) ⌝ }
     ensures { λ r. ⌜ (r ≡ forget (readBlock room (now (s .entry)) (earlierOf (now (s .entry)) seen) lo hi at end)) × (Inside r end) ⌝ }
 {
     match reader_leaf::heading(s, lo as usize, hi as usize, at, end) {

@@ -217,7 +217,7 @@ module _ (s : List ℕ) where
         go ih false l = let z : k ≡ m = omega (arith, ltb-false k m l) in rw (← z, e)
 
     -- a name that none of them begins with is not
-    among-none : (m : ℕ) → ((k : ℕ) → k < m → same n (nameAt s (behind s first k + 6)) ≡ false) → among n (namesBefore s first m) ≡ false
+    pub among-none : (m : ℕ) → ((k : ℕ) → k < m → same n (nameAt s (behind s first k + 6)) ≡ false) → among n (namesBefore s first m) ≡ false
     unfolding among namesBefore
     among-none zero h = refl
     among-none (suc m) h = rw (h m (omega arith)) (among-none m (λ k l. h k (omega arith)))
@@ -264,5 +264,5 @@ pub paths-before : (s : List ℕ) (seen : Seen) → pathsBefore (earlierOf s see
 unfolding earlierOf seenPaths
 paths-before s Nothing = refl
 paths-before s (Owners first count last paths) = refl
-paths-before s (Types first count) = refl
+paths-before s (Types first count fresh) = refl
 paths-before s (After last) = refl

@@ -1,2 +1,3 @@
 pub mod Answer
 pub mod Seen
+pub mod Mark

@@ -1,7 +1,7 @@
 -- What the code keeps of a list's entries before the one that it reads, and what of the definition that stands for.
 use Prim.Native.Nat.{ℕ, zero, suc, _+_, _≤_, _<_}
 use mathlib.Core.Path.{_≡_}
-use mathlib.Core.Bool.{cond}
+use mathlib.Core.Bool.{false, cond}
 use mathlib.Core.List.{List, [], _∷_}
 use lib.Dec.{eqb}
 use lib.ListN.{length}
@@ -9,7 +9,7 @@ use Rattle.blocks.specs.Bytes.{le2}
 pub use Rattle.blocks.specs.Bytes.{nameAt}
 pub use Rattle.blocks.specs.Blocks.{NameIn}
 unfoldable pub use Rattle.blocks.specs.Blocks.{blockAt as behind, Stand}
-use Rattle.blocks.specs.Name.{Name}
+use Rattle.blocks.specs.Name.{Name, among}
 use Rattle.blocks.specs.Read.{Earlier}
 use Rattle.blocks.specs.declared.Part.{Part}
 use Rattle.blocks.specs.declared.Part.the-variants.{Text, Key, Number, Flag, Size, OptNumber, OptText, Literal, Block, OptBlock, Blocks, Ascending, Distinct, Names, Paths, Values}
@@ -20,6 +20,10 @@ use Rattle.reader_leaf.specs.declared.Seen.the-variants.{Nothing, Owners
 unfoldable pub namesBefore : List ℕ → ℕ → ℕ → List Name
 namesBefore s first zero = []
 namesBefore s first (suc n) = nameAt s (behind s first n + 6) ∷ namesBefore s first n
+
+-- each of the first n blocks from an offset on begins with a name that none before it has
+unfoldable pub Fresh : List ℕ → ℕ → ℕ → Type 0
+Fresh s first n = (k : ℕ) → k < n → among (nameAt s (behind s first k + 6)) (namesBefore s first k) ≡ false
 
 -- the offset of the last of these names; 0 if there is none
 unfoldable pub lastOf : List ℕ → ℕ → ℕ → ℕ
@@ -36,22 +40,29 @@ LastIn s last = 0 < last → NameIn s last
 unfoldable pub earlierOf : List ℕ → Seen → Earlier
 earlierOf s Nothing = Earlier.any
 earlierOf s (Owners first count last paths) = Earlier.ascending (namesBefore s first count) paths
-earlierOf s (Types first count) = Earlier.distinct (namesBefore s first count)
+earlierOf s (Types first count fresh) = Earlier.distinct (namesBefore s first count)
 earlierOf s (After last) = Earlier.ascending (lastName s last) 0
 
 -- how many paths the owners before have
 unfoldable pub seenPaths : Seen → ℕ
 seenPaths Nothing = 0
 seenPaths (Owners first count last paths) = paths
-seenPaths (Types first count) = 0
+seenPaths (Types first count fresh) = 0
 seenPaths (After last) = 0
 
 -- what is kept is so
 unfoldable pub Valid : List ℕ → Seen → Type 0
 Valid s Nothing = Unit
 Valid s (Owners first count last paths) = Stand s first count × (last ≡ lastOf s first count) × (paths ≤ 64)
-Valid s (Types first count) = Stand s first count
+Valid s (Types first count fresh) = Stand s first count × Fresh s first fresh
 Valid s (After last) = LastIn s last
+
+-- the name at an offset is that of the next block
+unfoldable pub Here : List ℕ → Seen → ℕ → Type 0
+Here s Nothing at = Unit
+Here s (Owners first count last paths) at = at ≡ behind s first count + 6
+Here s (Types first count fresh) at = at ≡ behind s first count + 6
+Here s (After last) at = Unit
 
 -- a part that holds no block
 unfoldable pub Plain : Part → Type 0
@@ -76,12 +87,12 @@ Plain (Values limit) = Unit
 unfoldable pub grownOf : List ℕ → Seen → ℕ → Seen
 grownOf s Nothing at = Nothing
 grownOf s (Owners first count last paths) at = Owners first (count + 1) (at + 6) (paths + le2 s (at + 6 + 2 + le2 s (at + 6)))
-grownOf s (Types first count) at = Types first (count + 1)
+grownOf s (Types first count fresh) at = Types first (count + 1) fresh
 grownOf s (After last) at = After last
 
 -- that block's name, and an owner's count, lie inside the input
 unfoldable pub Grows : List ℕ → Seen → ℕ → Type 0
 Grows s Nothing at = Unit
 Grows s (Owners first count last paths) at = (count ≤ at) × (at + 6 + 2 + le2 s (at + 6) + 2 ≤ length s) × (paths ≤ 64)
-Grows s (Types first count) at = (count ≤ at) × NameIn s (at + 6)
+Grows s (Types first count fresh) at = (count ≤ at) × NameIn s (at + 6)
 Grows s (After last) at = Unit

@@ -2,15 +2,19 @@
 use blocks::Part;
 use wire::Block;
 ghost use mathlib.Core.Path.{_≡_};
-ghost use mathlib.Core.Bool.{not, _||_};
+ghost use mathlib.Core.Bool.{true, false, not, _||_};
 ghost use mathlib.Core.List.{[]};
 ghost use Prim.Native.Nat.{_+_, _-_, _≤_, _<_};
 ghost use lib.Dec.{ltb, leb};
 ghost use lib.ListN.{length};
+ghost use Rattle.blocks.specs.declared.Part.the-variants.{Key};
+ghost use Rattle.blocks.specs.Bytes.{le4};
 ghost use Rattle.blocks.specs.Name.{among};
 ghost use Rattle.blocks.specs.Read.{Earlier, inOrder, inType, readText, readKey, readNumber, readFlag, readOptional, readLiteral, readCount, readList, readHeader, Reader, readPart};
 ghost use Rattle.reader_leaf.specs.Answer.{forget, headOf, countOf, announced, readEntry, Inside, TextIn, EntryIn, WideIn, HeadIn, CountIn};
-ghost use Rattle.reader_leaf.specs.Seen.{nameAt, NameIn, LastIn, lastName, namesBefore, Stand, Valid, earlierOf, seenPaths, Plain, grownOf, Grows};
+ghost use Rattle.marks.specs.Table.{Linked};
+ghost use Rattle.reader_leaf.specs.Mark.{shortOf, step, markOf, markIn};
+ghost use Rattle.reader_leaf.specs.Seen.{nameAt, NameIn, LastIn, lastName, behind, namesBefore, Fresh, Stand, Valid, Here, earlierOf, seenPaths, Plain, grownOf, Grows};
 
 // The offset behind what was read, or number and offset of a refusal.
 pub enum Read {
@@ -36,8 +40,9 @@ pub enum Seen {
     // the names ascend: the first block's offset, how many blocks, the offset of the last name (0 if there is none), how
     // many paths
     Owners(usize, usize, usize, usize),
-    // the names are distinct: the first block's offset, how many blocks
-    Types(usize, usize),
+    // the names are distinct: the first block's offset, how many blocks, and how many from the first on, read or not, are known to
+    // have names of their own
+    Types(usize, usize, usize),
     // the names of a list of names ascend: the offset of the last name (0 if there is none)
     After(usize),
 }
@@ -207,7 +212,7 @@ fn ascends(s: &[u8], last: usize, at: usize) -> bool
 }
 
 // Whether the name at `at` is not among those with which these blocks begin.
-pub fn differs(s: &[u8], first: usize, count: usize, at: usize) -> bool
+fn differs(s: &[u8], first: usize, count: usize, at: usize) -> bool
     requires { ⌜ (Stand (now s) first count) × (NameIn (now s) at) ⌝ }
     ensures { λ r. ⌜ r ≡ not (among (nameAt (now (s .entry)) at) (namesBefore (now (s .entry)) first count)) ⌝ }
 {
@@ -217,22 +222,170 @@ pub fn differs(s: &[u8], first: usize, count: usize, at: usize) -> bool
     }
 }
 
+// Where the block at `at` ends, if block and name lie before `end`; else 0.
+fn behind_block(s: &[u8], at: usize, end: usize) -> usize
+    requires { ⌜ (at ≤ end) × (end ≤ length (now s)) ⌝ }
+    ensures { λ r. ⌜ (0 < r → NameIn (now (s .entry)) (at + 6) × (r ≡ at + 4 + le4 (now (s .entry)) at)) × (r ≤ end) ⌝ }
+{
+    if end < at + 8 {
+        return 0;
+    }
+    if end < at + 8 + wire::read2(s, at + 6) {
+        return 0;
+    }
+    let stop = at + 4 + wire::read4(s, at);
+    if end < stop {
+        return 0;
+    }
+    stop
+}
+
+// How many of the n blocks from `first` on begin with a name that none before has, as far as they lie before `end`: each is compared
+// with all before it.
+fn fresh_compared(s: &[u8], first: usize, n: usize, end: usize) -> usize
+    requires { ⌜ (first ≤ end) × (end ≤ length (now s)) ⌝ }
+    ensures { λ r. ⌜ Fresh (now (s .entry)) first r ⌝ }
+{
+    let mut at = first;
+    let mut count = 0;
+    while count < n {
+        let next = behind_block(s, at, end);
+        if next == 0 {
+            return count;
+        }
+        if !differs(s, first, count, at + 6) {
+            return count;
+        }
+        at = next;
+        count += 1;
+    }
+    count
+}
+
+// A name of less than eight bytes as a number: its first bytes and its last.
+fn short(name: &[u8]) -> usize
+    requires { ⌜ length (now name) < 8 ⌝ }
+    ensures { λ r. ⌜ r ≡ shortOf (now (name .entry)) ⌝ }
+{
+    let n = name.len();
+    if 4 <= n {
+        return wire::read4(name, 0) + 4294967296 * wire::read4(name, n - 4);
+    }
+    if 2 <= n {
+        return wire::read2(name, 0) + 4294967296 * wire::read2(name, n - 2);
+    }
+    if n == 1 {
+        return wire::wide(name[0]);
+    }
+    0
+}
+
+// A mark with eight bytes more.
+fn step(h: usize, x: usize) -> usize
+    ensures { λ r. ⌜ r ≡ step h x ⌝ }
+{
+    let factor = 2147483648 + x % 2147483648;
+    h % 4294967296 * factor + h / 4294967296 + x / 4294967296 % 2147483648
+}
+
+// The mark of a name, eight bytes at a step; the last eight may be taken twice.
+fn mark(name: &[u8]) -> u64
+    ensures { λ r. ⌜ r ≡ markOf (now (name .entry)) ⌝ }
+{
+    let n = name.len();
+    if n < 8 {
+        return step(n, short(name)) as u64;
+    }
+    let mut h = n;
+    let mut i = 0;
+    while i + 8 < n {
+        h = step(h, wire::read8(name, i));
+        i += 8;
+    }
+    step(h, wire::read8(name, n - 8)) as u64
+}
+
+// Whether none of these blocks, all of whose marks are in the table, begins with the name at `at`. Its mark is entered behind them.
+fn is_new(s: &[u8], table: &mut [u64; 383], first: usize, count: usize, at: usize) -> bool
+    requires { ⌜ (Stand (now s) first count) × (NameIn (now s) at) × (count < 256) × (Linked (now table) (markIn (now s) first) count) ⌝ }
+    ensures { λ r. ⌜ (r ≡ true → among (nameAt (now (s .entry)) at) (namesBefore (now (s .entry)) first count) ≡ false) ⌝ }
+    ensures { λ _. ⌜ (at ≡ behind (now (s .entry)) first count + 6 → Linked (now (table .exit)) (markIn (now (s .entry)) first) (count + 1)) ⌝ }
+{
+    let m = mark(wire::name_at(s, at));
+    let found = marks::last(table, m);
+    marks::link(table, count, m);
+    if found == 0 {
+        return true;
+    }
+    differs(s, first, count, at)
+}
+
+// The same as `fresh_compared` for many: a name is compared only where one before it may have its mark.
+fn fresh_marked(s: &[u8], first: usize, n: usize, end: usize) -> usize
+    requires { ⌜ (first ≤ end) × (end ≤ length (now s)) × (n ≤ 256) ⌝ }
+    ensures { λ r. ⌜ Fresh (now (s .entry)) first r ⌝ }
+{
+    let mut table = [0u64; 383];
+    let mut at = first;
+    let mut count = 0;
+    while count < n {
+        let next = behind_block(s, at, end);
+        if next == 0 {
+            return count;
+        }
+        if !is_new(s, &mut table, first, count, at + 6) {
+            return count;
+        }
+        at = next;
+        count += 1;
+    }
+    count
+}
+
+// Of the blocks behind their count at `at`, how many begin with a name that none before has. Nothing is said of more than 256, nor
+// behind the first block that does not lie before `end`. To compare a few names takes less time than to clear a table of marks.
+pub fn fresh(s: &[u8], at: usize, end: usize) -> usize
+    requires { ⌜ (at ≤ end) × (end ≤ length (now s)) ⌝ }
+    ensures { λ r. ⌜ Fresh (now (s .entry)) (at + 2) r ⌝ }
+{
+    if end < at + 2 {
+        return 0;
+    }
+    let n = wire::read2(s, at);
+    if n < 2 {
+        return n;
+    }
+    let first = at + 2;
+    if n < 6 {
+        return fresh_compared(s, first, n, end);
+    }
+    if 256 < n {
+        return 0;
+    }
+    fresh_marked(s, first, n, end)
+}
+
 // Question 6 on the name at `at`.
 fn in_order(s: &[u8], seen: Seen, at: usize) -> bool
-    requires { ⌜ (Valid (now s) seen) × (NameIn (now s) at) ⌝ }
+    requires { ⌜ (Valid (now s) seen) × (Here (now s) seen at) × (NameIn (now s) at) ⌝ }
     ensures { λ r. ⌜ r ≡ inOrder (earlierOf (now (s .entry)) seen) (nameAt (now (s .entry)) at) ⌝ }
 {
     match seen {
         Seen::Nothing => true,
         Seen::Owners(_, _, last, _) => ascends(s, last, at),
-        Seen::Types(first, count) => differs(s, first, count, at),
+        Seen::Types(first, count, fresh) => {
+            if count < fresh {
+                return true;
+            }
+            differs(s, first, count, at)
+        }
         Seen::After(last) => ascends(s, last, at),
     }
 }
 
 // A block's name, then question 6.
 fn key(s: &[u8], seen: Seen, start: usize, at: usize, end: usize) -> Read
-    requires { ⌜ (at ≤ end) × (end ≤ length (now s)) × (Valid (now s) seen) ⌝ }
+    requires { ⌜ (at ≤ end) × (end ≤ length (now s)) × (Valid (now s) seen) × (Here (now s) seen at) ⌝ }
     ensures { λ r. ⌜ (r ≡ forget (readKey (now (s .entry)) start end (earlierOf (now (s .entry)) seen) at)) × (TextIn r (now (s .entry)) at end) ⌝ }
 {
     match text(s, start, at, end) {
@@ -325,14 +478,14 @@ fn remaining(limit: usize, seen: Seen) -> usize
     match seen {
         Seen::Owners(_, _, _, paths) => { if limit < paths { 0 } else { limit - paths } }
         Seen::Nothing => limit,
-        Seen::Types(_, _) => limit,
+        Seen::Types(_, _, _) => limit,
         Seen::After(_) => limit,
     }
 }
 
 // A part that holds no block.
 pub fn plain(s: &[u8], seen: Seen, p: Part, start: usize, at: usize, end: usize) -> Read
-    requires { ⌜ (at ≤ end) × (end ≤ length (now s)) × (Valid (now s) seen) × (Plain p) ⌝ }
+    requires { ⌜ (at ≤ end) × (end ≤ length (now s)) × (Valid (now s) seen) × (Plain p) × (p ≡ Key → Here (now s) seen at) ⌝ }
     ensures { λ r. ⌜ ((rb : Reader) → r ≡ forget (readPart rb (now (s .entry)) (earlierOf (now (s .entry)) seen) start end p at)) × (Inside r end) ⌝ }
 {
     match p {
@@ -365,9 +518,9 @@ pub fn grown(s: &[u8], seen: Seen, at: usize) -> Seen
             let all = paths + m;
             Seen::Owners(first, more, name, all)
         }
-        Seen::Types(first, count) => {
+        Seen::Types(first, count, fresh) => {
             let more = count + 1;
-            Seen::Types(first, more)
+            Seen::Types(first, more, fresh)
         }
         Seen::After(last) => Seen::After(last),
     }

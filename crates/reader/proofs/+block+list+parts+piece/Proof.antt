@@ -13,16 +13,17 @@ use Rattle.reader_grammar.proofs.part_of.Reads as part-of-reads
 use Rattle.reader_grammar.proofs.row.Reads as row-reads
 use Rattle.reader_leaf.proofs.Lists.{list-of, list-bad, entries-none, entries-stop}
 use Rattle.reader_leaf.proofs.Laws.{optional-stop, optional-on, optional-off}
-use Rattle.reader_leaf.specs.Seen.{earlierOf, namesBefore}
+use Rattle.reader_leaf.specs.Seen.{Here, earlierOf, namesBefore}
 use Rattle.reader_leaf.specs.Answer.{forget}
 use Rattle.reader_leaf.proofs.counted.Reads as counted-reads
 use Rattle.reader_leaf.proofs.flag.Reads as flag-reads
+use Rattle.reader_leaf.proofs.fresh.Reads as fresh-reads
 use Rattle.reader_leaf.proofs.grown.Reads as grown-reads
 use Rattle.reader_leaf.proofs.heading.Reads as heading-reads
 use Rattle.reader_leaf.proofs.plain.Reads as plain-reads
 use Rattle.reader.specs.Before.{Before}
-use Rattle.reader.proofs.Lists.{list-grows, list-go, nothing-before, nothing-valid, owners-before, types-before, plain}
-use Rattle.reader.proofs.Blocks.{block-no, block-full, block-stop, block-ok, block-rest, Left, all-left, none-left, left-stop, left-go}
+use Rattle.reader.proofs.Lists.{list-grows, list-go, nothing-before, nothing-valid, nothing-here, owners-before, types-before, plain}
+use Rattle.reader.proofs.Blocks.{block-no, block-full, block-stop, block-ok, block-rest, Left, all-left, none-left, left-stop, left-key, left-go}
 use Rattle.reader.proofs.block.Reads as block
 use Rattle.reader.proofs.block.Kinds as block-kinds
 use Rattle.reader.proofs.+block+list+parts+piece.Lts-block as block-lts
@@ -105,6 +106,8 @@ piece-with t = (
   flag-reads.Learnt,
   list-below t,
   list.Post,
+  fresh-reads.Asked,
+  fresh-reads.Learnt,
   plain-reads.Asked,
   plain-reads.Learnt,
 )
@@ -141,7 +144,7 @@ block-parts-requires t c κs =
     let at-heading = at-k .before .before in
     let at-start = at-heading .before .before in
     let h = rw (at-k .k .given .1) at (at-heading .heading .ensures .1) in
-    (omega arith, (omega arith, omega arith, at-start .pre .1 .2))
+    (omega arith, (omega arith, omega arith, at-start .pre .1 .2, at-start .pre .1 .3))
 
 block-enum-known-q-2 : (t : ℕ) → block-lts.Need-enum-known-q-2 (block-with t) (block-at t) block.Post
 block-enum-known-q-2 t c = search needs
@@ -237,7 +240,7 @@ list-loop-holds t c =
 list-block-requires : (t : ℕ) → list-lts.Need-block-requires (list-with t) (list-at t) list.Post list-Inv-loop list-μ-loop
 list-block-requires t c κs = (
   omega arith,
-  (c .before .loop .inv .0, omega arith, c .before .loop .inv .1 .valid),
+  (c .before .loop .inv .0, omega arith, c .before .loop .inv .1 .valid, c .before .loop .inv .1 .here),
 )
 
 list-enum-known-next : (t : ℕ) → list-lts.Need-enum-known-next (list-with t) (list-at t) list.Post list-Inv-loop list-μ-loop
@@ -308,7 +311,7 @@ list-returns-3 t c = (
 
 abbrev parts-Inv-loop : parts-lts.InvT-loop
 parts-Inv-loop s room seen kind start at end here₀ row₀ here row =
-    (here ≤ end) × Left (readBlock room s) s (earlierOf s seen) start end kind at row here
+    (here ≤ end) × Left (Here s seen) (readBlock room s) s (earlierOf s seen) start end kind at row here
 
 abbrev parts-μ-loop : parts-lts.MeasureT-loop
 parts-μ-loop s room seen kind start at end here₀ row₀ here row = row
@@ -317,13 +320,22 @@ parts-row-requires : (t : ℕ) → parts-lts.Need-row-requires (parts-with t) (p
 parts-row-requires t c κs = search needs
 
 parts-loop-holds : (t : ℕ) → parts-lts.Need-loop-holds (parts-with t) (parts-at t) parts.Post parts-Inv-loop parts-μ-loop
-parts-loop-holds t c = (omega arith, all-left _ _ _ _ _ _ _ (c .row .ensures))
+parts-loop-holds t c =
+    let at-start = c .before .before in
+    (omega arith, all-left _ _ _ _ _ _ _ _ (at-start .pre .1 .3) (c .row .ensures))
 
 parts-piece-requires : (t : ℕ) → parts-lts.Need-piece-requires (parts-with t) (parts-at t) parts.Post parts-Inv-loop parts-μ-loop
 parts-piece-requires t c κs =
     let at-loop = c .before in
-    let at-start = at-loop .before .before .before in
-    (omega arith, (at-loop .loop .inv .0, omega arith, at-start .pre .1 .2))
+    let at-start = at-loop .before .before .before in (
+      omega arith,
+      (
+        at-loop .loop .inv .0,
+        omega arith,
+        at-start .pre .1 .2,
+        left-key _ _ _ _ _ _ _ _ (at-loop .loop .inv .1) (c .loop-test .taken),
+      ),
+    )
 
 parts-enum-known-next : (t : ℕ) → parts-lts.Need-enum-known-next (parts-with t) (parts-at t) parts.Post parts-Inv-loop parts-μ-loop
 parts-enum-known-next t c = search needs
@@ -337,7 +349,7 @@ parts-returns t c =
     let in-loop = at-piece .before in
     let at-loop = in-loop .before in (
       sym
-          (left-stop _ _ _ _ _ _ _
+          (left-stop _ _ _ _ _ _ _ _
           (at-loop .loop .inv .1)
           (in-loop .loop-test .taken)
           (sym (at-piece .piece .ensures .0) ∙ c .before .q .given .1)),
@@ -353,7 +365,7 @@ parts-loop-again t c =
     let in-loop = at-piece .before in
     let at-loop = in-loop .before in (
       rw (c .before .next .given .1) at (at-piece .piece .ensures .1),
-      left-go _ _ _ _ _ _ _
+      left-go _ _ _ _ _ _ _ _
           (at-loop .loop .inv .1)
           (in-loop .loop-test .taken)
           (sym (at-piece .piece .ensures .0) ∙ c .before .next .given .1),
@@ -361,7 +373,7 @@ parts-loop-again t c =
 
 parts-returns-2 : (t : ℕ) → parts-lts.Need-returns-2 (parts-with t) (parts-at t) parts.Post parts-Inv-loop parts-μ-loop
 parts-returns-2 t c = (
-  sym (none-left _ _ _ _ _ _ _ (c .before .loop .inv .1) (c .loop-test .left)),
+  sym (none-left _ _ _ _ _ _ _ _ (c .before .loop .inv .1) (c .loop-test .left)),
   c .before .loop .inv .0,
 )
 
@@ -372,7 +384,7 @@ piece-enum-known-p : (t : ℕ) → piece-lts.Need-enum-known-p (piece-with t) (p
 piece-enum-known-p t c = search needs
 
 piece-block-requires : (t : ℕ) → piece-lts.Need-block-requires (piece-with t) (piece-at t) piece.Post
-piece-block-requires t c κs = (omega arith, (omega arith, omega arith, nothing-valid _ 0 0 0))
+piece-block-requires t c κs = (omega arith, (omega arith, omega arith, nothing-valid _ 0 0 0, nothing-here _ 0 0 _))
 
 piece-enum-known-p-2 : (t : ℕ) → piece-lts.Need-enum-known-p-2 (piece-with t) (piece-at t) piece.Post
 piece-enum-known-p-2 t c = search needs
@@ -398,7 +410,7 @@ piece-block-requires-2 t c κs =
     let at-next = c .before .before .before in
     let at-flag = at-next .before .before in
     let h = rw (at-next .next .given .1) at (at-flag .flag .ensures .1) in
-    (omega arith, (omega arith, omega arith, nothing-valid _ 0 0 0))
+    (omega arith, (omega arith, omega arith, nothing-valid _ 0 0 0, nothing-here _ 0 0 _))
 
 piece-enum-known-p-3 : (t : ℕ) → piece-lts.Need-enum-known-p-3 (piece-with t) (piece-at t) piece.Post
 piece-enum-known-p-3 t c = search needs
@@ -429,24 +441,31 @@ piece-enum-known-p-5 t c = search needs
 piece-add-first-2 : (t : ℕ) → piece-lts.Need-add-first-2 (piece-with t) (piece-at t) piece.Post
 piece-add-first-2 t c = omega arith
 
+piece-fresh-requires : (t : ℕ) → piece-lts.Need-fresh-requires (piece-with t) (piece-at t) piece.Post
+piece-fresh-requires t c κs = omega arith
+
 piece-list-requires-3 : (t : ℕ) → piece-lts.Need-list-requires-3 (piece-with t) (piece-at t) piece.Post
 piece-list-requires-3 t c κs =
-    let at-part-of = c .before .before .before in (
+    let at-p5 = c .before .before in
+    let at-part-of = at-p5 .before .before in (
       omega arith,
       (
         omega arith,
         omega arith,
-        types-before _ _ _ _ (types _ _ _ _ (sym (at-part-of .part-of .ensures) ∙ c .before .p5 .given .1)),
+        types-before _ _ _ _ (c .fresh .ensures) (types _ _ _ _ (sym (at-part-of .part-of .ensures) ∙ at-p5 .p5 .given .1)),
       ),
     )
 
 piece-plain-requires : (t : ℕ) → piece-lts.Need-plain-requires (piece-with t) (piece-at t) piece.Post
-piece-plain-requires t c κs = (
-  omega arith,
-  omega arith,
-  c .before .before .before .pre .1 .2,
-  plain _ (c .match .keys6),
-)
+piece-plain-requires t c κs =
+    let at-part-of = c .before in
+    let at-start = at-part-of .before .before in (
+      omega arith,
+      omega arith,
+      at-start .pre .1 .2,
+      plain _ (c .match .keys6),
+      λ e. at-start .pre .1 .3 (sym (at-part-of .part-of .ensures) ∙ e),
+    )
 
 piece-returns : (t : ℕ) → piece-lts.Need-returns (piece-with t) (piece-at t) piece.Post
 unfolding readPart earlierOf
@@ -515,7 +534,7 @@ piece-returns-6 t c =
 piece-returns-7 : (t : ℕ) → piece-lts.Need-returns-7 (piece-with t) (piece-at t) piece.Post
 unfolding readPart earlierOf namesBefore
 piece-returns-7 t c =
-    let at-p5 = c .before .before in
+    let at-p5 = c .before .before .before in
     let e = sym (at-p5 .before .before .part-of .ensures) ∙ at-p5 .p5 .given .1 in
     (rw e (c .list3 .ensures .0), c .list3 .ensures .1)
 
@@ -544,6 +563,6 @@ pub +block+list+parts+piece-spec : {M : Type 1} → statement M
     (piece-enum-known-next t) (piece-shared-slice-read-if1 t) (piece-block-requires-2 t)
     (piece-enum-known-p-3 t) (piece-list-requires t) (piece-enum-known-p-4 t) (piece-add-first t)
     (piece-list-requires-2 t) (piece-enum-known-p-5 t) (piece-add-first-2 t)
-    (piece-list-requires-3 t) (piece-plain-requires t) (piece-returns t) (piece-returns-2 t)
+    (piece-fresh-requires t) (piece-list-requires-3 t) (piece-plain-requires t) (piece-returns t) (piece-returns-2 t)
     (piece-returns-3 t) (piece-returns-4 t) (piece-returns-5 t) (piece-returns-6 t)
     (piece-returns-7 t) (piece-returns-8 t))

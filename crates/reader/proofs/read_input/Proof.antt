@@ -4,12 +4,12 @@ use native.Mathlib.Omega.{arith}
 use borrow.Author.Needs.{needs}
 use Rattle.reader_leaf.specs.Seen.{earlierOf}
 use Rattle.reader.proofs.Input.{input-stop, input-ok, input-rest}
-use Rattle.reader.proofs.Lists.{nothing-valid}
+use Rattle.reader.proofs.Lists.{nothing-valid, nothing-here}
 use Rattle.reader.proofs.read_input.Statement.{statement}
 use Rattle.reader.proofs.read_input.Tie as tie
 
 block-requires : tie.Need-block-requires
-block-requires c κs = (omega arith, omega arith, nothing-valid _ 0 0 0)
+block-requires c κs = (omega arith, omega arith, nothing-valid _ 0 0 0, nothing-here _ 0 0 _)
 
 enum-known-q : tie.Need-enum-known-q
 enum-known-q c = search needs

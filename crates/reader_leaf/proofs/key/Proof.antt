@@ -20,7 +20,7 @@ in-order-requires c κs =
     let at-text = c .before .before .before in
     let at-start = at-text .before .before in
     let h = rw (c .before .next .given .1) at (at-text .text .ensures .1) in
-    (at-start .pre .2, omega arith)
+    (at-start .pre .2, at-start .pre .3, omega arith)
 
 returns : tie.Need-returns
 returns c =

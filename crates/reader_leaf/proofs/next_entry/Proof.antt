@@ -3,15 +3,15 @@ use mathlib.Core.Path.{sym, _∙_}
 use native.Mathlib.Omega.{arith}
 use borrow.Author.Needs.{needs}
 use Rattle.reader_leaf.specs.Answer.{readEntry}
-use Rattle.reader_leaf.specs.Seen.{Valid, earlierOf}
+use Rattle.reader_leaf.specs.Seen.{Valid, Here, earlierOf}
 use Rattle.reader_leaf.proofs.Lists.{entry-stop, value-then}
 use Rattle.reader_leaf.proofs.Laws.{pair-inside}
 use Rattle.reader_leaf.proofs.next_entry.Statement.{statement}
 use Rattle.reader_leaf.proofs.next_entry.Tie as tie
 
 key-requires : tie.Need-key-requires
-unfolding Valid
-key-requires c κs = (c .before .pre .0, c .before .pre .1, c .before .pre .2)
+unfolding Valid Here
+key-requires c κs = (c .before .pre .0, c .before .pre .1, c .before .pre .2, tt)
 
 enum-known-q : tie.Need-enum-known-q
 enum-known-q c = search needs

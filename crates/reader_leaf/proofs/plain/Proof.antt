@@ -19,7 +19,7 @@ enum-told-2 c = search needs
 key-requires : tie.Need-key-requires
 key-requires c κs =
     let at-start = c .before .before .before in
-    (at-start .pre .0, at-start .pre .1, at-start .pre .2)
+    (at-start .pre .0, at-start .pre .1, at-start .pre .2, at-start .pre .4 (c .enum-told2 .given .1))
 
 enum-told-3 : tie.Need-enum-told-3
 enum-told-3 c = search needs
