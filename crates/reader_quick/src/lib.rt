@@ -2,20 +2,19 @@
 // the questions again, one by one.
 use reader_leaf::Read;
 ghost use mathlib.Core.Path.{_≡_};
-ghost use mathlib.Core.Bool.{true, false};
+ghost use mathlib.Core.Bool.{true};
 ghost use mathlib.Core.List.{[], _∷_};
 ghost use Prim.Native.Nat.{ℕ, _+_, _≤_, _<_};
-ghost use lib.ListN.{length, getD, set};
+ghost use lib.ListN.{length, getD};
 ghost use Rattle.blocks.specs.declared.Part.the-variants.{OptText, Flag};
 ghost use Rattle.blocks.specs.Bytes.{le2};
-ghost use Rattle.blocks.specs.Name.{among};
 ghost use Rattle.blocks.specs.Read.{Earlier, Reader, inOrder, readText, readFlag, readOptional, readList, readPart, readParts, readBlock, readInput};
 ghost use Rattle.reader_leaf.specs.declared.Read.the-variants.{Ok};
 ghost use Rattle.reader_leaf.specs.Answer.{forget};
-ghost use Rattle.reader_leaf.specs.Seen.{nameAt, NameIn, namesBefore, Stand};
+ghost use Rattle.reader_leaf.specs.Seen.{nameAt, Fresh};
 ghost use Rattle.ir_nodes.specs.Codes.{partOf};
 ghost use Rattle.reader.specs.Input.{inputOf};
-ghost use Rattle.reader_quick.specs.Quick.{Reads, Sized, Begun, Body, Counted, placeOf, Marked};
+ghost use Rattle.reader_quick.specs.Quick.{Reads, Sized, Begun, Body, Counted};
 
 // The digits of the parts that nodes have.
 const TEXT: u64 = ir_nodes::TEXT as u64;
@@ -398,45 +397,10 @@ fn node(s: &[u8], room: usize, at: usize, end: usize) -> usize
     body(s, left, row, i, stop)
 }
 
-// The place of a name among the marks. Names that differ in a few digits seldom share one.
-fn place(name: &[u8]) -> usize
-    ensures { λ r. ⌜ (r ≡ placeOf (now (name .entry))) × (r < 4096) ⌝ }
-{
-    let n = name.len();
-    if 8 <= n {
-        let head = wire::read8(name, 0) % 4073;
-        let middle = wire::read8(name, (n - 8) / 2) % 4073;
-        let tail = wire::read8(name, n - 8) % 4073;
-        return (head + middle * 30 + tail * 900) % 4073;
-    }
-    let mut i = n;
-    let mut h = 0;
-    while 0 < i {
-        i -= 1;
-        h = h % 72057594037927936 * 256 + wire::wide(name[i]);
-    }
-    h % 4073
-}
-
-// Whether the name at `at` is not among those with which these blocks begin, each of which has its mark. It gets its own.
-fn fresh(s: &[u8], marks: &mut [u8; 4096], first: usize, count: usize, at: usize) -> bool
-    requires { ⌜ (Stand (now s) first count) × (NameIn (now s) at) × (Marked (now marks) (now s) first count) ⌝ }
-    ensures { λ r. ⌜ (r ≡ true → among (nameAt (now (s .entry)) at) (namesBefore (now (s .entry)) first count) ≡ false) ⌝ }
-    ensures { λ _. ⌜ now (marks .exit) ≡ set (now (marks .entry)) (placeOf (nameAt (now (s .entry)) at)) 1 ⌝ }
-{
-    let p = place(wire::name_at(s, at));
-    let old = marks[p];
-    marks[p] = 1;
-    if old == 0 {
-        return true;
-    }
-    reader_leaf::differs(s, first, count, at)
-}
-
 // A type tree: its name, its alignment, its node and its parameters. Of the names before nothing is asked.
 fn tree(s: &[u8], room: usize, at: usize, end: usize) -> usize
     requires { ⌜ (at ≤ end) × (end ≤ length (now s)) ⌝ }
-    ensures { λ r. ⌜ ((e : Earlier) → inOrder e (nameAt (now (s .entry)) (at + 6)) ≡ true → Reads r (readBlock room (now (s .entry)) e 161 161 at end)) × (r ≤ end) × (0 < r → NameIn (now (s .entry)) (at + 6)) ⌝ }
+    ensures { λ r. ⌜ ((e : Earlier) → inOrder e (nameAt (now (s .entry)) (at + 6)) ≡ true → Reads r (readBlock room (now (s .entry)) e 161 161 at end)) × (r ≤ end) ⌝ }
 {
     let stop = of_kind(s, 161, at, end);
     if stop == 0 {
@@ -459,20 +423,16 @@ fn tree(s: &[u8], room: usize, at: usize, end: usize) -> usize
     closed(entries(s, 162, j, stop), stop)
 }
 
-// n type trees behind their count at `at`, their names distinct: each is compared with all before it.
-fn trees_compared(s: &[u8], room: usize, at: usize, n: usize, end: usize) -> usize
-    requires { ⌜ Counted (now s) at n end ⌝ }
+// n type trees behind their count at `at`. Their names are known to be distinct.
+fn fresh_trees(s: &[u8], room: usize, at: usize, n: usize, end: usize) -> usize
+    requires { ⌜ (Counted (now s) at n end) × (Fresh (now s) (at + 2) n) ⌝ }
     ensures { λ r. ⌜ ((start : ℕ) → Reads r (readList (λ f a. readBlock room (now (s .entry)) f 161 161 a end) (Earlier.distinct []) 256 (now (s .entry)) start end at)) × (r ≤ end) ⌝ }
 {
-    let first = at + 2;
-    let mut i = first;
+    let mut i = at + 2;
     let mut count = 0;
     while count < n {
         let next = tree(s, room, i, end);
         if next == 0 {
-            return 0;
-        }
-        if !reader_leaf::differs(s, first, count, i + 6) {
             return 0;
         }
         i = next;
@@ -481,30 +441,7 @@ fn trees_compared(s: &[u8], room: usize, at: usize, n: usize, end: usize) -> usi
     i
 }
 
-// The same for many: a name is compared only where it falls together with one before it.
-fn trees_marked(s: &[u8], room: usize, at: usize, n: usize, end: usize) -> usize
-    requires { ⌜ Counted (now s) at n end ⌝ }
-    ensures { λ r. ⌜ ((start : ℕ) → Reads r (readList (λ f a. readBlock room (now (s .entry)) f 161 161 a end) (Earlier.distinct []) 256 (now (s .entry)) start end at)) × (r ≤ end) ⌝ }
-{
-    let first = at + 2;
-    let mut marks = [0u8; 4096];
-    let mut i = first;
-    let mut count = 0;
-    while count < n {
-        let next = tree(s, room, i, end);
-        if next == 0 {
-            return 0;
-        }
-        if !fresh(s, &mut marks, first, count, i + 6) {
-            return 0;
-        }
-        i = next;
-        count += 1;
-    }
-    i
-}
-
-// A count and type trees, their names distinct. To compare a few names takes less time than to clear the marks.
+// A count and type trees, their names distinct.
 fn trees(s: &[u8], room: usize, at: usize, end: usize) -> usize
     requires { ⌜ (at ≤ end) × (end ≤ length (now s)) ⌝ }
     ensures { λ r. ⌜ ((start : ℕ) → Reads r (readList (λ f a. readBlock room (now (s .entry)) f 161 161 a end) (Earlier.distinct []) 256 (now (s .entry)) start end at)) × (r ≤ end) ⌝ }
@@ -516,10 +453,10 @@ fn trees(s: &[u8], room: usize, at: usize, end: usize) -> usize
     if 256 < n {
         return 0;
     }
-    if n < 6 {
-        return trees_compared(s, room, at, n, end);
+    if reader_leaf::fresh(s, at, end) < n {
+        return 0;
     }
-    trees_marked(s, room, at, n, end)
+    fresh_trees(s, room, at, n, end)
 }
 
 // Whether the input is a layout. If not, nothing is said.

@@ -9,7 +9,7 @@ use Rattle.blocks.specs.Read.{Earlier, readBlock}
 use Rattle.reader_leaf.specs.declared.Read.the-variants.{Ok}
 use Rattle.reader_leaf.specs.Answer.{forget}
 use Rattle.reader_quick.specs.Quick.{Body}
-use Rattle.reader_quick.proofs.Listed.{not-not}
+use Rattle.reader_leaf.proofs.Distinct.{not-not}
 use Rattle.reader_quick.proofs.Laws.{ends, Rest, rest-all, rest-next, rest-none, case-yes, node-yes, row-none, row-go, row-child, const-row, call-row, field-row, number-part, text-part, optional-part, node-part, cases-part, arguments-part, default-off, default-on}
 use borrow.Fn.Kinds.{In}
 use borrow.Fn.PlainCycle.{Measures, is, falls, and}

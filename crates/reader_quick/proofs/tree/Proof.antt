@@ -1,7 +1,7 @@
 -- `reader_quick::tree` meets its contract: a name, an alignment, a node and parameters that end where the tree ends.
 -- Assumes nothing.
 use native.Mathlib.Omega.{arith}
-use Rattle.reader_quick.proofs.Listed.{name-in, tree-yes}
+use Rattle.reader_quick.proofs.Listed.{tree-yes}
 use borrow.Author.Needs.{needs}
 use Rattle.reader_quick.proofs.tree.Statement.{statement}
 use Rattle.reader_quick.proofs.tree.Tie as tie
@@ -10,10 +10,10 @@ of-kind-requires : tie.Need-of-kind-requires
 of-kind-requires c κs = search needs
 
 returns : tie.Need-returns
-returns c = (λ e o z. absurd (omega arith), omega arith, λ z. absurd (omega arith))
+returns c = (λ e o z. absurd (omega arith), omega arith)
 
 returns-2 : tie.Need-returns-2
-returns-2 c = (λ e o z. absurd (omega arith), omega arith, λ z. absurd (omega arith))
+returns-2 c = (λ e o z. absurd (omega arith), omega arith)
 
 add-text : tie.Need-add-text
 add-text c = search needs
@@ -25,7 +25,7 @@ text-requires c κs =
     (block .1 (omega (arith, at-else1 .if1 .left)) .1, omega (arith, block .2))
 
 returns-3 : tie.Need-returns-3
-returns-3 c = (λ e o z. absurd (omega arith), omega arith, λ z. absurd (omega arith))
+returns-3 c = (λ e o z. absurd (omega arith), omega arith)
 
 add-if4 : tie.Need-add-if4
 add-if4 c =
@@ -34,7 +34,7 @@ add-if4 c =
     omega (arith, block .2, at-text .text .ensures .1)
 
 returns-4 : tie.Need-returns-4
-returns-4 c = (λ e o z. absurd (omega arith), omega arith, λ z. absurd (omega arith))
+returns-4 c = (λ e o z. absurd (omega arith), omega arith)
 
 sub-node : tie.Need-sub-node
 sub-node c = search needs
@@ -48,7 +48,7 @@ node-requires c κs =
     (c .if4 .left, omega (arith, block .2))
 
 returns-5 : tie.Need-returns-5
-returns-5 c = (λ e o z. absurd (omega arith), omega arith, λ z. absurd (omega arith))
+returns-5 c = (λ e o z. absurd (omega arith), omega arith)
 
 entries-requires : tie.Need-entries-requires
 entries-requires c κs =
@@ -68,7 +68,6 @@ returns-6 c =
     let at-text = at-else3 .before in
     let at-else2 = at-text .before in
     let at-else1 = at-else2 .before in
-    let at-start = at-else1 .before .before .before in
     let block = at-else1 .before .of-kind .ensures in (
       tree-yes _ _ _ _ _
           (block .0)
@@ -83,11 +82,6 @@ returns-6 c =
           (c .before .entries .ensures .0)
           (c .closed .ensures .0),
       omega (arith, block .2, c .closed .ensures .1),
-      λ z. name-in
-          (at-start .args .s .now) _ _
-          (omega (arith, at-else3 .if3 .left))
-          (at-text .text .ensures .0)
-          (omega (arith, block .2, at-text .text .ensures .1)),
     )
 
 pub tree-spec : {M : Type 1} → statement M

@@ -1,6 +1,7 @@
--- `reader_quick::trees` meets its contract: both ways to see that names are new give it. Assumes nothing.
+-- `reader_quick::trees` meets its contract: where all names are known to be distinct, the trees decide. Assumes nothing.
 use native.Mathlib.Omega.{arith}
 use borrow.Author.Needs.{needs}
+use Rattle.reader_quick.proofs.Listed.{fresh-part}
 use Rattle.reader_quick.proofs.trees.Statement.{statement}
 use Rattle.reader_quick.proofs.trees.Tie as tie
 
@@ -16,14 +17,14 @@ read2-requires c κs = search needs
 returns-2 : tie.Need-returns-2
 returns-2 c = (λ start z. absurd (omega arith), omega arith)
 
-trees-compared-requires : tie.Need-trees-compared-requires
-trees-compared-requires c κs = search needs
+fresh-requires : tie.Need-fresh-requires
+fresh-requires c κs = search needs
 
 returns-3 : tie.Need-returns-3
-returns-3 c = search needs
+returns-3 c = (λ start z. absurd (omega arith), omega arith)
 
-trees-marked-requires : tie.Need-trees-marked-requires
-trees-marked-requires c κs = search needs
+fresh-trees-requires : tie.Need-fresh-trees-requires
+fresh-trees-requires c κs = (search needs, fresh-part _ _ (c .if3 .left) (c .before .fresh .ensures))
 
 returns-4 : tie.Need-returns-4
 returns-4 c = search needs
@@ -36,7 +37,7 @@ trees-spec =
     returns
     read2-requires
     returns-2
-    trees-compared-requires
+    fresh-requires
     returns-3
-    trees-marked-requires
+    fresh-trees-requires
     returns-4)
