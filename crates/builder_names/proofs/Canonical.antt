@@ -1,10 +1,10 @@
 -- The canonical name: its length, writing it, and comparing it without building it. Assumes nothing.
-use Prim.Native.Nat.{ℕ, _+_, _-_}
+use Prim.Native.Nat.{ℕ, _+_, _-_, _≤_}
 use native.Mathlib.Omega.{arith}
 use mathlib.Core.Path.{_≡_, refl, sym, ap, _∙_}
 use mathlib.Core.Bool.{Bool, true, false, _||_}
 use mathlib.Core.List.{List, [], _∷_}
-use lib.ListN.{length, drop, length-drop}
+use lib.ListN.{length, take, drop, length-drop}
 use Rattle.blocks.specs.Name.{Name, same}
 use Rattle.blocks.proofs.Name.{false-true}
 use Rattle.builder.specs.Names.{isEmpty, normalize-path, canonical-name}
@@ -13,8 +13,12 @@ use Rattle.blocks.specs.Tree.{name}
 use Rattle.blocks.specs.Write.{write}
 use Rattle.wire.specs.Poke.{Wrote}
 use Rattle.wire.proofs.Laws.{both}
-use Rattle.builder_names.specs.Views.{alone, dotted}
-use Rattle.builder_names.proofs.Strip.{dot-length}
+use Rattle.marks.specs.Mark.{markOf}
+use Rattle.marks.proofs.Marks.{mark-append}
+use Rattle.builder_names.specs.declared.Rest.{Rest}
+use Rattle.builder_names.specs.declared.Rest.the-variants.{Nothing, From}
+use Rattle.builder_names.specs.Views.{alone, dotted, RestIs}
+use Rattle.builder_names.proofs.Strip.{dot-length, rest-part}
 
 -- ---- the canonical name
 
@@ -51,37 +55,70 @@ module _ (o p : Name) where
     unfolding canonical-name normalize-path dotted
     canonical-rest h = let q : alone o p ≡ false = sym e ∙ h in rw (q, or-right (isEmpty p) (same p o) q)
 
-    -- the answer of `canonical_length` for the owner alone
-    pub length-alone : b ≡ true → length o ≡ length (canonical-name o p)
-    length-alone h = ap length (sym (canonical-alone h))
+    -- the answer of `rest_of` for the owner alone
+    pub rest-nothing : b ≡ true → RestIs o p Nothing
+    rest-nothing h = canonical-alone h
 
-    module _ (k : ℕ) (f : normalize-path o p ≡ drop k p) where
-      -- the normal path being the path from k on, as the code has it
-      canonical-drop : b ≡ false → canonical-name o p ≡ dotted o (drop k p)
-      canonical-drop h = canonical-rest h ∙ ap (dotted o) f
+    -- its answer else, the normal path being the path from k on
+    pub rest-from : (k : ℕ) → k ≤ length p → normalize-path o p ≡ drop k p → b ≡ false → RestIs o p (From k)
+    rest-from k l f h = (l, canonical-rest h ∙ ap (dotted o) f)
 
-      -- the answer of `canonical_length` else
-      pub length-rest : b ≡ false → length o + 1 + (length p - k) ≡ length (canonical-name o p)
-      length-rest h = rw (canonical-drop h, dot-length) (omega (arith, length-drop k p))
+  module _ (r : Rest) (w : RestIs o p r) where
+    -- nothing stands behind the owner: the canonical name is the owner
+    nothing-is : r ≡ Nothing → canonical-name o p ≡ o
+    nothing-is e = let q : RestIs o p Nothing = rw e at w in q
 
-pub ruleset canonicals = (alone-empty, alone-not, length-alone, length-rest)
+    -- the answer of `canonical_length` then
+    pub length-nothing : r ≡ Nothing → length o ≡ length (canonical-name o p)
+    length-nothing e = ap length (sym (nothing-is e))
+
+    module _ (k : ℕ) (e : r ≡ From k) where
+      -- a dot and the path from k on stand behind the owner
+      from-is : RestIs o p (From k)
+      from-is = rw e at w
+
+      -- k lies inside the path
+      pub from-fits : k ≤ length p
+      from-fits = from-is .0
+
+      -- the answer of `canonical_length` then
+      pub length-from : length o + 1 + (length p - k) ≡ length (canonical-name o p)
+      length-from = rw (from-is .1, dot-length) (omega (arith, length-drop k p))
+
+  module _ (r : Rest) (w : RestIs o p r) where
+    -- the answer of `canonical_mark` for the owner alone: the mark of the owner
+    pub mark-nothing : (h : ℕ) → r ≡ Nothing → (g : ℕ) → h ≡ markOf g o → h ≡ markOf g (canonical-name o p)
+    mark-nothing h e g f = rw (nothing-is r w e) f
+
+    -- its answer else: the dot's mark behind the owner's, and the rest's behind the dot's
+    pub mark-from : (h d z k : ℕ) → r ≡ From k → d ≡ markOf h (0x2E ∷ []) → z ≡ markOf d (take (length p - k) (drop k p)) →
+        (g : ℕ) → h ≡ markOf g o → z ≡ markOf g (canonical-name o p)
+    unfolding dotted
+    mark-from h d z k e x y g f =
+        y
+        ∙ rw (rest-part p k, x, f, from-is r w k e .1, mark-append g o (0x2E ∷ drop k p), mark-append (markOf g o) (0x2E ∷ []) (drop k p)) refl
+
+pub ruleset canonicals = (alone-empty, alone-not, rest-nothing, rest-from, length-nothing, length-from, mark-nothing, mark-from)
 
 -- ---- put_canonical_name
-
-module _ {xs ys zs : List ℕ} {at n q u : ℕ} (o p : Name) (b : Bool) (l : n ≡ length (canonical-name o p)) (e : b ≡ alone o p)
-    (f : Wrote xs at (bytes 2 n) ys q) (g : Wrote ys q (drop 0 o) zs u) where
-  -- a length and the owner written one behind the other are the name, where the owner is alone
-  pub puts-alone : b ≡ true → Wrote xs at (write (name (canonical-name o p))) zs u
-  unfolding write
-  puts-alone h = rw (← l, canonical-alone o p b e h) (both f g)
-
-  -- else a dot and the normal path are written behind them
-  pub puts-rest : {us vs : List ℕ} {v r : ℕ} (k : ℕ) → normalize-path o p ≡ drop k p → b ≡ false → Wrote zs u (0x2E ∷ []) us v →
-      Wrote us v (drop k p) vs r → Wrote xs at (write (name (canonical-name o p))) vs r
-  unfolding write dotted
-  puts-rest k w h i j = rw (← l, canonical-drop o p b e k w h) (both f (both g (both i j)))
 
 -- where the write of a name ends
 pub with-end : {xs ys : List ℕ} {at r : ℕ} (s : Name) → Wrote xs at (write (name s)) ys r → Wrote xs at (write (name s)) ys r × (r ≡ at + (2 + length s))
 unfolding write bytes
 with-end s w = (w, omega (arith, w .end))
+
+module _ {xs ys : List ℕ} {at q : ℕ} (o p : Name) (r : Rest) (w : RestIs o p r) where
+  -- the owner is written, and nothing behind it
+  pub puts-nothing : r ≡ Nothing → Wrote xs at (write (name o)) ys q →
+      Wrote xs at (write (name (canonical-name o p))) ys q × (q ≡ at + (2 + length (canonical-name o p)))
+  puts-nothing e f = with-end (canonical-name o p) (rw (nothing-is o p r w e) f)
+
+  -- a length, the owner, a dot and the path from k on, one behind the other
+  pub puts-from : {zs us vs : List ℕ} {u v z : ℕ} (k : ℕ) → r ≡ From k → Wrote xs at (bytes 2 (length o + 1 + (length p - k))) ys q →
+      Wrote ys q (drop 0 o) zs u → Wrote zs u (0x2E ∷ []) us v → Wrote us v (drop k p) vs z →
+      Wrote xs at (write (name (canonical-name o p))) vs z × (z ≡ at + (2 + length (canonical-name o p)))
+  unfolding write dotted
+  puts-from k e f g i j =
+      with-end
+      (canonical-name o p)
+      (rw (← length-from o p r w k e, from-is o p r w k e .1) (both f (both g (both i j))))

@@ -7,9 +7,11 @@ use mathlib.Core.Option.{Option, some, none}
 use lib.Dec.{eqb, leb}
 use lib.ListN.{length, take, drop}
 use Rattle.blocks.specs.Name.{Name, ascii, same}
-use Rattle.builder.specs.Names.{isEmpty, normalize-path, rsplit-once, qualify-parent-path, alternate-owner-aliases}
+use Rattle.builder.specs.Names.{isEmpty, normalize-path, canonical-name, rsplit-once, qualify-parent-path, alternate-owner-aliases}
 use Rattle.builder_names.specs.declared.Split.{Split}
 use Rattle.builder_names.specs.declared.Split.the-variants.{At, Missing}
+use Rattle.builder_names.specs.declared.Rest.{Rest}
+use Rattle.builder_names.specs.declared.Rest.the-variants.{Nothing, From}
 use Rattle.builder_names.specs.declared.Key.{Key}
 use Rattle.builder_names.specs.declared.Key.the-variants.{Joined, NoParent}
 
@@ -20,6 +22,11 @@ alone owner path = isEmpty path || same path owner
 -- two names with a dot between them
 unfoldable pub dotted : Name → Name → Name
 dotted a b = a ++ (ascii "." ++ b)
+
+-- what stands behind the owner in the canonical name: nothing, or a dot and the path from a place on
+abbrev pub RestIs : Name → Name → Rest → Type 0
+RestIs owner path Nothing = canonical-name owner path ≡ owner
+RestIs owner path (From a) = (a ≤ length path) × (canonical-name owner path ≡ dotted owner (drop a path))
 
 -- whether a name begins with `::`
 abbrev pub colons : Name → Bool

@@ -2,19 +2,26 @@
 ghost use mathlib.Core.Path.{_≡_};
 ghost use mathlib.Core.Bool.{true};
 ghost use mathlib.Core.List.{_++_};
-ghost use Prim.Native.Nat.{_+_, _≤_, _<_, _^_};
+ghost use Prim.Native.Nat.{ℕ, _+_, _≤_, _<_, _^_};
 ghost use lib.ListN.{length, drop};
 ghost use Rattle.blocks.specs.Name.{same};
 ghost use Rattle.blocks.specs.Tree.{name};
 ghost use Rattle.blocks.specs.Write.{write};
 ghost use Rattle.wire.specs.Poke.{Wrote};
+ghost use Rattle.marks.specs.Mark.{markOf};
 ghost use Rattle.builder.specs.Names.{isSome, strip-owner, normalize-path, canonical-name, rsplit-once, ends-with};
-ghost use Rattle.builder_names.specs.Views.{alone, colons, colonsBefore, place, Parts, aliasOf, KeyIs};
+ghost use Rattle.builder_names.specs.Views.{alone, RestIs, colons, colonsBefore, place, Parts, aliasOf, KeyIs};
 
 // The place of a `::`, if there is one.
 pub enum Split {
     At(usize),
     Missing,
+}
+
+// What stands behind the owner in a canonical name: nothing, or a dot and the path from a place on.
+enum Rest {
+    Nothing,
+    From(usize),
 }
 
 // The key of a qualified path: so many bytes of its owner, and the path from a place on; none where the owner has no parent.
@@ -69,16 +76,25 @@ fn is_owner_alone(owner: &[u8], path: &[u8]) -> bool
     wire::same_name(path, owner)
 }
 
+// What stands behind the owner in the canonical name.
+fn rest_of(owner: &[u8], path: &[u8]) -> Rest
+    ensures { λ r. ⌜ RestIs (now (owner .entry)) (now (path .entry)) r ⌝ }
+{
+    if is_owner_alone(owner, path) {
+        return Rest::Nothing;
+    }
+    Rest::From(normal_start(owner, path))
+}
+
 // How many bytes the canonical name has.
 pub fn canonical_length(owner: &[u8], path: &[u8]) -> usize
     ensures { λ r. ⌜ r ≡ length (canonical-name (now (owner .entry)) (now (path .entry))) ⌝ }
 {
     let n = owner.len();
-    if is_owner_alone(owner, path) {
-        return n;
+    match rest_of(owner, path) {
+        Rest::Nothing => n,
+        Rest::From(a) => n + 1 + (path.len() - a),
     }
-    let a = normal_start(owner, path);
-    n + 1 + (path.len() - a)
 }
 
 // The canonical name, written as a name.
@@ -87,14 +103,29 @@ pub fn put_canonical_name(out: &mut [u8], at: usize, owner: &[u8], path: &[u8]) 
     ensures { λ r. ⌜ Wrote (now (out .entry)) at (write (name (canonical-name (now (owner .entry)) (now (path .entry))))) (now (out .exit)) r ⌝ }
     ensures { λ r. ⌜ r ≡ at + (2 + length (canonical-name (now (owner .entry)) (now (path .entry)))) ⌝ }
 {
-    let p = wire::put_le(out, at, 2, canonical_length(owner, path) as u64);
-    let q = wire::put_from(out, p, owner, 0);
-    if is_owner_alone(owner, path) {
-        return q;
+    match rest_of(owner, path) {
+        Rest::Nothing => wire::put_name(out, at, owner),
+        Rest::From(a) => {
+            let n = owner.len() + 1 + (path.len() - a);
+            let p = wire::put_le(out, at, 2, n as u64);
+            let q = wire::put_from(out, p, owner, 0);
+            let u = wire::put_byte(out, q, 0x2E);
+            wire::put_from(out, u, path, a)
+        }
     }
-    let u = wire::put_byte(out, q, 0x2E);
-    let a = normal_start(owner, path);
-    wire::put_from(out, u, path, a)
+}
+
+// The mark of the canonical name, where h is that of its owner.
+pub fn canonical_mark(h: u64, owner: &[u8], path: &[u8]) -> u64
+    ensures { λ r. ⌜ ((g : ℕ) → h ≡ markOf g (now (owner .entry)) → r ≡ markOf g (canonical-name (now (owner .entry)) (now (path .entry)))) ⌝ }
+{
+    match rest_of(owner, path) {
+        Rest::Nothing => h,
+        Rest::From(a) => {
+            let dot = marks::mark(h, b".");
+            marks::mark(dot, &path[a..])
+        }
+    }
 }
 
 // Whether `::` stands at i.
