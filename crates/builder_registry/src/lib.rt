@@ -22,6 +22,7 @@ ghost use Rattle.builder_registry.specs.Word.{ownerAt, pathAt, madeOf, d
 ghost use Rattle.builder_registry.specs.Words.{Indexed, Sought, Marked, Linking, AliasIs, aliasMark, aliasIn, Standing, Kept, Tags, Looked, held, madePath, madeParameter, madeEntry, entryOf, entriesOf, entryName};
 ghost use Rattle.builder_registry.specs.Texts.{describing};
 ghost use Rattle.builder_registry.specs.Place.{placeOf, foundIn, ifOwned};
+ghost use Rattle.builder_registry.specs.Marks.{OwnerMarked};
 
 // How many working words the registry and its index take.
 pub const WORDS: usize = 1663;
@@ -601,6 +602,44 @@ pub fn put_parameter(s: &[u8], w: u64, out: &mut [u8], at: usize) -> usize
     let e = wire::put_flag(out, u, is_derived(w));
     wire::close_block(out, at, e);
     e
+}
+
+// The mark of an entry's name. With it go the offset of its owner's name, and that name's mark, from which it starts: mostly the
+// next entry has the same owner. At the offset 65,536 nothing is known.
+pub struct NameMark {
+    pub mark: u64,
+    pub owner: usize,
+    pub start: u64,
+}
+
+// The mark of the owner's name at an offset, which may be known.
+fn mark_owner(s: &[u8], at: usize, known: NameMark) -> u64
+    requires { ⌜ (at < 65536) × OwnerMarked (now s) known ⌝ }
+    ensures { λ r. ⌜ r ≡ markOf 0 (held (now (s .entry)) at) ⌝ }
+{
+    if at == known.owner {
+        return known.start;
+    }
+    marks::mark(0, held_at(s, at))
+}
+
+// The mark of an entry's name, where something may be known of the owner from the entry before it.
+pub fn mark_name(s: &[u8], w: u64, known: NameMark) -> NameMark
+    requires { ⌜ OwnerMarked (now s) known ⌝ }
+    ensures { λ r. ⌜ r .mark ≡ markOf 0 (entryName (now (s .entry)) w) ⌝ }
+    ensures { λ r. ⌜ OwnerMarked (now (s .entry)) r ⌝ }
+{
+    let owner = owner_at(w);
+    let start = mark_owner(s, owner, known);
+    let made = made_of(w);
+    if made == 0 {
+        let o = held_at(s, owner);
+        let mark = builder_names::canonical_mark(start, o, path_of(s, w));
+        return NameMark { mark, owner, start };
+    }
+    let end = pick(made, b".computed_tag", b".variant", b".payload_size");
+    let mark = marks::mark(start, end);
+    NameMark { mark, owner, start }
 }
 
 // How many parameters of an owner an entry is, if it is the owner's.
