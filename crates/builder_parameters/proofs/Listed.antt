@@ -6,14 +6,15 @@ use mathlib.Core.Option.{Option, some, none}
 use Prim.Native.Nat.{ℕ, zero, suc, _+_, _-_, _≤_, _<_}
 use native.Mathlib.Numerals.{add-one}
 use native.Mathlib.Omega.{arith}
+use lib.Dec.{eqb}
 use lib.ListN.{length, take, drop, getD, set}
 use lib.Seq.{drop-cons, set-comm}
 use Rattle.blocks.specs.Bytes.{bytes}
-use borrow.Author.Tests.{not-true, not-false}
+use borrow.Author.Tests.{not-true, not-false, eqb-true, eqb-false}
 use Rattle.blocks.specs.Name.{Name, same, among}
 use Rattle.blocks.specs.Tree.{num}
 use Rattle.blocks.specs.Write.{write}
-use Rattle.blocks.proofs.Name.{same-eq}
+use Rattle.blocks.proofs.Name.{same-eq, false-true}
 use Rattle.resolved.specs.Resolved.{ResolvedType, kindOf}
 use Rattle.ir.specs.Ir.{IrParameter}
 use Rattle.ir.specs.Layout.{parameterTree, listTree, entriesTree}
@@ -22,22 +23,14 @@ use Rattle.wire.proofs.Laws.{parts, no-parts, bytes-length}
 use Rattle.builder.specs.Names.{replace-colons, split, before-element}
 use Rattle.builder.specs.Registry.{Registry, firsts, into-parameters}
 use Rattle.builder.specs.BuildType.{fieldsOf, has-jagged, jagged-before, is-jagged-element-parameter, filter-jagged-element-parameters}
+use Rattle.marks.specs.Mark.{markOf}
 use Rattle.builder_registry.specs.Words.{Standing, entryOf, entriesOf}
 use Rattle.builder_parameters.specs.declared.Segment.{Segment}
 use Rattle.builder_parameters.specs.declared.Segment.the-variants.{Part, Missing}
 use Rattle.builder_parameters.specs.Segments.{Found}
-use Rattle.builder_parameters.specs.Ready.{Ready}
-use Rattle.builder_parameters.specs.Listed.{nameIn, names, lists, Room, Jagged, Asks}
+use Rattle.builder_parameters.specs.Listed.{nameIn, names, lists, marksOf}
 
 -- ---- two names
-
--- names of two lengths are not the same
-pub other-length : (m n : Name) {k l : ℕ} → k ≡ length m → l ≡ length n → (k ≡ l → ⊥) → false ≡ same m n
-other-length m n e f h = go (same m n) refl
-  where
-    go : (b : Bool) → same m n ≡ b → false ≡ b
-    go true g = absurd (h (e ∙ ap (λ (z : Name). length z) (same-eq m n g) ∙ sym f))
-    go false g = refl
 
 -- the names that were compared are those that are meant
 pub same-parts : {a b m n : Name} {r : Bool} → a ≡ m → b ≡ n → r ≡ same a b → r ≡ same m n
@@ -45,29 +38,41 @@ same-parts e f g = rw (← e, ← f) g
 
 -- ---- a name among the earlier ones
 
-module _ (s ws : List ℕ) (m : Name) {j : ℕ} (h : 0 < j) where
-  -- a name is among the first j if the last of them has it or the others do
-  name-step : among m (names s ws j) ≡ (same m (nameIn s ws (j - 1)) || among m (names s ws (j - 1)))
+module _ (s ws : List ℕ) (m : Name) where
+  -- one of the first i entries has the name
+  among-met : (i k : ℕ) → k < i → same m (nameIn s ws k) ≡ true → among m (names s ws i) ≡ true
   unfolding names among
-  name-step =
-      let e : j ≡ suc (j - 1) = omega arith in
-      ap (λ (k : ℕ). among m (names s ws k)) e
+  among-met zero k h e = absurd (omega arith)
+  among-met (suc i) k h e = go (eqb k i) refl (same m (nameIn s ws i)) refl (λ l. among-met i k l e)
+    where
+      go : (a : Bool) → eqb k i ≡ a → (b : Bool) → same m (nameIn s ws i) ≡ b → (k < i → among m (names s ws i) ≡ true) → (b || among m (names s ws i)) ≡ true
+      go a f true g ih = refl
+      go true f false g ih = false-true (sym g ∙ ap (λ (j : ℕ). same m (nameIn s ws j)) (sym (eqb-true k i f)) ∙ e)
+      go false f false g ih = ih (omega (arith, eqb-false k i f))
 
-  module _ {b r : Bool} (g : b ≡ among m (names s ws j)) (e : r ≡ same m (nameIn s ws (j - 1))) where
-    -- the last of them has it: the name is not new
-    pub met : r ≡ true → false ≡ not b
-    met t = sym (ap not (g ∙ name-step ∙ ap (λ (b : Bool). b || among m (names s ws (j - 1))) (sym e ∙ t)))
+  -- none of them has it
+  among-none : (i : ℕ) → ((k : ℕ) → k < i → same m (nameIn s ws k) ≡ false) → among m (names s ws i) ≡ false
+  unfolding names among
+  among-none zero h = refl
+  among-none (suc i) h = rw (h i (omega arith)) (among-none i (λ k l. h k (omega arith)))
 
-    -- it has not: the others decide
-    pub unmet : r ≡ false → b ≡ among m (names s ws (j - 1))
-    unmet t = g ∙ name-step ∙ ap (λ (b : Bool). b || among m (names s ws (j - 1))) (sym e ∙ t)
+-- the entry at k does not have the name of the entry at i
+abbrev pub Other : List ℕ → List ℕ → ℕ → ℕ → Type 0
+Other s ws i k = same (nameIn s ws i) (nameIn s ws k) ≡ false
 
--- there is no other: the name is new
-pub none-met : (s ws : List ℕ) (m : Name) {j : ℕ} {b : Bool} → j ≤ 0 → b ≡ among m (names s ws j) → true ≡ not b
-unfolding names among
-none-met s ws m {j} h g =
-    let e : j ≡ 0 = omega arith in
-    sym (ap not (g ∙ ap (λ (k : ℕ). among m (names s ws k)) e))
+module _ (s ws : List ℕ) (i : ℕ) where
+  -- an earlier entry has the name: it is not new
+  pub not-new : (k : ℕ) {r : Bool} → k < i → r ≡ same (nameIn s ws i) (nameIn s ws k) → r ≡ true → false ≡ not (among (nameIn s ws i) (names s ws i))
+  not-new k h e t = sym (ap not (among-met s ws (nameIn s ws i) i k h (sym e ∙ t)))
+
+  -- no earlier entry of its mark has it: no earlier one has it
+  pub new : {mark : ℕ} → mark ≡ marksOf s ws i → ((k : ℕ) → k < i → marksOf s ws k ≡ mark → Other s ws i k) →
+      true ≡ not (among (nameIn s ws i) (names s ws i))
+  new e h = sym (ap not (among-none s ws (nameIn s ws i) i (λ k l. go k l (same (nameIn s ws i) (nameIn s ws k)) refl)))
+    where
+      go : (k : ℕ) → k < i → (b : Bool) → same (nameIn s ws i) (nameIn s ws k) ≡ b → b ≡ false
+      go k l false f = refl
+      go k l true f = sym f ∙ h k l (ap (markOf 0) (sym (same-eq (nameIn s ws i) (nameIn s ws k) f)) ∙ sym e)
 
 -- ---- an element of a jagged array
 
@@ -297,24 +302,11 @@ counted-last {xs} {ys} {zs} {p} {q} {u} t s ws n {k} h e w v =
     } in
     counted t s ws n h e first rest
 
--- ---- room for two names
-
--- buffers of the same length have the same room
-pub same-room : {s ws : List ℕ} {n : ℕ} {a b c d : List ℕ} → Room s ws n a b → length c ≡ length a → length d ≡ length b → Room s ws n c d
-same-room r e f = record { standing = r .standing; first = rw e (r .first); second = rw f (r .second) }
+-- ---- where an entry stands
 
 -- an entry has a place in the words
 pub placed : {s ws : List ℕ} {n i : ℕ} → Standing s ws n → i < n → (i < 512) × (i < length ws)
 placed a h = let k = a .count in let w = a .words in (omega (arith, h, k), omega (arith, h, k, w))
-
--- what the loop asks of an entry
-pub asks : {s ws : List ℕ} {n type at : ℕ} {j : Bool} {a b : List ℕ} → Ready s ws n type at → Jagged s type j → 520 ≡ length a →
-    520 ≡ length b → Asks s ws n type j a b
-asks r h e f = record {
-  room = record { standing = r .standing; first = rw (← e) (omega arith); second = rw (← f) (omega arith) };
-  type-at = r .type-at;
-  jagged-is = h;
-}
 
 -- the entries have their places in the words
 pub all-placed : {s ws : List ℕ} {n : ℕ} → Standing s ws n → n ≤ length ws

@@ -1,10 +1,10 @@
 -- The one pass over the entries: what was written and counted, and what is left.
-use mathlib.Core.Path.{_≡_, refl, sym, _∙_}
+use mathlib.Core.Path.{_≡_, refl, _∙_}
 use mathlib.Core.Bool.{Bool, true, false, not}
 use mathlib.Core.List.{List}
 use Prim.Native.Nat.{ℕ, _+_, _*_, _≤_, _<_}
 use native.Mathlib.Omega.{arith}
-use lib.ListN.{length, getD, replicate}
+use lib.ListN.{length, getD, replicate, length-replicate, getD-replicate}
 use Rattle.blocks.specs.Bytes.{bytes}
 use Rattle.blocks.specs.Write.{write}
 use Rattle.accepted.specs.Accepted.{Accepted, tree}
@@ -13,61 +13,71 @@ use Rattle.ir.specs.Layout.{parameterTree, listTree}
 use Rattle.wire.specs.Poke.{Wrote}
 use Rattle.builder.specs.Registry.{into-parameters}
 use Rattle.builder.specs.BuildType.{filter-jagged-element-parameters}
+use Rattle.marks.specs.Table.{Linked}
+use Rattle.marks.proofs.Tables.{linked-none}
+use Rattle.builder_registry.specs.declared.Marked.{Marked}
 use Rattle.builder_registry.specs.Words.{entryOf, entriesOf}
-use Rattle.builder_parameters.specs.Listed.{lists, Jagged, Asks}
-use Rattle.builder_parameters.specs.Ready.{Ready}
-use Rattle.builder_parameters.specs.Links.{Linked}
-use Rattle.builder_parameters.proofs.Listed.{left, pass, put, all-put, from-first, Counts, count-none, count-pass, count-more, count-end, counted-last, asks, all-placed}
-use Rattle.builder_parameters.proofs.Links.{linked-none}
+use Rattle.builder_registry.specs.Marks.{OwnerMarked}
+use Rattle.builder_parameters.specs.Listed.{lists, marksOf, Jagged, Asks}
+use Rattle.builder_parameters.specs.Ready.{Ready, ReadyTable}
+use Rattle.builder_parameters.proofs.Listed.{left, pass, put, all-put, from-first, Counts, count-none, count-pass, count-more, count-end, counted-last, placed, all-placed}
 
 -- i of the n entries were passed
-pub record Going (s ws : List ℕ) (n type at : ℕ) (before table links a b out : List ℕ) (p count i : ℕ) : Type 0 where
+pub record Going (s ws : List ℕ) (n type at : ℕ) (before first table out : List ℕ) (known : Marked) (p count i : ℕ) : Type 0 where
   pub within : i ≤ n
   pub counted : count ≤ i
   pub low : at + 2 ≤ p
   pub high : p ≤ at + 2 + 700 * i
-  pub first : 520 ≡ length a
-  pub second : 520 ≡ length b
   pub long : length out ≡ length before
-  pub linked : Linked table links s ws i
+  pub room : length table ≡ length first
+  pub linked : Linked table (marksOf s ws) i
+  pub owner : OwnerMarked s known
   pub counts : (x : Accepted s 1 7 type) → Counts (typeOf (tree x)) s ws n i count
   pub writes : (x : Accepted s 1 7 type) (zs : List ℕ) (r : ℕ) → Wrote out p (left (typeOf (tree x)) s ws i n) zs r → Wrote before (at + 2) (left (typeOf (tree x)) s ws 0 n) zs r
 
 -- before the first entry
-pub going-first : (s ws : List ℕ) (n type at : ℕ) (out : List ℕ) {a b : List ℕ} → 520 ≡ length a → 520 ≡ length b →
-    Going s ws n type at out (replicate 2039 0) (replicate 512 0) a b out (at + 2) 0 0
-going-first s ws n type at out e f = record {
+pub going-first : {s ws table : List ℕ} {n type at : ℕ} {jagged : Bool} (out : List ℕ) {known : Marked} → ReadyTable s ws table n type jagged at → known .owner ≡ 65536 →
+    Going s ws n type at out table table out known (at + 2) 0 0
+going-first {s} {ws} {n = n} out r e = record {
   within = omega arith;
   counted = omega arith;
   low = omega arith;
   high = omega arith;
-  first = e;
-  second = f;
   long = refl;
-  linked = linked-none s ws;
+  room = refl;
+  linked = r .empty;
+  owner = record { is = λ h. absurd (let z : ⊥ = omega arith in z) };
   counts = λ x. count-none (typeOf (tree x)) s ws n;
   writes = λ x zs r w. w;
 }
 
-module _ {s ws : List ℕ} {n type at : ℕ} {before table links a b out : List ℕ} {p count i : ℕ}
-    (g : Going s ws n type at before table links a b out p count i) where
+module _ {s ws : List ℕ} {n type at : ℕ} {before first table out : List ℕ} {known : Marked} {p count i : ℕ}
+    (g : Going s ws n type at before first table out known p count i) where
   -- what is asked of an entry on the way
-  pub going-asks : {j : Bool} → Ready s ws n type at → Jagged s type j → Asks s ws n type j a b
-  going-asks r h = asks r h (g .first) (g .second)
+  pub going-asks : {mark : ℕ} {jagged : Bool} → ReadyTable s ws first n type jagged at → i < n → mark ≡ marksOf s ws i → Asks s ws table type jagged i mark
+  going-asks r h e =
+      let k = placed (r .ready .standing) h in
+      record {
+        marking = record { size = r .ready .standing .size; within = k .1; mark-is = e; linked = g .linked };
+        type-at = r .ready .type-at;
+        jagged-is = r .jagged-is;
+        entry = k .0;
+        room = omega (arith, r .room, g .room);
+      }
 
-  module _ {r : Bool} {table′ links′ a′ b′ : List ℕ} (h : i < n) (e : (x : Accepted s 1 7 type) → r ≡ lists (typeOf (tree x)) s ws i)
-      (k : Linked table′ links′ s ws (i + 1)) (ea : length a′ ≡ length a) (eb : length b′ ≡ length b) where
+  module _ {r : Bool} {known′ : Marked} {table′ : List ℕ} (h : i < n) (e : (x : Accepted s 1 7 type) → r ≡ lists (typeOf (tree x)) s ws i)
+      (o : OwnerMarked s known′) (k : Linked table′ (marksOf s ws) (i + 1)) (et : length table′ ≡ length table) where
     -- an entry that is not listed
-    pub going-pass : not r ≡ true → Going s ws n type at before table′ links′ a′ b′ out p count (i + 1)
+    pub going-pass : not r ≡ true → Going s ws n type at before first table′ out known′ p count (i + 1)
     going-pass f = record {
       within = omega arith;
       counted = omega (arith, g .counted);
       low = g .low;
       high = omega (arith, g .high);
-      first = g .first ∙ sym ea;
-      second = g .second ∙ sym eb;
       long = g .long;
+      room = et ∙ g .room;
       linked = k;
+      owner = o;
       counts = λ x. count-pass (typeOf (tree x)) s ws count (g .counts x) h (e x) f;
       writes = λ x zs u w. g .writes x zs u (pass (typeOf (tree x)) s ws h (e x) f w);
     }
@@ -75,16 +85,16 @@ module _ {s ws : List ℕ} {n type at : ℕ} {before table links a b out : List 
     -- one that is listed
     pub going-put : {out′ : List ℕ} {q : ℕ} → not r ≡ false →
         Wrote out p (write (parameterTree (entryOf s (getD ws i 0) .parameter))) out′ q → (p ≤ q) × (q ≤ p + 700) →
-        length out′ ≡ length out → Going s ws n type at before table′ links′ a′ b′ out′ q (count + 1) (i + 1)
+        length out′ ≡ length out → Going s ws n type at before first table′ out′ known′ q (count + 1) (i + 1)
     going-put f v l eo = record {
       within = omega arith;
       counted = omega (arith, g .counted);
       low = omega (arith, g .low, l .0);
       high = omega (arith, g .high, l .1);
-      first = g .first ∙ sym ea;
-      second = g .second ∙ sym eb;
       long = eo ∙ g .long;
+      room = et ∙ g .room;
       linked = k;
+      owner = o;
       counts = λ x. count-more (typeOf (tree x)) s ws count (g .counts x) h (e x) f;
       writes = λ x zs u w. g .writes x zs u (put (typeOf (tree x)) s ws h (e x) f v w);
     }
@@ -102,3 +112,13 @@ module _ {s ws : List ℕ} {n type at : ℕ} {before table links a b out : List 
   -- where the list ends
   pub going-high : Ready s ws n type at → (at ≤ p) × (p ≤ at + 400000)
   going-high c = (omega (arith, g .low), omega (arith, g .high, g .within, c .standing .count))
+
+-- a table of zeros is an empty one, with room for the entries
+pub table-ready : {s ws : List ℕ} {n type at : ℕ} {jagged : Bool} (m : ℕ) → Ready s ws n type at → Jagged s type jagged → 127 + n ≤ m →
+    ReadyTable s ws (replicate m 0) n type jagged at
+table-ready {s} {ws} m r h l = record {
+  ready = r;
+  jagged-is = h;
+  empty = linked-none (marksOf s ws) (rw (length-replicate {A = ℕ} m 0) (omega arith)) (λ p b. getD-replicate {A = ℕ} m p 0 0 (omega arith));
+  room = rw (length-replicate {A = ℕ} m 0) l;
+}

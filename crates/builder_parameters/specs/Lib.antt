@@ -1,4 +1,3 @@
 pub mod Ready
 pub mod Segments
 pub mod Listed
-pub mod Links

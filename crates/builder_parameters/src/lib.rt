@@ -1,4 +1,5 @@
 // builder.rs, `into_parameters` and `filter_jagged_element_parameters`: the parameters that a type lists.
+use builder_registry::Marked;
 ghost use mathlib.Core.Path.{_≡_};
 ghost use mathlib.Core.Bool.{false, not, _||_};
 ghost use Prim.Native.Nat.{_+_, _≤_, _<_};
@@ -15,11 +16,11 @@ ghost use Rattle.builder.specs.Names.{replace-colons, split, before-element, or
 ghost use Rattle.builder.specs.Registry.{into-parameters};
 ghost use Rattle.builder.specs.BuildType.{fieldsOf, has-jagged, is-jagged-element-parameter, filter-jagged-element-parameters};
 ghost use Rattle.wire.specs.Poke.{Wrote};
-ghost use Rattle.builder_registry.specs.Words.{Standing, entriesOf};
-ghost use Rattle.builder_parameters.specs.Ready.{Ready};
+ghost use Rattle.marks.specs.Table.{Linked};
+ghost use Rattle.builder_registry.specs.Words.{entriesOf, entryName};
+ghost use Rattle.builder_parameters.specs.Ready.{Ready, ReadyTable};
 ghost use Rattle.builder_parameters.specs.Segments.{first-length, Found};
-ghost use Rattle.builder_parameters.specs.Listed.{nameIn, names, lists, Room, Jagged, Asks};
-ghost use Rattle.builder_parameters.specs.Links.{placeOf, OfPlace, Links, Linked};
+ghost use Rattle.builder_parameters.specs.Listed.{nameIn, names, lists, marksOf, Marking, Jagged, Asks};
 
 // A segment of a name: where it begins and ends.
 enum Segment {
@@ -150,21 +151,14 @@ fn any_jagged(s: &[u8], kind: usize) -> bool
 }
 
 // Whether an entry's name is an element of a jagged array of the struct.
-fn is_jagged_element(
-    s: &[u8],
-    words: &[u64],
-    n: usize,
-    i: usize,
-    kind: usize,
-    a: &mut [u8],
-    b: &mut [u8],
-) -> bool
-    requires { ⌜ Room (now s) (now words) n (now a) (now b) × (i < n) × Accepted (now s) 1 7 kind × (le2 (now s) (kind + 4) ≡ 2) ⌝ }
-    ensures { λ r. ⌜ ((x : Accepted (now (s .entry)) 1 7 kind) → r ≡ is-jagged-element-parameter (typeOf (tree x)) (nameIn (now (s .entry)) (now (words .entry)) i)) ⌝ }
+fn is_jagged_element(s: &[u8], w: u64, kind: usize) -> bool
+    requires { ⌜ (length (now s) ≤ 65536) × Accepted (now s) 1 7 kind × (le2 (now s) (kind + 4) ≡ 2) ⌝ }
+    ensures { λ r. ⌜ ((x : Accepted (now (s .entry)) 1 7 kind) → r ≡ is-jagged-element-parameter (typeOf (tree x)) (entryName (now (s .entry)) w)) ⌝ }
 {
-    let w = words[i];
-    let p = builder_registry::put_entry_name(s, w, a, 0);
-    let q = replace_colons(&a[2..p], b);
+    let mut a = [0u8; 520];
+    let mut b = [0u8; 520];
+    let p = builder_registry::put_entry_name(s, w, &mut a, 0);
+    let q = replace_colons(&a[2..p], &mut b);
     let name = &b[..q];
     match before_element(name) {
         Segment::Part(from, to) => has_jagged(s, kind, &name[from..to]),
@@ -172,86 +166,33 @@ fn is_jagged_element(
     }
 }
 
-// A link as an index.
-fn wide(x: u16) -> usize
-    ensures { λ r. ⌜ r ≡ x ⌝ }
+// Whether two entries have the same name: asked where their marks are alike.
+fn same_names(s: &[u8], v: u64, w: u64) -> bool
+    requires { ⌜ length (now s) ≤ 65536 ⌝ }
+    ensures { λ r. ⌜ r ≡ same (entryName (now (s .entry)) v) (entryName (now (s .entry)) w) ⌝ }
 {
-    x as usize
+    let mut a = [0u8; 520];
+    let mut b = [0u8; 520];
+    let p = builder_registry::put_entry_name(s, v, &mut a, 0);
+    let q = builder_registry::put_entry_name(s, w, &mut b, 0);
+    wire::same_name(&a[2..p], &b[2..q])
 }
 
-// The place of a name in a table. Few names share one, unless they are made to: those are compared each with each.
-fn place(name: &[u8]) -> usize
-    ensures { λ r. ⌜ (r ≡ placeOf (now (name .entry))) × (r < 2039) ⌝ }
+// Whether none of the first i entries has the name of the entry at i: those are asked that may have its mark.
+fn is_new(s: &[u8], words: &[u64], table: &[u64], i: usize, mark: u64) -> bool
+    requires { ⌜ Marking (now s) (now words) (now table) i mark ⌝ }
+    ensures { λ r. ⌜ r ≡ not (among (nameIn (now (s .entry)) (now (words .entry)) i) (names (now (s .entry)) (now (words .entry)) i)) ⌝ }
 {
-    let mut i = name.len();
-    let mut h = 0;
-    while 0 < i {
-        i -= 1;
-        h = h % 4294967296 * 31 + wire::wide(name[i]);
-    }
-    h % 2039
-}
-
-// Whether the entry at j has this name.
-fn has_name(s: &[u8], words: &[u64], n: usize, j: usize, name: &[u8], b: &mut [u8]) -> bool
-    requires { ⌜ Standing (now s) (now words) n × (j < n) × (520 ≤ length (now b)) ⌝ }
-    ensures { λ r. ⌜ r ≡ same (now (name .entry)) (nameIn (now (s .entry)) (now (words .entry)) j) ⌝ }
-{
-    let w = words[j];
-    if builder_registry::name_length(s, w) != name.len() {
-        return false;
-    }
-    let q = builder_registry::put_entry_name(s, w, b, 0);
-    wire::same_name(name, &b[2..q])
-}
-
-// Whether none of the first i entries has this name. The last of them has its place; the links lead to the earlier ones that
-// have it, and no other is asked.
-fn is_new(
-    s: &[u8],
-    words: &[u64],
-    n: usize,
-    links: &[u16; 512],
-    i: usize,
-    name: &[u8],
-    b: &mut [u8],
-) -> bool
-    requires { ⌜ Standing (now s) (now words) n × (i ≤ n) × (520 ≤ length (now b)) × Links (now links) (now s) (now words) i × OfPlace (now s) (now words) (placeOf (now name)) i ⌝ }
-    ensures { λ r. ⌜ r ≡ not (among (now (name .entry)) (names (now (s .entry)) (now (words .entry)) i)) ⌝ }
-{
-    let mut j = i;
+    let w = words[i];
+    let mut j = marks::last(table, mark);
     while 0 < j {
-        j -= 1;
-        if has_name(s, words, n, j, name, b) {
+        let k = j - 1;
+        if same_names(s, w, words[k]) {
             return false;
         }
-        j = wide(links[j]);
+        j = marks::before(table, mark, j);
     }
     true
-}
-
-// Whether no earlier entry has this one's name. It is linked behind them.
-fn is_first(
-    s: &[u8],
-    words: &[u64],
-    n: usize,
-    i: usize,
-    table: &mut [u16; 2039],
-    links: &mut [u16; 512],
-    a: &mut [u8],
-    b: &mut [u8],
-) -> bool
-    requires { ⌜ Room (now s) (now words) n (now a) (now b) × (i < n) × Linked (now table) (now links) (now s) (now words) i ⌝ }
-    ensures { λ r. ⌜ r ≡ not (among (nameIn (now (s .entry)) (now (words .entry)) i) (names (now (s .entry)) (now (words .entry)) i)) ⌝ }
-    ensures { λ _. ⌜ Linked (now (table .exit)) (now (links .exit)) (now (s .entry)) (now (words .entry)) (i + 1) ⌝ }
-{
-    let q = builder_registry::put_entry_name(s, words[i], a, 0);
-    let name = &a[2..q];
-    let p = place(name);
-    let last = table[p];
-    table[p] = (i + 1) as u16;
-    links[i] = last;
-    is_new(s, words, n, links, wide(last), name, b)
 }
 
 // What is listed: how many entries there are, the type, and whether it is a struct with a jagged array.
@@ -267,28 +208,64 @@ fn is_listed(
     words: &[u64],
     listing: Listing,
     i: usize,
-    table: &mut [u16; 2039],
-    links: &mut [u16; 512],
-    a: &mut [u8],
-    b: &mut [u8],
+    mark: u64,
+    table: &mut [u64],
 ) -> bool
-    requires { ⌜ Asks (now s) (now words) (listing .n) (listing .kind) (listing .jagged) (now a) (now b) × (i < listing .n) × Linked (now table) (now links) (now s) (now words) i ⌝ }
+    requires { ⌜ Asks (now s) (now words) (now table) (listing .kind) (listing .jagged) i mark ⌝ }
     ensures { λ r. ⌜ ((x : Accepted (now (s .entry)) 1 7 (listing .kind)) → r ≡ lists (typeOf (tree x)) (now (s .entry)) (now (words .entry)) i) ⌝ }
-    ensures { λ _. ⌜ Linked (now (table .exit)) (now (links .exit)) (now (s .entry)) (now (words .entry)) (i + 1) ⌝ }
+    ensures { λ _. ⌜ Linked (now (table .exit)) (marksOf (now (s .entry)) (now (words .entry))) (i + 1) ⌝ }
 {
-    let n = listing.n;
     let kind = listing.kind;
     let jagged = listing.jagged;
-    if !is_first(s, words, n, i, table, links, a, b) {
+    let new = is_new(s, words, table, i, mark);
+    marks::link(table, i, mark);
+    if !new {
         return false;
     }
     if !jagged {
         return true;
     }
-    !is_jagged_element(s, words, n, i, kind, a, b)
+    !is_jagged_element(s, words[i], kind)
 }
 
-// The parameters of the type at `kind`, behind their count, which is written last.
+// The parameters of a type, behind their count, which is written last. The table is empty before.
+fn put_listed(
+    s: &[u8],
+    words: &[u64],
+    listing: Listing,
+    table: &mut [u64],
+    out: &mut [u8],
+    at: usize,
+) -> usize
+    requires { ⌜ ReadyTable (now s) (now words) (now table) (listing .n) (listing .kind) (listing .jagged) at ⌝ }
+    ensures { λ r. ⌜ ((a : Accepted (now (s .entry)) 1 7 (listing .kind)) → Wrote (now (out .entry)) at (write (listTree parameterTree (filter-jagged-element-parameters (typeOf (tree a)) (into-parameters (entriesOf (now (s .entry)) (now (words .entry)) (listing .n)))))) (now (out .exit)) r) ⌝ }
+    ensures { λ r. ⌜ (at ≤ r) × (r ≤ at + 400000) ⌝ }
+{
+    let n = listing.n;
+    let mut known = Marked {
+        mark: 0,
+        owner: 65536,
+        start: 0,
+    };
+    let mut p = at + 2;
+    let mut count = 0u64;
+    let mut i = 0;
+    while i < n {
+        let w = words[i];
+        known = builder_registry::mark_name(s, w, known);
+        if !is_listed(s, words, listing, i, known.mark, table) {
+            i += 1;
+            continue;
+        }
+        p = builder_registry::put_parameter(s, w, out, p);
+        count += 1;
+        i += 1;
+    }
+    wire::put_le(out, at, 2, count);
+    p
+}
+
+// The parameters of the type at `kind`, behind their count. Few entries have a small table.
 pub fn put_parameters(
     s: &[u8],
     words: &[u64],
@@ -301,32 +278,12 @@ pub fn put_parameters(
     ensures { λ r. ⌜ ((a : Accepted (now (s .entry)) 1 7 kind) → Wrote (now (out .entry)) at (write (listTree parameterTree (filter-jagged-element-parameters (typeOf (tree a)) (into-parameters (entriesOf (now (s .entry)) (now (words .entry)) n))))) (now (out .exit)) r) ⌝ }
     ensures { λ r. ⌜ (at ≤ r) × (r ≤ at + 400000) ⌝ }
 {
-    let mut a = [0u8; 520];
-    let mut b = [0u8; 520];
-    let mut table = [0u16; 2039];
-    let mut links = [0u16; 512];
     let jagged = any_jagged(s, kind);
-    let mut p = at + 2;
-    let mut count = 0u64;
-    let mut i = 0;
-    while i < n {
-        if !is_listed(
-            s,
-            words,
-            Listing { n, kind, jagged },
-            i,
-            &mut table,
-            &mut links,
-            &mut a,
-            &mut b,
-        ) {
-            i += 1;
-            continue;
-        }
-        p = builder_registry::put_parameter(s, words[i], out, p);
-        count += 1;
-        i += 1;
+    let listing = Listing { n, kind, jagged };
+    if n <= 64 {
+        let mut table = [0u64; 191];
+        return put_listed(s, words, listing, &mut table, out, at);
     }
-    wire::put_le(out, at, 2, count);
-    p
+    let mut table = [0u64; 639];
+    put_listed(s, words, listing, &mut table, out, at)
 }

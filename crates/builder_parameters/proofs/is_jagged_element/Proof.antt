@@ -5,9 +5,9 @@ use lib.Seq.{length-take-le}
 use Rattle.resolved.specs.Set.{typeOf}
 use Rattle.accepted.specs.Accepted.{tree}
 use Rattle.blocks.specs.Name.{Name}
-use Rattle.builder_parameters.specs.Listed.{nameIn}
+use Rattle.builder_registry.specs.Words.{entryName}
 use Rattle.builder_parameters.proofs.Segments.{BehindLength, behind-length, Replaced, replaced}
-use Rattle.builder_parameters.proofs.Listed.{placed, found-part, element-yes, element-no}
+use Rattle.builder_parameters.proofs.Listed.{found-part, element-yes, element-no}
 use native.Mathlib.Omega.{arith}
 use borrow.Author.Needs.{needs}
 use Rattle.builder_parameters.proofs.is_jagged_element.Statement.{statement}
@@ -15,14 +15,14 @@ use Rattle.builder_parameters.proofs.is_jagged_element.Tie as tie
 
 -- The places, each seen from a later one: what was known there.
 abbrev at-start : tie.After-put-entry-name → tie.Start
-at-start r = r .before .before .before .before .before .before .before
+at-start r = r .before .before .before
 
 abbrev at-put-entry-name : tie.After-replace-colons → tie.After-put-entry-name
-at-put-entry-name r = r .before .before .before .before .before .before
+at-put-entry-name r = r .before .before .before .before .before
 
 -- the entry's name
 abbrev asked : tie.Start → Name
-asked r = nameIn (r .args .s .now) (r .args .words .now) (r .args .i)
+asked r = entryName (r .args .s .now) (r .args .w)
 
 -- it stands in the first buffer, behind its length
 name-put : (r : tie.After-put-entry-name) → BehindLength (asked (at-start r)) (r .put-entry-name .last .1 .1 .0) (r .put-entry-name .result)
@@ -30,7 +30,7 @@ name-put r =
     behind-length _
     (r .put-entry-name .ensures .0)
     (r .put-entry-name .ensures .1 .1)
-    (at-start r .pre .0 .first)
+    (omega arith)
     (r .put-entry-name .kept .1 .1 .0)
 
 -- and with `.` for `::` in the second
@@ -41,45 +41,41 @@ colons-put r =
     (r .replace-colons .ensures .1)
     (name-put (at-put-entry-name r) .is)
     (name-put (at-put-entry-name r) .short)
-    (at-start (at-put-entry-name r) .pre .0 .second)
+    (omega arith)
     (r .replace-colons .kept .1 .0)
 
-mul-w : tie.Need-mul-w
-mul-w c =
-    let at-start = c .before .before .before .before in
-    omega (arith, placed (at-start .pre .0 .standing) (at-start .pre .1) .0)
-
-shared-slice-read-w : tie.Need-shared-slice-read-w
-shared-slice-read-w c =
-    let at-start = c .before .before .before .before .before in
-    placed (at-start .pre .0 .standing) (at-start .pre .1) .1
+slice-aggregate-put-entry-name : tie.Need-slice-aggregate-put-entry-name
+slice-aggregate-put-entry-name c = search needs
 
 put-entry-name-requires : tie.Need-put-entry-name-requires
 put-entry-name-requires c κs = search needs
 
 sub-replace-colons : tie.Need-sub-replace-colons
-sub-replace-colons c = name-put (c .before .before) .low
+sub-replace-colons c = name-put (c .before) .low
 
 part-replace-colons-start : tie.Need-part-replace-colons-start
-part-replace-colons-start c = omega (arith, name-put (c .before .before .before))
+part-replace-colons-start c = omega (arith, name-put (c .before .before))
 
 part-replace-colons-end : tie.Need-part-replace-colons-end
-part-replace-colons-end c = omega (arith, name-put (c .before .before .before))
+part-replace-colons-end c = search needs
+
+slice-aggregate-replace-colons : tie.Need-slice-aggregate-replace-colons
+slice-aggregate-replace-colons c = search needs
 
 replace-colons-requires : tie.Need-replace-colons-requires
 replace-colons-requires c κs =
-    let b = name-put (c .before .before .before .before .before) in
+    let b = name-put (c .before .before .before .before) in
     rw (b .is) (omega (arith, b .short))
 
-slice-reshare-prefix-name : tie.Need-slice-reshare-prefix-name
-slice-reshare-prefix-name c = colons-put (c .before .before) .inside
+array-share-prefix-b : tie.Need-array-share-prefix-b
+array-share-prefix-b c = colons-put (c .before) .inside
 
 slice-aggregate-name : tie.Need-slice-aggregate-name
-slice-aggregate-name c = sym (length-take-le _ _ (colons-put (c .before .before .before) .inside))
+slice-aggregate-name c = sym (length-take-le _ _ (colons-put (c .before .before) .inside))
 
 before-element-requires : tie.Need-before-element-requires
 before-element-requires c κs =
-    let r = colons-put (c .before .before .before) in
+    let r = colons-put (c .before .before) in
     rw (length-take-le _ _ (r .inside)) (omega (arith, r .short))
 
 enum-known-from : tie.Need-enum-known-from
@@ -118,28 +114,18 @@ part-has-jagged-end c =
 
 has-jagged-requires : tie.Need-has-jagged-requires
 has-jagged-requires c κs =
-    let at-replace-colons = c .before .before .before .before .before .before .before .before in
+    let at-replace-colons = c .before .before .before .before .before .before .before in
     let known = at-start (at-put-entry-name at-replace-colons) .pre in
-    (known .2, known .3)
+    (known .1, known .2)
 
 enum-told : tie.Need-enum-told
 enum-told c = c .match .keys2
-
-same-length : tie.Need-same-length
-same-length c =
-    let at-replace-colons = c .before .before .before .before .before .before .before .before .before in
-    at-put-entry-name at-replace-colons .put-entry-name .kept .1 .1 .0
-
-same-length-2 : tie.Need-same-length-2
-same-length-2 c =
-    let at-replace-colons = c .before .before .before .before .before .before .before .before .before in
-    at-replace-colons .replace-colons .kept .1 .0
 
 returns : tie.Need-returns
 returns c =
     let at-from = c .before .before .before in
     let at-before-element = at-from .before .before in
-    let at-replace-colons = at-before-element .before .before .before .before in
+    let at-replace-colons = at-before-element .before .before .before in
     λ x. element-yes _
     (colons-put at-replace-colons .is)
     (typeOf (tree x))
@@ -149,20 +135,10 @@ returns c =
     (at-from .from .given .1)
     (c .has-jagged .ensures x)
 
-same-length-3 : tie.Need-same-length-3
-same-length-3 c =
-    let at-replace-colons = c .before .before .before .before .before .before in
-    at-put-entry-name at-replace-colons .put-entry-name .kept .1 .1 .0
-
-same-length-4 : tie.Need-same-length-4
-same-length-4 c =
-    let at-replace-colons = c .before .before .before .before .before .before in
-    at-replace-colons .replace-colons .kept .1 .0
-
 returns-2 : tie.Need-returns-2
 returns-2 c =
     let at-before-element = c .before .before in
-    let at-replace-colons = at-before-element .before .before .before .before in
+    let at-replace-colons = at-before-element .before .before .before in
     λ x. element-no _
     (colons-put at-replace-colons .is)
     (typeOf (tree x))
@@ -172,8 +148,8 @@ returns-2 c =
 pub is-jagged-element-spec : {M : Type 1} → statement M
 is-jagged-element-spec =
     tie.close
-    (tie.spec mul-w shared-slice-read-w put-entry-name-requires sub-replace-colons
-    part-replace-colons-start part-replace-colons-end replace-colons-requires
-    slice-reshare-prefix-name slice-aggregate-name before-element-requires enum-known-from
+    (tie.spec slice-aggregate-put-entry-name put-entry-name-requires sub-replace-colons
+    part-replace-colons-start part-replace-colons-end slice-aggregate-replace-colons replace-colons-requires
+    array-share-prefix-b slice-aggregate-name before-element-requires enum-known-from
     sub-has-jagged part-has-jagged-start part-has-jagged-end has-jagged-requires enum-told
-    same-length same-length-2 returns same-length-3 same-length-4 returns-2)
+    returns returns-2)

@@ -1,120 +1,95 @@
--- `is_new`: the entries of the name's place, from the last one back by their links. In the loop the name is among the first i if it is among the first j,
--- and the last of these has the place (`Left`); a link leads to an earlier entry, so j is the measure.
-use mathlib.Core.Path.{_≡_, refl, _∙_}
-use lib.ListN.{length}
-use Rattle.builder_parameters.proofs.Listed.{met, none-met}
-use Rattle.builder_parameters.proofs.Links.{Left, next}
+-- `is_new`: a walk over the earlier entries that may have the mark of the name, from the last one back (`Walk`, of crate marks): those that it has asked do not
+-- have the name (`Other`). At its end no entry of that mark has it, and one of another mark does not.
+use mathlib.Core.Path.{sym, _∙_}
+use Prim.Native.Nat.{_-_}
+use Rattle.marks.proofs.Walks.{Walk, walk-last, walk-chain, walk-before, walk-end}
+use Rattle.builder_parameters.specs.Listed.{marksOf}
+use Rattle.builder_parameters.proofs.Listed.{Other, not-new, new}
 use native.Mathlib.Omega.{arith}
-use borrow.Author.Needs.{needs}
 use Rattle.builder_parameters.proofs.is_new.Statement.{statement}
 use Rattle.builder_parameters.proofs.is_new.Tie as tie
 
 abbrev Inv-loop : tie.InvT-loop
-Inv-loop s words n links i name b₀ j₀ b j = Left s words name i j × (length b ≡ length b₀)
+Inv-loop s words table i mark w j₀ j = Walk (marksOf s words) mark i (Other s words i) j
 
 abbrev μ-loop : tie.MeasureT-loop
-μ-loop s words n links i name b₀ j₀ b j = j
+μ-loop s words table i mark w j₀ j = j
 
 -- The places, each seen from a later one: what was known there.
-abbrev at-has-name : tie.After-b Inv-loop μ-loop → tie.After-has-name Inv-loop μ-loop
-at-has-name r = r .before
+abbrev at-start : tie.At-loop Inv-loop μ-loop → tie.Start Inv-loop μ-loop
+at-start r = r .before .before .before .before .before .before
 
-abbrev in-loop : tie.After-b Inv-loop μ-loop → tie.In-loop Inv-loop μ-loop
-in-loop r = at-has-name r .before .before
+abbrev at-loop : tie.After-same-names Inv-loop μ-loop → tie.At-loop Inv-loop μ-loop
+at-loop r = r .before .before .before
 
-abbrev at-loop : tie.After-b Inv-loop μ-loop → tie.At-loop Inv-loop μ-loop
-at-loop r = in-loop r .before
+mul-w : tie.Need-mul-w Inv-loop μ-loop
+mul-w c = omega (arith, c .before .before .before .pre .within)
 
-abbrev at-start : tie.After-b Inv-loop μ-loop → tie.Start Inv-loop μ-loop
-at-start r = at-loop r .before .before .before .before .before
+shared-slice-read-w : tie.Need-shared-slice-read-w Inv-loop μ-loop
+shared-slice-read-w c = c .before .before .before .before .pre .within
+
+last-requires : tie.Need-last-requires Inv-loop μ-loop
+last-requires c κs = record { marks = _; count = _; linked = c .before .before .before .before .pre .linked }
 
 loop-holds : tie.Need-loop-holds Inv-loop μ-loop
 loop-holds c =
-    let at-start = c .before .before .before .before in
-    (record { within = omega arith; place = at-start .pre .4; is = refl }, refl)
+    let at-start = c .before .before .before .before .before in
+    walk-last (c .last .ensures (record { marks = _; count = _; linked = at-start .pre .linked }))
 
-sub-j : tie.Need-sub-j Inv-loop μ-loop
-sub-j c = omega (arith, c .loop-test .taken)
+sub-k : tie.Need-sub-k Inv-loop μ-loop
+sub-k c = c .loop-test .taken
 
-has-name-requires : tie.Need-has-name-requires Inv-loop μ-loop
-has-name-requires c κs =
-    let at-loop = c .before .before in
-    let at-start = at-loop .before .before .before .before .before in (
-      at-start .pre .0,
-      omega (arith, at-start .pre .1, at-loop .loop .inv .0 .within, c .before .loop-test .taken),
-      omega (arith, at-start .pre .2, at-loop .loop .inv .1),
-    )
+mul-same-names : tie.Need-mul-same-names Inv-loop μ-loop
+mul-same-names c = omega (arith, c .before .loop .inv .within, at-start (c .before) .pre .within)
 
-same-length : tie.Need-same-length Inv-loop μ-loop
-same-length c =
-    let at-b = c .before .before in
-    at-has-name at-b .has-name .kept .1 .1 .1 .1 .1 .0 ∙ at-loop at-b .loop .inv .1
+shared-slice-read-same-names : tie.Need-shared-slice-read-same-names Inv-loop μ-loop
+shared-slice-read-same-names c = omega (arith, c .before .before .loop .inv .within, at-start (c .before .before) .pre .within)
+
+same-names-requires : tie.Need-same-names-requires Inv-loop μ-loop
+same-names-requires c κs = at-start (c .before .before) .pre .size
 
 returns : tie.Need-returns Inv-loop μ-loop
 returns c =
-    let at-b = c .before .before in
-    met _ _ _
-    (in-loop at-b .loop-test .taken)
-    (at-loop at-b .loop .inv .0 .is)
-    (at-has-name at-b .has-name .ensures)
+    let at-same-names = c .before in
+    let at-in = at-same-names .before .before in
+    let start = at-start (at-loop at-same-names) in
+    not-new
+    (start .args .s .now)
+    (start .args .words .now)
+    (start .args .i)
+    (at-loop at-same-names .loop .j - 1)
+    (omega (arith, at-loop at-same-names .loop .inv .within, at-in .loop-test .taken))
+    (at-same-names .same-names .ensures)
     (c .if1 .taken)
 
-mul-wide : tie.Need-mul-wide Inv-loop μ-loop
-mul-wide c =
-    let at-b = c .before .before in
-    omega (
-      arith,
-      at-start at-b .pre .0 .count,
-      at-start at-b .pre .1,
-      at-loop at-b .loop .inv .0 .within,
-      in-loop at-b .loop-test .taken,
-    )
-
-element-copy-out-wide : tie.Need-element-copy-out-wide Inv-loop μ-loop
-element-copy-out-wide c =
-    let at-b = c .before .before in
-    omega (
-      arith,
-      at-start at-b .pre .0 .count,
-      at-start at-b .pre .1,
-      at-loop at-b .loop .inv .0 .within,
-      in-loop at-b .loop-test .taken,
-    )
-
-wide-requires : tie.Need-wide-requires Inv-loop μ-loop
-wide-requires c κs = search needs
+before-requires : tie.Need-before-requires Inv-loop μ-loop
+before-requires c κs =
+    let at-same-names = c .before in
+    let at-in = at-same-names .before .before in
+    (at-in .loop-test .taken, walk-chain (at-loop at-same-names .loop .inv) (at-start (at-loop at-same-names) .pre .linked))
 
 loop-less : tie.Need-loop-less Inv-loop μ-loop
 loop-less c =
-    let at-b = c .before .before .before .before in
-    next
-    (at-start at-b .args .links .now)
-    (at-start at-b .pre .3)
-    (at-loop at-b .loop .inv .0)
-    (in-loop at-b .loop-test .taken)
-    (at-has-name at-b .has-name .ensures)
-    (c .before .before .if1 .left)
-    (c .wide .ensures) .1
+    let at-same-names = c .before .before in
+    let walk = at-loop at-same-names .loop .inv in
+    walk-before walk
+    (at-same-names .before .before .loop-test .taken)
+    (sym (at-same-names .same-names .ensures) ∙ c .before .if1 .left)
+    (c .before2 .ensures (walk-chain walk (at-start (at-loop at-same-names) .pre .linked))) .1
 
 loop-again : tie.Need-loop-again Inv-loop μ-loop
 loop-again c =
-    let at-b = c .before .before .before .before in (
-      next
-          (at-start at-b .args .links .now)
-          (at-start at-b .pre .3)
-          (at-loop at-b .loop .inv .0)
-          (in-loop at-b .loop-test .taken)
-          (at-has-name at-b .has-name .ensures)
-          (c .before .before .if1 .left)
-          (c .wide .ensures) .0,
-      at-has-name at-b .has-name .kept .1 .1 .1 .1 .1 .0 ∙ at-loop at-b .loop .inv .1,
-    )
-
-same-length-2 : tie.Need-same-length-2 Inv-loop μ-loop
-same-length-2 c = c .before .loop .inv .1
+    let at-same-names = c .before .before in
+    let walk = at-loop at-same-names .loop .inv in
+    walk-before walk
+    (at-same-names .before .before .loop-test .taken)
+    (sym (at-same-names .same-names .ensures) ∙ c .before .if1 .left)
+    (c .before2 .ensures (walk-chain walk (at-start (at-loop at-same-names) .pre .linked))) .0
 
 returns-2 : tie.Need-returns-2 Inv-loop μ-loop
-returns-2 c = none-met _ _ _ (c .loop-test .left) (c .before .loop .inv .0 .is)
+returns-2 c =
+    let start = at-start (c .before) in
+    new (start .args .s .now) (start .args .words .now) (start .args .i) (start .pre .mark-is) (walk-end (c .before .loop .inv) (c .loop-test .left))
 
 pub is-new-spec : {M : Type 1} → statement M
 is-new-spec =
@@ -122,15 +97,16 @@ is-new-spec =
     (tie.spec
     Inv-loop
     μ-loop
+    mul-w
+    shared-slice-read-w
+    last-requires
     loop-holds
-    sub-j
-    has-name-requires
-    same-length
+    sub-k
+    mul-same-names
+    shared-slice-read-same-names
+    same-names-requires
     returns
-    mul-wide
-    element-copy-out-wide
-    wide-requires
+    before-requires
     loop-less
     loop-again
-    same-length-2
     returns-2)
