@@ -15,7 +15,7 @@ use Rattle.builder.specs.Registry.{into-parameters}
 use Rattle.builder.specs.BuildType.{filter-jagged-element-parameters}
 use Rattle.marks.specs.Table.{Linked}
 use Rattle.marks.proofs.Tables.{linked-none}
-use Rattle.builder_registry.specs.declared.Marked.{Marked}
+use Rattle.builder_registry.specs.declared.NameMark.{NameMark}
 use Rattle.builder_registry.specs.Words.{entryOf, entriesOf}
 use Rattle.builder_registry.specs.Marks.{OwnerMarked}
 use Rattle.builder_parameters.specs.Listed.{lists, marksOf, Jagged, Asks}
@@ -23,7 +23,7 @@ use Rattle.builder_parameters.specs.Ready.{Ready, ReadyTable}
 use Rattle.builder_parameters.proofs.Listed.{left, pass, put, all-put, from-first, Counts, count-none, count-pass, count-more, count-end, counted-last, placed, all-placed}
 
 -- i of the n entries were passed
-pub record Going (s ws : List ℕ) (n type at : ℕ) (before first table out : List ℕ) (known : Marked) (p count i : ℕ) : Type 0 where
+pub record Going (s ws : List ℕ) (n type at : ℕ) (before first table out : List ℕ) (known : NameMark) (p count i : ℕ) : Type 0 where
   pub within : i ≤ n
   pub counted : count ≤ i
   pub low : at + 2 ≤ p
@@ -36,7 +36,7 @@ pub record Going (s ws : List ℕ) (n type at : ℕ) (before first table out : L
   pub writes : (x : Accepted s 1 7 type) (zs : List ℕ) (r : ℕ) → Wrote out p (left (typeOf (tree x)) s ws i n) zs r → Wrote before (at + 2) (left (typeOf (tree x)) s ws 0 n) zs r
 
 -- before the first entry
-pub going-first : {s ws table : List ℕ} {n type at : ℕ} {jagged : Bool} (out : List ℕ) {known : Marked} → ReadyTable s ws table n type jagged at → known .owner ≡ 65536 →
+pub going-first : {s ws table : List ℕ} {n type at : ℕ} {jagged : Bool} (out : List ℕ) {known : NameMark} → ReadyTable s ws table n type jagged at → known .owner ≡ 65536 →
     Going s ws n type at out table table out known (at + 2) 0 0
 going-first {s} {ws} {n = n} out r e = record {
   within = omega arith;
@@ -51,7 +51,7 @@ going-first {s} {ws} {n = n} out r e = record {
   writes = λ x zs r w. w;
 }
 
-module _ {s ws : List ℕ} {n type at : ℕ} {before first table out : List ℕ} {known : Marked} {p count i : ℕ}
+module _ {s ws : List ℕ} {n type at : ℕ} {before first table out : List ℕ} {known : NameMark} {p count i : ℕ}
     (g : Going s ws n type at before first table out known p count i) where
   -- what is asked of an entry on the way
   pub going-asks : {mark : ℕ} {jagged : Bool} → ReadyTable s ws first n type jagged at → i < n → mark ≡ marksOf s ws i → Asks s ws table type jagged i mark
@@ -65,7 +65,7 @@ module _ {s ws : List ℕ} {n type at : ℕ} {before first table out : List ℕ}
         room = omega (arith, r .room, g .room);
       }
 
-  module _ {r : Bool} {known′ : Marked} {table′ : List ℕ} (h : i < n) (e : (x : Accepted s 1 7 type) → r ≡ lists (typeOf (tree x)) s ws i)
+  module _ {r : Bool} {known′ : NameMark} {table′ : List ℕ} (h : i < n) (e : (x : Accepted s 1 7 type) → r ≡ lists (typeOf (tree x)) s ws i)
       (o : OwnerMarked s known′) (k : Linked table′ (marksOf s ws) (i + 1)) (et : length table′ ≡ length table) where
     -- an entry that is not listed
     pub going-pass : not r ≡ true → Going s ws n type at before first table′ out known′ p count (i + 1)

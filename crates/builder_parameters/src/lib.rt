@@ -1,5 +1,5 @@
 // builder.rs, `into_parameters` and `filter_jagged_element_parameters`: the parameters that a type lists.
-use builder_registry::Marked;
+use builder_registry::NameMark;
 ghost use mathlib.Core.Path.{_≡_};
 ghost use mathlib.Core.Bool.{false, not, _||_};
 ghost use Prim.Native.Nat.{_+_, _≤_, _<_};
@@ -242,7 +242,7 @@ fn put_listed(
     ensures { λ r. ⌜ (at ≤ r) × (r ≤ at + 400000) ⌝ }
 {
     let n = listing.n;
-    let mut known = Marked {
+    let mut known = NameMark {
         mark: 0,
         owner: 65536,
         start: 0,

@@ -15,7 +15,7 @@ use Rattle.builder_registry.specs.Marks.{OwnerMarked}
 use Rattle.builder_registry.proofs.Names.{name-path, name-made}
 
 -- the mark of an owner that is known
-pub known-mark : {s : List ℕ} {k : Marked} {at : ℕ} → OwnerMarked s k → at < 65536 → at ≡ k .owner → k .start ≡ markOf 0 (held s at)
+pub known-mark : {s : List ℕ} {k : NameMark} {at : ℕ} → OwnerMarked s k → at < 65536 → at ≡ k .owner → k .start ≡ markOf 0 (held s at)
 known-mark o l e = rw e (o .is (omega arith))
 
 -- the mark of an entry's name: m is the word's made parameter, h the mark of its owner, whose name stands at the offset
