@@ -286,6 +286,7 @@ record ListOf {s : List ℕ} {p : Part} {ps : List Part} {at : ℕ} (c : Parts s
   limit : ℕ
   list : Enlisted c (Item.blocks lo hi) limit Earlier.any
 
+-- a part that is a list of cases or of arguments is one of blocks of one kind
 list-of : {s : List ℕ} {p : Part} {ps : List Part} {at : ℕ} → Listing p → (c : Parts s (p ∷ ps) at) → ListOf c
 list-of Listing.cases c = record { lo = 163; hi = 163; limit = 64; list = list-part Counted.any c }
 list-of Listing.arguments c = record { lo = 164; hi = 164; limit = 512; list = list-part Counted.any c }

@@ -3,13 +3,10 @@ use mathlib.Core.Path.{_≡_, refl, sym, _∙_, ap, subst}
 use mathlib.Core.Bool.{Bool, true, false, _||_, cond}
 use mathlib.Core.List.{List, [], _∷_, _++_}
 use mathlib.Core.Option.{Option, some, none}
-use Prim.Native.Nat.{ℕ, _+_, _-_}
+use Prim.Native.Nat.{ℕ}
 use Rattle.errors.specs.Refusal.{done, Refusal, MissingIrParameter}
 use Rattle.errors.proofs.Laws.{done-one, not-done, bound}
-use lib.ListN.{take, drop}
-use Rattle.blocks.specs.Bytes.{le2}
 use Rattle.blocks.specs.Name.{Name, same}
-use Rattle.accepted.specs.Accepted.{nameAt}
 use Rattle.blocks.proofs.Name.{same-eq}
 use Rattle.ir.specs.Ir.{IrArgument, IrParameter}
 use Rattle.interpreter.specs.Eval.{Binding, ParamMap, find, refusalAt, valueOr, collect-arguments, bindFound, inherited}

@@ -3,7 +3,7 @@ use mathlib.Core.Path.{_≡_, refl, sym, _∙_, ap}
 use mathlib.Core.Bool.{cond}
 use mathlib.Core.List.{List, _∷_}
 use mathlib.Core.Option.{some, none}
-use Prim.Native.Nat.{ℕ, zero, suc, _+_, _-_, _≤_, _<_}
+use Prim.Native.Nat.{ℕ, zero, suc, _+_, _≤_, _<_}
 use native.Mathlib.Omega.{arith}
 use lib.Dec.{eqb}
 use lib.ListN.{length, getD, drop}
@@ -140,7 +140,8 @@ pub cases-in : (i : ℕ) (t : Tree) → casesIn (restView (partView i (view thin
 cases-in i t = ap (λ (v : View Thing). casesIn (restView v)) (view-part thingOf i t) ∙ ap casesIn (view-rest thingOf (part i t))
 
 -- the default node in a part
-pub default-in : (i : ℕ) (t : Tree) → defaultIn (part i t) (partView i (view thingOf t)) ≡ cond (eqb (number (first (part i t))) 1) (DefaultNode.orElse (nodeOf (rest (part i t)))) DefaultNode.noDefault
+pub default-in : (i : ℕ) (t : Tree) →
+    defaultIn (part i t) (partView i (view thingOf t)) ≡ cond (eqb (number (first (part i t))) 1) (DefaultNode.orElse (nodeOf (rest (part i t)))) DefaultNode.noDefault
 unfolding nodeOf
 default-in i t = ap (λ (v : View Thing). defaultIn (part i t) v) (view-part thingOf i t)
     ∙ ap (λ (v : View Thing). cond (eqb (number (first (part i t))) 1) (DefaultNode.orElse (asNode (itemOr Thing.nothing v))) DefaultNode.noDefault) (view-rest thingOf (part i t))

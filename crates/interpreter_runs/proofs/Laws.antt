@@ -1,10 +1,10 @@
 -- Where a run ends, and the four words of an answer. Assumes nothing.
-use mathlib.Core.Path.{_≡_, refl, sym, ap, subst, _∙_}
+use mathlib.Core.Path.{_≡_, refl, sym, ap, _∙_}
 use mathlib.Core.List.{List, [], _∷_}
 use Prim.Native.Nat.{ℕ, suc, _+_, _-_, _<_, _≤_}
 use native.Mathlib.Numerals.{add-one}
 use native.Mathlib.Omega.{arith}
-use lib.ListN.{length, getD, set, take, drop, length-drop, drop-of-length-le}
+use lib.ListN.{length, set, take, drop, length-drop, drop-of-length-le}
 use lib.Seq.{take-all, drop-length, drop-drop, getD-drop}
 use Rattle.errors.specs.Refusal.{Outcome, done, refused}
 use Rattle.errors.specs.Answer.{answerWords}
@@ -62,7 +62,7 @@ module _ (s : List ℕ) (i : ℕ) (lies : i < length s) where
 -- ---- the words of an answer
 
 -- four stores one behind the other write four words
-four : (xs : List ℕ) (at a b c d : ℕ) → Wrote xs at (a ∷ b ∷ c ∷ d ∷ []) (set (set (set (set xs at a) (at + 1) b) (at + 2) c) (at + 3) d) (at + 4)
+pub four : (xs : List ℕ) (at a b c d : ℕ) → Wrote xs at (a ∷ b ∷ c ∷ d ∷ []) (set (set (set (set xs at a) (at + 1) b) (at + 2) c) (at + 3) d) (at + 4)
 unfolding poke
 four xs at a b c d =
     let two : at + 2 ≡ suc (suc at) = omega arith in
@@ -74,16 +74,3 @@ pub four-words : (o : Outcome ℕ) → length (answerWords o) ≡ 4
 unfolding answerWords
 four-words (done n) = refl
 four-words (refused r) = refl
-
--- they are the words at its four places
-by-place : {w : List ℕ} (o : Outcome ℕ) → w ≡ answerWords o → (getD w 0 0 ∷ getD w 1 0 ∷ getD w 2 0 ∷ getD w 3 0 ∷ []) ≡ answerWords o
-unfolding answerWords
-by-place (done n) e = rw e
-by-place (refused r) e = rw e
-
--- so four stores write them
-pub written : (xs : List ℕ) (at : ℕ) {w : List ℕ} (o : Outcome ℕ) → w ≡ answerWords o →
-    Wrote xs at (answerWords o) (set (set (set (set xs at (getD w 0 0)) (at + 1) (getD w 1 0)) (at + 2) (getD w 2 0)) (at + 3) (getD w 3 0)) (at + 4)
-written xs at {w} o e =
-    subst (λ (bs : List ℕ). Wrote xs at bs (set (set (set (set xs at (getD w 0 0)) (at + 1) (getD w 1 0)) (at + 2) (getD w 2 0)) (at + 3) (getD w 3 0)) (at + 4))
-    (by-place o e) (four xs at _ _ _ _)

@@ -4,7 +4,7 @@ use errors::Answer;
 use errors::Refusal;
 use reader_leaf::Read;
 ghost use mathlib.Core.Path.{_≡_};
-ghost use mathlib.Core.List.{_++_};
+ghost use mathlib.Core.List.{[], _∷_, _++_};
 ghost use Prim.Native.Nat.{_+_, _*_, _≤_, _<_};
 ghost use lib.ListN.{length, drop};
 ghost use Rattle.errors.specs.Refusal.{words-after};
@@ -16,7 +16,7 @@ ghost use Rattle.errors.specs.Answer.{answerWords, allAnswerWords};
 ghost use Rattle.interpreter_runs.specs.Held.{Holds, Ends};
 
 // The answer to a run. The questions of a call with the layout alone are answered.
-fn answer(n: usize, layout: &[u8], first: Read, run: &[u8], calls: &mut [u64]) -> Answer
+pub fn answer(n: usize, layout: &[u8], first: Read, run: &[u8], calls: &mut [u64]) -> Answer
     requires { ⌜ Holds n (now layout) first × (8192 ≤ n → 16 ≤ length (now calls)) ⌝ }
     ensures { λ _. ⌜ length (now (calls .exit)) ≡ length (now (calls .entry)) ⌝ }
     ensures { λ r. ⌜ outcomeOf r ≡ validate-run n (now (layout .entry)) (now (run .entry)) ⌝ }
@@ -43,20 +43,37 @@ fn run_end(s: &[u8], i: usize) -> usize
     i + 4 + n
 }
 
-// The four words of an answer, and the cursor behind them.
+// Four words, and the cursor behind them.
+fn put_four(out: &mut [u64], at: usize, number: u64, place: u64, offset: u64, value: u64) -> usize
+    requires { ⌜ at + 4 ≤ length (now out) ⌝ }
+    ensures { λ r. ⌜ Wrote (now (out .entry)) at (number ∷ place ∷ offset ∷ value ∷ []) (now (out .exit)) r ⌝ }
+{
+    let b = at + 1;
+    let c = at + 2;
+    let d = at + 3;
+    out[at] = number;
+    out[b] = place;
+    out[c] = offset;
+    out[d] = value;
+    at + 4
+}
+
+// The four words of an answer. Each case stores its own: by way of `words`, an array, a run takes longer.
 fn put_answer(out: &mut [u64], at: usize, a: Answer) -> usize
     requires { ⌜ at + 4 ≤ length (now out) ⌝ }
     ensures { λ r. ⌜ Wrote (now (out .entry)) at (answerWords (outcomeOf a)) (now (out .exit)) r ⌝ }
 {
-    let w = a.words();
-    let b = at + 1;
-    let c = at + 2;
-    let d = at + 3;
-    out[at] = w[0];
-    out[b] = w[1];
-    out[c] = w[2];
-    out[d] = w[3];
-    at + 4
+    match a {
+        Answer::Count(n) => put_four(out, at, 0, 65535, 0, n.low()),
+        Answer::Refused(r) => put_four(
+            out,
+            at,
+            r.number,
+            r.place as u64,
+            r.offset as u64,
+            r.value.low(),
+        ),
+    }
 }
 
 // The answers to the runs in s, as far as there is room for them, and how many words they are.
@@ -93,10 +110,8 @@ pub fn validate_runs(words: &mut [u64], layout: &[u8], runs: &[u8], answers: &mu
     ensures { λ _. ⌜ now (words .exit) ≡ words-after (now (words .entry)) ⌝ }
 {
     let n = words.len();
-    wire::clear_words(words);
+    let most = interpreter_validate::lend(words);
     let first = reader_calls::one_read(n, layout, 256, 160);
-    // a word for each call that may be open
-    let most = reader_calls::used(n, 16);
     let calls = &mut words[..most];
     let end = answer_all(n, layout, first, runs, calls, answers);
     wire::clear_words(calls);

@@ -1,11 +1,12 @@
--- What a call answers where its questions are answered; then what a type of an accepted layout comes to.
-use mathlib.Core.Path.{_≡_, refl, sym, _∙_, ap}
+-- What a call answers where its questions are answered, with values or with a run; then what a type of an accepted layout comes to, and
+-- where a run has its name, its buffer length and its values.
+use mathlib.Core.Path.{_≡_, refl, sym, subst, _∙_, ap}
 use mathlib.Core.Bool.{Bool}
-use mathlib.Core.List.{List, [], _∷_}
+use mathlib.Core.List.{List, [], _∷_, _++_}
 use Prim.Native.Nat.{ℕ, _+_, _-_, _≤_}
 use native.Mathlib.Omega.{arith}
 use lib.ListN.{length, take, drop, replicate}
-use Rattle.errors.specs.Refusal.{Outcome, done, refused, _>>=_, enough, plain, unread}
+use Rattle.errors.specs.Refusal.{Outcome, done, refused, _>>=_, enough, plain, unread, words-after}
 use Rattle.errors.specs.declared.Refusal.{Refusal}
 use Rattle.errors.specs.declared.Answer.{Answer}
 use Rattle.errors.specs.declared.Answer.the-variants as answer
@@ -22,8 +23,8 @@ use Rattle.accepted.specs.Accepted.{Accepted, tree, Parts, nameAt}
 use Rattle.accepted.proofs.Laws.{input, opened, text-part, number-part, block-part, behind-at}
 use Rattle.reader_leaf.specs.declared.Read.{Read}
 use Rattle.reader_leaf.specs.declared.Read.the-variants.{Ok, Refused}
-use Rattle.reader_calls.specs.Inputs.{judge, passed, passedOf, Least}
-use Rattle.reader_calls.proofs.Laws.{Judged, judged, passed-no, part-enough}
+use Rattle.reader_calls.specs.Inputs.{judge, passed, passedOf}
+use Rattle.reader_calls.proofs.Laws.{judged, passed-no, part-within, part-length, part-enough, part-clean}
 use Rattle.lookup.specs.declared.Place.{Place}
 use Rattle.lookup.specs.declared.Place.the-variants.{At as PlaceAt, Missing as PlaceNone}
 use Rattle.lookup.specs.Found.{TreeFound}
@@ -37,9 +38,11 @@ use Rattle.interpreter_context.specs.declared.Root.{Root}
 use Rattle.interpreter_leaves.specs.declared.Frame.{Frame}
 use Rattle.interpreter_eval.specs.Evaluates.{Ready, Evaluates}
 use Rattle.interpreter_eval.proofs.Laws.{found-at, found-none}
-use Rattle.interpreter_validate.specs.Validator.{Asked, outcomeIn, fitted, Given, GivenRun}
+use Rattle.interpreter_validate.specs.declared.Ask.{Ask}
+use Rattle.interpreter_validate.specs.declared.Ask.the-variants as ask
+use Rattle.interpreter_validate.specs.Validator.{kindOf, runFor, runIn, callOf, Asked, outcomeIn, fitted, Located, Given, TypeAnswers, Answers, Called, Lent}
 
--- ---- validate
+-- ---- a call: values or a run
 
 -- both inputs
 abbrev pair : Outcome Tree → Outcome Tree → Outcome (Tree × Tree)
@@ -56,55 +59,69 @@ after-judging (done u) (done v) (done w) (refused r) y g = refl
 after-judging (done u) (done v) (done w) (done l) (refused r) g = refl
 after-judging (done u) (done v) (done w) (done l) (done t) g = refl
 
--- what goes on with both inputs once they were read
-module _ (n : ℕ) (s v : List ℕ) (k : ℕ) {o : Outcome ℕ} (g : Tree × Tree → Outcome ℕ) (is : o ≡ (judge n s v k >>= g)) where
+-- what an asked run of two inputs that were read comes to
+abbrev both : Ask → Name → Tree × Tree → Outcome ℕ
+both a m z = runIn (z .0) (runFor a m (z .1))
+
+-- a call is judging its inputs and then evaluating
+call-is : (a : Ask) (n : ℕ) (s : List ℕ) (m : Name) (v : List ℕ) → callOf a n s m v ≡ (judge n s v (kindOf a) >>= both a m)
+unfolding validate validate-run judge
+call-is (ask.Values len) n s m v = after-judging (enough n) (small s) (small v) (readLayout s) (readInput 2 192 v) (λ l t. runIn l (runFor (ask.Values len) m t))
+call-is ask.Run n s m v = after-judging (enough n) (small s) (small v) (readLayout s) (readInput 2 193 v) (λ l t. runIn l (runOf t))
+
+-- by what the code answers of the questions, with the kind that it reads
+pub asked-of : {a : Ask} {n k : ℕ} {s v ws : List ℕ} {r : Read} → k ≡ kindOf a → passedOf r ≡ passed (judge n s v k) → (8192 ≤ n → 16 ≤ length ws) → Asked a s v r ws n
+asked-of {n} {s} {v} e d h = record { is = d ∙ ap (λ (z : ℕ). passed (judge n s v z)) e; room = h }
+
+module _ {a : Ask} {n : ℕ} {s v ws : List ℕ} {r : Read} (asked : Asked a s v r ws n) where
   -- an input was refused
-  judged-stops : {ws : List ℕ} {r : Read} {q p : ℕ} (x : Refusal) → Asked s v k r ws n → r ≡ Refused q p → refusalOf x ≡ unread q p → outcomeOf (answer.Refused x) ≡ o
+  pub stops : (m : Name) {q p : ℕ} (x : Refusal) → r ≡ Refused q p → refusalOf x ≡ unread q p → outcomeOf (answer.Refused x) ≡ callOf a n s m v
   unfolding _>>=_
-  judged-stops x a e f = ap refused f ∙ sym (is ∙ ap (λ (o : Outcome (Tree × Tree)). o >>= g) (passed-no (judge n s v k) (a .is) e))
+  stops m x e f = ap refused f ∙ sym (call-is a n s m v ∙ ap (λ (o : Outcome (Tree × Tree)). o >>= both a m) (passed-no (judge n s v (kindOf a)) (asked .is) e))
 
-  -- both were read
-  judged-goes : (j : Judged n s v k) → o ≡ g (j .layout, j .other)
-  unfolding _>>=_
-  judged-goes j = is ∙ ap (λ (o : Outcome (Tree × Tree)). o >>= g) (j .is)
-
-module _ (n : ℕ) (s : List ℕ) (name : Name) (v : List ℕ) (len : ℕ) where
-  -- validating is judging the inputs and then evaluating
-  validate-is : validate n s name v len ≡ (judge n s v 192 >>= (λ z. validate-type (layoutOf (z .0)) name len (valuesOf (z .1))))
-  unfolding validate judge
-  validate-is = after-judging (enough n) (small s) (small v) (readLayout s) (readInput 2 192 v) (λ l t. validate-type (layoutOf l) name len (valuesOf t))
-
-  module _ {r : Read} {ws : List ℕ} (asked : Asked s v 192 r ws n) where
-    -- an input was refused
-    pub stops : {q p : ℕ} (x : Refusal) → r ≡ Refused q p → refusalOf x ≡ unread q p → outcomeOf (answer.Refused x) ≡ validate n s name v len
-    stops x e f = judged-stops n s v 192 _ validate-is x asked e f
-
-    -- both were read, and the type was evaluated
-    pub goes : {i : ℕ} (a : Answer) → r ≡ Ok i →
-        ((t : Tree) → readLayout s ≡ done t → (b : Accepted v 192 192 0) → outcomeOf a ≡ validate-type (layoutOf t) name len (valuesOf (tree b))) → outcomeOf a ≡ validate n s name v len
-    goes a e f =
+  module _ {i : ℕ} (e : r ≡ Ok i) where
+    -- both were read: what evaluating asks for
+    pub given : Given a s v ws
+    given =
         let j = judged (asked .is) e in
-        let t = input 2 192 v (j .other-read) in
-        f (j .layout) (j .layout-read) (t .0)
-        ∙ ap (λ (z : Tree × ℕ). validate-type (layoutOf (j .layout)) name len (valuesOf (z .0))) (t .1)
-        ∙ sym (judged-goes n s v 192 _ validate-is j)
+        record { layout = (j .layout, j .layout-read); other-read = (j .other, j .other-read); room = asked .room (j .words); small = j .small-layout }
 
-module _ {n : ℕ} {s v ws : List ℕ} {r : Read} {i : ℕ} where
-  -- what evaluating asks for, where values were read
-  pub given : Asked s v 192 r ws n → r ≡ Ok i → Given s v 0 ws
-  given a e =
-      let j = judged (a .is) e in
-      record { layout = (j .layout, j .layout-read); values-read = input 2 192 v (j .other-read) .0; room = a .room (j .words); small = j .small-layout }
+    -- and what is asked for was evaluated
+    pub goes : (m : Name) (x : Answer) → Answers a s m v x → outcomeOf x ≡ callOf a n s m v
+    unfolding _>>=_
+    goes m x f =
+        let j = judged (asked .is) e in
+        f (j .layout) (j .layout-read) (j .other) (j .other-read)
+        ∙ sym (call-is a n s m v ∙ ap (λ (o : Outcome (Tree × Tree)). o >>= both a m) (j .is))
 
-  -- and where a run was
-  pub given-run : Asked s v 193 r ws n → r ≡ Ok i → GivenRun s v ws
-  given-run a e =
-      let j = judged (a .is) e in
-      record { layout = (j .layout, j .layout-read); run-read = (j .other, j .other-read); room = a .room (j .words); small = j .small-layout }
+-- in the code's form, where it goes by what is asked for
+module _ {a b : Ask} (e : a ≡ b) where
+  -- the questions are answered for one as for the other
+  pub asked-as : {s v ws : List ℕ} {r : Read} → ((n : ℕ) × Asked a s v r ws n) → (n : ℕ) × Asked b s v r ws n
+  asked-as {s} {v} {ws} {r} (n, x) = (n, subst (λ (z : Ask). Asked z s v r ws n) e x)
 
--- the first words are lent for the open calls: where there are enough, sixteen
-pub lent : (n k m : ℕ) (s v us : List ℕ) {r : Read} → passedOf r ≡ passed (judge n s v k) → us ≡ replicate n 0 → Least n 16 m → Asked s v k r (take m us) n
-lent n k m s v us d e h = record { is = d; room = λ g. part-enough n 16 m us e h (omega arith) }
+  -- and so is the call
+  pub called-as : (s : List ℕ) (m : Name) (v : List ℕ) (r : Read) (ws : List ℕ) (x : Answer) → Called b s m v r ws x → Called a s m v r ws x
+  called-as s m v r ws x f = subst (λ (z : Ask). Called z s m v r ws x) (sym e) f
+
+-- ---- the words that are lent for the open calls
+
+module _ {ws us : List ℕ} {k : ℕ} (l : Lent ws us k) where
+  -- they are there
+  pub lent-within : k ≤ length us
+  lent-within = part-within (length ws) 16 k us (l .zero) (l .least)
+
+  -- the first k are k
+  pub lent-length : k ≡ length (take k us)
+  lent-length = part-length (length ws) 16 k us (l .zero) (l .least)
+
+  -- where there are enough words, sixteen
+  pub lent-room : 8192 ≤ length ws → 16 ≤ length (take k us)
+  lent-room h = part-enough (length ws) 16 k us (l .zero) (l .least) (omega arith)
+
+  -- as many zeros in their place leave all words zero
+  pub lent-clean : {m : ℕ} {zs : List ℕ} → m ≡ length (take k us) → zs ≡ replicate m 0 → zs ++ drop k us ≡ words-after ws
+  lent-clean e c = part-clean (length ws) 16 k us (l .zero) (l .least) (c ∙ ap (λ (n : ℕ). replicate n 0) e)
 
 -- ---- a type of an accepted layout
 
@@ -113,27 +130,29 @@ tells-one : {ok : Bool} {ws us : List ℕ} (o : Outcome ℕ) → Tells ok ws us 
 tells-one (done n) t = rw (t .which, t .left)
 tells-one (refused r) t = rw (t .which, t .left)
 
--- the root's context, and the frame of a type that was asked for
+-- the root's context
 abbrev rooted-at : (block len : ℕ) → Root
 rooted-at b len = record { block = b; len = len }
 
+-- the frame of a type that was asked for
 abbrev first-frame : ℕ → Frame
 first-frame place = record { depth = 0; place = place }
 
 module _ {s : List ℕ} {name : Name} {r : Place} (f : (t : Tree) → readLayout s ≡ done t → TreeFound s name (layoutOf t) r) where
   -- no type has the name
-  pub type-unknown : r ≡ PlaceNone → (t : Tree) → readLayout s ≡ done t → (len : ℕ) (γ : ParamMap) (x : Refusal) → refusalOf x ≡ plain 20 → outcomeOf (answer.Refused x) ≡ validate-type (layoutOf t) name len γ
+  pub type-unknown : r ≡ PlaceNone → (t : Tree) → readLayout s ≡ done t → (len : ℕ) (γ : ParamMap) (x : Refusal) → refusalOf x ≡ plain 20 →
+      outcomeOf (answer.Refused x) ≡ validate-type (layoutOf t) name len γ
   unfolding validate-type _>>=_
   type-unknown e t rd len γ x g = rw (g, found-none e (f t rd))
 
   module _ {i o : ℕ} (e : r ≡ PlaceAt i o) where
     -- the tree of the type that was found
-    pub type-tree : {v ws : List ℕ} {block : ℕ} → Given s v block ws → Accepted s 161 161 o
+    pub type-tree : {v ws : List ℕ} {block : ℕ} → Located s v block ws → Accepted s 161 161 o
     type-tree g = found-at e (f (g .layout .0) (g .layout .1)) .0
 
     module _ {q : ℕ} (rooted : (c : Accepted s 161 161 o) → Rooted c q) where
       -- the root is ready to be evaluated
-      pub root-ready : {v ws : List ℕ} {block : ℕ} (len : ℕ) → Given s v block ws → Ready s v ws (rooted-at block len) (first-frame i) q
+      pub root-ready : {v ws : List ℕ} {block : ℕ} (len : ℕ) → Located s v block ws → Ready s v ws (rooted-at block len) (first-frame i) q
       root-ready len g = record {
         node = rooted (type-tree g) .root;
         layout = g .layout;
@@ -145,41 +164,30 @@ module _ {s : List ℕ} {name : Name} {r : Place} (f : (t : Tree) → readLayout
       }
 
       -- what it comes to, held against the buffer length, is the answer
-      pub type-goes : {v ws : List ℕ} {block len : ℕ} {ok : Bool} {before out : List ℕ} (w z : Answer) →
-          Evaluates s v ws (rooted-at block len) (first-frame i) q ok before out → outcomeOf w ≡ outcomeIn ok out → outcomeOf z ≡ fitted i len (outcomeOf w) →
-          (t : Tree) → readLayout s ≡ done t → (a : Accepted v 192 192 block) → outcomeOf z ≡ validate-type (layoutOf t) name len (valuesOf (tree a))
+      pub type-goes : {v ws : List ℕ} {block len : ℕ} {ok : Bool} {before out : List ℕ} (z : Answer) →
+          Evaluates s v ws (rooted-at block len) (first-frame i) q ok before out → outcomeOf z ≡ fitted i len (outcomeIn ok out) → TypeAnswers s name v block len z
       unfolding validate-type fitted
-      type-goes {len} w z ev is fit t rd a =
+      type-goes {len} z ev fit t rd a =
           let c = found-at e (f t rd) in
           let k = rooted (c .0) in
           let γ : ParamMap = with-buffer-size len (valuesOf (tree a)) in
           fit
-          ∙ ap (fitted i len) (is ∙ tells-one _ (ev γ (Context.root a) t rd (k .root)) ∙ ap (eval-within 16 (layoutOf t) i γ) (sym (k .is)))
+          ∙ ap (fitted i len) (tells-one _ (ev γ (Context.root a) t rd (k .root)) ∙ ap (eval-within 16 (layoutOf t) i γ) (sym (k .is)))
           ∙ sym (bound-done _ (c .1))
 
+-- ---- values, which are the whole of their input
+
+-- what evaluating their type asks for
+pub values-located : {len : ℕ} {s v ws : List ℕ} → Given (ask.Values len) s v ws → Located s v 0 ws
+values-located {v} g = record { layout = g .layout; values-read = input 2 192 v (g .other-read .1) .0; room = g .room; small = g .small }
+
+-- what their type comes to is what is asked for
+pub values-answer : (len : ℕ) (s v : List ℕ) (m : Name) (r : Answer) → TypeAnswers s m v 0 len r → Answers (ask.Values len) s m v r
+values-answer len s v m r f t rd u ru =
+    let b = input 2 192 v ru in
+    f t rd (b .0) ∙ ap (λ (z : Tree × ℕ). validate-type (layoutOf t) m len (valuesOf (z .0))) (b .1)
+
 -- ---- a run
-
--- a run of an accepted layout
-abbrev runIn : Tree → Tree → Outcome ℕ
-runIn l t = validate-type (layoutOf l) (runOf t .type-name) (runOf t .buffer-length) (runOf t .values)
-
-module _ (n : ℕ) (s v : List ℕ) where
-  -- validating a run is judging the inputs and then evaluating
-  run-is : validate-run n s v ≡ (judge n s v 193 >>= (λ z. runIn (z .0) (z .1)))
-  unfolding validate-run judge
-  run-is = after-judging (enough n) (small s) (small v) (readLayout s) (readInput 2 193 v) runIn
-
-  module _ {r : Read} {ws : List ℕ} (asked : Asked s v 193 r ws n) where
-    -- an input was refused
-    pub run-stops : {q p : ℕ} (x : Refusal) → r ≡ Refused q p → refusalOf x ≡ unread q p → outcomeOf (answer.Refused x) ≡ validate-run n s v
-    run-stops x e f = judged-stops n s v 193 _ run-is x asked e f
-
-    -- both were read, and the type was evaluated
-    pub run-goes : {i : ℕ} (a : Answer) → r ≡ Ok i →
-        ((t : Tree) → readLayout s ≡ done t → (u : Tree) → readRun v ≡ done u → outcomeOf a ≡ runIn t u) → outcomeOf a ≡ validate-run n s v
-    run-goes a e f =
-        let j = judged (asked .is) e in
-        f (j .layout) (j .layout-read) (j .other) (j .other-read) ∙ sym (judged-goes n s v 193 _ run-is j)
 
 -- where a run's name, buffer length and values stand
 pub record RunAt (s : List ℕ) (u : ℕ) (t : Tree) : Type 0 where
@@ -237,25 +245,23 @@ run-at {s} {u} {t} e eu = go (input 2 193 s e)
         run-first t (p .parts) eu (sym (ap (λ (z : Tree × ℕ). z .0) g) ∙ p .tree)
 
 -- its header and the length of its name lie in the bytes
-pub run-six : {s v ws : List ℕ} → GivenRun s v ws → 8 ≤ length v
-run-six {v} g = omega (arith, run-at {s = v} {u = le2 v 6} (g .run-read .1) refl .inside)
+pub run-six : {s v ws : List ℕ} → Given ask.Run s v ws → 8 ≤ length v
+run-six {v} g = omega (arith, run-at {s = v} {u = le2 v 6} (g .other-read .1) refl .inside)
 
 -- and so do its name and its buffer length
-pub run-inside : {s v ws : List ℕ} {u : ℕ} → GivenRun s v ws → u ≡ le2 v 6 → 8 + u + 8 ≤ length v
-run-inside g eu = run-at (g .run-read .1) eu .inside
+pub run-inside : {s v ws : List ℕ} {u : ℕ} → Given ask.Run s v ws → u ≡ le2 v 6 → 8 + u + 8 ≤ length v
+run-inside g eu = run-at (g .other-read .1) eu .inside
 
-module _ {s v ws : List ℕ} {u : ℕ} (g : GivenRun s v ws) (eu : u ≡ le2 v 6) where
-  -- what evaluating its type asks for
-  pub run-given : Given s v (8 + u + 8) ws
-  run-given = record { layout = g .layout; values-read = run-at (g .run-read .1) eu .block; room = g .room; small = g .small }
+-- what evaluating its type asks for
+pub run-located : {s v ws : List ℕ} {u : ℕ} → Given ask.Run s v ws → u ≡ le2 v 6 → Located s v (8 + u + 8) ws
+run-located g eu = record { layout = g .layout; values-read = run-at (g .other-read .1) eu .block; room = g .room; small = g .small }
 
-  -- what its type comes to is what the run comes to
-  pub run-answers : (r : Answer) (len : ℕ) → len ≡ le8 v (8 + u) →
-      ((t : Tree) → readLayout s ≡ done t → (a : Accepted v 192 192 (8 + u + 8)) → outcomeOf r ≡ validate-type (layoutOf t) (take (8 + u - 8) (drop 8 v)) len (valuesOf (tree a))) →
-      (t : Tree) → readLayout s ≡ done t → (x : Tree) → readRun v ≡ done x → outcomeOf r ≡ runIn t x
-  run-answers r len el f t rd x rx =
-      let k = run-at rx eu in
-      f t rd (k .block)
-      ∙ ap (λ (z : Name). validate-type (layoutOf t) z len (valuesOf (tree (k .block)))) (slice-is v 6 u eu ∙ sym (k .named))
-      ∙ ap (λ (z : ℕ). validate-type (layoutOf t) (runOf x .type-name) z (valuesOf (tree (k .block)))) (el ∙ sym (k .long))
-      ∙ ap (λ (z : Tree). validate-type (layoutOf t) (runOf x .type-name) (runOf x .buffer-length) (valuesOf z)) (sym (k .is))
+-- what its type comes to is what the run comes to
+pub run-answers : (s v : List ℕ) (u : ℕ) → u ≡ le2 v 6 → (r : Answer) (len : ℕ) → len ≡ le8 v (8 + u) →
+    TypeAnswers s (take (8 + u - 8) (drop 8 v)) v (8 + u + 8) len r → Answers ask.Run s v v r
+run-answers s v u eu r len el f t rd x rx =
+    let k = run-at rx eu in
+    f t rd (k .block)
+    ∙ ap (λ (z : Name). validate-type (layoutOf t) z len (valuesOf (tree (k .block)))) (slice-is v 6 u eu ∙ sym (k .named))
+    ∙ ap (λ (z : ℕ). validate-type (layoutOf t) (runOf x .type-name) z (valuesOf (tree (k .block)))) (el ∙ sym (k .long))
+    ∙ ap (λ (z : Tree). validate-type (layoutOf t) (runOf x .type-name) (runOf x .buffer-length) (valuesOf z)) (sym (k .is))

@@ -2,7 +2,7 @@
 use Prim.Native.Nat.{ℕ, suc, _≤_}
 use native.Mathlib.Omega.{arith}
 use native.Mathlib.Nat.{le-antisymm}
-use mathlib.Core.Path.{_≡_, refl}
+use mathlib.Core.Path.{_≡_}
 use Rattle.ir.specs.Layout.{operations}
 use Rattle.value.specs.Number.{numberOf}
 use Rattle.interpreter.specs.Arithmetic.{operate as operation}

@@ -1,7 +1,6 @@
 -- `callers_name` meets its contract: the last argument of the name decides, and where there is none, whether the parameters list the
 -- name.
 use mathlib.Core.Path.{refl}
-use Prim.Native.Nat.{_-_}
 use Rattle.interpreter_context.proofs.Calls.{from-argument, from-parameter, from-nothing}
 use borrow.Author.Needs.{needs}
 use Rattle.interpreter_context.proofs.callers_name.Statement.{statement}

@@ -1,6 +1,5 @@
 -- `find` meets its contract. The invariant: what the name is at all open calls is what `wanted` is at d of them. The measure is d.
 use borrow.Author.Needs.{needs}
-use Prim.Native.Nat.{_-_}
 use native.Mathlib.Omega.{arith}
 use Rattle.interpreter_context.proofs.Calls.{Wanted, asked, the-call, caller-has, caller-lacks, at-the-root, bottom}
 use Rattle.interpreter_context.proofs.find.Statement.{statement}

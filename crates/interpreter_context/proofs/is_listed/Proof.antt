@@ -1,7 +1,7 @@
 -- `is_listed` meets its contract. The invariant: none of the parameters that were passed has the name. The measure is the parameters
 -- that are left.
 use mathlib.Core.Path.{refl}
-use Prim.Native.Nat.{_+_, _-_}
+use Prim.Native.Nat.{_+_}
 use native.Mathlib.Omega.{arith}
 use Rattle.blocks.specs.Bytes.{le2}
 use Rattle.accepted.specs.Accepted.{Accepted, nameAt}

@@ -1,5 +1,4 @@
 -- `later` meets its contract: an argument of the name replaces what was found before.
-use Prim.Native.Nat.{_-_}
 use native.Mathlib.Omega.{arith}
 use Rattle.interpreter_context.proofs.Lists.{arg, this-one, not-this}
 use Rattle.interpreter_context.proofs.later.Statement.{statement}

@@ -1,5 +1,4 @@
 -- `field` meets its contract: what the context has of the name is what the node evaluates to.
-use Prim.Native.Nat.{_-_}
 use Rattle.interpreter_leaves.proofs.Tells.{tells-as}
 use Rattle.interpreter_leaves.proofs.Nodes.{ref-found, ref-absent}
 use borrow.Author.Needs.{needs}

@@ -1,6 +1,5 @@
 -- `root` meets its contract: the root stands behind the name and the alignment.
 use mathlib.Core.Path.{refl}
-use Prim.Native.Nat.{_-_}
 use native.Mathlib.Omega.{arith}
 use Rattle.interpreter_context.proofs.Lists.{tree-of}
 use Rattle.interpreter_leaves.proofs.root.Statement.{statement}

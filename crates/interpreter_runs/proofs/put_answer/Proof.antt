@@ -1,88 +1,61 @@
--- `put_answer` meets its contract: four stores, each of which fits.
-use native.Mathlib.Omega.{arith}
-use lib.ListN.{length-set}
-use Rattle.interpreter_runs.proofs.Laws.{written}
+-- `put_answer` meets its contract: the words of each case.
+use Rattle.errors.specs.Answer.{answerWords}
+use Rattle.errors.specs.Meaning.{refusalOf}
 use borrow.Author.Needs.{needs}
 use Rattle.interpreter_runs.proofs.put_answer.Statement.{statement}
 use Rattle.interpreter_runs.proofs.put_answer.Tie as tie
 
-words-requires : tie.Need-words-requires
-words-requires c κs = search needs
+enum-known-a : tie.Need-enum-known-a
+enum-known-a c = search needs
 
-add-b : tie.Need-add-b
-add-b c = search needs
+low-requires : tie.Need-low-requires
+low-requires c κs = search needs
 
-add-c : tie.Need-add-c
-add-c c = search needs
+put-four-requires : tie.Need-put-four-requires
+put-four-requires c κs = search needs
 
-add-d : tie.Need-add-d
-add-d c = search needs
+enum-known-a-2 : tie.Need-enum-known-a-2
+enum-known-a-2 c = search needs
 
-array-read-out : tie.Need-array-read-out
-array-read-out c = search needs
+low-requires-2 : tie.Need-low-requires-2
+low-requires-2 c κs = search needs
 
-mul-out : tie.Need-mul-out
-mul-out c = search needs
-
-slice-write-out : tie.Need-slice-write-out
-slice-write-out c = search needs
-
-array-read-out-2 : tie.Need-array-read-out-2
-array-read-out-2 c = search needs
-
-mul-out-2 : tie.Need-mul-out-2
-mul-out-2 c = search needs
-
-slice-write-out-2 : tie.Need-slice-write-out-2
-slice-write-out-2 c = simp length-set (omega arith)
-
-array-read-out-3 : tie.Need-array-read-out-3
-array-read-out-3 c = search needs
-
-mul-out-3 : tie.Need-mul-out-3
-mul-out-3 c = search needs
-
-slice-write-out-3 : tie.Need-slice-write-out-3
-slice-write-out-3 c = simp length-set (omega arith)
-
-array-read-out-4 : tie.Need-array-read-out-4
-array-read-out-4 c = search needs
-
-mul-out-4 : tie.Need-mul-out-4
-mul-out-4 c = search needs
-
-slice-write-out-4 : tie.Need-slice-write-out-4
-slice-write-out-4 c = simp length-set (omega arith)
-
-add-result : tie.Need-add-result
-add-result c = search needs
+put-four-requires-2 : tie.Need-put-four-requires-2
+put-four-requires-2 c κs = search needs
 
 same-length : tie.Need-same-length
 same-length c = search needs
 
 returns : tie.Need-returns
-returns c = written _ _ _ (c .words .ensures)
+unfolding answerWords
+returns c =
+    let at-put-four = c .before .before in
+    let at-low = at-put-four .before in
+    let at-a = at-low .before .before .before in
+    rw (at-a .a .given .1, ← at-low .low .ensures) (at-put-four .put-four .ensures)
+
+same-length-2 : tie.Need-same-length-2
+same-length-2 c = search needs
+
+returns-2 : tie.Need-returns-2
+unfolding answerWords refusalOf
+returns-2 c =
+    let at-put-four = c .before .before in
+    let at-low = at-put-four .before in
+    let at-a = at-low .before .before .before in
+    rw (at-a .a2 .given .1, ← at-low .low2 .ensures) (at-put-four .put-four2 .ensures)
 
 pub put-answer-spec : {M : Type 1} → statement M
 put-answer-spec =
     tie.close
     (tie.spec
-    words-requires
-    add-b
-    add-c
-    add-d
-    array-read-out
-    mul-out
-    slice-write-out
-    array-read-out-2
-    mul-out-2
-    slice-write-out-2
-    array-read-out-3
-    mul-out-3
-    slice-write-out-3
-    array-read-out-4
-    mul-out-4
-    slice-write-out-4
-    add-result
+    enum-known-a
+    low-requires
+    put-four-requires
+    enum-known-a-2
+    low-requires-2
+    put-four-requires-2
     same-length
-    returns)
+    returns
+    same-length-2
+    returns-2)

@@ -1,6 +1,6 @@
 -- `counted` meets its contract: a refusal ends it, else the type is evaluated.
 use mathlib.Core.Path.{refl}
-use Rattle.interpreter_validate.proofs.Laws.{stops, goes, given}
+use Rattle.interpreter_validate.proofs.Laws.{stops, goes, given, values-located, values-answer}
 use borrow.Author.Needs.{needs}
 use Rattle.interpreter_validate.proofs.counted.Statement.{statement}
 use Rattle.interpreter_validate.proofs.counted.Tie as tie
@@ -14,15 +14,15 @@ unread-requires c κs = search needs
 enum-told : tie.Need-enum-told
 enum-told c = search needs
 
-evaluated-requires : tie.Need-evaluated-requires
-evaluated-requires c κs =
+evaluated-type-requires : tie.Need-evaluated-type-requires
+evaluated-type-requires c κs =
     let at-start = c .before .before .before .before .before .before .before in
-    given (at-start .pre .1) (c .before .enum-told .given .1)
+    values-located (given (at-start .pre .1) (c .before .enum-told .given .1))
 
 returns : tie.Need-returns
 returns c = (
   refl,
-  λ n asked. stops _ _ _ _ _ asked _ (c .before .before .judged .given .1) (c .unread .ensures),
+  λ n asked. stops asked _ _ (c .before .before .judged .given .1) (c .unread .ensures),
 )
 
 same-length : tie.Need-same-length
@@ -30,13 +30,13 @@ same-length c = search needs
 
 returns-2 : tie.Need-returns-2
 returns-2 c =
-    let at-evaluated = c .before .before in
-    let at-enum-told = at-evaluated .before .before in (
-      at-evaluated .evaluated .ensures .0,
-      λ n asked. goes _ _ _ _ _ asked
-          (at-evaluated .evaluated .result)
-          (at-enum-told .enum-told .given .1)
-          (at-evaluated .evaluated .ensures .1),
+    let at-evaluated-type = c .before .before in
+    let at-enum-told = at-evaluated-type .before .before in (
+      at-evaluated-type .evaluated-type .ensures .0,
+      λ n asked. goes asked
+          (at-enum-told .enum-told .given .1) _
+          (at-evaluated-type .evaluated-type .result)
+          (values-answer _ _ _ _ (at-evaluated-type .evaluated-type .result) (at-evaluated-type .evaluated-type .ensures .1)),
     )
 
 pub counted-spec : {M : Type 1} → statement M
@@ -46,7 +46,7 @@ counted-spec =
     enum-known-judged
     unread-requires
     enum-told
-    evaluated-requires
+    evaluated-type-requires
     returns
     same-length
     returns-2)

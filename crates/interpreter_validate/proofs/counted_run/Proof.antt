@@ -1,6 +1,7 @@
--- `counted_run` meets its contract: a refusal ends it, else the type is evaluated.
+-- `counted_run` meets its contract: a refusal ends it, else the run is evaluated.
 use mathlib.Core.Path.{refl}
-use Rattle.interpreter_validate.proofs.Laws.{run-stops, run-goes, given-run}
+use mathlib.Core.List.{[]}
+use Rattle.interpreter_validate.proofs.Laws.{stops, goes, given}
 use borrow.Author.Needs.{needs}
 use Rattle.interpreter_validate.proofs.counted_run.Statement.{statement}
 use Rattle.interpreter_validate.proofs.counted_run.Tie as tie
@@ -17,12 +18,12 @@ enum-told c = search needs
 evaluated-run-requires : tie.Need-evaluated-run-requires
 evaluated-run-requires c κs =
     let at-start = c .before .before .before .before .before .before in
-    given-run (at-start .pre .1) (c .before .enum-told .given .1)
+    given (at-start .pre .1) (c .before .enum-told .given .1)
 
 returns : tie.Need-returns
 returns c = (
   refl,
-  λ n asked. run-stops _ _ _ asked _ (c .before .before .judged .given .1) (c .unread .ensures),
+  λ n asked. stops asked [] _ (c .before .before .judged .given .1) (c .unread .ensures),
 )
 
 same-length : tie.Need-same-length
@@ -33,9 +34,9 @@ returns-2 c =
     let at-evaluated-run = c .before .before in
     let at-enum-told = at-evaluated-run .before .before in (
       at-evaluated-run .evaluated-run .ensures .0,
-      λ n asked. run-goes _ _ _ asked
+      λ n asked. goes asked
+          (at-enum-told .enum-told .given .1) []
           (at-evaluated-run .evaluated-run .result)
-          (at-enum-told .enum-told .given .1)
           (at-evaluated-run .evaluated-run .ensures .1),
     )
 

@@ -1,10 +1,10 @@
--- `evaluated` meets its contract: the type is looked up, its root evaluated with all calls left, and its count held against the buffer
+-- `evaluated_type` meets its contract: the type is looked up, its root evaluated with all calls left, and its count held against the buffer
 -- length.
 use Rattle.interpreter_validate.proofs.Laws.{type-unknown, type-tree, root-ready, type-goes}
 use native.Mathlib.Omega.{arith}
 use borrow.Author.Needs.{needs}
-use Rattle.interpreter_validate.proofs.evaluated.Statement.{statement}
-use Rattle.interpreter_validate.proofs.evaluated.Tie as tie
+use Rattle.interpreter_validate.proofs.evaluated_type.Statement.{statement}
+use Rattle.interpreter_validate.proofs.evaluated_type.Tie as tie
 
 lookup-type-requires : tie.Need-lookup-type-requires
 lookup-type-requires c κs = search needs
@@ -36,11 +36,8 @@ eval-node-requires c κs =
     (at-root .root .ensures) _
     (at-start .pre)
 
-answered-requires : tie.Need-answered-requires
-answered-requires c κs = search needs
-
-fitting-requires : tie.Need-fitting-requires
-fitting-requires c κs = search needs
+outcome-requires : tie.Need-outcome-requires
+outcome-requires c κs = search needs
 
 returns : tie.Need-returns
 returns c = (
@@ -56,7 +53,7 @@ same-length c = search needs
 
 returns-2 : tie.Need-returns-2
 returns-2 c =
-    let at-eval-node = c .before .before .before .before .before in
+    let at-eval-node = c .before .before .before .before in
     let at-root = at-eval-node .before .before .before in
     let at-i = at-root .before .before in
     let at-lookup-type = at-i .before .before in (
@@ -65,15 +62,13 @@ returns-2 c =
           (at-lookup-type .lookup-type .ensures)
           (at-i .i .given .1)
           (at-root .root .ensures)
-          (c .before .answered .result)
-          (c .fitting .result)
+          (c .outcome .result)
           (at-eval-node .eval-node .ensures .1)
-          (c .before .answered .ensures)
-          (c .fitting .ensures),
+          (c .outcome .ensures),
     )
 
-pub evaluated-spec : {M : Type 1} → statement M
-evaluated-spec =
+pub evaluated-type-spec : {M : Type 1} → statement M
+evaluated-type-spec =
     tie.close
     (tie.spec
     lookup-type-requires
@@ -82,8 +77,7 @@ evaluated-spec =
     enum-known-i
     root-requires
     eval-node-requires
-    answered-requires
-    fitting-requires
+    outcome-requires
     returns
     same-length
     returns-2)
