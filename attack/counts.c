@@ -23,14 +23,33 @@ static size_t edges(void)
     return (size_t)(__stop___sancov_cntrs - __start___sancov_cntrs);
 }
 
-/* The counts go on from those of the process before, if it left any. */
-void attack_begin(void)
+static FILE *left_by(const char *variable)
 {
-    const char *path = getenv("ATTACK_COUNTS");
-    FILE *f = path == NULL ? NULL : fopen(path, "rb");
+    const char *path = getenv(variable);
+    return path == NULL ? NULL : fopen(path, "rb");
+}
+
+/* The edges that the process before met. */
+static void begin_edges(void)
+{
+    FILE *f = left_by("ATTACK_EDGES");
+    int met;
     seen = calloc(edges(), 1);
     if (seen == NULL)
         abort();
+    if (f == NULL)
+        return;
+    for (size_t i = 0; i < edges() && fscanf(f, "%*s 1 %d", &met) == 1; i++)
+        seen[i] = (uint8_t)met;
+    fclose(f);
+}
+
+/* The counts and edges go on from those of the process before, if it left any. */
+void attack_begin(void)
+{
+    const char *path = getenv("ATTACK_COUNTS");
+    FILE *f = left_by("ATTACK_COUNTS");
+    begin_edges();
     if (f == NULL)
         return;
     if (fread(&attack_counts, sizeof attack_counts, 1, f) != 1) {

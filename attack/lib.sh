@@ -78,9 +78,14 @@ link_fuzzer() {
 build_seeds() {
     "$clang" -std=c11 -O1 -Wall -Wextra -Wpedantic -Werror "$here/seeds.c" "$here/limits.c" "$here/damage.c" "$here/blocks.c" \
         "$here/input.c" -o "$work/seeds-of" || stop "seeds.c does not compile"
-    rm -rf "$work/seeds"
-    mkdir -p "$work/seeds" "$work/corpus"
-    seeds=$("$work/seeds-of" "$top/judge/vectors/answers.bin" "$top/examples/trip" "$work/seeds") || stop "there are no seeds"
+    rm -rf "$work/seeds" "$work/once" "$work/blocks"
+    mkdir -p "$work/seeds" "$work/once" "$work/blocks" "$work/corpus"
+    # The inputs that take long: small ones and ones with full registries are mutated, those of 65,000 bytes are tried once.
+    "$top/judge/run" slow "$work/blocks" || stop "the judge does not write the inputs that take long"
+    seeds=$("$work/seeds-of" "$work/seeds" "$top/judge/vectors/answers.bin" "$top/examples/trip" \
+        "$work/blocks"/small-* "$work/blocks"/one-*) || stop "there are no seeds"
+    "$work/seeds-of" --blocks "$work/once" "$work/blocks"/full-* "$work/blocks"/types-* "$work/blocks"/layout-* \
+        "$work/blocks"/long-* >"$work/once-count" || stop "there are no long seeds"
 }
 
 # Everything but the fuzzer itself. The Rust and the watched code take more stack than what is usual.

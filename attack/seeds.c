@@ -1,7 +1,8 @@
 /*
- * seeds ANSWERS EXAMPLE FOLDER: writes the inputs from which the fuzzer starts, one file each: the calls of the stored list (form:
- * judge/vectors/README.md), some of them damaged at every part, the example of document 01, and inputs at the limits. Of the stored
- * answers only the number is used, to tell good inputs from others; the driver answers anew.
+ * seeds FOLDER ANSWERS EXAMPLE BLOCK...: writes the inputs from which the fuzzer starts, one file each: the calls of the stored list
+ * (form: judge/vectors/README.md), some of them damaged at every part, the example of document 01, inputs at the limits, and the
+ * sets (*.set) and layouts (*.layout) that are named. Of the stored answers only the number is used, to tell good inputs from others;
+ * the driver answers anew. seeds --blocks FOLDER BLOCK...: the named ones alone.
  */
 #include "damage.h"
 #include "limits.h"
@@ -449,20 +450,52 @@ static void many_runs(void)
     }
 }
 
-int main(int argc, char **argv)
+static int ends_with(const char *text, const char *end)
 {
-    if (argc != 4) {
-        fprintf(stderr, "usage: seeds ANSWERS EXAMPLE FOLDER\n");
-        return 2;
-    }
-    folder = argv[3];
-    list(argv[1]);
-    blocks_of(read_file(argv[2]));
+    const size_t len = strlen(text), more = strlen(end);
+    return len >= more && strcmp(text + len - more, end) == 0;
+}
+
+/* A set is read and built; a layout is read, with words that are lent and by a call that has its own. */
+static void block(const char *path)
+{
+    const struct attack_bytes bytes = read_file(path);
+    const int layout = ends_with(path, ".layout");
+    static const uint8_t asked[] = "T00000";
+    limit_values(&values, 0);
+    struct attack_input in = {ATTACK_READ_SET, 0, 0, 0x5A, 0, 0, bytes, {asked, 6}, {values.at, values.len}};
+    if (!layout && !ends_with(path, ".set"))
+        stop(path, "neither .set nor .layout", 0);
+    in.what = layout ? ATTACK_READ_LAYOUT : ATTACK_READ_SET;
+    write_seed(&in);
+    in.what = layout ? ATTACK_LENGTH_OF : ATTACK_BUILD_SET;
+    write_seed(&in);
+    free((void *)bytes.at);
+}
+
+static void all(const char *answers, const char *example)
+{
+    list(answers);
+    blocks_of(read_file(example));
     limits();
     registries();
     long_names();
     operations();
     many_runs();
+}
+
+int main(int argc, char **argv)
+{
+    const int alone = argc > 1 && strcmp(argv[1], "--blocks") == 0;
+    if (argc < (alone ? 3 : 4)) {
+        fprintf(stderr, "usage: seeds FOLDER ANSWERS EXAMPLE BLOCK... | seeds --blocks FOLDER BLOCK...\n");
+        return 2;
+    }
+    folder = argv[alone ? 2 : 1];
+    if (!alone)
+        all(argv[2], argv[3]);
+    for (int i = alone ? 3 : 4; i < argc; i++)
+        block(argv[i]);
     printf("%lu\n", written);
     return 0;
 }

@@ -20,10 +20,12 @@
  *   and is asked by itself.
  * - The answer is four words, see enum ciztarmo_answer; ciztarmo_validate_runs gives four for each run.
  * - Reading, building and evaluating recurse over nested blocks, of which at most 32 are open in a set and 256 in a layout;
- *   evaluating also over calls of types, of which at most 16 are open. So the stack is bounded, but not small. Measured (stack.c) on
- *   hostile inputs: reading 124 KB, building 67 KB, and validating 1.25 MB, where a type of 254 nested nodes calls itself. On the
- *   type Trip of document 01 no call takes more than 12 KB. A thread that validates with sets or layouts from somebody whom it
- *   does not trust should have CIZTARMO_STACK_BYTES left. The proofs say nothing of the stack.
+ *   evaluating also over calls of types, of which at most 16 are open. So the stack is bounded, but not small. Measured by
+ *   `c/test --stack` on hostile inputs: reading 15,367 bytes for a set and 90,583 for a layout of 256 open blocks; building 105,919
+ *   with ciztarmo_layout_of and 101,839 with ciztarmo_build_set, where the first of 64 fields with padding calls a type of 64 owners
+ *   and 64 paths; validating 1,105,872, where a type of 254 nested nodes calls itself. On the type Trip of document 01
+ *   ciztarmo_layout_of takes 15,271, ciztarmo_build_set 11,191, and no other call more than 6,503. A thread that validates with sets
+ *   or layouts from somebody whom it does not trust should have CIZTARMO_STACK_BYTES left. The proofs say nothing of the stack.
  *
  * What the calls answer is proved (README.md, "What is proved"); what is said here of stack and NULL is measured and tested. The
  * archive is for x86-64, or for 64-bit Arm (`archive --target aarch64`; c/README.md says what that rests on).
@@ -60,7 +62,7 @@ extern "C" {
 /* The place that means: no type. */
 #define CIZTARMO_NO_PLACE 65535
 
-/* Bytes of stack that no call was seen to exceed on hostile inputs: any call, and the calls that read and build. */
+/* Bytes of stack that no call was seen to exceed on hostile inputs (c/test): any call, and the calls that read and build. */
 #define CIZTARMO_STACK_BYTES 2097152
 #define CIZTARMO_STACK_BYTES_READING 131072
 
@@ -128,6 +130,10 @@ void ciztarmo_read_run(uint64_t *words, size_t words_len, const uint8_t *run, si
  * then begins with the layout, and its bytes behind the layout stay as they were. If it refuses, all out_len bytes of out are zero.
  * Refuses with 19, 1 to 6, then 10 to 17 at a type, then 18 if the layout does not fit. An out of CIZTARMO_MAX_INPUT bytes holds
  * every layout that can be built; a smaller one will do where the layout fits.
+ *
+ * It always ends. Its time grows with what is built, also where that is refused with 18 in the end because it is too long: a set of
+ * 65,536 bytes can ask for 70 MB. Of the sets that were made to take long (judge/README.md, "Inputs that take long") the slowest
+ * took 4 s of the processor of docs/BENCH.md.
  */
 void ciztarmo_build_set(uint64_t *words, size_t words_len, const uint8_t *set, size_t set_len, uint8_t *out, size_t out_len,
                         uint64_t answer[4]);

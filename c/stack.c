@@ -1,9 +1,11 @@
 /*
- * Measures the stack that the calls take on hostile inputs: blocks nested as deep as the limits allow, and a type that calls itself
- * until 16 calls are open. A call runs in a thread whose stack was painted before; what is no longer painted was used.
+ * Measures the stack that the calls take: on hostile inputs (blocks nested as deep as the limits allow, a type that calls itself until
+ * 16 calls are open, as many fields with padding as a struct may have, and in front of them the field that takes most) and on the
+ * example of document 01. A call runs in a thread whose stack was painted before; what is no longer painted was used.
  *
- * Prints how many checks passed; with an argument, each measure too. A call that takes more than ciztarmo.h says, or an input that
- * does not reach as deep as it should, is told with file and line, and the status is 1.
+ * stack EXAMPLE: prints how many checks passed. stack EXAMPLE --tell: each measure too, and for each call the most that was found. A
+ * call that takes more than ciztarmo.h says, or an input that does not reach as deep as it should, is told with file and line, and the
+ * status is 1. `c/test --stack` compiles and tells.
  */
 #define _DEFAULT_SOURCE
 #include "ciztarmo.h"
@@ -16,6 +18,9 @@
 
 #define STACK (16u << 20)
 #define PAINT 0xA5
+
+/* What no call may exceed on the example; ciztarmo.h has the figure that was found. */
+#define EXAMPLE_BYTES 32768
 
 static int checks, failures, tell;
 
@@ -65,55 +70,125 @@ static void close_block(struct bytes *b, size_t at)
     b->len = end;
 }
 
-/* A node that holds another at depth `more`, and at last a call of its own type: 1 + more nodes. */
-static void put_nodes(struct bytes *b, int more)
+/* Types that add nothing but their number: a reader may keep more of many names than of a few. */
+#define OTHERS 7
+
+/* How the nodes of a layout are nested. */
+enum nesting { ALIGNED, ADDED_LEFT, ADDED_RIGHT, IN_DEFAULT, IN_CASE, NESTINGS };
+
+static size_t open_node(struct bytes *b, int kind)
 {
-    const size_t at = open_block(b, more > 0 ? 131 : 133);
+    const size_t at = open_block(b, kind);
     put(b, 1, 8);
     put(b, 0, 1);
-    if (more > 0) {
-        put(b, 2, 8); /* by 2: one by 0 or 1 is passed over */
-        put_nodes(b, more - 1);
-    } else {
-        put_name(b, "A");
-        put(b, 0, 2);
+    return at;
+}
+
+static void put_constant(struct bytes *b, uint64_t value)
+{
+    const size_t at = open_node(b, 129);
+    put(b, value, 8);
+    close_block(b, at);
+}
+
+/* A call of A, which hands on t so many times. */
+static void put_call(struct bytes *b, int arguments)
+{
+    const size_t at = open_node(b, 133);
+    put_name(b, "A");
+    put(b, (uint64_t)arguments, 2);
+    for (int i = 0; i < arguments; i++) {
+        const size_t argument = open_block(b, 164);
+        put_name(b, "t");
+        put_name(b, "t");
+        close_block(b, argument);
     }
     close_block(b, at);
 }
 
-/* A layout of the one type A; the layout, the type and so many nodes are open together. */
-static void make_layout(struct bytes *b, int nodes)
+static void put_nodes(struct bytes *b, enum nesting how, int more);
+
+/* The one case of a switch by t, or none and the default. */
+static void put_choice(struct bytes *b, enum nesting how, int more)
+{
+    put_name(b, "t");
+    put(b, how == IN_CASE, 2);
+    if (how == IN_CASE) {
+        const size_t at = open_block(b, 163);
+        put(b, 0, 8);
+        put_nodes(b, how, more);
+        put(b, 0, 2);
+        close_block(b, at);
+    }
+    put(b, how == IN_DEFAULT, 1);
+    if (how == IN_DEFAULT)
+        put_nodes(b, how, more);
+}
+
+/* A node that holds another, and at last a call of its own type: so many blocks more are open together. An argument is one too. */
+static void put_nodes(struct bytes *b, enum nesting how, int more)
+{
+    const int each = how == IN_CASE ? 2 : 1;
+    const int arguments = how == ALIGNED ? 0 : 512;
+    if (more < each + (arguments > 0)) {
+        put_call(b, arguments);
+        return;
+    }
+    const size_t at = open_node(b, how == ALIGNED ? 131 : how == ADDED_LEFT || how == ADDED_RIGHT ? 134 : 132);
+    if (how == ALIGNED)
+        put(b, 2, 8); /* by 2: one by 0 or 1 is passed over */
+    if (how == ADDED_RIGHT)
+        put_constant(b, 0);
+    if (how == IN_DEFAULT || how == IN_CASE)
+        put_choice(b, how, more - each);
+    else
+        put_nodes(b, how, more - each);
+    if (how == ADDED_LEFT)
+        put_constant(b, 0);
+    close_block(b, at);
+}
+
+/* A layout of A and the others; the layout, the type and so many blocks are open together. */
+static void make_layout(struct bytes *b, enum nesting how, int blocks)
 {
     b->len = 0;
     const size_t layout = open_block(b, 160);
-    put(b, 1, 2);
-    const size_t type = open_block(b, 161);
-    put_name(b, "A");
-    put(b, 1, 8);
-    put_nodes(b, nodes - 1);
-    put(b, 0, 2);
-    close_block(b, type);
+    put(b, 1 + OTHERS, 2);
+    for (char i = 0; i <= OTHERS; i++) {
+        const char type_name[] = {(char)('A' + i), 0};
+        const size_t type = open_block(b, 161);
+        put_name(b, type_name);
+        put(b, 1, 8);
+        if (i == 0)
+            put_nodes(b, how, blocks - 1);
+        else
+            put_constant(b, 1);
+        put(b, 0, 2);
+        close_block(b, type);
+    }
     close_block(b, layout);
 }
 
-/* Values, or a run of A with them: none. */
-static void make_values(struct bytes *b, int run)
+/* Values, or a run of A with them: t is 0. */
+static void make_values(struct bytes *b, int in_run)
 {
     b->len = 0;
-    const size_t at = run ? open_block(b, 193) : 0;
-    if (run) {
+    const size_t at = in_run ? open_block(b, 193) : 0;
+    if (in_run) {
         put_name(b, "A");
         put(b, 100, 8);
     }
-    const size_t values = open_block(b, 192);
-    put(b, 0, 2);
-    close_block(b, values);
-    if (run)
+    const size_t block = open_block(b, 192);
+    put(b, 1, 2);
+    put_name(b, "t");
+    put(b, 0, 8);
+    close_block(b, block);
+    if (in_run)
         close_block(b, at);
 }
 
-/* A type's head: variable size, or 1 byte; alignment 1; no references. */
-static size_t open_type(struct bytes *b, int kind, const char *name)
+/* A type's head: variable size, or 1 byte; alignment 1; so many owners, of which the last has so many paths. */
+static size_t open_owning(struct bytes *b, int kind, const char *name, int owners, int paths)
 {
     const size_t at = open_block(b, kind);
     put_name(b, name);
@@ -122,9 +197,25 @@ static size_t open_type(struct bytes *b, int kind, const char *name)
         put(b, 1, 8);
     put(b, 1, 8);
     const size_t references = open_block(b, 32);
-    put(b, 0, 2);
+    put(b, (uint64_t)owners, 2);
+    for (int i = 0; i < owners; i++) {
+        const char owner_name[] = {(char)('0' + i), 0};
+        const size_t owner = open_block(b, 37);
+        put_name(b, owner_name);
+        put(b, i + 1 < owners ? 0 : (uint64_t)paths, 2);
+        for (int k = 0; k < paths && i + 1 == owners; k++) {
+            const char path[] = {(char)('0' + k), 0};
+            put_name(b, path);
+        }
+        close_block(b, owner);
+    }
     close_block(b, references);
     return at;
+}
+
+static size_t open_type(struct bytes *b, int kind, const char *name)
+{
+    return open_owning(b, kind, name, 0, 0);
 }
 
 /* A sum that holds another sum, and at last a literal: 1 + sums expressions are open together. */
@@ -141,7 +232,9 @@ static void put_sums(struct bytes *b, int sums)
     close_block(b, at);
 }
 
-/* An array of arrays of bytes, of as many elements as the sum gives: 2 + arrays, or 2 + sums blocks are open together. */
+/* What the first field of a struct is, and so how deep a set is nested. */
+enum first { ARRAYS, SUMS, TAG, STRUCTS, REFERENCE, FIRSTS };
+
 static void put_arrays(struct bytes *b, int arrays, int sums)
 {
     const size_t at = open_type(b, arrays > 0 ? 5 : 1, "a");
@@ -153,29 +246,84 @@ static void put_arrays(struct bytes *b, int arrays, int sums)
     close_block(b, at);
 }
 
-/* A struct of 64 arrays, of which the first holds arrays or sums as deep as the set may be. */
-static void make_set(struct bytes *b, int arrays, int sums)
+/* A type in which so many blocks, an even number, are open together: structs, each the one field of the other. */
+static void put_structs(struct bytes *b, int blocks)
+{
+    const size_t at = open_type(b, blocks > 2 ? 2 : 1, "a");
+    if (blocks > 2) {
+        put(b, 1, 2);
+        const size_t field = open_block(b, 33);
+        put_name(b, "a");
+        put(b, 0, 1);
+        put_structs(b, blocks - 2);
+        close_block(b, field);
+    }
+    close_block(b, at);
+}
+
+/* The type of the first field; in it so many blocks are open together, if it is one that nests. */
+static void put_first(struct bytes *b, enum first first, int blocks)
+{
+    size_t at;
+    switch (first) {
+    case ARRAYS:
+        put_arrays(b, blocks - 2, 0);
+        return;
+    case SUMS:
+        put_arrays(b, 1, blocks - 2);
+        return;
+    case STRUCTS:
+        put_structs(b, blocks);
+        return;
+    case TAG:
+        at = open_type(b, 4, "a");
+        put_sums(b, blocks - 2);
+        put(b, 0, 2);
+        break;
+    default:
+        at = open_type(b, 7, "a");
+        put_name(b, "B");
+    }
+    close_block(b, at);
+}
+
+/*
+ * The struct A, of 64 fields that all have padding before them, then B with 64 owners, of which the last has 64 paths, and the others.
+ * The set, A, its first field and so many blocks are open together.
+ */
+static void make_set(struct bytes *b, enum first first, int blocks)
 {
     b->len = 0;
     const size_t set = open_block(b, 36);
-    put(b, 1, 2);
-    const size_t type = open_type(b, 2, "A");
+    put(b, 1 + OTHERS, 2);
+    const size_t type = open_owning(b, 2, "A", first == STRUCTS, first == STRUCTS);
     put(b, 64, 2);
-    for (int i = 0; i < 64; i++) {
+    for (uint64_t i = 0; i < 64; i++) {
         const size_t field = open_block(b, 33);
-        put_name(b, "f");
-        put(b, 0, 1);
-        put_arrays(b, i == 0 ? arrays : 1, i == 0 ? sums : 0);
+        put_name(b, "0");
+        put(b, 1, 1);
+        put(b, 3 * i + 1, 8);
+        if (i == 0)
+            put_first(b, first, blocks);
+        else
+            put_arrays(b, 0, 0);
         close_block(b, field);
     }
     close_block(b, type);
+    const size_t called = open_owning(b, 3, "B", 64, 64);
+    put(b, 0, 2);
+    close_block(b, called);
+    for (char i = 2; i <= OTHERS; i++) {
+        const char type_name[] = {(char)('A' + i), 0};
+        close_block(b, open_type(b, 1, type_name));
+    }
     close_block(b, set);
 }
 
 static uint64_t words[CIZTARMO_WORDS], answer[CIZTARMO_ANSWER_WORDS];
 static uint8_t out[CIZTARMO_MAX_INPUT];
 static struct bytes layout, set, values, run;
-static const uint8_t name[] = {'A'};
+static const char *name = "A";
 
 static void read_layout(void)
 {
@@ -194,7 +342,7 @@ static void build(void)
 
 static void validate(void)
 {
-    ciztarmo_validate(words, CIZTARMO_WORDS, layout.at, layout.len, name, 1, values.at, values.len, 100, answer);
+    ciztarmo_validate(words, CIZTARMO_WORDS, layout.at, layout.len, (const uint8_t *)name, strlen(name), values.at, values.len, 100, answer);
 }
 
 static void validate_run(void)
@@ -209,7 +357,7 @@ static void layout_of(void)
 
 static void length_of(void)
 {
-    ciztarmo_length_of(layout.at, layout.len, name, 1, values.at, values.len, 100, answer);
+    ciztarmo_length_of(layout.at, layout.len, (const uint8_t *)name, strlen(name), values.at, values.len, 100, answer);
 }
 
 static void length_of_run(void)
@@ -222,6 +370,25 @@ static void validate_runs(void)
     ciztarmo_validate_runs(words, CIZTARMO_WORDS, layout.at, layout.len, run.at, run.len, answer, CIZTARMO_ANSWER_WORDS);
 }
 
+/* The calls, and the most stack that each took: on hostile inputs, and on the example. */
+enum call { READ_SET, READ_LAYOUT, BUILD_SET, LAYOUT_OF, VALIDATE, VALIDATE_RUN, VALIDATE_RUNS, LENGTH_OF, LENGTH_OF_RUN, CALLS };
+
+static struct {
+    const char *name;
+    void (*call)(void);
+    size_t most[2];
+} calls[CALLS] = {{"read_set", read_set, {0, 0}},
+                  {"read_layout", read_layout, {0, 0}},
+                  {"build_set", build, {0, 0}},
+                  {"layout_of", layout_of, {0, 0}},
+                  {"validate", validate, {0, 0}},
+                  {"validate_run", validate_run, {0, 0}},
+                  {"validate_runs", validate_runs, {0, 0}},
+                  {"length_of", length_of, {0, 0}},
+                  {"length_of_run", length_of_run, {0, 0}}};
+
+static int on_example;
+
 /* Where the stack stood before the call. */
 static uintptr_t before;
 
@@ -233,8 +400,7 @@ static void *in_thread(void *call)
     return NULL;
 }
 
-/* The bytes of stack that a call takes. */
-static size_t measure(const char *what, void (*call)(void))
+static size_t painted_and_called(void (*call)(void))
 {
     pthread_attr_t attributes;
     pthread_t thread;
@@ -255,59 +421,118 @@ static size_t measure(const char *what, void (*call)(void))
     while (unused < STACK && stack[unused] == PAINT)
         unused++;
     const size_t used = (size_t)(before - (uintptr_t)(stack + unused));
-    if (tell)
-        printf("%s: %lu bytes, answer %llu\n", what, (unsigned long)used, (unsigned long long)answer[CIZTARMO_NUMBER]);
     munmap(stack, STACK);
     return used;
 }
 
-static void within_the_limits(void)
+/* The bytes of stack that a call takes. */
+static size_t measure(const char *what, enum call which)
 {
-    make_layout(&layout, 254);
-    CHECK(measure("read_layout, 256 blocks open", read_layout) <= CIZTARMO_STACK_BYTES_READING);
-    CHECK(answer[CIZTARMO_NUMBER] == CIZTARMO_ACCEPTED);
-    CHECK(measure("validate, 16 calls of 254 nodes", validate) <= CIZTARMO_STACK_BYTES);
-    CHECK(answer[CIZTARMO_NUMBER] == CIZTARMO_TOO_MANY_CALLS);
-    CHECK(measure("validate_run, 16 calls of 254 nodes", validate_run) <= CIZTARMO_STACK_BYTES);
-    CHECK(answer[CIZTARMO_NUMBER] == CIZTARMO_TOO_MANY_CALLS);
-    CHECK(measure("length_of, 16 calls of 254 nodes", length_of) <= CIZTARMO_STACK_BYTES);
-    CHECK(answer[CIZTARMO_NUMBER] == CIZTARMO_TOO_MANY_CALLS);
-    CHECK(measure("length_of_run, 16 calls of 254 nodes", length_of_run) <= CIZTARMO_STACK_BYTES);
-    CHECK(answer[CIZTARMO_NUMBER] == CIZTARMO_TOO_MANY_CALLS);
-    CHECK(measure("validate_runs, 16 calls of 254 nodes", validate_runs) <= CIZTARMO_STACK_BYTES);
-    CHECK(answer[CIZTARMO_NUMBER] == CIZTARMO_TOO_MANY_CALLS);
-    for (int sums = 0; sums < 2; sums++) {
-        make_set(&set, sums ? 1 : 27, sums ? 27 : 0);
-        CHECK(measure("read_set, 32 blocks open", read_set) <= CIZTARMO_STACK_BYTES_READING);
+    const size_t used = painted_and_called(calls[which].call);
+    if (used > calls[which].most[on_example])
+        calls[which].most[on_example] = used;
+    if (tell)
+        printf("%s, %s: %lu bytes, answer %llu\n", calls[which].name, what, (unsigned long)used,
+               (unsigned long long)answer[CIZTARMO_NUMBER]);
+    return used;
+}
+
+static void nested_layouts(void)
+{
+    static const char *const whats[NESTINGS] = {"AlignUp in each other", "sums, the left one nested", "sums, the right one nested",
+                                                "switches by their default", "switches by their case"};
+    for (int how = 0; how < NESTINGS; how++) {
+        make_layout(&layout, (enum nesting)how, 254);
+        CHECK(measure(whats[how], READ_LAYOUT) <= CIZTARMO_STACK_BYTES_READING);
         CHECK(answer[CIZTARMO_NUMBER] == CIZTARMO_ACCEPTED);
-        CHECK(measure("build_set, 32 blocks open", build) <= CIZTARMO_STACK_BYTES_READING);
-        CHECK(answer[CIZTARMO_NUMBER] == CIZTARMO_ACCEPTED);
-        CHECK(measure("layout_of, 32 blocks open", layout_of) <= CIZTARMO_STACK_BYTES_READING);
-        CHECK(answer[CIZTARMO_NUMBER] == CIZTARMO_ACCEPTED);
+        for (int which = VALIDATE; which < CALLS; which++) {
+            CHECK(measure(whats[how], (enum call)which) <= CIZTARMO_STACK_BYTES);
+            CHECK(answer[CIZTARMO_NUMBER] == CIZTARMO_TOO_MANY_CALLS);
+        }
+        /* Refused at its end: the last type says that it has a parameter. A reader may then read again, in another way. */
+        layout.at[layout.len - 2] = 1;
+        CHECK(measure(whats[how], READ_LAYOUT) <= CIZTARMO_STACK_BYTES_READING);
+        CHECK(answer[CIZTARMO_NUMBER] == CIZTARMO_BLOCK_DOES_NOT_FIT);
+        /* One block more is one too many, so nothing deeper can come. */
+        make_layout(&layout, (enum nesting)how, how == IN_CASE ? 256 : 255);
+        CHECK(measure(whats[how], READ_LAYOUT) <= CIZTARMO_STACK_BYTES_READING);
+        CHECK(answer[CIZTARMO_NUMBER] == CIZTARMO_ABOVE_LIMIT);
     }
 }
 
-/* One block more is one too many, so nothing deeper can come. */
-static void beyond_the_limits(void)
+static void nested_sets(void)
 {
-    make_layout(&layout, 255);
-    CHECK(measure("read_layout, 257 blocks open", read_layout) <= CIZTARMO_STACK_BYTES_READING);
-    CHECK(answer[CIZTARMO_NUMBER] == CIZTARMO_ABOVE_LIMIT);
-    for (int sums = 0; sums < 2; sums++) {
-        make_set(&set, sums ? 1 : 28, sums ? 28 : 0);
-        CHECK(measure("read_set, 33 blocks open", read_set) <= CIZTARMO_STACK_BYTES_READING);
-        CHECK(answer[CIZTARMO_NUMBER] == CIZTARMO_ABOVE_LIMIT);
+    static const char *const whats[FIRSTS] = {"64 padded fields, arrays in each other", "64 padded fields, sums in a size",
+                                              "64 padded fields, sums in a tag", "64 padded fields, structs in each other",
+                                              "64 padded fields, a call with 64 owners and 64 paths"};
+    for (int first = 0; first < FIRSTS; first++) {
+        const int odd = first != STRUCTS;
+        make_set(&set, (enum first)first, 28 + odd);
+        for (int which = READ_SET; which <= LAYOUT_OF; which++) {
+            if (which == READ_LAYOUT)
+                continue;
+            CHECK(measure(whats[first], (enum call)which) <= CIZTARMO_STACK_BYTES_READING);
+            CHECK(answer[CIZTARMO_NUMBER] == CIZTARMO_ACCEPTED);
+        }
+        make_set(&set, (enum first)first, 30);
+        CHECK(measure(whats[first], READ_SET) <= CIZTARMO_STACK_BYTES_READING);
+        CHECK(answer[CIZTARMO_NUMBER] == (first == REFERENCE ? CIZTARMO_ACCEPTED : CIZTARMO_ABOVE_LIMIT));
+    }
+}
+
+/* A block of the example, as long as its length says. */
+static void take_block(FILE *f, struct bytes *b)
+{
+    const size_t head = fread(b->at, 1, 4, f);
+    const size_t len = b->at[0] + 256u * b->at[1];
+    b->len = 4 + len;
+    if (head != 4 || b->len > sizeof b->at || fread(b->at + 4, 1, len, f) != len) {
+        fprintf(stderr, "the example is cut off\n");
+        exit(2);
+    }
+}
+
+/* The set and the first run of the example. The run has the type's name, a length of 8 bytes and the values. */
+static void example(const char *path)
+{
+    FILE *f = fopen(path, "rb");
+    if (f == NULL) {
+        perror(path);
+        exit(2);
+    }
+    take_block(f, &set);
+    take_block(f, &run);
+    fclose(f);
+    on_example = 1;
+    name = "Trip";
+    values.len = run.len - 20;
+    memcpy(values.at, run.at + 20, values.len);
+    for (int which = 0; which < CALLS; which++) {
+        if (which == READ_LAYOUT || which == VALIDATE) {
+            layout_of();
+            layout.len = (size_t)answer[CIZTARMO_VALUE];
+            memcpy(layout.at, out, layout.len);
+        }
+        CHECK(measure("the example", (enum call)which) <= EXAMPLE_BYTES);
+        CHECK(answer[CIZTARMO_NUMBER] == CIZTARMO_ACCEPTED);
     }
 }
 
 int main(int argc, char **argv)
 {
-    (void)argv;
-    tell = argc > 1;
+    tell = argc == 3 && strcmp(argv[2], "--tell") == 0;
+    if (argc != 2 + tell) {
+        fprintf(stderr, "usage: stack EXAMPLE [--tell]\n");
+        return 2;
+    }
     make_values(&values, 0);
     make_values(&run, 1);
-    within_the_limits();
-    beyond_the_limits();
+    nested_layouts();
+    nested_sets();
+    example(argv[1]);
+    for (int which = 0; which < CALLS && tell; which++)
+        printf("most: %s: %lu bytes, on the example %lu\n", calls[which].name, (unsigned long)calls[which].most[0],
+               (unsigned long)calls[which].most[1]);
     if (failures != 0)
         return 1;
     printf("%d\n", checks);

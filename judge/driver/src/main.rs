@@ -13,6 +13,7 @@ mod gen;
 mod prng;
 mod rules;
 mod rust;
+mod slow;
 mod stream;
 mod text;
 mod trip;
@@ -35,7 +36,10 @@ const USAGE: &str = "usage: judge/run COMMAND
                                    with --sets one build for each case and no runs
   against PROGRAM [--cases N] [--seed S]
                                    hold a program `lengths` against the rules
-  bench [--markdown]               time and speed, ours beside the Rust
+  bench [--markdown] [--only TEXT] time, ours beside the Rust: all tables, or those with TEXT
+                                   in their title
+  slow FOLDER                      write the bench's larger sets and layouts, and the inputs that
+                                   take long, a file each: NAME.set or NAME.layout
   trip                             M13: bytes and lines of the worked example
   antt [--cases N] [--seed S]      small cases as lines of text";
 
@@ -63,6 +67,16 @@ fn option(args: &[String], name: &str, default: u64) -> Result<u64, String> {
         .map_err(|_| format!("{name}: {text} is no number"))
 }
 
+/// `--name text` among the arguments.
+#[cfg(feature = "bench")]
+fn text_option<'a>(args: &'a [String], name: &str) -> Result<Option<&'a str>, String> {
+    let Some(at) = args.iter().position(|a| a == name) else {
+        return Ok(None);
+    };
+    let text = args.get(at + 1).ok_or(format!("{name} needs a text"))?;
+    Ok(Some(text))
+}
+
 fn run() -> Result<(), String> {
     let args: Vec<String> = std::env::args().skip(1).collect();
     let Some((command, rest)) = args.split_first() else {
@@ -84,7 +98,8 @@ fn run() -> Result<(), String> {
         "trip" => trip::trip(),
         "findings" => findings::show_all(),
         #[cfg(feature = "bench")]
-        "bench" => bench::bench(flag("--markdown")),
+        "bench" => bench::bench(flag("--markdown"), text_option(rest, "--only")?),
+        "slow" => slow_files(folder(rest)?),
         "antt" => text::antt(option(rest, "--cases", 1000)?, seed),
         _ => Err(format!("unknown command {command}\n{USAGE}")),
     }
@@ -102,7 +117,7 @@ fn known_options(command: &str, args: &[String]) -> Result<(), String> {
         "compare" | "against" | "antt" => &["--cases", "--seed"],
         "stream" => &["--cases", "--seed", "--sets"],
         "case" => &["--seed", "--index", "--sets"],
-        "bench" => &["--markdown"],
+        "bench" => &["--markdown", "--only"],
         _ => &[],
     };
     let unknown = |a: &&String| a.starts_with("--") && !known.contains(&a.as_str());
@@ -116,6 +131,33 @@ fn folder(args: &[String]) -> Result<&str, String> {
     args.first()
         .map(String::as_str)
         .ok_or("a folder is needed".to_string())
+}
+
+/// The inputs that take long at each scale, and the larger ones of the bench.
+fn slow_files(folder: &str) -> Result<(), String> {
+    let mut files = vec![
+        ("types-48.set".to_string(), write::set(&gen::grown::types())),
+        ("layout-48-kb.layout".to_string(), gen::grown::layout(48)),
+        ("long-names.layout".to_string(), gen::grown::long_names()),
+    ];
+    for (kind, scale) in [
+        ("full", slow::FULL),
+        ("one", slow::ONE),
+        ("small", slow::SMALL),
+    ] {
+        for slow in slow::all(scale) {
+            let ending = match slow.call {
+                slow::Call::ReadLayout => "layout",
+                _ => "set",
+            };
+            files.push((format!("{kind}-{}.{ending}", slow.name), slow.bytes));
+        }
+    }
+    for (name, bytes) in files {
+        let path = std::path::Path::new(folder).join(name);
+        std::fs::write(&path, bytes).map_err(|e| format!("{}: {e}", path.display()))?;
+    }
+    Ok(())
 }
 
 fn compare_command(cases: u64, seed: u64) -> Result<(), String> {

@@ -32,6 +32,16 @@ impl Types {
         Types { resolver, order }
     }
 
+    /// Types that were decoded already.
+    #[cfg(feature = "bench")]
+    pub fn decoded(types: Vec<ResolvedType>) -> Types {
+        let mut resolver = TypeResolver::new();
+        let order = types.iter().map(|t| t.name.clone()).collect();
+        let named = types.into_iter().map(|t| (t.name.clone(), t));
+        resolver.types.extend(named);
+        Types { resolver, order }
+    }
+
     pub fn build(&self, stop: usize) -> Result<Vec<TypeIr>, (u8, u16)> {
         let builder = IrBuilder::new(&self.resolver);
         let mut out = Vec::new();
@@ -161,7 +171,7 @@ fn owner(o: &Owner) -> (String, BTreeMap<String, PrimitiveType>) {
 }
 
 /// `build_type` asks for no primitive type.
-fn any_primitive() -> PrimitiveType {
+pub fn any_primitive() -> PrimitiveType {
     PrimitiveType::Integral(IntegralType::U64)
 }
 
@@ -224,7 +234,7 @@ fn sized_variant(v: &SizedVariant) -> ResolvedSizeDiscriminatedVariant {
     }
 }
 
-fn literal(code: u8, n: u64) -> LiteralExpr {
+pub fn literal(code: u8, n: u64) -> LiteralExpr {
     match code {
         0 => LiteralExpr::U64(n),
         1 => LiteralExpr::U32(n as u32),
@@ -252,7 +262,7 @@ fn expr(e: &Expr) -> ExprKind {
     }
 }
 
-fn one(kind: u16, operand: Box<ExprKind>) -> ExprKind {
+pub fn one(kind: u16, operand: Box<ExprKind>) -> ExprKind {
     match kind {
         79 => ExprKind::BitNot(BitNotExpr { operand }),
         80 => ExprKind::Neg(NegExpr { operand }),
@@ -261,7 +271,7 @@ fn one(kind: u16, operand: Box<ExprKind>) -> ExprKind {
     }
 }
 
-fn two(kind: u16, left: Box<ExprKind>, right: Box<ExprKind>) -> ExprKind {
+pub fn two(kind: u16, left: Box<ExprKind>, right: Box<ExprKind>) -> ExprKind {
     match kind {
         68 => ExprKind::Add(AddExpr { left, right }),
         69 => ExprKind::Sub(SubExpr { left, right }),

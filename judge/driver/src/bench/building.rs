@@ -3,10 +3,11 @@
 use super::measure::{medians, work};
 use super::ours::Words;
 use super::table::{Group, Parts, Row};
-use super::{accepted, inputs, ours, Head};
+use super::{accepted, ours, Head};
 use crate::data::*;
+use crate::gen::grown;
 use crate::rules::read;
-use crate::{rust, trip, write};
+use crate::{rust, slow, trip, write};
 use std::hint::black_box;
 
 /// A set with its bytes and the layout that the Rust builds.
@@ -21,7 +22,7 @@ pub struct Source {
 impl Source {
     fn new(what: String, size: Option<usize>, set: Set) -> Source {
         let bytes = write::set(&set);
-        let layout = inputs::layout_of(&set).expect("a measured set builds");
+        let layout = grown::layout_of(&set).expect("a measured set builds");
         Source {
             what: format!("{what}, {} bytes to {}", bytes.len(), layout.len()),
             size,
@@ -35,7 +36,7 @@ impl Source {
 /// The worked example, and generated types of 300 bytes or more, of which the
 /// first 6, 12, 24 and all 48 are taken.
 pub fn by_bytes() -> Vec<Source> {
-    let all = inputs::grown_set(18, 48, 300);
+    let all = grown::types();
     let mut out = vec![Source::new("Trip".to_string(), None, trip::set())];
     for n in [6, 12, 24, 48] {
         let set = all[..n].to_vec();
@@ -46,7 +47,7 @@ pub fn by_bytes() -> Vec<Source> {
 }
 
 pub fn by_parameters() -> Vec<Source> {
-    let source = |n| Source::new(format!("{n} parameters"), Some(n), inputs::called(n));
+    let source = |n| Source::new(format!("{n} parameters"), Some(n), slow::called(n, 64));
     [64, 128, 256, 512].map(source).into()
 }
 
@@ -59,7 +60,7 @@ pub fn building(words: &mut Words, head: Head, sets: &[Source]) -> Result<Group,
 }
 
 /// Decoding, `build_type` for each type and encoding.
-fn rust_builds(set: &[u8]) -> Option<Vec<u8>> {
+pub fn rust_builds(set: &[u8]) -> Option<Vec<u8>> {
     let types = read::set(set).ok()?;
     let trees = rust::build(&types, types.len()).ok()?;
     Some(write::layout(&trees))

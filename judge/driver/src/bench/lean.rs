@@ -9,7 +9,7 @@ use std::collections::{BTreeMap, HashSet};
 
 /// A block that is open: its bytes that are left, and how many blocks may
 /// still open in it.
-struct Cursor<'a> {
+pub struct Cursor<'a> {
     left: &'a [u8],
     room: usize,
 }
@@ -21,7 +21,7 @@ impl<'a> Cursor<'a> {
         Some(taken)
     }
 
-    fn number(&mut self) -> Option<u64> {
+    pub fn number(&mut self) -> Option<u64> {
         Some(u64::from_le_bytes(self.take(8)?.try_into().ok()?))
     }
 
@@ -30,26 +30,30 @@ impl<'a> Cursor<'a> {
         Some(usize::from(u16::from_le_bytes([b[0], b[1]])))
     }
 
-    fn count(&mut self, most: usize) -> Option<usize> {
+    pub fn count(&mut self, most: usize) -> Option<usize> {
         self.short().filter(|n| *n <= most)
     }
 
-    fn flag(&mut self) -> Option<bool> {
-        match self.take(1)?[0] {
+    pub fn byte(&mut self) -> Option<u8> {
+        Some(self.take(1)?[0])
+    }
+
+    pub fn flag(&mut self) -> Option<bool> {
+        match self.byte()? {
             0 => Some(false),
             1 => Some(true),
             _ => None,
         }
     }
 
-    fn text(&mut self) -> Option<&'a str> {
+    pub fn text(&mut self) -> Option<&'a str> {
         let n = self.short()?;
         let b = self.take(n)?;
         let good = n <= 255 && b.iter().all(|c| (0x20..=0x7E).contains(c));
         std::str::from_utf8(b).ok().filter(|_| good)
     }
 
-    fn maybe<T>(&mut self, there: impl FnOnce(&mut Self) -> Option<T>) -> Option<Option<T>> {
+    pub fn maybe<T>(&mut self, there: impl FnOnce(&mut Self) -> Option<T>) -> Option<Option<T>> {
         match self.flag()? {
             true => there(self).map(Some),
             false => Some(None),
@@ -57,7 +61,7 @@ impl<'a> Cursor<'a> {
     }
 
     /// A block of a kind between these; its parts are all that it has.
-    fn block<T>(
+    pub fn block<T>(
         &mut self,
         kinds: (u16, u16),
         parts: impl FnOnce(&mut Cursor<'a>, u16) -> Option<T>,
@@ -73,7 +77,7 @@ impl<'a> Cursor<'a> {
         body.left.is_empty().then_some(made)
     }
 
-    fn list<T>(
+    pub fn list<T>(
         &mut self,
         most: usize,
         mut each: impl FnMut(&mut Cursor<'a>) -> Option<T>,
@@ -87,7 +91,7 @@ impl<'a> Cursor<'a> {
     }
 }
 
-fn outermost<'a, T>(
+pub fn outermost<'a, T>(
     bytes: &'a [u8],
     kind: u16,
     room: usize,
@@ -256,10 +260,10 @@ fn check_type<'a>(c: &mut Cursor<'a>) -> Option<&'a str> {
     Some(name)
 }
 
-fn each<'a>(
+pub fn each<'a>(
     c: &mut Cursor<'a>,
     most: usize,
-    one: impl Fn(&mut Cursor<'a>) -> Option<()>,
+    mut one: impl FnMut(&mut Cursor<'a>) -> Option<()>,
 ) -> Option<()> {
     (0..c.count(most)?).try_for_each(|_| one(c))
 }

@@ -3,6 +3,9 @@
 use std::hint::black_box;
 
 const ROUNDS: usize = 15;
+/// Rounds where a call takes longer than `LONG` nanoseconds.
+const FEW_ROUNDS: usize = 3;
+const LONG: f64 = 200e6;
 /// Nanoseconds that a round has at least.
 const ROUND: f64 = 20e6;
 
@@ -21,7 +24,7 @@ extern "C" {
 const OF_THREAD: i32 = 3;
 
 /// The thread's own time, in nanoseconds.
-fn now() -> f64 {
+pub fn now() -> f64 {
     let mut time = Time {
         seconds: 0,
         nanoseconds: 0,
@@ -41,11 +44,15 @@ pub fn work<'a, A>(mut call: impl FnMut() -> A + 'a) -> Work<'a> {
 
 /// Nanoseconds of one call of each: the medians of rounds taken in turn.
 pub fn medians<const N: usize>(mut works: [Work; N]) -> [f64; N] {
-    let many: Vec<u32> = works.iter_mut().map(filling).collect();
+    let filled: Vec<(u32, f64)> = works.iter_mut().map(filling).collect();
+    let rounds = match filled.iter().any(|(_, ns)| *ns > LONG) {
+        true => FEW_ROUNDS,
+        false => ROUNDS,
+    };
     let mut times = vec![Vec::new(); N];
-    for _ in 0..ROUNDS {
+    for _ in 0..rounds {
         for i in 0..N {
-            times[i].push(round(&mut works[i], many[i]));
+            times[i].push(round(&mut works[i], filled[i].0));
         }
     }
     let mut out = [0.0; N];
@@ -55,13 +62,16 @@ pub fn medians<const N: usize>(mut works: [Work; N]) -> [f64; N] {
     out
 }
 
-/// How many calls fill a round.
-fn filling(work: &mut Work) -> u32 {
+/// How many calls fill a round, and the nanoseconds of one.
+fn filling(work: &mut Work) -> (u32, f64) {
     let mut many = 1;
-    while round(work, many) * f64::from(many) < ROUND {
+    loop {
+        let ns = round(work, many);
+        if ns * f64::from(many) >= ROUND {
+            return (many, ns);
+        }
         many *= 2;
     }
-    many
 }
 
 fn round(work: &mut Work, many: u32) -> f64 {

@@ -4,6 +4,8 @@
 mod building;
 mod inputs;
 mod lean;
+mod lean_sets;
+mod long;
 mod measure;
 mod ours;
 mod table;
@@ -11,6 +13,7 @@ mod validating;
 mod words;
 
 use crate::data::*;
+use crate::gen::grown;
 use crate::rules::read;
 use building::{build_parts, building, by_bytes, by_parameters};
 use measure::{medians, work};
@@ -24,31 +27,87 @@ fn accepted(value: u64) -> ours::Answer {
     [0, u64::from(NO_PLACE), 0, value]
 }
 
-pub fn bench(markdown: bool) -> Result<(), String> {
+/// All tables, or those whose title contains a text; aims and parts are told
+/// only with all of them.
+pub fn bench(markdown: bool, only: Option<&str>) -> Result<(), String> {
     let lent = &mut vec![0; WORDS as usize];
+    let Some(only) = only else {
+        let (groups, parts) = (tables(lent, "")?, all_parts(lent)?);
+        let aims = aims(&groups, &parts);
+        table::print(&groups, &parts, &aims, markdown);
+        return Ok(());
+    };
+    let groups = tables(lent, only)?;
+    if groups.is_empty() {
+        return Err(format!("no table has {only} in its title: {}", titles()));
+    }
+    table::print(&groups, &[], &[], markdown);
+    Ok(())
+}
+
+/// The tables whose title contains a text, in order.
+fn tables(lent: &mut [u64], text: &str) -> Result<Vec<Group>, String> {
+    let mut groups = Vec::new();
+    for (place, head) in heads().into_iter().enumerate() {
+        if head.0.contains(text) {
+            groups.push(table_at(lent, place, head)?);
+        }
+    }
+    Ok(groups)
+}
+
+fn heads() -> Vec<Head> {
+    let rest = [
+        RUNS,
+        RUNS_CALLS,
+        WORDS_ALONE,
+        LONG_BUILDS,
+        LONG_SETS,
+        LONG_LAYOUTS,
+    ];
+    [&[READ], &OWN[..], &LENT[..], &rest[..]].concat()
+}
+
+fn titles() -> String {
+    let titles: Vec<&str> = heads().iter().map(|head| head.0).collect();
+    titles.join("; ")
+}
+
+/// The table at a place among the heads.
+fn table_at(lent: &mut [u64], place: usize, head: Head) -> Result<Group, String> {
+    let (trip, nested) = (inputs::trip, || inputs::nested(15));
+    match place {
+        0 => reading(lent),
+        1..=5 => table_of(&mut Words::Own, place - 1, head),
+        6..=10 => table_of(&mut Words::Lent(lent), place - 6, head),
+        11 => validating_runs(lent, head, &[1, 16, 256, 1024], &trip()),
+        12 => validating_runs(lent, head, &[1, 16, 256], &nested()),
+        13 => looking(lent, head, &trip()),
+        14 => long::building(head),
+        15 => long::reading_sets(lent, head),
+        _ => long::reading_layouts(lent, head),
+    }
+}
+
+/// One of the five tables that both ways to have working words have.
+fn table_of(words: &mut Words, place: usize, head: Head) -> Result<Group, String> {
+    match place {
+        0 => building(words, head, &by_bytes()),
+        1 => building(words, head, &by_parameters()),
+        2 => validating(words, head, [1, 16, 128, 512], inputs::with_values),
+        3 => validating(words, head, [1, 4, 8, 15], inputs::nested),
+        _ => validating(words, head, [1, 16, 64, 256], inputs::among),
+    }
+}
+
+fn all_parts(lent: &mut [u64]) -> Result<Vec<Parts>, String> {
     let sets = by_bytes();
     let (trip, nested) = (inputs::trip(), inputs::nested(15));
-    let mut groups = vec![reading(lent)?];
     let mut parts = Vec::new();
     for own in [true, false] {
-        let (words, heads) = match own {
-            true => (&mut Words::Own, OWN),
-            false => (&mut Words::Lent(lent), LENT),
-        };
-        let [build, parameters, values, calls, types] = heads;
-        groups.push(building(words, build, &sets)?);
-        groups.push(building(words, parameters, &by_parameters())?);
-        groups.push(validating(
-            words,
-            values,
-            [1, 16, 128, 512],
-            inputs::with_values,
-        )?);
-        groups.push(validating(words, calls, [1, 4, 8, 15], inputs::nested)?);
-        groups.push(validating(words, types, [1, 16, 64, 256], inputs::among)?);
-        let (build, count) = match own {
-            true => ("layout_of", "length_of"),
-            false => ("build_set", "validate"),
+        let (words, build, count) = match own {
+            true => (&mut Words::Own, "layout_of", "length_of"),
+            false => (&mut Words::Lent(lent), "build_set", "validate"),
         };
         parts.push(build_parts(words, build, &sets[0])?);
         parts.push(build_parts(words, build, &sets[4])?);
@@ -59,12 +118,7 @@ pub fn bench(markdown: bool) -> Result<(), String> {
             &nested,
         )?);
     }
-    groups.push(validating_runs(lent, RUNS, &[1, 16, 256, 1024], &trip)?);
-    groups.push(validating_runs(lent, RUNS_CALLS, &[1, 16, 256], &nested)?);
-    groups.push(looking(lent, WORDS_ALONE, &trip)?);
-    let aims = aims(&groups, &parts);
-    table::print(&groups, &parts, &aims, markdown);
-    Ok(())
+    Ok(parts)
 }
 
 /// A group's title, and what its rows differ in.
@@ -89,6 +143,9 @@ const LENT: [Head; 5] = [
 const RUNS: Head = ("validate_runs, the worked example, times per run", "run");
 const WORDS_ALONE: Head = ("the working words alone, beside the worked example", "word");
 const RUNS_CALLS: Head = ("validate_runs, 15 calls, times per run", "run");
+const LONG_BUILDS: Head = ("layout_of, inputs that take long", "byte");
+const LONG_SETS: Head = ("read a set, inputs that take long", "byte");
+const LONG_LAYOUTS: Head = ("read a layout, inputs that take long", "byte");
 
 /// What is aimed at, beside what was measured.
 fn aims(groups: &[Group], parts: &[Parts]) -> Vec<Aim> {
@@ -160,12 +217,12 @@ fn aims(groups: &[Group], parts: &[Parts]) -> Vec<Aim> {
 }
 
 fn reading(words: &mut [u64]) -> Result<Group, String> {
-    let sizes = [6, 12, 24, 48].map(|k| inputs::grown(1, k * 1024, false));
+    let sizes = [6, 12, 24, 48].map(grown::layout);
     let mut rows = Vec::new();
     for layout in sizes {
         rows.push(reading_row(words, "", &layout)?);
     }
-    let long = inputs::grown(2, 60 * 1024, true);
+    let long = grown::long_names();
     rows.push(Row {
         size: None,
         ..reading_row(words, ", long names", &long)?

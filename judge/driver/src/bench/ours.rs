@@ -12,6 +12,13 @@ pub enum Words<'a> {
 }
 
 extern "C" {
+    fn ciztarmo_read_set(
+        words: *mut u64,
+        words_len: usize,
+        set: *const u8,
+        set_len: usize,
+        answer: *mut Answer,
+    );
     fn ciztarmo_read_layout(
         words: *mut u64,
         words_len: usize,
@@ -69,9 +76,24 @@ extern "C" {
     ) -> usize;
 }
 
-pub fn read_layout(words: &mut [u64], layout: &[u8]) -> Answer {
+pub fn read_set(words: &mut [u64], set: &[u8]) -> Answer {
     let mut answer = [0; 4];
     // SAFETY: each address and length is a slice's, and none overlaps another.
+    unsafe {
+        ciztarmo_read_set(
+            words.as_mut_ptr(),
+            words.len(),
+            set.as_ptr(),
+            set.len(),
+            &mut answer,
+        );
+    }
+    answer
+}
+
+pub fn read_layout(words: &mut [u64], layout: &[u8]) -> Answer {
+    let mut answer = [0; 4];
+    // SAFETY: as above.
     unsafe {
         ciztarmo_read_layout(
             words.as_mut_ptr(),

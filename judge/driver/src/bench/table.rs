@@ -187,7 +187,10 @@ fn aim_lines(aims: &[Aim]) -> Vec<Vec<String>> {
 }
 
 pub fn print(groups: &[Group], parts: &[Parts], aims: &[Aim], markdown: bool) {
-    let last = [parts_lines(parts), aim_lines(aims)];
+    let last = match aims {
+        [] => Vec::new(),
+        _ => vec![parts_lines(parts), aim_lines(aims)],
+    };
     let tables = groups.iter().map(group_lines).chain(last);
     let texts: Vec<String> = match markdown {
         true => tables.map(|t| as_markdown(&t)).collect(),

@@ -1,6 +1,7 @@
 //! Cases, each made from a seed and an index alone.
 
 pub mod damage;
+pub mod grown;
 pub mod layouts;
 pub mod limits;
 pub mod names;

@@ -1,0 +1,439 @@
+//! Inputs of at most 65,536 bytes on which a reader or a builder takes long
+//! for their bytes if it compares names one by one: many entries under a long
+//! owner, found again and again; names that are alike, or that were made to
+//! share a place in a table. One list for the bench, for the seeds of the
+//! attack, and for the test of time in rust/ciztarmo, which compiles this file
+//! too and therefore needs no more than `data` and `write`.
+
+use crate::data::*;
+use crate::write;
+
+/// What an input is put to.
+#[derive(Debug, Clone, Copy, PartialEq, Eq)]
+pub enum Call {
+    ReadSet,
+    ReadLayout,
+    Build,
+}
+
+pub struct Slow {
+    pub name: &'static str,
+    pub call: Call,
+    pub bytes: Vec<u8>,
+    /// The answer's number, 0 if it is accepted, at the full scale.
+    pub number: u8,
+}
+
+/// How large the inputs are: paths of a type that is called, types whose names
+/// are alike, and structs that call; with `fills` the set has as many bytes as
+/// it may.
+#[derive(Clone, Copy)]
+pub struct Scale {
+    pub paths: usize,
+    pub names: usize,
+    pub structs: usize,
+    pub fills: bool,
+}
+
+pub const FULL: Scale = Scale {
+    paths: 64,
+    names: 256,
+    structs: 200,
+    fills: true,
+};
+/// Full registries, one struct each.
+pub const ONE: Scale = Scale {
+    names: 32,
+    structs: 1,
+    fills: false,
+    ..FULL
+};
+/// Inputs of some 4,000 bytes at most.
+pub const SMALL: Scale = Scale {
+    paths: 3,
+    names: 8,
+    ..ONE
+};
+
+pub fn all(scale: Scale) -> Vec<Slow> {
+    let mut out = scale.building();
+    out.extend(scale.reading());
+    out
+}
+
+/// Bytes of a set that is filled.
+const MOST: usize = 65_030;
+
+impl Scale {
+    fn building(self) -> Vec<Slow> {
+        let set = |name, number, set: Set| Slow {
+            name,
+            call: Call::Build,
+            bytes: write::set(&set),
+            number,
+        };
+        vec![
+            set("calls", 18, self.calls()),
+            set("references", 0, self.references()),
+            set("parameters-64", 0, called(64, self.paths)),
+            set("parameters-512", 0, called(512, self.paths)),
+            set("parameters-collide", 0, self.colliding_parameters()),
+            set("parameters-collide-calls", 18, self.colliding_calls()),
+            set("paths-alike", 18, self.paths_alike()),
+            set("paths-of-one-place", 18, self.paths_of_one_place()),
+            set("one-name-split", 18, self.one_name_split()),
+            set("cases", 18, self.cases()),
+            set("targets", 0, self.targets()),
+        ]
+    }
+
+    fn reading(self) -> Vec<Slow> {
+        let set = |name, set: Set| Slow {
+            name,
+            call: Call::ReadSet,
+            bytes: write::set(&set),
+            number: 0,
+        };
+        let layout = |name, number, bytes| Slow {
+            name,
+            call: Call::ReadLayout,
+            bytes,
+            number,
+        };
+        let alike = write::layout(&trees(self.alike(8)));
+        let placed = write::layout(&trees(self.of_one_place()));
+        vec![
+            set("types-differ-at-start", constants(self.alike(0))),
+            set("types-differ-in-middle", constants(self.alike(NAME / 2))),
+            set("types-differ-at-end", constants(self.alike(NAME - 3))),
+            set("types-of-one-place", constants(self.of_one_place())),
+            layout("trees-collide", 0, alike.clone()),
+            layout("trees-collide-refused", 2, last_damaged(alike)),
+            layout("trees-of-one-place-refused", 2, last_damaged(placed)),
+        ]
+    }
+}
+
+// Types.
+
+pub fn constant(name: &str, size: u64) -> Type {
+    Type {
+        name: name.to_string(),
+        size: Some(size),
+        align: 1,
+        refs: Vec::new(),
+        kind: Kind::Primitive,
+    }
+}
+
+pub fn variable(name: &str, kind: Kind) -> Type {
+    Type {
+        size: None,
+        kind,
+        ..constant(name, 0)
+    }
+}
+
+pub fn field(name: &str, offset: Option<u64>, ty: Type) -> Field {
+    Field {
+        name: name.to_string(),
+        offset,
+        ty,
+    }
+}
+
+/// A type of this name that builds, whatever its references are.
+fn no_variants(name: &str) -> Type {
+    variable(name, Kind::Union(Vec::new()))
+}
+
+/// The type with references to paths of one owner.
+fn with_paths(mut ty: Type, owner: &str, paths: Vec<String>) -> Type {
+    let name = owner.to_string();
+    ty.refs.push(Owner { name, paths });
+    ty
+}
+
+/// A field of the shortest names that calls a type.
+fn call(target: &str) -> Field {
+    let kind = Kind::Reference(target.to_string());
+    field("", None, variable("", kind))
+}
+
+/// So many calls: of each of the types "0" to "7", then of the last.
+fn calls_of_all(many: usize) -> Vec<Field> {
+    (0..many).map(|i| call(&i.min(7).to_string())).collect()
+}
+
+/// Types of 64 paths each, and a struct that calls them all and so has this
+/// many parameters, a multiple of 64; or fewer paths in each.
+pub fn called(parameters: usize, paths: usize) -> Set {
+    let mut set = Set::new();
+    let mut fields = Vec::new();
+    for first in (0..parameters).step_by(64) {
+        let name = format!("R{}", set.len());
+        let paths = (first..first + paths).map(|i| format!("v{i:03}"));
+        let kind = Kind::Reference(name.clone());
+        fields.push(field("f", None, variable("f", kind)));
+        set.push(with_paths(no_variants(&name), &name, paths.collect()));
+    }
+    set.push(variable("All", Kind::Struct(fields)));
+    set
+}
+
+impl Scale {
+    /// The first paths of the eight groups of 64.
+    fn group(self, k: usize, path: impl Fn(usize) -> String) -> Vec<String> {
+        (64 * k..64 * k + self.paths).map(path).collect()
+    }
+
+    /// The types "0" to "7" with 64 paths each under one owner.
+    fn callees(self, owner: &str, path: impl Fn(usize) -> String) -> Set {
+        let callee = |k: usize| {
+            let paths = self.group(k, &path);
+            with_paths(no_variants(&k.to_string()), owner, paths)
+        };
+        (0..8).map(callee).collect()
+    }
+
+    /// The set with structs of these fields, as many as there is room for,
+    /// and behind them constants whose names fill it up.
+    fn with_structs(self, mut set: Set, fields: impl Fn() -> Vec<Field>) -> Set {
+        for _ in 0..self.structs {
+            let name = set.len().to_string();
+            set.push(variable(&name, Kind::Struct(fields())));
+            if write::set(&set).len() > MOST {
+                set.pop();
+                break;
+            }
+        }
+        while self.fills {
+            // A constant has 33 bytes and its name.
+            let missing = MOST - write::set(&set).len();
+            if missing < 33 + 3 {
+                break;
+            }
+            let long = match missing - 33 {
+                all @ ..=255 => all,
+                more => 255.min(more - (33 + 3)),
+            };
+            set.push(constant(&format!("{:x>long$}", set.len()), 1));
+        }
+        set
+    }
+}
+
+// Entries that are found again and again.
+
+impl Scale {
+    /// 512 paths under one owner of 251 bytes, and structs that call the types
+    /// which refer to them 64 times. Too much for a layout.
+    fn calls(self) -> Set {
+        let set = self.callees(&"o".repeat(251), |i| format!("{i:03}"));
+        self.with_structs(set, || calls_of_all(64))
+    }
+
+    /// Structs of 64 constant fields, each with references: the first eight
+    /// enter 512 paths, the others name the last of these again. Three times
+    /// 512 parameters of 24 bytes are as many as a layout holds.
+    fn references(self) -> Set {
+        let owner = "o".repeat(21);
+        let letter = |i: usize| char::from(b'A' + i as u8);
+        let path = |i: usize| String::from_iter([letter(i / 32), letter(i % 32)]);
+        let each = |i: usize| {
+            let paths = self.group(i.min(7), path);
+            field("", None, with_paths(constant("", 0), &owner, paths))
+        };
+        self.with_structs(Set::new(), || (0..64).map(each).collect())
+    }
+
+    /// 448 entries under an owner, and enums of which each case asks for those
+    /// of its variant, whose name ends like the owner's. Too much for a layout.
+    fn cases(self) -> Set {
+        let name = |first: &str| first.to_string() + &"o".repeat(99);
+        let variant = |i: usize| Variant {
+            name: name("v"),
+            tag: i as u64,
+            ty: constant("", 1),
+        };
+        let variants: Vec<Variant> = (0..self.paths).map(variant).collect();
+        let fields = || {
+            let tag = Expr::Literal(0, 1);
+            let choice = variable("", Kind::Enum(tag, variants.clone()));
+            let mut fields = calls_of_all(7);
+            fields.push(field("", None, choice));
+            fields
+        };
+        let set = self.callees(&name("o"), |i| format!("{i:03}"));
+        self.with_structs(set, fields)
+    }
+
+    /// References to the last of types whose names end alike.
+    fn targets(self) -> Set {
+        let types = self.names / 2;
+        let name = |i: usize| format!("{i:03}") + &"t".repeat(117);
+        let set: Set = (0..types).map(|i| constant(&name(i), 1)).collect();
+        let calls = || (0..self.paths).map(|_| call(&name(types - 1))).collect();
+        let few = Scale {
+            structs: self.structs.min(3),
+            fills: false,
+            ..self
+        };
+        few.with_structs(set, calls)
+    }
+}
+
+// Names that are alike.
+
+/// 256 constants with names of this length fill a set, and as many types
+/// without bytes a layout.
+const NAME: usize = 222;
+
+impl Scale {
+    /// Names of one length that differ in three digits, from `at` on. At 8
+    /// their first, middle and last eight bytes are alike.
+    fn alike(self, at: usize) -> Vec<String> {
+        let behind = NAME - 3 - at;
+        let name = |i| "n".repeat(at) + &format!("{i:03}") + &"n".repeat(behind);
+        (0..self.names).map(name).collect()
+    }
+
+    /// Paths that begin and end alike, with an alias each, under an owner that
+    /// has made names too; they are found by their aliases and made names. Too
+    /// much for a layout.
+    fn paths_alike(self) -> Set {
+        let owner = "Owner::".to_string() + &"o".repeat(33);
+        let alias = |i: usize| format!("{i:03}") + &"z".repeat(38);
+        let mut set = self.callees(&owner, |i| "a".repeat(20) + "::" + &alias(i));
+        // The aliases of the type before it, less two, and the made names.
+        let mut paths = self.group(6, alias);
+        paths.drain(..2);
+        paths.extend(["__computed_tag", "__payload_size"].map(String::from));
+        set[7].refs[0].paths = paths;
+        let fields = || {
+            let mut fields = made_names(&owner);
+            fields.extend(calls_of_all(62));
+            fields
+        };
+        self.with_structs(set, fields)
+    }
+}
+
+/// Two fields for which the builder makes parameters under this owner: an enum
+/// with a computed tag, and a size-discriminated union.
+fn made_names(owner: &str) -> Vec<Field> {
+    let one = || Box::new(Expr::Literal(0, 1));
+    let tag = Expr::Two(68, one(), one());
+    let sized = SizedVariant {
+        name: String::new(),
+        size: 1,
+        ty: constant("", 1),
+    };
+    [Kind::Enum(tag, Vec::new()), Kind::Sized(vec![sized])]
+        .map(|kind| field("", None, variable(owner, kind)))
+        .into()
+}
+
+fn constants(names: Vec<String>) -> Set {
+    names.iter().map(|name| constant(name, 1)).collect()
+}
+
+fn trees(names: Vec<String>) -> Layout {
+    let tree = |name| Tree {
+        name,
+        align: 1,
+        root: Node::new(1, Body::Zero),
+        params: Vec::new(),
+    };
+    names.into_iter().map(tree).collect()
+}
+
+/// The layout whose last type, without parameters, says that it has one.
+fn last_damaged(mut layout: Vec<u8>) -> Vec<u8> {
+    let count = layout.len() - 2;
+    layout[count] = 1;
+    layout
+}
+
+// Names that share a place in a table.
+
+/// One of 512 names of 18 bytes that ascend. All have the same sum, also
+/// modulo a power of two, if a byte counts 31 times the one before it, because
+/// 31 * 'A' + 'a' = 31 * 'B' + 'B'.
+fn colliding(i: usize) -> String {
+    let two = |bit: usize| ["BB", "aA"][i >> bit & 1];
+    (0..9).rev().map(two).collect()
+}
+
+/// The mark of a name behind bytes with a mark, as crates/marks has it.
+fn mark(h: u64, name: &str) -> u64 {
+    let step = |h: u64, b: u8| {
+        let b = u64::from(b);
+        h % (1 << 32) * (2_654_435_769 + b) + h / (1 << 32) + b
+    };
+    name.bytes().fold(h, step)
+}
+
+/// Whether a name stands at the first place of that table.
+fn at_first_place(h: u64, name: &str) -> bool {
+    mark(h, name) % 127 == 0
+}
+
+impl Scale {
+    /// One type whose 512 parameters share a place, and have long ends alike.
+    fn colliding_parameters(self) -> Set {
+        let path = |i| colliding(i) + &"p".repeat(90);
+        let each = |k: usize| {
+            let paths = self.group(k, path);
+            field("", None, with_paths(constant("", 1), "o", paths))
+        };
+        vec![variable("", Kind::Struct((0..8).map(each).collect()))]
+    }
+
+    /// As many types as there is room for that have 512 such parameters, with
+    /// names of 255 bytes. Too much for a layout.
+    fn colliding_calls(self) -> Set {
+        let set = self.callees(&"o".repeat(236), colliding);
+        self.with_structs(set, || calls_of_all(8))
+    }
+
+    /// Names of one length whose marks share a place.
+    fn of_one_place(self) -> Vec<String> {
+        let name = |i: usize| format!("{i:06}") + &"n".repeat(NAME - 6);
+        let good = (0..).map(name).filter(|name| at_first_place(0, name));
+        good.take(self.names).collect()
+    }
+
+    /// Paths under one owner of which each and its alias share a place, called
+    /// as in `calls`.
+    fn paths_of_one_place(self) -> Set {
+        let owner = "o".repeat(240);
+        let h = mark(0, &owner);
+        let whole = |alias: String| {
+            let path = |i: usize| format!("{i:04}::{alias}");
+            (0..).map(path).find(|path| at_first_place(h, path))
+        };
+        let aliases = (0..).map(|i: usize| format!("{i:05}"));
+        let good = aliases.filter(|alias| at_first_place(h, alias));
+        let mut paths: Vec<String> = good.filter_map(whole).take(512).collect();
+        paths.sort();
+        let set = self.callees(&owner, |i| paths[i].clone());
+        self.with_structs(set, || calls_of_all(64))
+    }
+
+    /// One text, split at each place into an owner and a path: the mark of
+    /// both together is one. Structs call the type that refers to them. Too
+    /// much for a layout.
+    fn one_name_split(self) -> Set {
+        let text = |from: usize, to: usize| -> String {
+            let letter = |i: usize| char::from(b'a' + (i % 26) as u8);
+            (from..to).map(letter).collect()
+        };
+        let mut ty = no_variants("0");
+        for i in 1..=self.paths {
+            ty = with_paths(ty, &text(0, i), vec![text(i, 65)]);
+        }
+        let calls = || (0..64).map(|_| call("0")).collect();
+        self.with_structs(vec![ty], calls)
+    }
+}

@@ -1,0 +1,98 @@
+//! No input takes long. The inputs are those of judge/driver/src/slow.rs: sets and layouts of
+//! 65,000 bytes from somebody who knows where names are compared. Before entries and names were
+//! found by marks, one of them took 5 seconds.
+
+#[allow(dead_code)]
+#[path = "../../../judge/driver/src/data.rs"]
+mod data;
+#[allow(dead_code)]
+#[path = "../../../judge/driver/src/bench/measure.rs"]
+mod measure;
+#[allow(dead_code)]
+#[path = "../../../judge/driver/src/slow.rs"]
+mod slow;
+#[allow(dead_code)]
+#[path = "../../../judge/driver/src/write.rs"]
+mod write;
+
+use ciztarmo::{Refusal, Work, LIMIT};
+use slow::{Call, Slow};
+
+/// Milliseconds of processor time that a call may take on each input. Where it is aimed at a fifth
+/// of the Rust's time from bytes (`judge/run bench --only "take long"`), ten times that.
+const MOST: [(&str, f64); 18] = [
+    ("calls", 450.0),
+    ("references", 14.0),
+    ("parameters-64", 0.33),
+    ("parameters-512", 2.8),
+    ("parameters-collide", 1.5),
+    ("parameters-collide-calls", 660.0),
+    ("paths-alike", 140.0),
+    ("paths-of-one-place", 470.0),
+    ("one-name-split", 190.0),
+    ("cases", 14.0),
+    ("targets", 5.0),
+    ("types-differ-at-start", 1.0),
+    ("types-differ-in-middle", 1.0),
+    ("types-differ-at-end", 1.0),
+    ("types-of-one-place", 1.0),
+    ("trees-collide", 1.0),
+    ("trees-collide-refused", 1.0),
+    ("trees-of-one-place-refused", 1.0),
+];
+
+/// Milliseconds of the first of three tries that is quick enough, else of the quickest. The
+/// thread's own time stands still while another program has the processor.
+fn quickest(most: f64, mut call: impl FnMut()) -> f64 {
+    let mut best = f64::INFINITY;
+    for _ in 0..3 {
+        let start = measure::now();
+        call();
+        best = best.min((measure::now() - start) / 1e6);
+        if best <= most {
+            break;
+        }
+    }
+    best
+}
+
+fn number<T>(answer: Result<T, Refusal>) -> u8 {
+    answer.map_or_else(|refusal| refusal.number().code(), |_| 0)
+}
+
+/// Every call that takes such an input, as its answer's number.
+fn calls(slow: &Slow) -> Vec<Box<dyn FnMut() -> u8 + '_>> {
+    let mut work = Work::new();
+    let mut out = vec![0; LIMIT];
+    let mut room = out.clone();
+    let bytes = &slow.bytes;
+    match slow.call {
+        Call::ReadSet => vec![Box::new(move || number(work.read_set(bytes)))],
+        Call::ReadLayout => vec![
+            Box::new(move || number(work.read_layout(bytes))),
+            Box::new(move || number(ciztarmo::read_layout(bytes))),
+        ],
+        Call::Build => vec![
+            Box::new(move || number(ciztarmo::build_set_into(bytes, &mut out))),
+            Box::new(move || number(work.build_set_into(bytes, &mut room))),
+        ],
+    }
+}
+
+#[test]
+fn no_input_takes_long() {
+    let inputs = slow::all(slow::FULL);
+    assert_eq!(inputs.len(), MOST.len());
+    let mut long = Vec::new();
+    for (slow, (name, most)) in inputs.iter().zip(MOST) {
+        assert_eq!(slow.name, name);
+        for (i, mut call) in calls(slow).into_iter().enumerate() {
+            let ms = quickest(most, || assert_eq!(call(), slow.number, "{name}"));
+            println!("{name}, call {i}: {ms:.3} ms of {most}");
+            if ms > most {
+                long.push(format!("{name}, call {i}: {ms:.1} ms, at most {most} expected"));
+            }
+        }
+    }
+    assert!(long.is_empty(), "{}", long.join("\n"));
+}
