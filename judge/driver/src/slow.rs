@@ -21,15 +21,17 @@ pub struct Slow {
     pub call: Call,
     pub bytes: Vec<u8>,
     /// The answer's number, 0 if it is accepted, at the full scale.
+    #[allow(dead_code)] // the bench and the test of time ask for it
     pub number: u8,
 }
 
-/// How large the inputs are: paths of a type that is called, types whose names
-/// are alike, and structs that call; with `fills` the set has as many bytes as
-/// it may.
+/// How large the inputs are: paths of a type that is called, fields of a struct
+/// that calls, types whose names are alike, and structs; with `fills` the set
+/// has as many bytes as it may.
 #[derive(Clone, Copy)]
 pub struct Scale {
     pub paths: usize,
+    pub fields: usize,
     pub names: usize,
     pub structs: usize,
     pub fills: bool,
@@ -37,6 +39,7 @@ pub struct Scale {
 
 pub const FULL: Scale = Scale {
     paths: 64,
+    fields: 64,
     names: 256,
     structs: 200,
     fills: true,
@@ -51,6 +54,7 @@ pub const ONE: Scale = Scale {
 /// Inputs of some 4,000 bytes at most.
 pub const SMALL: Scale = Scale {
     paths: 3,
+    fields: 12,
     names: 8,
     ..ONE
 };
@@ -230,7 +234,7 @@ impl Scale {
     /// which refer to them 64 times. Too much for a layout.
     fn calls(self) -> Set {
         let set = self.callees(&"o".repeat(251), |i| format!("{i:03}"));
-        self.with_structs(set, || calls_of_all(64))
+        self.with_structs(set, || calls_of_all(self.fields))
     }
 
     /// Structs of 64 constant fields, each with references: the first eight
@@ -244,7 +248,7 @@ impl Scale {
             let paths = self.group(i.min(7), path);
             field("", None, with_paths(constant("", 0), &owner, paths))
         };
-        self.with_structs(Set::new(), || (0..64).map(each).collect())
+        self.with_structs(Set::new(), || (0..self.fields).map(each).collect())
     }
 
     /// 448 entries under an owner, and enums of which each case asks for those
@@ -273,7 +277,7 @@ impl Scale {
         let types = self.names / 2;
         let name = |i: usize| format!("{i:03}") + &"t".repeat(117);
         let set: Set = (0..types).map(|i| constant(&name(i), 1)).collect();
-        let calls = || (0..self.paths).map(|_| call(&name(types - 1))).collect();
+        let calls = || (0..self.fields).map(|_| call(&name(types - 1))).collect();
         let few = Scale {
             structs: self.structs.min(3),
             fills: false,
@@ -312,7 +316,7 @@ impl Scale {
         set[7].refs[0].paths = paths;
         let fields = || {
             let mut fields = made_names(&owner);
-            fields.extend(calls_of_all(62));
+            fields.extend(calls_of_all(self.fields - 2));
             fields
         };
         self.with_structs(set, fields)
@@ -418,7 +422,7 @@ impl Scale {
         let mut paths: Vec<String> = good.filter_map(whole).take(512).collect();
         paths.sort();
         let set = self.callees(&owner, |i| paths[i].clone());
-        self.with_structs(set, || calls_of_all(64))
+        self.with_structs(set, || calls_of_all(self.fields))
     }
 
     /// One text, split at each place into an owner and a path: the mark of
@@ -433,7 +437,7 @@ impl Scale {
         for i in 1..=self.paths {
             ty = with_paths(ty, &text(0, i), vec![text(i, 65)]);
         }
-        let calls = || (0..64).map(|_| call("0")).collect();
+        let calls = || (0..self.fields).map(|_| call("0")).collect();
         self.with_structs(vec![ty], calls)
     }
 }

@@ -90,7 +90,9 @@ fn no_input_takes_long() {
             let ms = quickest(most, || assert_eq!(call(), slow.number, "{name}"));
             println!("{name}, call {i}: {ms:.3} ms of {most}");
             if ms > most {
-                long.push(format!("{name}, call {i}: {ms:.1} ms, at most {most} expected"));
+                long.push(format!(
+                    "{name}, call {i}: {ms:.1} ms, at most {most} expected"
+                ));
             }
         }
     }
