@@ -17,7 +17,7 @@ use Rattle.marks.specs.Table.{Linked}
 use Rattle.marks.proofs.Tables.{linked-none}
 use Rattle.builder_registry.specs.declared.NameMark.{NameMark}
 use Rattle.builder_registry.specs.Words.{entryOf, entriesOf}
-use Rattle.builder_registry.specs.Marks.{OwnerMarked}
+use Rattle.builder_registry.specs.NameMarks.{OwnerMarked}
 use Rattle.builder_parameters.specs.Listed.{lists, marksOf, Jagged, Asks}
 use Rattle.builder_parameters.specs.Ready.{Ready, ReadyTable}
 use Rattle.builder_parameters.proofs.Listed.{left, pass, put, all-put, from-first, Counts, count-none, count-pass, count-more, count-end, counted-last, placed, all-placed}

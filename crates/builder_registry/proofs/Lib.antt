@@ -8,4 +8,4 @@ pub mod Puts
 pub mod Long
 pub mod Laws
 pub mod Extend
-pub mod Marks
+pub mod NameMarks

@@ -2,4 +2,4 @@ pub mod Word
 pub mod Words
 pub mod Place
 pub mod Texts
-pub mod Marks
+pub mod NameMarks

@@ -22,7 +22,7 @@ ghost use Rattle.builder_registry.specs.Word.{ownerAt, pathAt, madeOf, d
 ghost use Rattle.builder_registry.specs.Words.{Indexed, Sought, Marked, Linking, AliasIs, aliasMark, aliasIn, Standing, Kept, Tags, Looked, held, madePath, madeParameter, madeEntry, entryOf, entriesOf, entryName};
 ghost use Rattle.builder_registry.specs.Texts.{describing};
 ghost use Rattle.builder_registry.specs.Place.{placeOf, foundIn, ifOwned};
-ghost use Rattle.builder_registry.specs.Marks.{OwnerMarked};
+ghost use Rattle.builder_registry.specs.NameMarks.{OwnerMarked};
 
 // How many working words the registry and its index take.
 pub const WORDS: usize = 1663;

@@ -1,6 +1,6 @@
 -- `builder_registry::mark_name` meets its contract: behind the owner's mark that of the rest of a canonical name, or of a made parameter's end. Assumes nothing.
 use Rattle.builder_registry.specs.Texts.{madeEnd}
-use Rattle.builder_registry.proofs.Marks.{mark-path, mark-made}
+use Rattle.builder_registry.proofs.NameMarks.{mark-path, mark-made}
 use borrow.Author.Needs.{needs}
 use Rattle.builder_registry.proofs.mark_name.Statement.{statement}
 use Rattle.builder_registry.proofs.mark_name.Tie as tie

@@ -1,7 +1,7 @@
 -- `builder_registry::mark_owner` meets its contract: the mark that is known, or that of the name at the offset. Assumes nothing.
 use mathlib.Core.Path.{_∙_, ap}
 use Rattle.marks.specs.Mark.{markOf}
-use Rattle.builder_registry.proofs.Marks.{known-mark}
+use Rattle.builder_registry.proofs.NameMarks.{known-mark}
 use borrow.Author.Needs.{needs}
 use Rattle.builder_registry.proofs.mark_owner.Statement.{statement}
 use Rattle.builder_registry.proofs.mark_owner.Tie as tie

@@ -11,7 +11,7 @@ use Rattle.builder_registry.specs.Word.{ownerAt, pathAt, madeOf}
 use Rattle.builder_registry.specs.Words.{held, entryName}
 use Rattle.builder_registry.specs.Texts.{madeEnd}
 use Rattle.builder_registry.specs.declared.NameMark.{NameMark}
-use Rattle.builder_registry.specs.Marks.{OwnerMarked}
+use Rattle.builder_registry.specs.NameMarks.{OwnerMarked}
 use Rattle.builder_registry.proofs.Names.{name-path, name-made}
 
 -- the mark of an owner that is known
