@@ -347,6 +347,7 @@ module _ (s ws : List ℕ) (n : ℕ) (fit : n ≤ length ws) (o x : Name) (mark 
 pub index-linked : {s ws : List ℕ} {n : ℕ} → Indexed s ws n → Linked (take (length ws - 512) (drop 512 ws)) (slotMark s ws) (2 * n)
 index-linked {s} {ws} {n} x = rw (part-all ws (omega (arith, x .room))) (x .linked)
 
+-- as the search takes it
 abbrev pub index-table : {s ws : List ℕ} {n : ℕ} → Indexed s ws n → Table (take (length ws - 512) (drop 512 ws))
 index-table {s} {ws} {n} x = record { marks = slotMark s ws; count = 2 * n; linked = index-linked x }
 

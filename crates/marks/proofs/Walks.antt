@@ -55,6 +55,7 @@ module _ {ws : List ℕ} {mark j i : ℕ} (low : mark < 18446744073709551616) (c
 pub first : {ws : List ℕ} (mark : ℕ) (t : Table ws) → Last (t .marks) (mark % 127) (t .count) (getD ws (mark % 127) 0)
 first mark t = t .linked .heads (mark % 127) (omega arith)
 
+-- so that it can begin there
 abbrev pub chain-first : {ws : List ℕ} (mark : ℕ) (t : Table ws) → Chain ws mark (getD ws (mark % 127) 0)
 chain-first mark t = record { table = t; within = first mark t .within; place = first mark t .place }
 
@@ -76,6 +77,7 @@ pub linked-within : {ws : List ℕ} {mark j : ℕ} (low : mark < 184467440737095
     getD ws (126 + j) 0 % 65536 ≤ c .table .count
 linked-within low z c = omega (arith, linked low z c .within, c .within)
 
+-- so that it can go on there
 abbrev pub chain-link : {ws : List ℕ} {mark j : ℕ} → mark < 18446744073709551616 → 0 < j → (c : Chain ws mark j) → Chain ws mark (getD ws (126 + j) 0 % 65536)
 chain-link low z c = record { table = c .table; within = linked-within low z c; place = linked low z c .place }
 

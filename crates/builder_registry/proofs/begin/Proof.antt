@@ -3,9 +3,6 @@ use Rattle.builder_registry.proofs.Index.{index-none}
 use borrow.Author.Needs.{needs}
 use Rattle.builder_registry.proofs.begin.Statement.{statement}
 use Rattle.builder_registry.proofs.begin.Tie as tie
-use Rattle.builder_registry.proofs.begin.Reads as reads
-use Rattle.builder_registry.proofs.begin.Lts as lts
-use Rattle.marks.proofs.clear.Reads as clear-reads
 
 sub-clear : tie.Need-sub-clear
 sub-clear c = search needs

@@ -1,6 +1,4 @@
 -- `builder_registry::count_one` meets its contract. Assumes nothing.
-use mathlib.Core.Bool.{cond}
-use mathlib.Core.Path.{sym}
 use native.Mathlib.Omega.{arith}
 use Rattle.builder_registry.proofs.count_one.Statement.{statement}
 use Rattle.builder_registry.proofs.count_one.Tie as tie
