@@ -64,7 +64,7 @@ module _ {ws : List ℕ} {f : ℕ → ℕ} {n : ℕ} (w : Linked ws f n) (mark :
 
   -- the word of the slot
   abbrev word : ℕ
-  word = mark / 65536 * 65536 + head % 65536
+  word = mark % 281474976710656 * 65536 + head % 65536
 
   -- the words with the slot
   abbrev words : List ℕ
@@ -99,9 +99,9 @@ module _ {ws : List ℕ} {f : ℕ → ℕ} {n : ℕ} (w : Linked ws f n) (mark :
   -- the word has the mark and the link
   slot-here : Slot f n word
   slot-here =
-      let u : word / 65536 ≡ mark / 65536 = omega arith in
+      let u : word / 65536 ≡ mark % 281474976710656 = omega arith in
       let v : word % 65536 ≡ head = omega (arith, before .within) in
-      record { upper = rw (e, u); link = rw (e, v) before }
+      record { bits = rw (e, u); link = rw (e, v) before }
 
   -- and so have those before it
   slot-more : (k : ℕ) → k < n + 1 → f k < 18446744073709551616 → Slot f k (getD words (127 + k) 0)
@@ -138,4 +138,4 @@ module _ {f g : ℕ → ℕ} {n : ℕ} (e : (k : ℕ) → k < n → f k ≡ g k)
   }
     where
       go : (k : ℕ) → k < n → {v : ℕ} → Slot f k v → Slot g k v
-      go k h s = record { upper = rw (e k h) at (s .upper); link = last-marks (omega arith) (rw (e k h) at (s .link)) }
+      go k h s = record { bits = rw (e k h) at (s .bits); link = last-marks (omega arith) (rw (e k h) at (s .link)) }

@@ -35,7 +35,7 @@ module _ {ws : List ℕ} {mark j i : ℕ} (low : mark < 18446744073709551616) (c
   link-less = omega (arith, link .within)
 
   -- the slot before i has another mark: it is passed over too
-  pub prior-more : (getD ws (126 + i) 0 / 65536 ≡ mark / 65536 → ⊥) → Prior (c .table .marks) mark j (getD ws (126 + i) 0 % 65536)
+  pub prior-more : (getD ws (126 + i) 0 / 65536 ≡ mark % 281474976710656 → ⊥) → Prior (c .table .marks) mark j (getD ws (126 + i) 0 % 65536)
   prior-more o = record {
     within = omega (arith, link .within, q .within);
     place = link .place;
@@ -45,7 +45,7 @@ module _ {ws : List ℕ} {mark j i : ℕ} (low : mark < 18446744073709551616) (c
       go : (k : ℕ) → getD ws (126 + i) 0 % 65536 ≤ k → k < j → c .table .marks k ≡ mark → (a : Bool) → leb i k ≡ a → (b : Bool) → eqb k (i - 1) ≡ b → ⊥
       go k h l e true x b y = q .passed k (leb-true i k x) l e
       go k h l e false x true y =
-          o (here .upper ∙ ap (λ (m : ℕ). m / 65536) (ap (c .table .marks) (sym (eqb-true k (i - 1) y)) ∙ e))
+          o (here .bits ∙ ap (λ (m : ℕ). m % 281474976710656) (ap (c .table .marks) (sym (eqb-true k (i - 1) y)) ∙ e))
       go k h l e false x false y =
           let below : k < i - 1 = omega (arith, leb-false i k x, eqb-false k (i - 1) y) in
           let w : k < getD ws (126 + i) 0 % 65536 = link .last k below (rw e (low, refl)) in

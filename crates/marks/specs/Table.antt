@@ -1,5 +1,5 @@
 -- Slots in a table of words, found by their marks. A mark's place is its rest by 127. The first 127 words lead to the last slot of each place,
--- plus 1; then a word for each slot has the upper 48 bits of its mark, and as its lower 16 the last slot before it that has its place, plus 1.
+-- plus 1; then a word for each slot has the lower 48 bits of its mark, and below them, in 16 bits, the last slot before it that has its place, plus 1.
 use Prim.Native.Nat.{ℕ, _+_, _-_, _/_, _%_, _≤_, _<_}
 use mathlib.Core.Path.{_≡_}
 use mathlib.Core.List.{List}
@@ -17,7 +17,7 @@ pub record Last (f : ℕ → ℕ) (p n j : ℕ) : Type 0 where
 
 -- the word w of the slot k
 pub record Slot (f : ℕ → ℕ) (k w : ℕ) : Type 0 where
-  pub upper : w / 65536 ≡ f k / 65536
+  pub bits : w / 65536 ≡ f k % 281474976710656
   pub link : Last f (f k % 127) k (w % 65536)
 
 -- the slots below n are in the table ws with their marks f

@@ -53,7 +53,7 @@ pub fn link(table: &mut [u64], slot: usize, mark: u64)
 {
     let p = (mark % 127) as usize;
     let k = 127 + slot;
-    let w = mark / 65536 * 65536 + table[p] % 65536;
+    let w = mark % 281474976710656 * 65536 + table[p] % 65536;
     table[k] = w;
     table[p] = slot as u64 + 1;
 }
@@ -67,7 +67,7 @@ fn reach(table: &[u64], mark: u64, j: usize) -> usize
     while 0 < i {
         let k = 126 + i;
         let w = table[k];
-        if w / 65536 == mark / 65536 {
+        if w / 65536 == mark % 281474976710656 {
             return i;
         }
         i = (w % 65536) as usize;
