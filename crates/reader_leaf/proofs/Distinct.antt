@@ -2,7 +2,7 @@
 use mathlib.Core.Path.{_≡_, refl, sym, _∙_, ap}
 use mathlib.Core.Bool.{Bool, true, false, not, cond}
 use mathlib.Core.List.{List}
-use Prim.Native.Nat.{ℕ, suc, _+_, _-_, _*_, _/_, _%_, _<_, _≤_}
+use Prim.Native.Nat.{ℕ, zero, suc, _+_, _-_, _*_, _/_, _%_, _<_, _≤_}
 use native.Mathlib.Nat.{mul-le-mul}
 use native.Mathlib.Numerals.{add-one}
 use native.Mathlib.Omega.{arith}
@@ -15,7 +15,7 @@ use Rattle.blocks.specs.Read.{Earlier, inOrder}
 use Rattle.blocks.proofs.Name.{same-eq}
 use Rattle.marks.specs.Table.{Linked, Prior}
 use Rattle.marks.proofs.Tables.{linked-none}
-use Rattle.reader_leaf.specs.Mark.{step, shortOf, partMark, markOf, markIn}
+use Rattle.reader_leaf.specs.Mark.{step, shortOf, markFrom, markOf, markIn}
 use Rattle.reader_leaf.specs.Seen.{nameAt, NameIn, behind, namesBefore, Fresh, Stand}
 use Rattle.reader_leaf.proofs.Laws.{among-none}
 
@@ -98,11 +98,11 @@ not-not false e = sym e
 -- ---- the mark of a name
 
 -- the product in a step is bounded by its factors
-pub step-product : (h x : ℕ) → h % 4294967296 * (2147483648 + x % 2147483648) ≤ 18446744065119617025
+pub step-product : (h x : ℕ) → (4294967296 + h % 1073741824) * (1073741824 + x % 2147483648) ≤ 17293822560512770049
 step-product h x =
-    let a : h % 4294967296 ≤ 4294967295 = omega arith in
-    let b : 2147483648 + x % 2147483648 ≤ 4294967295 = omega arith in
-    let c : h % 4294967296 * (2147483648 + x % 2147483648) ≤ 4294967295 * 4294967295 = mul-le-mul a b in
+    let a : 4294967296 + h % 1073741824 ≤ 5368709119 = omega arith in
+    let b : 1073741824 + x % 2147483648 ≤ 3221225471 = omega arith in
+    let c : (4294967296 + h % 1073741824) * (1073741824 + x % 2147483648) ≤ 5368709119 * 3221225471 = mul-le-mul a b in
     omega arith
 
 module _ (n : Name) where
@@ -122,31 +122,45 @@ module _ (n : Name) where
   pub short-none : length n ≤ 0 → 0 ≡ shortOf n
   short-none h = sym (List·getD-eq-default n 0 {n = 0} h) ∙ short-one (omega arith)
 
-  -- the mark of a short name
-  pub mark-short : length n < 8 → {r x : ℕ} → r ≡ step (length n) x → x ≡ shortOf n → r ≡ markOf n
-  unfolding markOf
-  mark-short h e f = rw (lt-ltb (length n) 8 h, e, f)
+  module _ (apart : ℕ) where
+    -- the mark of a short name
+    pub mark-short : length n < 8 → {r q x : ℕ} → r ≡ step q (length n) → q ≡ step 0 x → x ≡ shortOf n → r ≡ markOf apart n
+    unfolding markOf
+    mark-short h g e f = rw (lt-ltb (length n) 8 h, g, e, f)
 
-  -- before the first step the mark is the length
-  pub part-none : length n ≡ partMark n (0 / 8)
-  unfolding partMark
-  part-none = refl
+    -- the steps before i have made h
+    pub record Marked (i h : ℕ) : Type 0 where
+      pub steps : ℕ
+      pub enough : length n ≤ i + steps
+      pub same : markFrom apart (length n) n 0 0 ≡ markFrom apart steps n i h
 
-  -- eight bytes more
-  pub part-more : (h i : ℕ) → h ≡ partMark n (i / 8) → i % 8 ≡ 0 → {r x : ℕ} → r ≡ step h x → x ≡ le8 n i → r ≡ partMark n ((i + 8) / 8)
-  unfolding partMark
-  part-more h i e z g f =
-      let q : (i + 8) / 8 ≡ suc (i / 8) = omega arith in
-      let p : 8 * (i / 8) ≡ i = omega arith in
-      rw (g, q, p, e, f)
+    -- before the first step
+    pub marked-none : Marked 0 0
+    marked-none = record { steps = length n; enough = omega arith; same = refl }
 
-  -- the last eight
-  pub mark-long : (h i : ℕ) → h ≡ partMark n (i / 8) → i % 8 ≡ 0 → 8 ≤ length n → i < length n → length n ≤ i + 8
-      → {r x : ℕ} → r ≡ step h x → x ≡ le8 n (length n - 8) → r ≡ markOf n
-  unfolding markOf
-  mark-long h i e z l a b g f =
-      let q : (length n - 1) / 8 ≡ i / 8 = omega arith in
-      rw (le-ltb (length n) 8 l, q, g, e, f)
+    module _ {i h : ℕ} (m : Marked i h) where
+      -- a step more
+      pub marked-more : 0 < apart → i + 8 < length n → {r x : ℕ} → r ≡ step h x → x ≡ le8 n i → Marked (i + apart) r
+      unfolding markFrom
+      marked-more z l {r} e f = go (m .steps) (m .enough) (m .same)
+        where
+          go : (k : ℕ) → length n ≤ i + k → markFrom apart (length n) n 0 0 ≡ markFrom apart k n i h → Marked (i + apart) r
+          go zero a b = absurd (omega arith)
+          go (suc k) a b = record { steps = k; enough = omega arith; same = b ∙ rw (lt-ltb (i + 8) (length n) l, e, f) }
+
+      -- no step is left
+      marked-all : length n ≤ i + 8 → markFrom apart (length n) n 0 0 ≡ h
+      unfolding markFrom
+      marked-all l = m .same ∙ go (m .steps)
+        where
+          go : (k : ℕ) → markFrom apart k n i h ≡ h
+          go zero = refl
+          go (suc k) = rw (le-ltb (i + 8) (length n) l)
+
+      -- the last eight bytes, and the length
+      pub mark-long : 8 ≤ length n → length n ≤ i + 8 → {r w x : ℕ} → r ≡ step w (length n) → w ≡ step h x → x ≡ le8 n (length n - 8) → r ≡ markOf apart n
+      unfolding markOf
+      mark-long l b g u f = rw (le-ltb (length n) 8 l, marked-all b, g, u, f)
 
 -- ---- the table of marks
 
@@ -154,18 +168,18 @@ module _ (n : Name) where
 pub none-linked : (n : ℕ) (f : ℕ → ℕ) → 127 ≤ n → Linked (replicate n 0) f 0
 none-linked n f h = linked-none f (omega (arith, length-replicate {A = ℕ} n 0)) (λ p l. getD-replicate n p 0 0 (omega arith))
 
-module _ (s : List ℕ) (first count : ℕ) where
-  module _ (at : ℕ) {m : Name} {mark : ℕ} (e : m ≡ nameAt s at) (f : mark ≡ markOf m) where
+module _ (s : List ℕ) (apart first count : ℕ) where
+  module _ (at : ℕ) {m : Name} {mark : ℕ} (e : m ≡ nameAt s at) (f : mark ≡ markOf apart m) where
     -- where no slot has the mark of the name at `at`, none of the blocks begins with it
-    pub unmarked : {r : ℕ} → r ≡ 0 → Prior (markIn s first) mark count r → among (nameAt s at) (namesBefore s first count) ≡ false
+    pub unmarked : {r : ℕ} → r ≡ 0 → Prior (markIn s apart first) mark count r → among (nameAt s at) (namesBefore s first count) ≡ false
     unfolding markIn
     unmarked {r} z p = among-none s (nameAt s at) first count (λ k l. go k l (same (nameAt s at) (nameAt s (behind s first k + 6))) refl)
       where
         go : (k : ℕ) → k < count → (b : Bool) → same (nameAt s at) (nameAt s (behind s first k + 6)) ≡ b → b ≡ false
-        go k l true q = absurd (p .passed k (omega arith) l (ap markOf (sym (e ∙ same-eq (nameAt s at) (nameAt s (behind s first k + 6)) q)) ∙ sym f))
+        go k l true q = absurd (p .passed k (omega arith) l (ap (markOf apart) (sym (e ∙ same-eq (nameAt s at) (nameAt s (behind s first k + 6)) q)) ∙ sym f))
         go k l false q = refl
 
     -- it is the mark of block `count` if that begins with the name
-    pub mark-here : at ≡ behind s first count + 6 → markIn s first count ≡ mark
+    pub mark-here : at ≡ behind s first count + 6 → markIn s apart first count ≡ mark
     unfolding markIn
     mark-here h = rw (← h, f, e)

@@ -1,4 +1,4 @@
--- The mark of a name: a number by which it is told from most others. All its bytes count, eight at a step.
+-- The mark of a name: a number by which it is told from most others. Eight bytes count at each step; if the steps are eight apart, all do.
 use Prim.Native.Nat.{ℕ, zero, suc, _+_, _-_, _*_, _/_, _%_}
 use mathlib.Core.Bool.{cond}
 use mathlib.Core.List.{List}
@@ -8,10 +8,10 @@ use Rattle.blocks.specs.Bytes.{le2, le4, le8, nameAt}
 use Rattle.blocks.specs.Blocks.{blockAt}
 use Rattle.blocks.specs.Name.{Name}
 
--- a mark with eight bytes more, which are a number: 31 bits of its lower half are in the factor, and 31 of its upper half are added. In a text
--- these are all.
+-- A mark with eight bytes more, which are a number. It stays below 2 ^ 64. Two texts of eight bytes never give the same from one mark: their lower
+-- halves are in a product with at least 2 ^ 32, and what is added of their upper halves is less.
 unfoldable pub step : ℕ → ℕ → ℕ
-step h x = h % 4294967296 * (2147483648 + x % 2147483648) + h / 4294967296 + x / 4294967296 % 2147483648
+step h x = (4294967296 + h % 1073741824) * (1073741824 + x % 2147483648) + h / 1073741824 + x / 2147483648
 
 -- a name of less than eight bytes as a number: its first bytes, and its last in the upper half
 unfoldable pub shortOf : Name → ℕ
@@ -20,15 +20,15 @@ shortOf n =
     (getD n 0 0)
     (cond (ltb (length n) 4) (le2 n 0 + 4294967296 * le2 n (length n - 2)) (le4 n 0 + 4294967296 * le4 n (length n - 4)))
 
--- the mark of the first 8 k bytes of a name
-unfoldable pub partMark : Name → ℕ → ℕ
-partMark n zero = length n
-partMark n (suc k) = step (partMark n k) (le8 n (8 * k))
+-- a mark h with what a name has from i on, at most f steps and as far as eight bytes are followed by others
+unfoldable pub markFrom : ℕ → ℕ → Name → ℕ → ℕ → ℕ
+markFrom apart zero n i h = h
+markFrom apart (suc f) n i h = cond (ltb (i + 8) (length n)) (markFrom apart f n (i + apart) (step h (le8 n i))) h
 
--- the mark of a name; the last eight bytes may be taken twice
-unfoldable pub markOf : Name → ℕ
-markOf n = cond (ltb (length n) 8) (step (length n) (shortOf n)) (step (partMark n ((length n - 1) / 8)) (le8 n (length n - 8)))
+-- the mark of a name: such steps, its last eight bytes, which may be taken twice, and its length
+unfoldable pub markOf : ℕ → Name → ℕ
+markOf apart n = step (cond (ltb (length n) 8) (step 0 (shortOf n)) (step (markFrom apart (length n) n 0 0) (le8 n (length n - 8)))) (length n)
 
 -- the mark of the name with which block k begins
-unfoldable pub markIn : List ℕ → ℕ → ℕ → ℕ
-markIn s first k = markOf (nameAt s (blockAt s first k + 6))
+unfoldable pub markIn : List ℕ → ℕ → ℕ → ℕ → ℕ
+markIn s apart first k = markOf apart (nameAt s (blockAt s first k + 6))

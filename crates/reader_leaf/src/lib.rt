@@ -284,45 +284,58 @@ fn short(name: &[u8]) -> usize
 fn step(h: usize, x: usize) -> usize
     ensures { λ r. ⌜ r ≡ step h x ⌝ }
 {
-    let factor = 2147483648 + x % 2147483648;
-    h % 4294967296 * factor + h / 4294967296 + x / 4294967296 % 2147483648
+    let a = 4294967296 + h % 1073741824;
+    let b = 1073741824 + x % 2147483648;
+    a * b + h / 1073741824 + x / 2147483648
 }
 
-// The mark of a name, eight bytes at a step; the last eight may be taken twice.
-fn mark(name: &[u8]) -> u64
-    ensures { λ r. ⌜ r ≡ markOf (now (name .entry)) ⌝ }
+// The mark of a name: eight bytes at each step, the steps so far apart; its last eight, which may be taken twice, and its length.
+fn mark(name: &[u8], apart: usize) -> u64
+    requires { ⌜ (0 < apart) × (apart ≤ 32) ⌝ }
+    ensures { λ r. ⌜ r ≡ markOf apart (now (name .entry)) ⌝ }
 {
     let n = name.len();
     if n < 8 {
-        return step(n, short(name)) as u64;
+        return step(step(0, short(name)), n) as u64;
     }
-    let mut h = n;
+    let mut h = 0;
     let mut i = 0;
     while i + 8 < n {
         h = step(h, wire::read8(name, i));
-        i += 8;
+        i += apart;
     }
-    step(h, wire::read8(name, n - 8)) as u64
+    step(step(h, wire::read8(name, n - 8)), n) as u64
 }
 
-// Whether none of these blocks, all of whose marks are in the table, begins with the name at `at`. Its mark is entered behind them.
-fn is_new(s: &[u8], table: &mut [u64; 383], first: usize, count: usize, at: usize) -> bool
-    requires { ⌜ (Stand (now s) first count) × (NameIn (now s) at) × (count < 256) × (Linked (now table) (markIn (now s) first) count) ⌝ }
+// Whether none of these blocks, all of whose marks are in the table, begins with the name at `at`. Its mark is entered behind them. Where one
+// of them may have its mark, it is compared only if all bytes are in the marks.
+fn is_new(
+    s: &[u8],
+    table: &mut [u64; 383],
+    apart: usize,
+    first: usize,
+    count: usize,
+    at: usize,
+) -> bool
+    requires { ⌜ (Stand (now s) first count) × (NameIn (now s) at) × (count < 256) × (0 < apart) × (apart ≤ 32) × (Linked (now table) (markIn (now s) apart first) count) ⌝ }
     ensures { λ r. ⌜ (r ≡ true → among (nameAt (now (s .entry)) at) (namesBefore (now (s .entry)) first count) ≡ false) ⌝ }
-    ensures { λ _. ⌜ (at ≡ behind (now (s .entry)) first count + 6 → Linked (now (table .exit)) (markIn (now (s .entry)) first) (count + 1)) ⌝ }
+    ensures { λ _. ⌜ (at ≡ behind (now (s .entry)) first count + 6 → Linked (now (table .exit)) (markIn (now (s .entry)) apart first) (count + 1)) ⌝ }
 {
-    let m = mark(wire::name_at(s, at));
+    let m = mark(wire::name_at(s, at), apart);
     let found = marks::last(table, m);
     marks::link(table, count, m);
     if found == 0 {
         return true;
     }
+    if 8 < apart {
+        return false;
+    }
     differs(s, first, count, at)
 }
 
-// The same as `fresh_compared` for many: a name is compared only where one before it may have its mark.
-fn fresh_marked(s: &[u8], first: usize, n: usize, end: usize) -> usize
-    requires { ⌜ (first ≤ end) × (end ≤ length (now s)) × (n ≤ 256) ⌝ }
+// The same as `fresh_compared` for many, by marks with steps so far apart; it may stop earlier where not all bytes are in the marks.
+fn fresh_marked(s: &[u8], apart: usize, first: usize, n: usize, end: usize) -> usize
+    requires { ⌜ (first ≤ end) × (end ≤ length (now s)) × (n ≤ 256) × (0 < apart) × (apart ≤ 32) ⌝ }
     ensures { λ r. ⌜ Fresh (now (s .entry)) first r ⌝ }
 {
     let mut table = [0u64; 383];
@@ -333,7 +346,7 @@ fn fresh_marked(s: &[u8], first: usize, n: usize, end: usize) -> usize
         if next == 0 {
             return count;
         }
-        if !is_new(s, &mut table, first, count, at + 6) {
+        if !is_new(s, &mut table, apart, first, count, at + 6) {
             return count;
         }
         at = next;
@@ -343,7 +356,8 @@ fn fresh_marked(s: &[u8], first: usize, n: usize, end: usize) -> usize
 }
 
 // Of the blocks behind their count at `at`, how many begin with a name that none before has. Nothing is said of more than 256, nor
-// behind the first block that does not lie before `end`. To compare a few names takes less time than to clear a table of marks.
+// behind the first block that does not lie before `end`. To compare a few names takes less time than to clear a table of marks. Of many, some
+// of the bytes mostly tell that the names are distinct; where they do not, all bytes are taken.
 pub fn fresh(s: &[u8], at: usize, end: usize) -> usize
     requires { ⌜ (at ≤ end) × (end ≤ length (now s)) ⌝ }
     ensures { λ r. ⌜ Fresh (now (s .entry)) (at + 2) r ⌝ }
@@ -362,7 +376,11 @@ pub fn fresh(s: &[u8], at: usize, end: usize) -> usize
     if 256 < n {
         return 0;
     }
-    fresh_marked(s, first, n, end)
+    let known = fresh_marked(s, 32, first, n, end);
+    if n <= known {
+        return known;
+    }
+    fresh_marked(s, 8, first, n, end)
 }
 
 // Question 6 on the name at `at`.

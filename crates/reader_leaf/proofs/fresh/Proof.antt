@@ -35,6 +35,12 @@ fresh-marked-requires c κs = search needs
 returns-5 : tie.Need-returns-5
 returns-5 c = search needs
 
+fresh-marked-requires-2 : tie.Need-fresh-marked-requires-2
+fresh-marked-requires-2 c κs = search needs
+
+returns-6 : tie.Need-returns-6
+returns-6 c = search needs
+
 pub fresh-spec : {M : Type 1} → statement M
 fresh-spec =
     tie.close
@@ -48,4 +54,6 @@ fresh-spec =
     returns-3
     returns-4
     fresh-marked-requires
-    returns-5)
+    returns-5
+    fresh-marked-requires-2
+    returns-6)

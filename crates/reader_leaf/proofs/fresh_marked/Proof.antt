@@ -10,11 +10,11 @@ use Rattle.reader_leaf.proofs.fresh_marked.Statement.{statement}
 use Rattle.reader_leaf.proofs.fresh_marked.Tie as tie
 
 abbrev Inv-loop : tie.InvT-loop
-Inv-loop s first n end table₀ at₀ count₀ table at count =
-    Known s first count at × Linked table (markIn s first) count × (at ≤ end) × (count ≤ n)
+Inv-loop s apart first n end table₀ at₀ count₀ table at count =
+    Known s first count at × Linked table (markIn s apart first) count × (at ≤ end) × (count ≤ n)
 
 abbrev μ-loop : tie.MeasureT-loop
-μ-loop s first n end table₀ at₀ count₀ table at count = n - count
+μ-loop s apart first n end table₀ at₀ count₀ table at count = n - count
 
 loop-holds : tie.Need-loop-holds Inv-loop μ-loop
 loop-holds c = (known-none _ _, none-linked 383 _ (omega arith), omega arith, omega arith)
@@ -39,6 +39,8 @@ is-new-requires c κs =
     let at-loop = at-block .before .before in (
       at-loop .loop .inv .0 .stand,
       at-block .behind-block .ensures .0 (omega (arith, at-else1 .if1 .left)) .0,
+      omega arith,
+      omega arith,
       omega arith,
       at-loop .loop .inv .1,
     )

@@ -1,5 +1,6 @@
 -- `reader_leaf::is_new` meets its contract: where no slot has the mark the name is new, else it is compared. Assumes nothing.
 use borrow.Author.Needs.{needs}
+use Rattle.blocks.proofs.Name.{false-true}
 use Rattle.reader_leaf.specs.Mark.{markIn}
 use Rattle.reader_leaf.proofs.Distinct.{unmarked, mark-here, told}
 use Rattle.reader_leaf.proofs.is_new.Statement.{statement}
@@ -29,27 +30,35 @@ returns c =
     let at-link = c .before in
     let here = at-mark at-link in
     let start = at-start here in (
-      λ z. unmarked (start .args .s .now) (start .args .first) (start .args .count) (start .args .at)
+      λ z. unmarked (start .args .s .now) (start .args .apart) (start .args .first) (start .args .count) (start .args .at)
           (here .before .name-at .ensures)
           (here .mark .ensures)
           (c .if1 .taken)
           (at-link .before .before .last .ensures (record {
-            marks = markIn (start .args .s .now) (start .args .first);
+            marks = markIn (start .args .s .now) (start .args .apart) (start .args .first);
             count = start .args .count;
-            linked = start .pre .3;
+            linked = start .pre .5;
           })),
-      λ h. at-link .link .ensures _ (start .pre .3) (mark-here _ _ _ _ (here .before .name-at .ensures) (here .mark .ensures) h),
+      λ h. at-link .link .ensures _ (start .pre .5) (mark-here _ _ _ _ _ (here .before .name-at .ensures) (here .mark .ensures) h),
     )
-
-differs-requires : tie.Need-differs-requires
-differs-requires c κs = search needs
 
 returns-2 : tie.Need-returns-2
 returns-2 c =
     let at-link = c .before .before in
     let here = at-mark at-link in (
+      λ z. false-true z,
+      λ h. at-link .link .ensures _ (at-start here .pre .5) (mark-here _ _ _ _ _ (here .before .name-at .ensures) (here .mark .ensures) h),
+    )
+
+differs-requires : tie.Need-differs-requires
+differs-requires c κs = search needs
+
+returns-3 : tie.Need-returns-3
+returns-3 c =
+    let at-link = c .before .before .before in
+    let here = at-mark at-link in (
       told _ _ (c .differs .ensures),
-      λ h. at-link .link .ensures _ (at-start here .pre .3) (mark-here _ _ _ _ (here .before .name-at .ensures) (here .mark .ensures) h),
+      λ h. at-link .link .ensures _ (at-start here .pre .5) (mark-here _ _ _ _ _ (here .before .name-at .ensures) (here .mark .ensures) h),
     )
 
 pub is-new-spec : {M : Type 1} → statement M
@@ -61,5 +70,6 @@ is-new-spec =
     last-requires
     link-requires
     returns
+    returns-2
     differs-requires
-    returns-2)
+    returns-3)

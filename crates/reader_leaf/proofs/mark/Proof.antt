@@ -1,19 +1,18 @@
--- `reader_leaf::mark` meets its contract. The loop's invariant: h is the mark of the first i bytes, eight at a step. Assumes nothing.
-use Prim.Native.Nat.{_-_, _+_, _/_, _%_, _≤_, _<_}
+-- `reader_leaf::mark` meets its contract. The loop's invariant: the steps before i have made h. Assumes nothing.
+use Prim.Native.Nat.{_-_, _+_, _≤_, _<_}
 use mathlib.Core.Path.{_≡_}
 use native.Mathlib.Omega.{arith}
 use borrow.Author.Needs.{needs}
 use lib.ListN.{length}
-use Rattle.reader_leaf.specs.Mark.{partMark}
-use Rattle.reader_leaf.proofs.Distinct.{mark-short, part-none, part-more, mark-long}
+use Rattle.reader_leaf.proofs.Distinct.{mark-short, Marked, marked-none, marked-more, mark-long}
 use Rattle.reader_leaf.proofs.mark.Statement.{statement}
 use Rattle.reader_leaf.proofs.mark.Tie as tie
 
 abbrev Inv-loop : tie.InvT-loop
-Inv-loop name n h₀ i₀ h i = (h ≡ partMark name (i / 8)) × (i % 8 ≡ 0) × (i < n) × (n ≡ length name) × (8 ≤ n)
+Inv-loop name apart n h₀ i₀ h i = Marked name apart i h × (i < n + 32) × (n ≡ length name) × (8 ≤ n)
 
 abbrev μ-loop : tie.MeasureT-loop
-μ-loop name n h₀ i₀ h i = n - i
+μ-loop name apart n h₀ i₀ h i = n + 32 - i
 
 short-requires : tie.Need-short-requires Inv-loop μ-loop
 short-requires c κs = omega arith
@@ -21,11 +20,16 @@ short-requires c κs = omega arith
 step-requires : tie.Need-step-requires Inv-loop μ-loop
 step-requires c κs = search needs
 
+step-requires-2 : tie.Need-step-requires-2 Inv-loop μ-loop
+step-requires-2 c κs = search needs
+
 returns : tie.Need-returns Inv-loop μ-loop
-returns c = mark-short _ (c .before .before .if1 .taken) (c .step .ensures) (c .before .short .ensures)
+returns c =
+    let at-short = c .before .before in
+    mark-short _ _ (at-short .before .if1 .taken) (c .step2 .ensures) (c .before .step .ensures) (at-short .short .ensures)
 
 loop-holds : tie.Need-loop-holds Inv-loop μ-loop
-loop-holds c = (part-none _, omega arith, omega arith, omega arith, omega arith)
+loop-holds c = (marked-none _ _, omega arith, omega arith, omega arith)
 
 add-loop : tie.Need-add-loop Inv-loop μ-loop
 add-loop c = omega arith
@@ -33,8 +37,8 @@ add-loop c = omega arith
 read8-requires : tie.Need-read8-requires Inv-loop μ-loop
 read8-requires c κs = omega arith
 
-step-requires-2 : tie.Need-step-requires-2 Inv-loop μ-loop
-step-requires-2 c κs = search needs
+step-requires-3 : tie.Need-step-requires-3 Inv-loop μ-loop
+step-requires-3 c κs = search needs
 
 add-i : tie.Need-add-i Inv-loop μ-loop
 add-i c = omega arith
@@ -44,9 +48,9 @@ loop-less c = omega arith
 
 loop-again : tie.Need-loop-again Inv-loop μ-loop
 loop-again c =
-    let at-loop = c .before .before .before in (
-      part-more _ _ _ (at-loop .loop .inv .0) (at-loop .loop .inv .1) (c .step2 .ensures) (c .before .read8 .ensures),
-      omega arith,
+    let in-loop = c .before .before in
+    let at-loop = in-loop .before in (
+      marked-more _ _ (at-loop .loop .inv .0) (omega arith) (omega arith) (c .step3 .ensures) (c .before .read8 .ensures),
       omega arith,
       omega arith,
       omega arith,
@@ -55,20 +59,22 @@ loop-again c =
 read8-requires-2 : tie.Need-read8-requires-2 Inv-loop μ-loop
 read8-requires-2 c κs = omega arith
 
-step-requires-3 : tie.Need-step-requires-3 Inv-loop μ-loop
-step-requires-3 c κs = search needs
+step-requires-4 : tie.Need-step-requires-4 Inv-loop μ-loop
+step-requires-4 c κs = search needs
+
+step-requires-5 : tie.Need-step-requires-5 Inv-loop μ-loop
+step-requires-5 c κs = search needs
 
 returns-2 : tie.Need-returns-2 Inv-loop μ-loop
 returns-2 c =
-    let at-loop = c .before .before .before in
-    mark-long _ _ _
+    let at-loop = c .before .before .before .before in
+    mark-long _ _
     (at-loop .loop .inv .0)
-    (at-loop .loop .inv .1)
     (omega arith)
     (omega arith)
-    (omega arith)
-    (c .step3 .ensures)
-    (c .before .read82 .ensures)
+    (c .step5 .ensures)
+    (c .before .step4 .ensures)
+    (c .before .before .read82 .ensures)
 
 pub mark-spec : {M : Type 1} → statement M
 mark-spec =
@@ -78,14 +84,16 @@ mark-spec =
     μ-loop
     short-requires
     step-requires
+    step-requires-2
     returns
     loop-holds
     add-loop
     read8-requires
-    step-requires-2
+    step-requires-3
     add-i
     loop-less
     loop-again
     read8-requires-2
-    step-requires-3
+    step-requires-4
+    step-requires-5
     returns-2)

@@ -1,14 +1,16 @@
 -- `reader_leaf::step` meets its contract: the product is bounded by its factors, so that no sum passes 2 ^ 64. Assumes nothing.
 use mathlib.Core.Path.{refl}
 use native.Mathlib.Omega.{arith}
-use borrow.Author.Needs.{needs}
 use Rattle.reader_leaf.specs.Mark.{step}
 use Rattle.reader_leaf.proofs.Distinct.{step-product}
 use Rattle.reader_leaf.proofs.step.Statement.{statement}
 use Rattle.reader_leaf.proofs.step.Tie as tie
 
-add-factor : tie.Need-add-factor
-add-factor c = search needs
+add-a : tie.Need-add-a
+add-a c = omega arith
+
+add-b : tie.Need-add-b
+add-b c = omega arith
 
 mul-result : tie.Need-mul-result
 mul-result c = omega (arith, step-product (c .args .h) (c .args .x))
@@ -24,4 +26,4 @@ unfolding step
 returns c = refl
 
 pub step-spec : {M : Type 1} → statement M
-step-spec = tie.close (tie.spec add-factor mul-result add-result add-result-2 returns)
+step-spec = tie.close (tie.spec add-a add-b mul-result add-result add-result-2 returns)
