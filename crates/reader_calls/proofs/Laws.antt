@@ -8,7 +8,7 @@ use lib.Dec.{leb}
 use lib.ListN.{length, take, drop, replicate, length-replicate}
 use lib.Seq.{length-take-le}
 use borrow.Author.Tests.{le-leb, lt-leb, leb-true, leb-false}
-use Rattle.errors.specs.Refusal.{Refusal, Outcome, done, refused, _>>=_, ask, enough, unread}
+use Rattle.errors.specs.Refusal.{Outcome, done, refused, _>>=_, ask, enough, unread}
 use Rattle.errors.specs.Answer.{read}
 use Rattle.errors.proofs.Laws.{asked, bound}
 use Rattle.blocks.specs.Tree.{Tree}

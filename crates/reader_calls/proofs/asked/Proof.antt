@@ -1,6 +1,5 @@
 -- `asked` meets its contract: 19, then 1.
 use Rattle.reader_calls.proofs.Laws.{asked-19, asked-1, asked-yes}
-use borrow.Author.Needs.{needs}
 use Rattle.reader_calls.proofs.asked.Statement.{statement}
 use Rattle.reader_calls.proofs.asked.Tie as tie
 

@@ -1,7 +1,7 @@
 -- `reader_leaf::fresh_marked` meets its contract. The loop's invariant: the names of the blocks before are none of those before them, and their
 -- marks are in the table. Assumes nothing.
 use Prim.Native.Nat.{_+_, _-_, _≤_}
-use mathlib.Core.Path.{_≡_, ap}
+use mathlib.Core.Path.{ap}
 use native.Mathlib.Omega.{arith}
 use Rattle.marks.specs.Table.{Linked}
 use Rattle.reader_leaf.specs.Mark.{markIn}
