@@ -6,7 +6,7 @@ use mathlib.Core.Bool.{Bool, true, false, _||_}
 use mathlib.Core.List.{List, [], _∷_}
 use lib.ListN.{length, take, drop, length-drop}
 use Rattle.blocks.specs.Name.{Name, same}
-use Rattle.blocks.proofs.Name.{false-true}
+use Rattle.blocks.proofs.Name.{false-true, same-refl}
 use Rattle.builder.specs.Names.{isEmpty, normalize-path, canonical-name}
 use Rattle.blocks.specs.Bytes.{bytes}
 use Rattle.blocks.specs.Tree.{name}
@@ -17,8 +17,8 @@ use Rattle.marks.specs.Mark.{markOf}
 use Rattle.marks.proofs.Marks.{mark-append}
 use Rattle.builder_names.specs.declared.Rest.{Rest}
 use Rattle.builder_names.specs.declared.Rest.the-variants.{Nothing, From}
-use Rattle.builder_names.specs.Views.{alone, dotted, RestIs}
-use Rattle.builder_names.proofs.Strip.{dot-length, rest-part}
+use Rattle.builder_names.specs.Views.{alone, dotted, Apart, RestIs}
+use Rattle.builder_names.proofs.Strip.{dot-length, rest-part, same-not, begins-short, normal-same, normal-whole, normal-apart}
 
 -- ---- the canonical name
 
@@ -28,7 +28,7 @@ or-right true b e = false-true (sym e)
 or-right false b e = e
 
 module _ (o p : Name) where
-  -- the answer of `is_owner_alone` for an empty path
+  -- an empty path: the owner is alone
   pub alone-empty : length p ≡ 0 → true ≡ alone o p
   alone-empty h = go p h
     where
@@ -36,7 +36,7 @@ module _ (o p : Name) where
       go [] h′ = refl
       go (x ∷ xs) h′ = absurd (let z : ⊥ = omega arith in z)
 
-  -- its answer for any other path: whether the path is the owner
+  -- any other path: it is alone where the path is the owner
   pub alone-not : (b : Bool) → (length p ≡ 0 → ⊥) → b ≡ same p o → b ≡ alone o p
   alone-not b h e = e ∙ go p h
     where
@@ -55,13 +55,41 @@ module _ (o p : Name) where
     unfolding canonical-name normalize-path dotted
     canonical-rest h = let q : alone o p ≡ false = sym e ∙ h in rw (q, or-right (isEmpty p) (same p o) q)
 
-    -- the answer of `rest_of` for the owner alone
-    pub rest-nothing : b ≡ true → RestIs o p Nothing
-    rest-nothing h = canonical-alone h
+  -- ---- rest_of: a path that is empty
+  pub rest-empty : length p ≡ 0 → RestIs o p Nothing
+  rest-empty h = canonical-alone true (alone-empty h) refl
 
-    -- its answer else, the normal path being the path from k on
-    pub rest-from : (k : ℕ) → k ≤ length p → normalize-path o p ≡ drop k p → b ≡ false → RestIs o p (From k)
-    rest-from k l f h = (l, canonical-rest h ∙ ap (dotted o) f)
+  module _ (z : length p ≡ 0 → ⊥) where
+    -- a path that is not the owner: a dot and the normal path stand behind the owner
+    rest-not : false ≡ same p o → (k : ℕ) → k ≤ length p → normalize-path o p ≡ drop k p → RestIs o p (From k)
+    rest-not e k l f = (l, canonical-rest false (alone-not false z e) refl ∙ ap (dotted o) f)
+
+    -- one that is apart from it
+    pub rest-apart : Apart o p → RestIs o p (From 0)
+    rest-apart a = rest-not (sym (a .other)) 0 (omega arith) (normal-apart o p a)
+
+    module _ (k : ℕ) (l : k ≤ length p) (f : normalize-path o p ≡ drop k p) where
+      -- one of another length than the owner's
+      pub rest-long : (length p ≡ length o → ⊥) → RestIs o p (From k)
+      rest-long h = rest-not (same-not p o (λ e. h (ap length e))) k l f
+
+      -- one whose normal path is not empty
+      pub rest-other : (k ≡ length p → ⊥) → RestIs o p (From k)
+      rest-other h =
+          rest-not
+          (same-not p o (λ e. h (omega (arith, ap length (sym f ∙ normal-same o p true (sym (ap (λ (x : Name). same x o) e ∙ same-refl o)) refl), length-drop k p, length-drop (length p) p))))
+          k l f
+
+      -- one of the owner's length, whose normal path is empty: it is the owner
+      pub rest-same : length p ≡ length o → k ≡ length p → RestIs o p Nothing
+      rest-same e h = go (same p o) refl
+        where
+          go : (b : Bool) → b ≡ same p o → RestIs o p Nothing
+          go true g = canonical-alone true (alone-not true z g) refl
+          go false g =
+              absurd
+              (z
+              (omega (arith, ap length (sym f ∙ normal-whole o p false g false refl (begins-short o p (omega arith)) refl), length-drop k p, length-drop 0 p)))
 
   module _ (r : Rest) (w : RestIs o p r) where
     -- nothing stands behind the owner: the canonical name is the owner
@@ -98,7 +126,7 @@ module _ (o p : Name) where
         y
         ∙ rw (rest-part p k, x, f, from-is r w k e .1, mark-append g o (0x2E ∷ drop k p), mark-append (markOf g o) (0x2E ∷ []) (drop k p)) refl
 
-pub ruleset canonicals = (alone-empty, alone-not, rest-nothing, rest-from, length-nothing, length-from, mark-nothing, mark-from)
+pub ruleset canonicals = (length-nothing, length-from, mark-nothing, mark-from)
 
 -- ---- put_canonical_name
 

@@ -14,7 +14,7 @@ use borrow.Author.Tests.{eq-eqb, eqb-true}
 use Rattle.blocks.specs.Name.{Name, ascii, same}
 use Rattle.blocks.proofs.Name.{false-true, same-refl, same-eq}
 use Rattle.builder.specs.Names.{isSome, orElse, strip-prefix, strip-owner, normalize-path, ends-with}
-use Rattle.builder_names.specs.Views.{dotted}
+use Rattle.builder_names.specs.Views.{Apart, dotted}
 
 -- ---- a name that begins with another
 
@@ -186,6 +186,18 @@ module _ (o p : Name) where
         go : (u : Option Name) → isSome u ≡ false → orElse p u ≡ p
         go none q = refl
         go (some r) q = false-true (sym q)
+
+  -- a path shorter than the owner is apart from it
+  pub apart-short : length p < length o → Apart o p
+  apart-short h = record { other = sym (same-not p o (λ e. let z : ⊥ = omega (arith, ap length e) in z)); not-behind = sym (begins-short (omega arith)) }
+
+  -- and so is a longer one with another byte than a dot behind as many bytes
+  pub apart-other : length o < length p → (getD p (length o) 0 ≡ 0x2E → ⊥) → Apart o p
+  apart-other h k = record { other = sym (same-not p o (λ e. let z : ⊥ = omega (arith, ap length e) in z)); not-behind = sym (begins-other k) }
+
+  -- then the normal path is the path
+  pub normal-apart : Apart o p → normalize-path o p ≡ drop 0 p
+  normal-apart a = normal-whole false (sym (a .other)) false refl (sym (a .not-behind)) refl
 
 pub ruleset begins = (begins-short, begins-other, begins-rest)
 

@@ -7,7 +7,7 @@ use mathlib.Core.Option.{Option, some, none}
 use lib.Dec.{eqb, leb}
 use lib.ListN.{length, take, drop}
 use Rattle.blocks.specs.Name.{Name, ascii, same}
-use Rattle.builder.specs.Names.{isEmpty, normalize-path, canonical-name, rsplit-once, qualify-parent-path, alternate-owner-aliases}
+use Rattle.builder.specs.Names.{isEmpty, isSome, strip-owner, normalize-path, canonical-name, rsplit-once, qualify-parent-path, alternate-owner-aliases}
 use Rattle.builder_names.specs.declared.Split.{Split}
 use Rattle.builder_names.specs.declared.Split.the-variants.{At, Missing}
 use Rattle.builder_names.specs.declared.Rest.{Rest}
@@ -18,6 +18,11 @@ use Rattle.builder_names.specs.declared.Key.the-variants.{Joined, NoPare
 -- whether the canonical name is the owner itself
 abbrev pub alone : Name → Name → Bool
 alone owner path = isEmpty path || same path owner
+
+-- a path that neither is the owner nor begins with it and a dot
+pub record Apart (owner path : Name) : Type 0 where
+  pub other : same path owner ≡ false
+  pub not-behind : isSome (strip-owner owner path) ≡ false
 
 -- two names with a dot between them
 unfoldable pub dotted : Name → Name → Name

@@ -10,7 +10,7 @@ ghost use Rattle.blocks.specs.Write.{write};
 ghost use Rattle.wire.specs.Poke.{Wrote};
 ghost use Rattle.marks.specs.Mark.{markOf};
 ghost use Rattle.builder.specs.Names.{isSome, strip-owner, normalize-path, canonical-name, rsplit-once, ends-with};
-ghost use Rattle.builder_names.specs.Views.{alone, RestIs, colons, colonsBefore, place, Parts, aliasOf, KeyIs};
+ghost use Rattle.builder_names.specs.Views.{Apart, RestIs, colons, colonsBefore, place, Parts, aliasOf, KeyIs};
 
 // The place of a `::`, if there is one.
 pub enum Split {
@@ -44,8 +44,26 @@ fn begins_with_owner(owner: &[u8], path: &[u8]) -> bool
     wire::same_name(&path[..n], owner)
 }
 
-// Where the normal path begins in the path.
-fn normal_start(owner: &[u8], path: &[u8]) -> usize
+// Whether a path's length, or its byte where a dot would stand behind the owner, shows that it neither is the owner nor begins with
+// it: so with most paths, and then no bytes are compared.
+fn is_apart(owner: &[u8], path: &[u8]) -> bool
+    ensures { λ r. ⌜ (r ≡ true → Apart (now (owner .entry)) (now (path .entry))) ⌝ }
+{
+    let n = owner.len();
+    if path.len() < n {
+        return true;
+    }
+    if path.len() == n {
+        return false;
+    }
+    if path[n] == 0x2E {
+        return false;
+    }
+    true
+}
+
+// Where the normal path begins in the path, by comparing them.
+fn compared_start(owner: &[u8], path: &[u8]) -> usize
     ensures { λ r. ⌜ r ≤ length (now (path .entry)) ⌝ }
     ensures { λ r. ⌜ normalize-path (now (owner .entry)) (now (path .entry)) ≡ drop r (now (path .entry)) ⌝ }
 {
@@ -58,6 +76,17 @@ fn normal_start(owner: &[u8], path: &[u8]) -> usize
     0
 }
 
+// Where the normal path begins in the path.
+fn normal_start(owner: &[u8], path: &[u8]) -> usize
+    ensures { λ r. ⌜ r ≤ length (now (path .entry)) ⌝ }
+    ensures { λ r. ⌜ normalize-path (now (owner .entry)) (now (path .entry)) ≡ drop r (now (path .entry)) ⌝ }
+{
+    if is_apart(owner, path) {
+        return 0;
+    }
+    compared_start(owner, path)
+}
+
 // The path without its owner: a part of the caller's path, empty where the path is the owner.
 pub fn normalize_path<'a>(owner: &[u8], path: &'a [u8]) -> &'a [u8]
     ensures { λ r. ⌜ now r ≡ normalize-path (now (owner .entry)) (now (path .entry)) ⌝ }
@@ -66,24 +95,25 @@ pub fn normalize_path<'a>(owner: &[u8], path: &'a [u8]) -> &'a [u8]
     &path[a..]
 }
 
-// Whether the canonical name is the owner itself.
-fn is_owner_alone(owner: &[u8], path: &[u8]) -> bool
-    ensures { λ r. ⌜ r ≡ alone (now (owner .entry)) (now (path .entry)) ⌝ }
-{
-    if path.len() == 0 {
-        return true;
-    }
-    wire::same_name(path, owner)
-}
-
 // What stands behind the owner in the canonical name.
 fn rest_of(owner: &[u8], path: &[u8]) -> Rest
     ensures { λ r. ⌜ RestIs (now (owner .entry)) (now (path .entry)) r ⌝ }
 {
-    if is_owner_alone(owner, path) {
+    let n = path.len();
+    if n == 0 {
         return Rest::Nothing;
     }
-    Rest::From(normal_start(owner, path))
+    if is_apart(owner, path) {
+        return Rest::From(0);
+    }
+    let a = compared_start(owner, path);
+    if n != owner.len() {
+        return Rest::From(a);
+    }
+    if a != n {
+        return Rest::From(a);
+    }
+    Rest::Nothing
 }
 
 // How many bytes the canonical name has.

@@ -1,29 +1,22 @@
--- `builder_names::normal_start` meets its contract: the path is the owner, begins with it and a dot, or is whole. Assumes nothing.
+-- `builder_names::normal_start` meets its contract: the path is apart from the owner, or the two are compared. Assumes nothing.
+use Rattle.builder_names.proofs.Strip.{normal-apart}
 use native.Mathlib.Omega.{arith}
-use Rattle.builder_names.proofs.Strip.{found-fits, normals}
 use borrow.Author.Needs.{needs}
 use Rattle.builder_names.proofs.normal_start.Statement.{statement}
 use Rattle.builder_names.proofs.normal_start.Tie as tie
 
-same-name-requires : tie.Need-same-name-requires
-same-name-requires c κs = search needs
+is-apart-requires : tie.Need-is-apart-requires
+is-apart-requires c κs = search needs
 
 returns : tie.Need-returns
-returns c = (omega arith, search normals)
+returns c = (omega arith, normal-apart _ _ (c .before .is-apart .ensures (c .if1 .taken)))
 
-begins-with-owner-requires : tie.Need-begins-with-owner-requires
-begins-with-owner-requires c κs = search needs
-
-add-result : tie.Need-add-result
-add-result c = search needs
+compared-start-requires : tie.Need-compared-start-requires
+compared-start-requires c κs = search needs
 
 returns-2 : tie.Need-returns-2
-returns-2 c = (search found-fits, search normals)
-
-returns-3 : tie.Need-returns-3
-returns-3 c = (omega arith, search normals)
+returns-2 c = search needs
 
 pub normal-start-spec : {M : Type 1} → statement M
 normal-start-spec =
-    tie.close
-    (tie.spec same-name-requires returns begins-with-owner-requires add-result returns-2 returns-3)
+    tie.close (tie.spec is-apart-requires returns compared-start-requires returns-2)
