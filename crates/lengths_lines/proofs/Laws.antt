@@ -8,11 +8,10 @@ use native.Mathlib.Nat.{add-mul, mul-left-comm, div-eq-of-lt-le}
 use native.Mathlib.Omega.{arith}
 use borrow.Author.Tests.{lt-ltb, le-ltb, eq-eqb, ne-eqb, le-leb, lt-leb, leb-true}
 use lib.Dec.{leb}
-use lib.ListN.{length, take, length-take}
-use lib.Seq.{getD-take}
+use lib.ListN.{length}
 use Rattle.errors.specs.Refusal.{done, refused, _>>=_, ask, plain, enough, BufferTooSmall}
 use Rattle.errors.proofs.Laws.{done-one, not-done, asked, bound}
-use Rattle.blocks.specs.Bytes.{le, le2, le4, le8}
+use Rattle.blocks.specs.Bytes.{le2, le8}
 use Rattle.blocks.specs.Name.{Name}
 use Rattle.blocks.specs.Tree.{Tree}
 use Rattle.blocks.specs.Read.{small, readLayout, readRun}
@@ -29,10 +28,11 @@ use Rattle.errors.specs.declared.Answer.{Answer}
 use Rattle.errors.specs.declared.Answer.the-variants as answer
 use Rattle.errors.specs.Meaning.{refusalOf, outcomeOf}
 use Rattle.interpreter_validate.proofs.Laws.{run-at}
-use Rattle.lengths_definition.specs.Lengths.{digits, decimal, fill, line, stopped, next-block, run-length, answer-lines}
-use Rattle.lengths_lines.specs.declared.Header.the-variants as header
+use Rattle.reader_leaf.specs.declared.Read.the-variants.{Ok}
+use Rattle.reader_calls.specs.Inputs.{readCall, passed, passedOf}
+use Rattle.lengths_definition.specs.Lengths.{digits, decimal, fill, line, stopped, run-length, answer-lines}
 use Rattle.lengths_lines.specs.declared.Printed.the-variants as printed
-use Rattle.lengths_lines.specs.Lines.{from-header, Answered, AcceptedRun}
+use Rattle.lengths_lines.specs.Lines.{IsLayout, Answered, AcceptedRun}
 
 -- ---- decimal
 
@@ -71,6 +71,10 @@ stopped-puts q g h i = both g (both h i)
 
 -- ---- fill
 
+-- a length of one byte or more is not 0
+pub positive : {n : ℕ} → 0 < n → n ≡ 0 → ⊥
+positive h e = omega arith
+
 -- i counts come to so many whole lengths and a rest
 pub record Filled (count len i whole rest : ℕ) : Type 0 where
   pub turns : i ≤ 100
@@ -99,6 +103,11 @@ filled : (count len q : ℕ) → (len ≡ 0 → ⊥) → q * (2 * len) ≤ 200 *
 unfolding fill
 filled count len q h a b = rw (ne-eqb len 0 h) (sym (div-eq-of-lt-le (2 * len) a b))
 
+-- where the products are not too large, it is what they say
+pub fill-short : (count len : ℕ) → (len ≡ 0 → ⊥) → (200 * count + len) / (2 * len) ≡ fill count len
+unfolding fill
+fill-short count len h = rw (ne-eqb len 0 h)
+
 -- two may be taken out of the product
 twice : (q len : ℕ) → q * (2 * len) ≡ 2 * (q * len)
 twice q len = mul-left-comm q 2 len
@@ -119,43 +128,6 @@ module _ {count len i whole rest : ℕ} (h : len ≡ 0 → ⊥) (t : 100 ≤ i) 
       filled count len (whole + 1) h (omega (arith, twice (whole + 1) len, add-mul whole 1 len, hundred))
       (omega (arith, twice (whole + 1 + 1) len, add-mul (whole + 1) 1 len, add-mul whole 1 len, hundred, f .below))
 
--- ---- the first bytes of a block
-
-module _ (h s : List ℕ) (e : take 4 s ≡ take 4 h) where
-  -- too short is too short, whichever of the two is looked at
-  same-length : length h < 4 → length s < 4
-  same-length g = omega (arith, length-take 4 s, length-take 4 h, ap length e)
-
-  -- and so is long enough
-  long-enough : 4 ≤ length h → 4 ≤ length s
-  long-enough g = omega (arith, length-take 4 s, length-take 4 h, ap length e)
-
-  -- both have the same length field
-  same-number : le4 h 0 ≡ le4 s 0
-  unfolding le
-  same-number = sym (first-four h) ∙ ap (λ (z : List ℕ). le4 z 0) (sym e) ∙ first-four s
-    where
-      first-four : (z : List ℕ) → le4 (take 4 z) 0 ≡ le4 z 0
-      first-four z = rw (getD-take 4 z 0 0 (omega arith), getD-take 4 z 1 0 (omega arith), getD-take 4 z 2 0 (omega arith), getD-take 4 z 3 0 (omega arith))
-
--- there are too few bytes for a length field
-pub header-cut : (h : List ℕ) → length h < 4 → (s : List ℕ) → take 4 s ≡ take 4 h → next-block s ≡ from-header (header.Refused 2) s
-unfolding next-block from-header ask _>>=_
-header-cut h g s e = rw (lt-leb _ _ (same-length h s e g))
-
--- the block is too long
-pub header-large : (h : List ℕ) {n : ℕ} → 4 ≤ length h → n ≡ le4 h 0 → 65536 < 4 + n → (s : List ℕ) → take 4 s ≡ take 4 h → next-block s ≡ from-header (header.Refused 1) s
-unfolding next-block from-header ask _>>=_
-header-large h g en f s e = let l : 65536 < 4 + le4 s 0 = omega (arith, same-number h s e) in rw (le-leb _ _ (long-enough h s e g), lt-leb _ _ l)
-
--- the block is as long as its length field says
-pub header-fits : (h : List ℕ) {n : ℕ} → 4 ≤ length h → n ≡ le4 h 0 → 4 + n ≤ 65536 → (s : List ℕ) → take 4 s ≡ take 4 h → next-block s ≡ from-header (header.Fits (4 + n)) s
-unfolding next-block from-header ask _>>=_
-header-fits h {n} g en f s e =
-    let k : 4 + n ≡ 4 + le4 s 0 = omega (arith, same-number h s e) in
-    let l : 4 + le4 s 0 ≤ 65536 = omega arith in
-    rw (k, le-leb _ _ (long-enough h s e g), le-leb _ _ l)
-
 -- ---- a run's buffer length
 
 -- the name and the buffer length lie in the bytes
@@ -174,6 +146,13 @@ length-of s e = rw e
 -- it is the number behind the name
 pub length-is : {s : List ℕ} {n r : ℕ} → AcceptedRun s → n ≡ le2 s 6 → r ≡ le8 s (8 + n) → r ≡ run-length s
 length-is {s} a e f = f ∙ sym (length-of s (a .read) ∙ run-at (a .read) e .long)
+
+-- ---- a layout that was read
+
+-- its questions are passed
+pub layout-passed : {s : List ℕ} → IsLayout s → passedOf (Ok 0) ≡ passed (readCall readLayout 8192 s)
+unfolding passedOf passed readCall enough small ask _>>=_
+layout-passed l = rw (le-leb _ _ (l .small), l .read .1)
 
 -- ---- what an accepted run says
 

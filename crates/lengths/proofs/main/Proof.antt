@@ -1,120 +1,117 @@
--- `lengths::main` is safe: a block and a layout fit their arrays. Assumes nothing.
-use mathlib.Core.Path.{ap}
+-- `lengths::main` is safe: what is held, the layout and the lines lie in their arrays. Assumes nothing.
+use Prim.Native.Nat.{ℕ}
+use mathlib.Core.Path.{_≡_, _∙_}
 use native.Mathlib.Omega.{arith}
-use Rattle.io.proofs.Counting.{front}
-use Rattle.lengths.specs.Next.{lengthOf}
+use lib.ListN.{length, length-replicate}
 use borrow.Author.Needs.{needs}
+use Rattle.lengths_program.specs.Calls.{Given}
+use Rattle.lengths_program.proofs.Given.{given-set, given-read, given-again}
 use Rattle.lengths.proofs.main.Statement.{statement}
 use Rattle.lengths.proofs.main.Tie as tie
 
-slice-aggregate-read-block : tie.Need-slice-aggregate-read-block
-slice-aggregate-read-block c = search needs
+abbrev Inv-loop : tie.InvT-loop
+Inv-loop input₀ layout₀ out₀ state₀ calls₀ input layout out state calls =
+    (length input ≡ 262144) × (length out ≡ 131072) × Given state input layout out
 
-read-block-requires : tie.Need-read-block-requires
-read-block-requires c κs = search needs
+abbrev μ-loop : tie.MeasureT-loop
+μ-loop input₀ layout₀ out₀ state₀ calls₀ input layout out state calls = calls
 
-enum-told : tie.Need-enum-told
-enum-told c = search needs
+start-requires : tie.Need-start-requires Inv-loop μ-loop
+start-requires c κs = search needs
 
-print-stopped-requires : tie.Need-print-stopped-requires
-print-stopped-requires c κs = search needs
+loop-holds : tie.Need-loop-holds Inv-loop μ-loop
+loop-holds c = (
+  length-replicate {A = ℕ} 262144 0,
+  length-replicate {A = ℕ} 131072 0,
+  given-set
+      (c .start .ensures .stage)
+      (omega (arith, c .start .ensures .held))
+      (omega (arith, length-replicate {A = ℕ} 262144 0))
+      (length-replicate {A = ℕ} 65536 0)
+      (record { line = omega (arith, length-replicate {A = ℕ} 131072 0); few = omega (arith, length-replicate {A = ℕ} 131072 0) }),
+)
 
-enum-known-q : tie.Need-enum-known-q
-enum-known-q c = search needs
+slice-aggregate-read-more : tie.Need-slice-aggregate-read-more Inv-loop μ-loop
+slice-aggregate-read-more c = search needs
 
-print-stopped-requires-2 : tie.Need-print-stopped-requires-2
-print-stopped-requires-2 c κs = search needs
+read-more-requires : tie.Need-read-more-requires Inv-loop μ-loop
+read-more-requires c κs = let at-loop = c .before .before in (at-loop .loop .inv .2 .held, at-loop .loop .inv .2 .few)
 
-enum-known-n : tie.Need-enum-known-n
-enum-known-n c = search needs
+-- The places, each seen from a later one: what was known there.
+abbrev at-read-more : tie.After-out Inv-loop μ-loop → tie.After-read-more Inv-loop μ-loop
+at-read-more r = r .before .before .before .before
 
-array-share-prefix-block : tie.Need-array-share-prefix-block
-array-share-prefix-block c =
-    let at-read-block = c .before .before .before .before in
-    omega (arith, ap lengthOf (c .before .n .given .1), at-read-block .read-block .ensures, at-read-block .read-block .kept .0)
+abbrev at-loop : tie.After-read-more Inv-loop μ-loop → tie.At-loop Inv-loop μ-loop
+at-loop r = r .before .before .before
 
-slice-aggregate-build-set : tie.Need-slice-aggregate-build-set
-slice-aggregate-build-set c =
-    let at-n = c .before .before in
-    let at-read-block = at-n .before .before .before in
-    front _ _ (omega (arith, ap lengthOf (at-n .n .given .1), at-read-block .read-block .ensures, at-read-block .read-block .kept .0))
+slice-aggregate-lines : tie.Need-slice-aggregate-lines Inv-loop μ-loop
+slice-aggregate-lines c = search needs
 
-slice-aggregate-build-set-2 : tie.Need-slice-aggregate-build-set-2
-slice-aggregate-build-set-2 c = search needs
+slice-aggregate-lines-2 : tie.Need-slice-aggregate-lines-2 Inv-loop μ-loop
+slice-aggregate-lines-2 c = search needs
 
-slice-aggregate-build-set-3 : tie.Need-slice-aggregate-build-set-3
-slice-aggregate-build-set-3 c = search needs
+slice-aggregate-lines-3 : tie.Need-slice-aggregate-lines-3 Inv-loop μ-loop
+slice-aggregate-lines-3 c = search needs
 
-build-set-requires : tie.Need-build-set-requires
-build-set-requires c κs = search needs
+lines-requires : tie.Need-lines-requires Inv-loop μ-loop
+lines-requires c κs =
+    let r = at-read-more c in
+    given-read (at-loop r .loop .inv .2) (r .read-more .ensures .0) (r .read-more .ensures .1) (r .read-more .kept .1 .0)
 
-enum-known-r : tie.Need-enum-known-r
-enum-known-r c = search needs
+slice-aggregate-print : tie.Need-slice-aggregate-print Inv-loop μ-loop
+slice-aggregate-print c = search needs
 
-print-stopped-requires-3 : tie.Need-print-stopped-requires-3
-print-stopped-requires-3 c κs = search needs
+print-requires : tie.Need-print-requires Inv-loop μ-loop
+print-requires c κs = c .before .before .before .before .lines .ensures .wrote
 
-enum-known-m : tie.Need-enum-known-m
-enum-known-m c = search needs
+has-ended-requires : tie.Need-has-ended-requires Inv-loop μ-loop
+has-ended-requires c κs = search needs
 
-array-share-prefix-layout : tie.Need-array-share-prefix-layout
-array-share-prefix-layout c = search needs
-
-slice-aggregate-answer-runs : tie.Need-slice-aggregate-answer-runs
-slice-aggregate-answer-runs c =
-    let at-build-set = c .before .before .before .before .before .before .before in
-    front _ _ (omega (arith, c .before .if1 .taken, at-build-set .build-set .kept .1 .0))
-
-slice-aggregate-answer-runs-2 : tie.Need-slice-aggregate-answer-runs-2
-slice-aggregate-answer-runs-2 c = search needs
-
-slice-aggregate-answer-runs-3 : tie.Need-slice-aggregate-answer-runs-3
-slice-aggregate-answer-runs-3 c = search needs
-
-answer-runs-requires : tie.Need-answer-runs-requires
-answer-runs-requires c κs = search needs
-
-returns : tie.Need-returns
+returns : tie.Need-returns Inv-loop μ-loop
 returns c = search needs
 
-returns-2 : tie.Need-returns-2
+sub-calls : tie.Need-sub-calls Inv-loop μ-loop
+sub-calls c = search needs
+
+loop-less : tie.Need-loop-less Inv-loop μ-loop
+loop-less c = search needs
+
+loop-again : tie.Need-loop-again Inv-loop μ-loop
+loop-again c =
+    let at-lines = c .before .before .before .before .before .before .before in
+    let r = at-read-more (at-lines .before) in (
+      at-lines .lines .kept .1 .0 ∙ r .read-more .kept .1 .0 ∙ at-loop r .loop .inv .0,
+      at-lines .lines .kept .1 .1 .1 .0 ∙ at-loop r .loop .inv .1,
+      given-again
+          (at-loop r .loop .inv .2)
+          (at-lines .lines .ensures)
+          (at-lines .lines .kept .1 .0 ∙ r .read-more .kept .1 .0)
+          (at-lines .lines .kept .1 .1 .0)
+          (at-lines .lines .kept .1 .1 .1 .0),
+    )
+
+returns-2 : tie.Need-returns-2 Inv-loop μ-loop
 returns-2 c = search needs
-
-returns-3 : tie.Need-returns-3
-returns-3 c = search needs
-
-returns-4 : tie.Need-returns-4
-returns-4 c = search needs
-
-returns-5 : tie.Need-returns-5
-returns-5 c = search needs
 
 pub main-spec : {M : Type 1} → statement M
 main-spec =
     tie.close
     (tie.spec
-    slice-aggregate-read-block
-    read-block-requires
-    enum-told
-    print-stopped-requires
-    enum-known-q
-    print-stopped-requires-2
-    enum-known-n
-    array-share-prefix-block
-    slice-aggregate-build-set
-    slice-aggregate-build-set-2
-    slice-aggregate-build-set-3
-    build-set-requires
-    enum-known-r
-    print-stopped-requires-3
-    enum-known-m
-    array-share-prefix-layout
-    slice-aggregate-answer-runs
-    slice-aggregate-answer-runs-2
-    slice-aggregate-answer-runs-3
-    answer-runs-requires
+    Inv-loop
+    μ-loop
+    start-requires
+    loop-holds
+    slice-aggregate-read-more
+    read-more-requires
+    slice-aggregate-lines
+    slice-aggregate-lines-2
+    slice-aggregate-lines-3
+    lines-requires
+    slice-aggregate-print
+    print-requires
+    has-ended-requires
     returns
-    returns-2
-    returns-3
-    returns-4
-    returns-5)
+    sub-calls
+    loop-less
+    loop-again
+    returns-2)

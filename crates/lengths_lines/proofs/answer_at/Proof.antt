@@ -1,38 +1,38 @@
 -- `answer_at` meets its contract: a count is at most the buffer length, so the fill is that of the definition.
-use borrow.Author.Needs.{needs}
 use native.Mathlib.Omega.{arith}
-use Rattle.lengths_lines.proofs.Laws.{run-accepted, run-within, answers-count, answers-stop, answers-refused}
+use Rattle.lengths_lines.proofs.Laws.{layout-passed, run-accepted, run-within, answers-count, answers-stop, answers-refused}
+use borrow.Author.Needs.{needs}
 use Rattle.lengths_lines.proofs.answer_at.Statement.{statement}
 use Rattle.lengths_lines.proofs.answer_at.Tie as tie
 
-validate-run-requires : tie.Need-validate-run-requires
-validate-run-requires c κs = search needs
+slice-aggregate-answer : tie.Need-slice-aggregate-answer
+slice-aggregate-answer c = search needs
+
+answer-requires : tie.Need-answer-requires
+answer-requires c κs = (layout-passed (c .before .before .before .before .pre .0), λ h. omega arith)
 
 enum-known-count : tie.Need-enum-known-count
 enum-known-count c = search needs
+
+low-requires : tie.Need-low-requires
+low-requires c κs = search needs
 
 -- The places, each seen from a later one: what was known there.
 abbrev at-count : tie.After-low → tie.After-count
 at-count r = r .before .before
 
-abbrev at-validate-run : tie.After-low → tie.After-validate-run
-at-validate-run r = at-count r .before .before .before .before
-
-low-requires : tie.Need-low-requires
-low-requires c κs = search needs
+abbrev at-answer : tie.After-low → tie.After-answer
+at-answer r = at-count r .before .before .before
 
 run-length-requires : tie.Need-run-length-requires
 run-length-requires c κs =
-    run-accepted _ _ _
-    (at-validate-run c .validate-run .ensures .0)
-    (at-count c .count .given .1)
-    (c .low .ensures)
+    run-accepted _ _ _ (at-answer c .answer .ensures .1) (at-count c .count .given .1) (c .low .ensures)
 
 fill-requires : tie.Need-fill-requires
 fill-requires c κs =
     let at-low = c .before in
     run-within _ _ _
-    (at-validate-run at-low .validate-run .ensures .0)
+    (at-answer at-low .answer .ensures .1)
     (at-count at-low .count .given .1)
     (at-low .low .ensures)
     (c .run-length .ensures)
@@ -49,21 +49,18 @@ put-stopped-requires c κs = search needs
 same-length : tie.Need-same-length
 same-length c = search needs
 
-same-length-2 : tie.Need-same-length-2
-same-length-2 c = search needs
-
 returns : tie.Need-returns
 returns c =
     let at-put-stopped = c .before .before in
     let at-then1 = at-put-stopped .before .before in
     let at-r = at-then1 .before .before .before in
-    let at-validate-run = at-r .before .before .before .before in (
+    let at-answer = at-r .before .before .before in (
       answers-stop _ _ _
-          (at-validate-run .validate-run .ensures .0)
+          (at-answer .answer .ensures .1)
           (at-r .r .given .1) _
           (at-then1 .if1 .taken)
           (at-put-stopped .put-stopped .ensures .0),
-      (at-validate-run .validate-run .ensures .1, omega arith),
+      omega arith,
     )
 
 low-requires-2 : tie.Need-low-requires-2
@@ -72,11 +69,8 @@ low-requires-2 c κs = search needs
 put-line-requires-2 : tie.Need-put-line-requires-2
 put-line-requires-2 c κs = search needs
 
-same-length-3 : tie.Need-same-length-3
-same-length-3 c = search needs
-
-same-length-4 : tie.Need-same-length-4
-same-length-4 c = search needs
+same-length-2 : tie.Need-same-length-2
+same-length-2 c = search needs
 
 returns-2 : tie.Need-returns-2
 returns-2 c =
@@ -85,20 +79,17 @@ returns-2 c =
     let at-run-length = at-fill .before in
     let at-low = at-run-length .before in (
       answers-count _ _ _
-          (at-validate-run at-low .validate-run .ensures .0)
+          (at-answer at-low .answer .ensures .1)
           (at-count at-low .count .given .1)
           (at-low .low .ensures) _
           (at-run-length .run-length .ensures)
           (at-fill .fill .ensures)
           (at-put-line .put-line .ensures .0),
-      (at-validate-run at-low .validate-run .ensures .1, omega arith),
+      omega arith,
     )
 
-same-length-5 : tie.Need-same-length-5
-same-length-5 c = search needs
-
-same-length-6 : tie.Need-same-length-6
-same-length-6 c = search needs
+same-length-3 : tie.Need-same-length-3
+same-length-3 c = search needs
 
 returns-3 : tie.Need-returns-3
 returns-3 c =
@@ -106,21 +97,22 @@ returns-3 c =
     let at-low2 = at-put-line2 .before in
     let at-else1 = at-low2 .before .before in
     let at-r = at-else1 .before .before .before in
-    let at-validate-run = at-r .before .before .before .before in (
+    let at-answer = at-r .before .before .before in (
       answers-refused _ _ _
-          (at-validate-run .validate-run .ensures .0)
+          (at-answer .answer .ensures .1)
           (at-r .r .given .1) _
           (at-else1 .if1 .left)
           (at-low2 .low2 .ensures)
           (at-put-line2 .put-line2 .ensures .0),
-      (at-validate-run .validate-run .ensures .1, omega arith),
+      omega arith,
     )
 
 pub answer-at-spec : {M : Type 1} → statement M
 answer-at-spec =
     tie.close
     (tie.spec
-    validate-run-requires
+    slice-aggregate-answer
+    answer-requires
     enum-known-count
     low-requires
     run-length-requires
@@ -129,13 +121,10 @@ answer-at-spec =
     enum-known-r
     put-stopped-requires
     same-length
-    same-length-2
     returns
     low-requires-2
     put-line-requires-2
-    same-length-3
-    same-length-4
+    same-length-2
     returns-2
-    same-length-5
-    same-length-6
+    same-length-3
     returns-3)

@@ -1,90 +1,42 @@
--- `fill` meets its contract. The loop's invariant: i counts are the whole lengths and the rest.
-use Prim.Native.Nat.{_-_}
-use mathlib.Core.Logic.{⊎-elim}
+-- `fill` meets its contract: it is what the definition says, or the longer way comes to it.
+use Rattle.lengths_lines.proofs.Laws.{fill-none, fill-short}
 use borrow.Author.Needs.{needs}
-use Rattle.lengths_lines.proofs.Laws.{Filled, fill-none, fill-in, fill-over, fill-down, fill-up}
 use Rattle.lengths_lines.proofs.fill.Statement.{statement}
 use Rattle.lengths_lines.proofs.fill.Tie as tie
 
-abbrev Inv-loop : tie.InvT-loop
-Inv-loop count len short whole₀ rest₀ i₀ whole rest i = Filled count len i whole rest
-
-abbrev μ-loop : tie.MeasureT-loop
-μ-loop count len short whole₀ rest₀ i₀ whole rest i = 100 - i
-
-returns : tie.Need-returns Inv-loop μ-loop
+returns : tie.Need-returns
 returns c = fill-none _ _ (c .if1 .taken)
 
-sub-short : tie.Need-sub-short Inv-loop μ-loop
-sub-short c = search needs
+mul-result : tie.Need-mul-result
+mul-result c = search needs
 
-loop-holds : tie.Need-loop-holds Inv-loop μ-loop
-loop-holds c = search needs
-
-add-rest : tie.Need-add-rest Inv-loop μ-loop
-add-rest c = search needs
-
-add-whole : tie.Need-add-whole Inv-loop μ-loop
-add-whole c = search needs
-
-add-i : tie.Need-add-i Inv-loop μ-loop
-add-i c = search needs
-
-loop-less : tie.Need-loop-less Inv-loop μ-loop
-loop-less c = search needs
-
-loop-again : tie.Need-loop-again Inv-loop μ-loop
-loop-again c =
-    let at-loop = c .before .before in
-    let at-start = at-loop .before .before in
-    ⊎-elim
-    (λ w. fill-in (c .before .loop-test .taken) (at-loop .loop .inv) (w .0 .taken) (w .1) (w .2))
-    (λ w. fill-over
-    (c .before .loop-test .taken)
-    (at-loop .loop .inv)
-    (at-start .pre)
-    (w .0 .left)
-    (w .1)
-    (w .2))
-    (c .if2 .came)
-
-sub-if3 : tie.Need-sub-if3 Inv-loop μ-loop
-sub-if3 c = search needs
-
-returns-2 : tie.Need-returns-2 Inv-loop μ-loop
-returns-2 c =
-    let at-loop = c .before .before in
-    let at-else1 = at-loop .before in
-    fill-down
-    (at-else1 .if1 .left)
-    (c .before .loop-test .left)
-    (at-loop .loop .inv)
-    (c .if3 .taken)
-
-add-result : tie.Need-add-result Inv-loop μ-loop
+add-result : tie.Need-add-result
 add-result c = search needs
 
-returns-3 : tie.Need-returns-3 Inv-loop μ-loop
-returns-3 c =
-    let at-loop = c .before .before in
-    let at-else1 = at-loop .before in
-    fill-up (at-else1 .if1 .left) (c .before .loop-test .left) (at-loop .loop .inv) (c .if3 .left)
+mul-result-2 : tie.Need-mul-result-2
+mul-result-2 c = search needs
+
+div-result : tie.Need-div-result
+div-result c = search needs
+
+returns-2 : tie.Need-returns-2
+returns-2 c = fill-short _ _ (c .before .if1 .left)
+
+long-fill-requires : tie.Need-long-fill-requires
+long-fill-requires c κs = search needs
+
+returns-3 : tie.Need-returns-3
+returns-3 c = search needs
 
 pub fill-spec : {M : Type 1} → statement M
 fill-spec =
     tie.close
     (tie.spec
-    Inv-loop
-    μ-loop
     returns
-    sub-short
-    loop-holds
-    add-rest
-    add-whole
-    add-i
-    loop-less
-    loop-again
-    sub-if3
-    returns-2
+    mul-result
     add-result
+    mul-result-2
+    div-result
+    returns-2
+    long-fill-requires
     returns-3)
