@@ -12,7 +12,8 @@ ghost use Prim.Native.Nat.{ℕ};
 ghost use lib.ListN.{length};
 ghost use Rattle.errors.specs.Refusal.{words-after};
 ghost use Rattle.errors.specs.Meaning.{outcomeOf};
-ghost use Rattle.interpreter.specs.Validate.{validate, validate-run};
+ghost use Rattle.value.specs.Number.{numberOf};
+ghost use Rattle.interpreter.specs.Validate.{fits-buffer, validate, validate-run};
 ghost use Rattle.interpreter_validate.specs.declared.Ask.the-variants.{Values, Run};
 ghost use Rattle.interpreter_validate.specs.Validator.{kindOf, callOf, Asked, outcomeIn, fitted, Located, Given, TypeAnswers, Answers, Called, Lent};
 
@@ -33,21 +34,27 @@ fn kind(ask: Ask) -> usize
     }
 }
 
-// What evaluating left in its four words: a refusal, or a count. 25, last: whether the count is at most the buffer length.
+// 25, last: whether the count is at most the buffer length.
+fn fitting(n: Value, place: usize, len: u64) -> Answer
+    ensures { λ r. ⌜ outcomeOf r ≡ fits-buffer place len (numberOf n) ⌝ }
+{
+    if n.at_most(len) {
+        return Answer::Count(n);
+    }
+    Answer::Refused(Refusal {
+        number: 25,
+        place,
+        offset: 0,
+        value: n,
+    })
+}
+
+// What evaluating left in its four words: a count, or a refusal.
 fn outcome(ok: bool, out: &[u64; 4], place: usize, len: u64) -> Answer
     ensures { λ r. ⌜ outcomeOf r ≡ fitted place len (outcomeIn ok (now (out .entry))) ⌝ }
 {
     if ok {
-        let n = Value::of(out[0]);
-        if n.at_most(len) {
-            return Answer::Count(n);
-        }
-        return Answer::Refused(Refusal {
-            number: 25,
-            place,
-            offset: 0,
-            value: n,
-        });
+        return fitting(Value::of(out[0]), place, len);
     }
     Answer::Refused(Refusal {
         number: out[0],

@@ -1,5 +1,4 @@
--- `outcome` meets its contract: a count above the buffer length is a 25; a refusal stays.
-use mathlib.Core.Path.{sym, _∙_}
+-- `outcome` meets its contract: the words that evaluating left say no other outcome.
 use Rattle.errors.specs.Refusal.{_>>=_}
 use Rattle.errors.specs.Meaning.{refusalOf}
 use Rattle.interpreter_validate.specs.Validator.{fitted}
@@ -13,31 +12,23 @@ element-copy-out-of c = search needs
 of-requires : tie.Need-of-requires
 of-requires c κs = search needs
 
-at-most-requires : tie.Need-at-most-requires
-at-most-requires c κs = search needs
+fitting-requires : tie.Need-fitting-requires
+fitting-requires c κs = search needs
 
 returns : tie.Need-returns
 unfolding fitted _>>=_
 returns c =
-    let at-of = c .before .before in
-    let at-if1 = at-of .before .before in
-    rw (at-if1 .if1 .taken, ← at-of .of .ensures, sym (c .before .at-most .ensures) ∙ c .if2 .taken)
+    let at-of = c .before in
+    rw (at-of .before .before .if1 .taken, ← at-of .of .ensures) (c .fitting .ensures)
 
-returns-2 : tie.Need-returns-2
-unfolding fitted _>>=_ refusalOf
-returns-2 c =
-    let at-of = c .before .before in
-    let at-if1 = at-of .before .before in
-    rw (at-if1 .if1 .taken, ← at-of .of .ensures, sym (c .before .at-most .ensures) ∙ c .if2 .left)
+element-copy-out-t12 : tie.Need-element-copy-out-t12
+element-copy-out-t12 c = search needs
 
-element-copy-out-t14 : tie.Need-element-copy-out-t14
-element-copy-out-t14 c = search needs
+element-copy-out-t15 : tie.Need-element-copy-out-t15
+element-copy-out-t15 c = search needs
 
-element-copy-out-t17 : tie.Need-element-copy-out-t17
-element-copy-out-t17 c = search needs
-
-element-copy-out-t21 : tie.Need-element-copy-out-t21
-element-copy-out-t21 c = search needs
+element-copy-out-t19 : tie.Need-element-copy-out-t19
+element-copy-out-t19 c = search needs
 
 element-copy-out-of-2 : tie.Need-element-copy-out-of-2
 element-copy-out-of-2 c = search needs
@@ -45,9 +36,9 @@ element-copy-out-of-2 c = search needs
 of-requires-2 : tie.Need-of-requires-2
 of-requires-2 c κs = search needs
 
-returns-3 : tie.Need-returns-3
+returns-2 : tie.Need-returns-2
 unfolding fitted _>>=_ refusalOf
-returns-3 c =
+returns-2 c =
     let at-else1 = c .before .before .before .before .before in
     rw (at-else1 .if1 .left, c .of2 .ensures)
 
@@ -57,12 +48,11 @@ outcome-spec =
     (tie.spec
     element-copy-out-of
     of-requires
-    at-most-requires
+    fitting-requires
     returns
-    returns-2
-    element-copy-out-t14
-    element-copy-out-t17
-    element-copy-out-t21
+    element-copy-out-t12
+    element-copy-out-t15
+    element-copy-out-t19
     element-copy-out-of-2
     of-requires-2
-    returns-3)
+    returns-2)
