@@ -79,7 +79,7 @@ build_seeds() {
     "$clang" -std=c11 -O1 -Wall -Wextra -Wpedantic -Werror "$here/seeds.c" "$here/limits.c" "$here/damage.c" "$here/blocks.c" \
         "$here/input.c" -o "$work/seeds-of" || stop "seeds.c does not compile"
     rm -rf "$work/seeds" "$work/once" "$work/blocks"
-    mkdir -p "$work/seeds" "$work/once" "$work/blocks" "$work/corpus"
+    mkdir -p "$work/seeds/short" "$work/seeds/long" "$work/once/short" "$work/once/long" "$work/blocks" "$work/corpus" "$work/corpus-long"
     # The inputs that take long: small ones and ones with full registries are mutated, those of 65,000 bytes are tried once.
     "$top/judge/run" slow "$work/blocks" || stop "the judge does not write the inputs that take long"
     seeds=$("$work/seeds-of" "$work/seeds" "$top/judge/vectors/answers.bin" "$top/examples/trip" \

@@ -2,7 +2,8 @@
  * seeds FOLDER ANSWERS EXAMPLE BLOCK...: writes the inputs from which the fuzzer starts, one file each: the calls of the stored list
  * (form: judge/vectors/README.md), some of them damaged at every part, the example of document 01, inputs at the limits, and the
  * sets (*.set) and layouts (*.layout) that are named. Of the stored answers only the number is used, to tell good inputs from others;
- * the driver answers anew. seeds --blocks FOLDER BLOCK...: the named ones alone.
+ * the driver answers anew. seeds --blocks FOLDER BLOCK...: the named ones alone. In FOLDER they lie in `short` and `long`, which are
+ * there.
  */
 #include "damage.h"
 #include "limits.h"
@@ -12,6 +13,9 @@
 #include <string.h>
 
 #define MOST_BYTES (64 << 20)
+
+/* The length up to which an input is tried among the short ones. */
+#define SHORT 4096
 
 static const char *folder;
 static unsigned long written;
@@ -27,7 +31,7 @@ static void write_seed(const struct attack_input *in)
     static uint8_t out[ATTACK_HEADER + 3 * ATTACK_PART];
     char path[4096];
     const size_t len = attack_write(in, out, sizeof out);
-    snprintf(path, sizeof path, "%s/seed-%05lu", folder, written++);
+    snprintf(path, sizeof path, "%s/%s/seed-%05lu", folder, len > SHORT ? "long" : "short", written++);
     FILE *f = fopen(path, "wb");
     if (f == NULL || fwrite(out, 1, len, f) != len || fclose(f) != 0) {
         perror(path);

@@ -88,6 +88,7 @@ impl Scale {
             set("one-name-split", 18, self.one_name_split()),
             set("cases", 18, self.cases()),
             set("targets", 0, self.targets()),
+            set("jagged", 18, self.jagged()),
         ]
     }
 
@@ -269,6 +270,24 @@ impl Scale {
             fields
         };
         let set = self.callees(&name("o"), |i| format!("{i:03}"));
+        self.with_structs(set, fields)
+    }
+
+    /// 512 parameters, each of which may be an element's of one of the jagged
+    /// arrays of its struct, whose names end alike. Too much for a layout.
+    fn jagged(self) -> Set {
+        let name = |first: &str| first.to_string() + &"j".repeat(98);
+        let array = |i: usize| {
+            let size = Expr::Literal(0, 1);
+            let kind = Kind::Array(true, Box::new(constant("", 1)), size);
+            field(&name(&format!("{i:02}")), None, variable("", kind))
+        };
+        let fields = || {
+            let mut fields = calls_of_all(8);
+            fields.extend((8..self.fields).map(array));
+            fields
+        };
+        let set = self.callees(&name("oo"), |i| format!("element.{i:03}"));
         self.with_structs(set, fields)
     }
 

@@ -20,7 +20,7 @@ use slow::{Call, Slow};
 
 /// Milliseconds of processor time that a call may take on each input. Where it is aimed at a fifth
 /// of the Rust's time from bytes (`judge/run bench --only "take long"`), ten times that.
-const MOST: [(&str, f64); 18] = [
+const MOST: [(&str, f64); 19] = [
     ("calls", 450.0),
     ("references", 14.0),
     ("parameters-64", 0.33),
@@ -32,6 +32,7 @@ const MOST: [(&str, f64); 18] = [
     ("one-name-split", 190.0),
     ("cases", 14.0),
     ("targets", 5.0),
+    ("jagged", 15.0),
     ("types-differ-at-start", 1.0),
     ("types-differ-in-middle", 1.0),
     ("types-differ-at-end", 1.0),
