@@ -71,7 +71,7 @@ static void close_block(struct bytes *b, size_t at)
 }
 
 /* Types that add nothing but their number: a reader may keep more of many names than of a few. */
-#define OTHERS 7
+#define OTHERS 40
 
 /* How the nodes of a layout are nested. */
 enum nesting { ALIGNED, ADDED_LEFT, ADDED_RIGHT, IN_DEFAULT, IN_CASE, NESTINGS };
