@@ -2,7 +2,7 @@
 use mathlib.Core.Path.{_≡_, refl, sym, ap, _∙_}
 use Prim.Native.Nat.{ℕ, _<_}
 use native.Mathlib.Omega.{arith}
-use Rattle.errors.specs.Refusal.{Outcome, done, refused, _>>=_, atType, nowhere}
+use Rattle.errors.specs.Refusal.{Outcome, done, refused, _>>=_, atType}
 use Rattle.answers.specs.Answers.{AnswersIn, Answers, refusalIn}
 
 module _ {A : Type 0} {Made : A → Type 0} {place number : ℕ} where

@@ -1,7 +1,5 @@
 -- `Answer::words`: 0, no place, no offset and the count, or the refusal's words.
-use mathlib.Core.Path.{sym, ap, _∙_}
 use Rattle.errors.specs.Answer.{answerWords}
-use Rattle.errors.specs.Meaning.{outcomeOf}
 use borrow.Author.Needs.{needs}
 use Rattle.errors.proofs.Answer.words.Statement.{statement}
 use Rattle.errors.proofs.Answer.words.Tie as tie

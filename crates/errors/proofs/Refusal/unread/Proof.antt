@@ -1,7 +1,4 @@
 -- `unread`: no place, and the value 0.
-use mathlib.Core.Path.{ap}
-use Prim.Native.Nat.{ℕ}
-use Rattle.errors.specs.Refusal as definition
 use Rattle.errors.specs.Meaning.{refusalOf}
 use borrow.Author.Needs.{needs}
 use Rattle.errors.proofs.Refusal.unread.Statement.{statement}

@@ -1,5 +1,4 @@
 -- `Refusal::words`: the refusal's four numbers.
-use mathlib.Core.Path.{refl}
 use Rattle.errors.specs.Answer.{answerWords}
 use Rattle.errors.specs.Meaning.{refusalOf}
 use borrow.Author.Needs.{needs}
