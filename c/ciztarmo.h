@@ -132,7 +132,7 @@ void ciztarmo_read_run(uint64_t *words, size_t words_len, const uint8_t *run, si
  * every layout that can be built; a smaller one will do where the layout fits.
  *
  * It always ends. Its time grows with what is built, also where that is refused with 18 in the end because it is too long: a set of
- * 65,536 bytes can ask for 70 MB. Of the sets that were made to take long (judge/README.md, "Inputs that take long") the slowest
+ * 65,536 bytes can ask for some 65 MB. Of the sets that were made to take long (judge/README.md, "Inputs that take long") the slowest
  * took 4 s of the processor of docs/BENCH.md.
  */
 void ciztarmo_build_set(uint64_t *words, size_t words_len, const uint8_t *set, size_t set_len, uint8_t *out, size_t out_len,

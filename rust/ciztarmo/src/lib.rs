@@ -87,7 +87,7 @@
 //! somebody that you do not trust.
 //!
 //! Building ends in a time that grows with what is built, also where it is refused in the end
-//! because that is too long: a set of 65,536 bytes can ask for 70 MB. Of the sets that were made to
+//! because that is too long: a set of 65,536 bytes can ask for some 65 MB. Of the sets that were made to
 //! take long (judge/README.md) the slowest took 4 seconds of processor time.
 
 #![no_std]
