@@ -4,13 +4,14 @@
 use errors::Answer;
 use errors::Length;
 use errors::Refusal;
-use lengths_lines::Header;
+use lengths_program::State;
 use libc::STDIN_FILENO;
 use libc::STDOUT_FILENO;
 ghost use mathlib.Core.Path.{_≡_};
 ghost use Prim.Native.Nat.{_^_, _≤_, _<_};
 ghost use lib.ListN.{length};
 ghost use Rattle.io.specs.Counts.{Counts};
+ghost use Rattle.lengths_program.specs.Parts.{Room};
 
 // What one record came to.
 enum Held {
@@ -404,22 +405,15 @@ fn hold_run(words: &mut [u64], tally: &mut [u64; 62], s: &[u8]) -> Held {
     verdict(same_answer(words, tally, got, s, run) && read)
 }
 
-// What `lengths` prints for this input: its length in out.
-fn lines_of(input: &[u8], layout: &mut [u8], words: &mut [u64], out: &mut [u8]) -> usize
-    requires { ⌜ (length (now words) ≡ 8192) × (length (now input) < 2 ^ 48) ⌝ }
+// What `lengths` leaves of an input of n bytes that is read at once.
+fn printed(input: &mut [u8], n: usize, out: &mut [u8]) -> State
+    requires { ⌜ (n ≤ length (now input)) × (length (now input) < 2 ^ 62) × Room (now out) ⌝ }
+    ensures { λ r. ⌜ r .wrote ≤ length (now (out .exit)) ⌝ }
 {
-    match lengths_lines::whole_block(input) {
-        Header::Refused(q) => lengths_lines::put_stopped(out, 0, q),
-        Header::Fits(n) => match builder_set::build_set(&input[..n], layout, words) {
-            Length::Refused(r) => lengths_lines::put_stopped(out, 0, r.number),
-            Length::Bytes(m) => {
-                if layout.len() < m {
-                    return 0;
-                }
-                lengths_lines::run_lines(&layout[..m], &input[n..], words, out)
-            }
-        },
-    }
+    let mut layout = [0u8; 65536];
+    let read = lengths_program::after_read(lengths_program::start(), n);
+    let all = lengths_program::after_read(read, 0);
+    lengths_program::lines(all, input, &mut layout, out)
 }
 
 // Lengths: standard input, standard output.
@@ -438,14 +432,12 @@ fn hold_lengths(s: &[u8]) -> Held {
     if 262144 < s.len() {
         return Held::Cut;
     }
-    let mut layout = [0u8; 65536];
-    let mut words = [0u64; 8192];
+    let mut input = [0u8; 262144];
     let mut out = [0u8; 65536];
-    let n = lines_of(&s[4..end], &mut layout, &mut words, &mut out);
-    if 65536 < n {
-        return Held::Differs;
-    }
-    verdict(wire::same_name(&out[..n], &s[start..]))
+    wire::put_from(&mut input, 0, &s[4..end], 0);
+    let state = printed(&mut input, end - 4, &mut out);
+    let n = state.wrote;
+    verdict(lengths_program::has_ended(state) && wire::same_name(&out[..n], &s[start..]))
 }
 
 // One record of the kind, counted.
