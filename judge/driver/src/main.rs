@@ -10,6 +10,7 @@ mod compare;
 mod data;
 mod findings;
 mod gen;
+mod plain;
 mod prng;
 mod rules;
 mod rust;
@@ -28,6 +29,8 @@ const USAGE: &str = "usage: judge/run COMMAND
   answer SET                       the layout (hex) or the refusal
   answer LAYOUT RUN                the count or the refusal
   lengths < INPUT                  the program `lengths`, by the rules
+  plain < INPUT                    the same, as a Rust program that only buffers
+  inputs trip|large [--runs N]     a set and runs of it, to standard output
   vectors FOLDER                   write the stored list
   check FOLDER                     read the stored list and answer it again
   findings                         the inputs behind docs/DIFFERENCES.md
@@ -90,6 +93,8 @@ fn run() -> Result<(), String> {
         "case" => text::case(seed, option(rest, "--index", 0)?, flag("--sets")),
         "answer" => text::answer(rest),
         "lengths" => text::lengths(),
+        "plain" => plain::program(),
+        "inputs" => plain::inputs(program(rest)?, option(rest, "--runs", 10_000)?),
         "vectors" => vectors::write_list(folder(rest)?),
         "check" => vectors::check_list(folder(rest)?),
         "stream" if flag("--sets") => stream::sets(option(rest, "--cases", 1000)?, seed),
@@ -117,6 +122,7 @@ fn known_options(command: &str, args: &[String]) -> Result<(), String> {
         "compare" | "against" | "antt" => &["--cases", "--seed"],
         "stream" => &["--cases", "--seed", "--sets"],
         "case" => &["--seed", "--index", "--sets"],
+        "inputs" => &["--runs"],
         "bench" => &["--markdown", "--only"],
         _ => &[],
     };
