@@ -12,7 +12,7 @@ use Rattle.answers.specs.Answers.{AnswersIn}
 use Rattle.blocks.specs.Bytes.{le2}
 use Rattle.blocks.specs.Name.{Name, ascii}
 use Rattle.blocks.specs.Grammar.{partsOf, findRow, grammar, nodeTable}
-use Rattle.blocks.specs.Tree.{Tree, rest, entries}
+use Rattle.blocks.specs.Tree.{Tree, entries}
 use Rattle.accepted.specs.Accepted.{Accepted, tree, nameAt, Counted}
 use Rattle.accepted.proofs.Laws.{sole, block-entry, none-left}
 use Rattle.resolved.specs.Resolved.{Owner, Head, head}

@@ -1,13 +1,12 @@
 -- What a call leaves, by its parts. Assumes nothing.
 use mathlib.Core.Path.{_≡_, refl, sym, ap, _∙_}
 use mathlib.Core.Bool.{Bool, true, false}
-use mathlib.Core.List.{List, [], _++_, append-nil}
+use mathlib.Core.List.{List, [], _++_}
 use Prim.Native.Nat.{ℕ, _+_, _-_, _^_, _<_, _≤_}
 use native.Mathlib.Nat.{sub-zero}
 use native.Mathlib.Omega.{arith}
 use lib.ListN.{length, take, drop, length-take, length-drop}
 use lib.Seq.{take-take, take-length, length-take-le, drop-drop}
-use Rattle.lengths_definition.specs.Lengths.{lengths}
 use Rattle.lengths_lines.specs.Lines.{IsLayout}
 use Rattle.lengths_program.specs.declared.Stage.{Stage}
 use Rattle.lengths_program.specs.declared.Stage.the-variants.{Set, Runs, Ended}
@@ -16,7 +15,7 @@ use Rattle.lengths_program.specs.declared.Begun.{Begun}
 use Rattle.lengths_program.specs.declared.Begun.the-variants as begun
 use Rattle.lengths_program.specs.declared.Passed.{Passed}
 use Rattle.lengths_program.specs.declared.Passed.the-variants as passed
-use Rattle.lengths_program.specs.Lines.{runs, left, Ends, Prints}
+use Rattle.lengths_program.specs.Lines.{runs, left, Ends}
 use Rattle.lengths_program.specs.Parts.{Room, Within, Ready, Stops, Ran, usedBy, Begins}
 use Rattle.lengths_program.specs.Calls.{Pauses, Told, IsEnded}
 use Rattle.lengths_program.proofs.Runs.{prints-then}

@@ -8,7 +8,7 @@ use native.Mathlib.Omega.{arith}
 use borrow.Author.Tests.{leb-true}
 use lib.Dec.{leb}
 use lib.ListN.{length, take, drop, length-append, length-drop, drop-of-length-le}
-use lib.Seq.{take-all, take-at, drop-drop, drop-append-le, sets-eq, length-take-le}
+use lib.Seq.{take-all, take-at, drop-drop, sets-eq, length-take-le}
 use Rattle.errors.specs.Refusal.{Outcome, done, refused, plain}
 use Rattle.errors.proofs.Laws.{done-one, asked}
 use Rattle.blocks.specs.Bytes.{le4}
@@ -23,7 +23,7 @@ use Rattle.lengths_program.specs.declared.Next.{Next}
 use Rattle.lengths_program.specs.declared.Next.the-variants as next
 use Rattle.lengths_program.specs.declared.Passed.the-variants as passed
 use Rattle.lengths_program.specs.Lines.{runs, Ends, Prints}
-use Rattle.lengths_program.specs.Parts.{Finds, Room, Stops, Ran}
+use Rattle.lengths_program.specs.Parts.{Finds, Stops, Ran}
 
 -- ---- how many turns are counted does not matter
 

@@ -1,8 +1,8 @@
 -- The set, and its layout. Assumes nothing.
 use mathlib.Core.Path.{_≡_, refl, sym, ap, _∙_}
-use mathlib.Core.Bool.{Bool, true, false, _&&_}
-use mathlib.Core.List.{List, [], _∷_, _++_, append-nil}
-use Prim.Native.Nat.{ℕ, _+_, _-_, _<_, _≤_}
+use mathlib.Core.Bool.{Bool, true, _&&_}
+use mathlib.Core.List.{List, _++_, append-nil}
+use Prim.Native.Nat.{ℕ, _≤_}
 use native.Mathlib.Omega.{arith}
 use borrow.Author.Tests.{leb-true}
 use lib.Dec.{leb}
@@ -15,7 +15,6 @@ use Rattle.errors.specs.declared.Length.{Length}
 use Rattle.errors.specs.declared.Length.the-variants as answer
 use Rattle.errors.specs.Meaning.{refusalOf, lengthOf}
 use Rattle.errors.proofs.Laws.{done-one, not-done, asked, bound}
-use Rattle.blocks.specs.Tree.{Tree}
 use Rattle.blocks.specs.Read.{small, readSet, readLayout}
 use Rattle.blocks.specs.Write.{write}
 use Rattle.blocks.proofs.Name.{and-left, and-right}
@@ -24,12 +23,12 @@ use Rattle.ir.specs.Layout.{layoutTree}
 use Rattle.resolved.specs.Set.{typesOf}
 use Rattle.builder.specs.Build.{build-types, holds, write-layout, build-set, output-after}
 use Rattle.wire.specs.Poke.{Wrote}
-use Rattle.lengths_definition.specs.Lengths.{stopped, words, output, next-block, set-lines, input-lines, lengths}
+use Rattle.lengths_definition.specs.Lengths.{stopped, words, output, set-lines, input-lines, lengths}
 use Rattle.lengths_lines.specs.Lines.{IsLayout}
 use Rattle.lengths_program.specs.declared.Next.{Next}
 use Rattle.lengths_program.specs.declared.Next.the-variants as next
 use Rattle.lengths_program.specs.declared.Begun.the-variants as begun
-use Rattle.lengths_program.specs.Lines.{runs, Ends}
+use Rattle.lengths_program.specs.Lines.{Ends}
 use Rattle.lengths_program.specs.Parts.{Finds, Ready, Begins}
 use Rattle.lengths_program.proofs.Runs.{written, kept-length, found-block, found-none, found-part}
 

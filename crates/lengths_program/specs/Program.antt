@@ -1,9 +1,8 @@
 -- The program as a whole: reads and calls, one behind the other.
-use Prim.Native.Nat.{ℕ, _+_}
+use Prim.Native.Nat.{ℕ}
 use mathlib.Core.Path.{_≡_}
-use mathlib.Core.Bool.{Bool}
 use mathlib.Core.List.{List, [], _++_}
-use lib.ListN.{length, take}
+use lib.ListN.{take}
 use Rattle.lengths_program.specs.declared.State.{State}
 use Rattle.lengths_program.specs.declared.Stage.the-variants.{Ended}
 use Rattle.lengths_program.specs.Lines.{left, Ends}

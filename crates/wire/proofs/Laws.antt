@@ -124,6 +124,13 @@ from-none xs s at i h = rw (drop-of-length-le s h) (none xs at)
 pub from-more : (xs ys zs s : List ℕ) (at p i r : ℕ) → i < length s → Wrote xs at (getD s i 0 ∷ []) ys p → Wrote ys p (drop (i + 1) s) zs r → Wrote xs at (drop i s) zs r
 from-more xs ys zs s at p i r h f g = rw (drop-cons s i 0 h, ← add-one) (both f g)
 
+-- behind the slice's end all bytes are only counted
+pub all-out : (xs bs : List ℕ) (at : ℕ) → length xs ≤ at → Wrote xs at bs xs (at + length bs)
+all-out xs [] at h = rw (add-zero at) (none xs at)
+all-out xs (b ∷ bs) at h =
+    let e : at + 1 + length bs ≡ at + suc (length bs) = omega arith in
+    rw (← e) (both (byte-out xs at b h) (all-out xs bs (at + 1) (omega arith)))
+
 -- a name is its length and its bytes
 pub name-puts : (xs ys zs s : List ℕ) (at p r : ℕ) → Wrote xs at (bytes 2 (length s)) ys p → Wrote ys p (drop 0 s) zs r → Wrote xs at (write (name s)) zs r
 unfolding write

@@ -269,7 +269,7 @@ pub fn put_le(out: &mut [u8], at: usize, k: usize, v: u64) -> usize
     p
 }
 
-// The bytes of s from i on.
+// The bytes of s from i on. Behind the end of the slice they are only counted, all at once.
 pub fn put_from(out: &mut [u8], at: usize, s: &[u8], i: usize) -> usize
     requires { ⌜ at + length (now s) < 2 ^ 61 + i ⌝ }
     ensures { λ r. ⌜ Wrote (now (out .entry)) at (drop i (now (s .entry))) (now (out .exit)) r ⌝ }
@@ -278,6 +278,9 @@ pub fn put_from(out: &mut [u8], at: usize, s: &[u8], i: usize) -> usize
     let mut p = at;
     let mut j = i;
     while j < s.len() {
+        if out.len() <= p {
+            return p + (s.len() - j);
+        }
         p = put_byte(out, p, s[j]);
         j += 1;
     }
