@@ -1,10 +1,11 @@
 -- What is written of the registry. Assumes nothing.
-use Prim.Native.Nat.{ℕ, _+_, _-_, _≤_, _<_}
+use Prim.Native.Nat.{ℕ, suc, _+_, _-_, _≤_, _<_}
 use native.Mathlib.Omega.{arith}
 use mathlib.Core.Path.{_≡_, refl, sym, ap, ap₂, _∙_, subst}
 use mathlib.Core.Bool.{Bool, true, false, cond}
 use mathlib.Core.List.{List, [], _∷_, _++_, append-assoc}
-use lib.ListN.{length, drop, getD, length-append}
+use lib.ListN.{length, drop, getD, set, length-append}
+use lib.Seq.{set-comm}
 use borrow.Author.Tests.{eq-eqb, ne-eqb}
 use Rattle.blocks.specs.Bytes.{bytes}
 use Rattle.blocks.specs.Name.{Name, same}
@@ -12,8 +13,8 @@ use Rattle.blocks.specs.Tree.{Tree, name, num, nil, cons}
 use Rattle.blocks.specs.Write.{write}
 use Rattle.ir.specs.Ir.{IrParameter, unplaced}
 use Rattle.ir.specs.Layout.{flagTree, optionalTree, entriesTree, listTree, parameterTree}
-use Rattle.wire.specs.Poke.{Wrote, opened}
-use Rattle.wire.proofs.Laws.{both, parts, no-parts, closed}
+use Rattle.wire.specs.Poke.{poke, Wrote, opened}
+use Rattle.wire.proofs.Laws.{both, parts, no-parts, closed, bytes-length}
 use Rattle.builder_names.proofs.Canonical.{with-end}
 use Rattle.builder.specs.Names.{canonical-name}
 use Rattle.builder.specs.Registry.{Entry, Registry, owner-parameters}
@@ -96,16 +97,6 @@ unfolding owned
 owned-is o s w at b e f =
     ap (λ (t : Bool). ifOwned t (entryOf s w)) (e ∙ ap (same o) (ap (held s) f ∙ sym (owner-is s w)))
 
--- how many parameters that are
-pub count-is : (o : Name) (s : List ℕ) (w at : ℕ) (b : Bool) {r : ℕ} → r ≡ cond b 1 0 → b ≡ same o (held s at) → at ≡ ownerAt w →
-    r ≡ length (owned o (entryOf s w))
-unfolding ifOwned
-count-is o s w at b g e f = g ∙ (go b ∙ ap length (owned-is o s w at b e f))
-  where
-    go : (b : Bool) → cond b 1 0 ≡ length (ifOwned b (entryOf s w))
-    go true = refl
-    go false = refl
-
 module _ (s : List ℕ) (w : ℕ) (b : Bool) where
   -- what `put_one` writes for an entry of the owner
   pub puts-yes : {xs ys : List ℕ} {at r : ℕ} → b ≡ true → Wrote xs at (write (parameterTree (entryOf s w .parameter))) ys r →
@@ -117,6 +108,16 @@ module _ (s : List ℕ) (w : ℕ) (b : Bool) where
   pub puts-no : (xs : List ℕ) (at : ℕ) → b ≡ false → Wrote xs at (write (entriesTree parameterTree (ifOwned b (entryOf s w)))) xs at
   unfolding entriesTree ifOwned
   puts-no xs at h = rw h (no-parts xs at)
+
+  -- an entry of the owner is one parameter more
+  pub counts-yes : (k : ℕ) → b ≡ true → k + 1 ≡ k + length (ifOwned b (entryOf s w))
+  unfolding ifOwned
+  counts-yes k h = rw h
+
+  -- another is none
+  pub counts-no : (k : ℕ) → b ≡ false → k ≡ k + length (ifOwned b (entryOf s w))
+  unfolding ifOwned
+  counts-no k h = rw h (omega arith)
 
 -- the parameters of an owner are those of the first entry and of the others
 owned-first : (o : Name) (e : Entry) (es : Registry) → owner-parameters o (e ∷ es) ≡ owned o e ++ owner-parameters o es
@@ -144,9 +145,9 @@ module _ (s ws : List ℕ) (n : ℕ) (fit : n ≤ length ws) (o : Name) (i : ℕ
   unfolding owner-parameters
   last h = ap (owner-parameters o) (entries-end s ws n fit i h)
 
-  -- a turn of the loop of `count_owned`
+  -- a turn of the loop of `put_owned`: what it counts
   pub count-more : (k c r : ℕ) → i < n → k ≡ c + length (owner-parameters o (drop i (entriesOf s ws n))) →
-      r ≡ length (owned o (entryOf s (getD ws i 0))) → k ≡ c + r + length (owner-parameters o (drop (i + 1) (entriesOf s ws n)))
+      r ≡ c + length (owned o (entryOf s (getD ws i 0))) → k ≡ r + length (owner-parameters o (drop (i + 1) (entriesOf s ws n)))
   count-more k c r h e f =
       omega (arith, ap length (next h), length-append (owned o (entryOf s (getD ws i 0))) (owner-parameters o (drop (i + 1) (entriesOf s ws n))))
 
@@ -154,7 +155,7 @@ module _ (s ws : List ℕ) (n : ℕ) (fit : n ≤ length ws) (o : Name) (i : ℕ
   pub count-end : (k c : ℕ) → n ≤ i → k ≡ c + length (owner-parameters o (drop i (entriesOf s ws n))) → c ≡ k
   count-end k c h e = omega (arith, ap length (last h))
 
-  -- a turn of the loop of `put_owned`
+  -- and what it writes
   pub put-more : {xs ys zs : List ℕ} {p q r : ℕ} → i < n → Wrote xs p (write (entriesTree parameterTree (owned o (entryOf s (getD ws i 0))))) ys q →
       Wrote ys q (write (entriesTree parameterTree (owner-parameters o (drop (i + 1) (entriesOf s ws n))))) zs r →
       Wrote xs p (write (entriesTree parameterTree (owner-parameters o (drop i (entriesOf s ws n))))) zs r
@@ -165,8 +166,30 @@ module _ (s ws : List ℕ) (n : ℕ) (fit : n ≤ length ws) (o : Name) (i : ℕ
   unfolding entriesTree
   put-end xs p h = rw (last h) (no-parts xs p)
 
--- the count before the list
-pub puts-list : {xs us ys : List ℕ} {at p r : ℕ} (ps : List IrParameter) (n : ℕ) → n ≡ length ps → Wrote xs at (bytes 2 n) us p →
-    Wrote us p (write (entriesTree parameterTree ps)) ys r → Wrote xs at (write (listTree parameterTree ps)) ys r
+-- ---- the count, written last
+
+-- a store behind a write may come first
+set-behind : (xs : List ℕ) (i j x : ℕ) (cs : List ℕ) → i + length cs ≤ j → set (poke xs i cs) j x ≡ poke (set xs j x) i cs
+unfolding poke
+set-behind xs i j x [] h = refl
+set-behind xs i j x (c ∷ cs) h = rw (set-behind (set xs i c) (suc i) j x cs (omega arith), set-comm xs i j c x (omega arith))
+
+-- a write before another may come after it
+poke-before : (xs : List ℕ) (i j : ℕ) (cs bs : List ℕ) → i + length cs ≤ j → poke (poke xs j bs) i cs ≡ poke (poke xs i cs) j bs
+unfolding poke
+poke-before xs i j cs [] h = refl
+poke-before xs i j cs (b ∷ bs) h = rw (set-behind xs i j b cs h) (poke-before (set xs j b) i (suc j) cs bs (omega arith))
+
+-- the parameters behind the place of their count, and then the count, are the list
+pub counted-last : {xs ys zs : List ℕ} {at p r k : ℕ} (ps : List IrParameter) →
+    Wrote xs (at + 2) (write (entriesTree parameterTree ps)) ys r → Wrote ys at (bytes 2 k) zs p → k ≡ length ps →
+    Wrote xs at (write (listTree parameterTree ps)) zs r
 unfolding write
-puts-list ps n e f g = rw (← e) (both f g)
+counted-last {xs} {ys} {zs} {at} {p} {r} {k} ps f g e =
+    let l : length (bytes 2 k) ≡ 2 = bytes-length 2 k in
+    let count : Wrote xs at (bytes 2 k) (poke xs at (bytes 2 k)) (at + 2) = record { end = rw l; left = refl } in
+    let rest : Wrote (poke xs at (bytes 2 k)) (at + 2) (write (entriesTree parameterTree ps)) zs r = record {
+      end = f .end;
+      left = g .left ∙ rw (f .left) (poke-before xs at (at + 2) (bytes 2 k) (write (entriesTree parameterTree ps)) (omega arith));
+    } in
+    rw (← e) (both count rest)

@@ -642,69 +642,50 @@ pub fn mark_name(s: &[u8], w: u64, known: NameMark) -> NameMark
     NameMark { mark, owner, start }
 }
 
-// How many parameters of an owner an entry is, if it is the owner's.
-fn count_one(mine: bool) -> usize
-    ensures { λ r. ⌜ (r ≡ cond mine 1 0) × (r ≤ 1) ⌝ }
+// Where the parameters of an owner that were written end, and how many they are.
+struct Listed {
+    end: usize,
+    count: u64,
+}
+
+// An entry's parameter behind those written before, if it is the owner's.
+fn put_one(s: &[u8], w: u64, mine: bool, out: &mut [u8], listed: Listed) -> Listed
+    requires { ⌜ (length (now s) ≤ 65536) × (listed .end < 2 ^ 58) × (listed .count < 512) ⌝ }
+    ensures { λ r. ⌜ Wrote (now (out .entry)) (listed .end) (write (entriesTree parameterTree (ifOwned mine (entryOf (now (s .entry)) w)))) (now (out .exit)) (r .end) ⌝ }
+    ensures { λ r. ⌜ r .count ≡ listed .count + length (ifOwned mine (entryOf (now (s .entry)) w)) ⌝ }
+    ensures { λ r. ⌜ (listed .end ≤ r .end) × (r .end ≤ listed .end + 700) × (r .count ≤ listed .count + 1) ⌝ }
 {
     if mine {
-        return 1;
+        let end = put_parameter(s, w, out, listed.end);
+        let count = listed.count + 1;
+        return Listed { end, count };
     }
-    0
+    listed
 }
 
-// How many parameters an owner has.
-fn count_owned(s: &[u8], words: &[u64], n: usize, owner: &[u8]) -> usize
-    requires { ⌜ n ≤ length (now words) ⌝ }
-    ensures { λ r. ⌜ r ≡ length (owner-parameters (now (owner .entry)) (entriesOf (now (s .entry)) (now (words .entry)) n)) ⌝ }
-{
-    let mut known = 65536;
-    let mut mine = false;
-    let mut count = 0;
-    let mut i = 0;
-    while i < n {
-        let o = owner_at(words[i]);
-        mine = is_owner(s, o, known, mine, owner);
-        known = o;
-        count = count + count_one(mine);
-        i += 1;
-    }
-    count
-}
-
-// An entry's parameter, if it is the owner's.
-fn put_one(s: &[u8], w: u64, mine: bool, out: &mut [u8], at: usize) -> usize
-    requires { ⌜ (length (now s) ≤ 65536) × (at < 2 ^ 58) ⌝ }
-    ensures { λ r. ⌜ Wrote (now (out .entry)) at (write (entriesTree parameterTree (ifOwned mine (entryOf (now (s .entry)) w)))) (now (out .exit)) r ⌝ }
-    ensures { λ r. ⌜ (at ≤ r) × (r ≤ at + 700) ⌝ }
-{
-    if mine {
-        return put_parameter(s, w, out, at);
-    }
-    at
-}
-
-// The parameters of an owner.
-fn put_owned(s: &[u8], words: &[u64], n: usize, owner: &[u8], out: &mut [u8], at: usize) -> usize
+// The parameters of an owner, and how many they are.
+fn put_owned(s: &[u8], words: &[u64], n: usize, owner: &[u8], out: &mut [u8], at: usize) -> Listed
     requires { ⌜ Standing (now s) (now words) n × (at < 2 ^ 57 + 2) ⌝ }
-    ensures { λ r. ⌜ Wrote (now (out .entry)) at (write (entriesTree parameterTree (owner-parameters (now (owner .entry)) (entriesOf (now (s .entry)) (now (words .entry)) n)))) (now (out .exit)) r ⌝ }
-    ensures { λ r. ⌜ (at ≤ r) × (r ≤ at + 358400) ⌝ }
+    ensures { λ r. ⌜ Wrote (now (out .entry)) at (write (entriesTree parameterTree (owner-parameters (now (owner .entry)) (entriesOf (now (s .entry)) (now (words .entry)) n)))) (now (out .exit)) (r .end) ⌝ }
+    ensures { λ r. ⌜ r .count ≡ length (owner-parameters (now (owner .entry)) (entriesOf (now (s .entry)) (now (words .entry)) n)) ⌝ }
+    ensures { λ r. ⌜ (at ≤ r .end) × (r .end ≤ at + 358400) ⌝ }
 {
     let mut known = 65536;
     let mut mine = false;
-    let mut p = at;
+    let mut listed = Listed { end: at, count: 0 };
     let mut i = 0;
     while i < n {
         let w = words[i];
         let o = owner_at(w);
         mine = is_owner(s, o, known, mine, owner);
         known = o;
-        p = put_one(s, w, mine, out, p);
+        listed = put_one(s, w, mine, out, listed);
         i += 1;
     }
-    p
+    listed
 }
 
-// The parameters of an owner, behind their count.
+// The parameters of an owner, behind their count, which is written last.
 pub fn put_owner_parameters(
     s: &[u8],
     words: &[u64],
@@ -717,7 +698,7 @@ pub fn put_owner_parameters(
     ensures { λ r. ⌜ Wrote (now (out .entry)) at (write (listTree parameterTree (owner-parameters (now (owner .entry)) (entriesOf (now (s .entry)) (now (words .entry)) n)))) (now (out .exit)) r ⌝ }
     ensures { λ r. ⌜ (at ≤ r) × (r ≤ at + 400000) ⌝ }
 {
-    let count = count_owned(s, words, n, owner);
-    let p = wire::put_le(out, at, 2, count as u64);
-    put_owned(s, words, n, owner, out, p)
+    let listed = put_owned(s, words, n, owner, out, at + 2);
+    wire::put_le(out, at, 2, listed.count);
+    listed.end
 }
