@@ -7,24 +7,24 @@ use Prim.Native.Nat.{ℕ, zero, suc, _+_, _-_, _≤_, _<_}
 use native.Mathlib.Numerals.{add-one}
 use native.Mathlib.Omega.{arith}
 use lib.Dec.{eqb}
-use lib.ListN.{length, take, drop, getD, set}
-use lib.Seq.{drop-cons, set-comm}
+use lib.ListN.{length, take, drop, getD}
+use lib.Seq.{drop-cons}
 use Rattle.blocks.specs.Bytes.{bytes}
 use borrow.Author.Tests.{not-true, not-false, eqb-true, eqb-false}
 use Rattle.blocks.specs.Name.{Name, same, among}
-use Rattle.blocks.specs.Tree.{num}
 use Rattle.blocks.specs.Write.{write}
 use Rattle.blocks.proofs.Name.{same-eq, false-true}
 use Rattle.resolved.specs.Resolved.{ResolvedType, kindOf}
 use Rattle.ir.specs.Ir.{IrParameter}
 use Rattle.ir.specs.Layout.{parameterTree, listTree, entriesTree}
-use Rattle.wire.specs.Poke.{poke, Wrote}
-use Rattle.wire.proofs.Laws.{parts, no-parts, bytes-length}
+use Rattle.wire.specs.Poke.{Wrote}
+use Rattle.wire.proofs.Laws.{parts, no-parts}
 use Rattle.builder.specs.Names.{replace-colons, split, before-element}
 use Rattle.builder.specs.Registry.{Registry, firsts, into-parameters}
 use Rattle.builder.specs.BuildType.{fieldsOf, has-jagged, jagged-before, is-jagged-element-parameter, filter-jagged-element-parameters}
 use Rattle.marks.specs.Mark.{markOf}
 use Rattle.builder_registry.specs.Words.{Standing, entryOf, entriesOf}
+use Rattle.builder_registry.proofs.Puts.{counted-last as list-counted-last}
 use Rattle.builder_parameters.specs.declared.Segment.{Segment}
 use Rattle.builder_parameters.specs.declared.Segment.the-variants.{Part, Missing}
 use Rattle.builder_parameters.specs.Segments.{Found}
@@ -267,40 +267,12 @@ module _ (t : ResolvedType) (s ws : List ℕ) {i n : ℕ} (k : ℕ) (c : Counts 
   pub count-end : n ≤ i → k ≡ length (listed t s ws 0 n)
   count-end h = let l = ap (λ (l : List IrParameter). length l) (listed-end t s ws h) in omega arith
 
--- the count, and the parameters behind it
-counted : {xs ys zs : List ℕ} {p q u : ℕ} (t : ResolvedType) (s ws : List ℕ) (n : ℕ) {k : ℕ} → n ≤ length ws →
-    k ≡ length (listed t s ws 0 n) → Wrote xs p (bytes 2 k) ys q → Wrote ys q (write (entriesTree parameterTree (listed t s ws 0 n))) zs u →
-    Wrote xs p (write (listTree parameterTree (filter-jagged-element-parameters t (into-parameters (entriesOf s ws n))))) zs u
-unfolding write
-counted t s ws n h e v w =
-    rw (listed-is t s ws n h)
-    (parts (num 2 (length (listed t s ws 0 n))) (entriesTree parameterTree (listed t s ws 0 n)) (rw e at v) w)
-
--- a store behind a write may come first
-set-behind : (xs : List ℕ) (i j x : ℕ) (cs : List ℕ) → i + length cs ≤ j → set (poke xs i cs) j x ≡ poke (set xs j x) i cs
-unfolding poke
-set-behind xs i j x [] h = refl
-set-behind xs i j x (c ∷ cs) h = rw (set-behind (set xs i c) (suc i) j x cs (omega arith), set-comm xs i j c x (omega arith))
-
--- a write before another may come after it
-poke-before : (xs : List ℕ) (i j : ℕ) (cs bs : List ℕ) → i + length cs ≤ j → poke (poke xs j bs) i cs ≡ poke (poke xs i cs) j bs
-unfolding poke
-poke-before xs i j cs [] h = refl
-poke-before xs i j cs (b ∷ bs) h = rw (set-behind xs i j b cs h) (poke-before (set xs j b) i (suc j) cs bs (omega arith))
-
--- the count may be written last
+-- the count is written last, behind it the parameters stand already
 pub counted-last : {xs ys zs : List ℕ} {p q u : ℕ} (t : ResolvedType) (s ws : List ℕ) (n : ℕ) {k : ℕ} → n ≤ length ws →
     k ≡ length (listed t s ws 0 n) → Wrote xs (p + 2) (write (entriesTree parameterTree (listed t s ws 0 n))) ys u →
     Wrote ys p (bytes 2 k) zs q →
     Wrote xs p (write (listTree parameterTree (filter-jagged-element-parameters t (into-parameters (entriesOf s ws n))))) zs u
-counted-last {xs} {ys} {zs} {p} {q} {u} t s ws n {k} h e w v =
-    let l : length (bytes 2 k) ≡ 2 = bytes-length 2 k in
-    let first : Wrote xs p (bytes 2 k) (poke xs p (bytes 2 k)) (p + 2) = record { end = rw l; left = refl } in
-    let rest : Wrote (poke xs p (bytes 2 k)) (p + 2) (write (entriesTree parameterTree (listed t s ws 0 n))) zs u = record {
-      end = w .end;
-      left = v .left ∙ rw (w .left) (poke-before xs p (p + 2) (bytes 2 k) (write (entriesTree parameterTree (listed t s ws 0 n))) (omega arith));
-    } in
-    counted t s ws n h e first rest
+counted-last t s ws n h e w v = rw (listed-is t s ws n h) (list-counted-last (listed t s ws 0 n) w v e)
 
 -- ---- where an entry stands
 
