@@ -21,10 +21,10 @@
  * - The answer is four words, see enum ciztarmo_answer; ciztarmo_validate_runs gives four for each run.
  * - Reading, building and evaluating recurse over nested blocks, of which at most 32 are open in a set and 256 in a layout;
  *   evaluating also over calls of types, of which at most 16 are open. So the stack is bounded, but not small. Measured by
- *   `c/test --stack` on hostile inputs: reading 15,367 bytes for a set and 90,583 for a layout of 256 open blocks; building 105,919
- *   with ciztarmo_layout_of and 101,839 with ciztarmo_build_set, where the first of 64 fields with padding calls a type of 64 owners
- *   and 64 paths; validating 1,105,872, where a type of 254 nested nodes calls itself. On the type Trip of document 01
- *   ciztarmo_layout_of takes 15,271, ciztarmo_build_set 11,191, and no other call more than 6,503. A thread that validates with sets
+ *   `c/test --stack` on hostile inputs: reading 11,847 bytes for a set and 90,599 for a layout of 256 open blocks; building 119,375
+ *   with ciztarmo_layout_of and 106,079 with ciztarmo_build_set, where the first of 64 fields with padding calls a type of 64 owners
+ *   and 64 paths; validating 1,313,327, where a type of 254 nested nodes calls itself. On the type Trip of document 01
+ *   ciztarmo_layout_of takes 21,671, ciztarmo_build_set 8,375, and no other call more than 2,519. A thread that validates with sets
  *   or layouts from somebody whom it does not trust should have CIZTARMO_STACK_BYTES left. The proofs say nothing of the stack.
  *
  * What the calls answer is proved (README.md, "What is proved"); what is said here of stack and NULL is measured and tested. The
@@ -133,7 +133,7 @@ void ciztarmo_read_run(uint64_t *words, size_t words_len, const uint8_t *run, si
  *
  * It always ends. Its time grows with what is built, also where that is refused with 18 in the end because it is too long: a set of
  * 65,536 bytes can ask for some 65 MB. Of the sets that were made to take long (judge/README.md, "Inputs that take long") the slowest
- * took 4 s of the processor of docs/BENCH.md.
+ * took 0.24 s of the processor of docs/BENCH.md.
  */
 void ciztarmo_build_set(uint64_t *words, size_t words_len, const uint8_t *set, size_t set_len, uint8_t *out, size_t out_len,
                         uint64_t answer[4]);

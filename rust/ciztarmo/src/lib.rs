@@ -88,7 +88,7 @@
 //!
 //! Building ends in a time that grows with what is built, also where it is refused in the end
 //! because that is too long: a set of 65,536 bytes can ask for some 65 MB. Of the sets that were made to
-//! take long (judge/README.md) the slowest took 4 seconds of processor time.
+//! take long (judge/README.md) the slowest took a quarter of a second of processor time.
 
 #![no_std]
 #![deny(missing_docs)]

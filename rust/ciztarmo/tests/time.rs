@@ -18,21 +18,21 @@ mod write;
 use ciztarmo::{Refusal, Work, LIMIT};
 use slow::{Call, Slow};
 
-/// Milliseconds of processor time that a call may take on each input. Where it is aimed at a fifth
-/// of the Rust's time from bytes (`judge/run bench --only "take long"`), ten times that.
+/// Milliseconds of processor time that a call may take on each input: ten times what it took on a
+/// virtual machine with an Intel Xeon; for readings, which took 0.03 to 0.06, more.
 const MOST: [(&str, f64); 19] = [
-    ("calls", 450.0),
-    ("references", 14.0),
-    ("parameters-64", 0.33),
-    ("parameters-512", 2.8),
-    ("parameters-collide", 1.5),
-    ("parameters-collide-calls", 660.0),
-    ("paths-alike", 140.0),
-    ("paths-of-one-place", 470.0),
-    ("one-name-split", 190.0),
-    ("cases", 14.0),
-    ("targets", 5.0),
-    ("jagged", 15.0),
+    ("calls", 430.0),
+    ("references", 6.0),
+    ("parameters-64", 0.25),
+    ("parameters-512", 1.4),
+    ("parameters-collide", 2.8),
+    ("parameters-collide-calls", 400.0),
+    ("paths-alike", 120.0),
+    ("paths-of-one-place", 2400.0),
+    ("one-name-split", 310.0),
+    ("cases", 10.0),
+    ("targets", 3.0),
+    ("jagged", 24.0),
     ("types-differ-at-start", 1.0),
     ("types-differ-in-middle", 1.0),
     ("types-differ-at-end", 1.0),
