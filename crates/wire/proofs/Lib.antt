@@ -1,4 +1,5 @@
 pub mod Names
+mod Order
 mod Search
 mod Texts
 pub mod Laws

@@ -1,18 +1,16 @@
--- Names: the part of the bytes that is one; two of them, some bytes at a step: the same from a place on, or what stands from a
--- place on decides which is less. Assumes nothing.
+-- Names: the part of the bytes that is one; two of them, some bytes at a step: the same from a place on. Their order: Order.antt.
+-- Assumes nothing.
 use mathlib.Core.Path.{_≡_, refl, sym, _∙_, ap, ap₂}
-use mathlib.Core.Bool.{Bool, true, false, _&&_, _||_}
-use mathlib.Core.List.{List, [], _∷_, _++_}
+use mathlib.Core.Bool.{Bool, true, false}
+use mathlib.Core.List.{List, _++_}
 use Prim.Native.Nat.{ℕ, _+_, _-_, _<_, _≤_}
-use native.Mathlib.Numerals.{add-one}
-use native.Mathlib.Nat.{le-antisymm, le-of-lt}
 use native.Mathlib.Omega.{arith}
-use lib.Dec.{ltb, eqb}
+use lib.Dec.{eqb}
 use lib.ListN.{length, take, drop, getD, drop-of-length-le}
-use lib.Seq.{drop-cons, drop-drop}
-use borrow.Author.Tests.{lt-ltb, le-ltb, eq-eqb, ne-eqb, ltb-true, ltb-false, eqb-true, eqb-false}
+use lib.Seq.{drop-drop}
+use borrow.Author.Tests.{eqb-true, eqb-false}
 use Rattle.blocks.specs.Bytes.{le, le2, nameAt, bytes}
-use Rattle.blocks.specs.Name.{same, less}
+use Rattle.blocks.specs.Name.{same}
 use Rattle.blocks.proofs.Bytes.{le-one, spelt}
 use Rattle.blocks.proofs.Name.{same-eq, same-refl}
 
@@ -83,54 +81,3 @@ pub same-empty : (a b : List ℕ) → length a ≡ length b → length a ≤ 0 �
 same-empty a b l h =
     let z : a ≡ b = same-none a b 0 h (omega arith) in
     rw z (sym (same-refl b))
-
--- ---- less_name
-
--- the same bytes before two names take nothing from their order
-less-behind : (p x y : List ℕ) → less (p ++ x) (p ++ y) ≡ less x y
-unfolding less
-less-behind [] x y = refl
-less-behind (c ∷ p) x y = rw (le-ltb c c (omega arith), eq-eqb c c refl) (less-behind p x y)
-
--- k bytes that make one number are the same: those behind them decide
-pub less-step : (a b : List ℕ) → ((i : ℕ) → getD a i 0 < 256) → ((i : ℕ) → getD b i 0 < 256) → (k i : ℕ) → i + k ≤ length a → i + k ≤ length b
-    → {p q : ℕ} → p ≡ le k a i → q ≡ le k b i → p ≡ q → less (drop i a) (drop i b) ≡ less (drop (i + k) a) (drop (i + k) b)
-less-step a b bytes-a bytes-b k i h g ea eb e =
-    let n : le k b i ≡ le k a i = sym (sym ea ∙ e ∙ eb) in
-    let r : drop i b ≡ bytes k (le k a i) ++ drop (i + k) b = spelt b bytes-b k i g ∙ ap (λ (v : ℕ). bytes k v ++ drop (i + k) b) n in
-    ap₂ less (spelt a bytes-a k i h) r ∙ less-behind (bytes k (le k a i)) (drop (i + k) a) (drop (i + k) b)
-
-module _ (a b : List ℕ) (i : ℕ) (e : less a b ≡ less (drop i a) (drop i b)) where
-  -- b has ended, and a has not
-  pub less-short : i < length a → length b ≤ i → false ≡ less a b
-  unfolding less
-  less-short h k = rw (e, drop-cons a i 0 h, drop-of-length-le b k)
-
-  module _ (h : i < length a) (k : i < length b) where
-    -- `less` at the place i: its bytes decide, or what stands behind them
-    less-here : less a b ≡ (ltb (getD a i 0) (getD b i 0) || (eqb (getD a i 0) (getD b i 0) && less (drop (i + 1) a) (drop (i + 1) b)))
-    unfolding less
-    less-here = rw (e, add-one, drop-cons a i 0 h, drop-cons b i 0 k)
-
-    -- the byte of a is less
-    pub less-yes : getD a i 0 < getD b i 0 → true ≡ less a b
-    less-yes l = rw (less-here, lt-ltb _ _ l)
-
-    -- the byte of b is less
-    pub less-no : getD b i 0 < getD a i 0 → false ≡ less a b
-    less-no l = rw (less-here, le-ltb _ _ (le-of-lt l), ne-eqb (getD a i 0) (getD b i 0) (λ q. omega arith))
-
-    -- the bytes at i are equal, so those behind them decide
-    pub less-more : getD b i 0 ≤ getD a i 0 → getD a i 0 ≤ getD b i 0 → less a b ≡ less (drop (i + 1) a) (drop (i + 1) b)
-    less-more l m = rw (less-here, le-ltb _ _ l, eq-eqb _ _ (le-antisymm m l))
-
-  -- a has ended
-  pub less-end : i ≤ length a → length a ≤ i → ltb (length a) (length b) ≡ less a b
-  unfolding less
-  less-end l h = rw (e, drop-of-length-le a h) (go (ltb (length a) (length b)) refl)
-    where
-      go : (t : Bool) → ltb (length a) (length b) ≡ t → t ≡ less [] (drop i b)
-      go true q = let k : i < length b = omega (arith, ltb-true (length a) (length b) q) in rw (drop-cons b i 0 k)
-      go false q = let k : length b ≤ i = omega (arith, ltb-false (length a) (length b) q) in rw (drop-of-length-le b k)
-
-pub ruleset lesses = (less-short, less-yes, less-no, less-more, less-end)

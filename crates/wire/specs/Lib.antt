@@ -1,3 +1,4 @@
 pub mod Clear
 pub mod Poke
 pub mod Named
+pub mod Order

@@ -11,6 +11,7 @@ ghost use Rattle.blocks.specs.Tree.{name, num};
 ghost use Rattle.blocks.specs.Write.{write};
 ghost use Rattle.wire.specs.Clear.{clear1, clear2, clear4, clear8};
 ghost use Rattle.wire.specs.Named.{BlockNamed};
+ghost use Rattle.wire.specs.Order.{Turned, be, firstBytes, Lesser, Shorter};
 ghost use Rattle.wire.specs.Poke.{Wrote, opened};
 
 // Among blocks that stand one behind the other: how many stand before this one, and its offset.
@@ -182,43 +183,121 @@ pub fn same_name(a: &[u8], b: &[u8]) -> bool
     true
 }
 
-// How many bytes, eight at a step, two names begin with alike.
-fn alike(a: &[u8], b: &[u8]) -> usize
-    ensures { λ r. ⌜ (r ≤ length (now (a .entry))) × (less (now (a .entry)) (now (b .entry)) ≡ less (drop r (now (a .entry))) (drop r (now (b .entry)))) ⌝ }
+// The number of some bytes with its bytes in the other order: what was read with the low byte first has the high byte first.
+fn swap2(x: usize) -> usize
+    requires { ⌜ x < 65536 ⌝ }
+    ensures { λ r. ⌜ (Turned 2 x r) × (r < 65536) ⌝ }
 {
+    x % 256 * 256 + x / 256
+}
+
+fn swap4(x: usize) -> usize
+    requires { ⌜ x < 4294967296 ⌝ }
+    ensures { λ r. ⌜ (Turned 4 x r) × (r < 4294967296) ⌝ }
+{
+    swap2(x % 65536) * 65536 + swap2(x / 65536)
+}
+
+fn swap8(x: usize) -> usize
+    ensures { λ r. ⌜ Turned 8 x r ⌝ }
+{
+    swap4(x % 4294967296) * 4294967296 + swap4(x / 4294967296)
+}
+
+// The number of 2, 4 or 8 bytes, the high byte first: by such numbers names are in byte order.
+fn big2(s: &[u8], at: usize) -> usize
+    requires { ⌜ at + 2 ≤ length (now s) ⌝ }
+    ensures { λ r. ⌜ (r ≡ be 2 (now (s .entry)) at) × (r < 65536) ⌝ }
+{
+    swap2(read2(s, at))
+}
+
+fn big4(s: &[u8], at: usize) -> usize
+    requires { ⌜ at + 4 ≤ length (now s) ⌝ }
+    ensures { λ r. ⌜ (r ≡ be 4 (now (s .entry)) at) × (r < 4294967296) ⌝ }
+{
+    swap4(read4(s, at))
+}
+
+fn big8(s: &[u8], at: usize) -> usize
+    requires { ⌜ at + 8 ≤ length (now s) ⌝ }
+    ensures { λ r. ⌜ r ≡ be 8 (now (s .entry)) at ⌝ }
+{
+    swap8(read8(s, at))
+}
+
+// The first n bytes of a name, less than eight, as a number.
+fn first_bytes(s: &[u8], n: usize) -> usize
+    requires { ⌜ (n < 8) × (n ≤ length (now s)) ⌝ }
+    ensures { λ r. ⌜ r ≡ firstBytes (now (s .entry)) n ⌝ }
+{
+    if 4 <= n {
+        return big4(s, 0) * 4294967296 + big4(s, n - 4);
+    }
+    if 2 <= n {
+        return big2(s, 0) * 65536 + big2(s, n - 2);
+    }
+    if n == 1 {
+        return wide(s[0]);
+    }
+    0
+}
+
+// Whether a stands before b in byte order, where the shorter has n bytes, less than eight.
+fn less_short(a: &[u8], b: &[u8], n: usize) -> bool
+    requires { ⌜ (n < 8) × Shorter (now a) (now b) n ⌝ }
+    ensures { λ r. ⌜ r ≡ less (now (a .entry)) (now (b .entry)) ⌝ }
+{
+    let x = first_bytes(a, n);
+    let y = first_bytes(b, n);
+    if x != y {
+        return x < y;
+    }
+    a.len() < b.len()
+}
+
+// The same where it has eight or more: eight are compared at a step. The last eight may be compared twice in part.
+fn less_long(a: &[u8], b: &[u8], n: usize) -> bool
+    requires { ⌜ (8 ≤ n) × Shorter (now a) (now b) n ⌝ }
+    ensures { λ r. ⌜ r ≡ less (now (a .entry)) (now (b .entry)) ⌝ }
+{
+    let last = n - 8;
     let mut i = 0;
-    while i + 8 <= a.len() {
-        if b.len() < i + 8 {
-            return i;
-        }
-        if read8(a, i) != read8(b, i) {
-            return i;
+    while i < last {
+        let x = big8(a, i);
+        let y = big8(b, i);
+        if x != y {
+            return x < y;
         }
         i += 8;
     }
-    i
+    let u = big8(a, last);
+    let v = big8(b, last);
+    if u != v {
+        return u < v;
+    }
+    a.len() < b.len()
+}
+
+// The lesser of two lengths.
+fn lesser(m: usize, n: usize) -> usize
+    ensures { λ r. ⌜ Lesser m n r ⌝ }
+{
+    if m < n {
+        return m;
+    }
+    n
 }
 
 // Whether a stands before b in byte order.
 pub fn less_name(a: &[u8], b: &[u8]) -> bool
     ensures { λ r. ⌜ r ≡ less (now (a .entry)) (now (b .entry)) ⌝ }
 {
-    let mut i = alike(a, b);
-    while i < a.len() {
-        if b.len() <= i {
-            return false;
-        }
-        let x = a[i];
-        let y = b[i];
-        if x < y {
-            return true;
-        }
-        if y < x {
-            return false;
-        }
-        i += 1;
+    let n = lesser(a.len(), b.len());
+    if n < 8 {
+        return less_short(a, b, n);
     }
-    a.len() < b.len()
+    less_long(a, b, n)
 }
 
 // Of so many blocks, one behind the other from an offset on, the first that begins with this name.
