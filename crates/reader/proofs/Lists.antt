@@ -25,7 +25,7 @@ use Rattle.blocks.specs.Tree.{Tree, name, num, block, nil, cons, number, part}
 use Rattle.blocks.specs.Read.{Step, Earlier, Reader, nameOf, pathsOf, pathsBefore, met, readKey, readCount, readEntries, readList, readPart, readParts, readHeader, readBlock}
 use Rattle.roundtrip.proofs.Accepted.{header-got}
 use Rattle.reader_leaf.specs.declared.Seen.{Seen}
-use Rattle.reader_leaf.specs.declared.Seen.the-variants.{Nothing, Owners, Types, After}
+use Rattle.reader_leaf.specs.declared.Seen.the-variants.{Nothing, Owners, Types}
 use Rattle.reader_leaf.specs.declared.Read.the-variants.{Ok}
 use Rattle.reader_leaf.specs.Answer.{forget}
 use Rattle.reader_leaf.specs.Seen.{Plain, nameAt, behind, namesBefore, Fresh, lastOf, Valid, Here, earlierOf, grownOf, Grows}
@@ -230,7 +230,6 @@ module _ (room : ℕ) (s : List ℕ) (lo hi at end : ℕ) (fits : end ≤ length
   next Nothing b d = record { grows = tt; same = refl; before = record { valid = tt; here = tt; suits = tt } }
   next (Owners first count last paths) b d = owners-next first count last paths b d
   next (Types first count fresh) b d = types-next first count fresh b d
-  next (After last) b d = absurd (b .suits)
 
 -- ---- the list's loop
 

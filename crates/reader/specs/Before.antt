@@ -7,7 +7,7 @@ use Rattle.blocks.specs.declared.Part.{Part}
 use Rattle.blocks.specs.declared.Part.the-variants.{Key}
 use Rattle.blocks.specs.Grammar.{partsOf, within}
 use Rattle.reader_leaf.specs.declared.Seen.{Seen}
-use Rattle.reader_leaf.specs.declared.Seen.the-variants.{Nothing, Owners, Types, After}
+use Rattle.reader_leaf.specs.declared.Seen.the-variants.{Nothing, Owners, Types}
 use Rattle.reader_leaf.specs.Seen.{Valid, Here}
 
 -- names ascend among owners (37); they are distinct among blocks that begin with a name
@@ -15,7 +15,6 @@ unfoldable pub Suits : Seen → ℕ → ℕ → Type 0
 Suits Nothing lo hi = Unit
 Suits (Owners first count last paths) lo hi = (lo ≡ 37) × (hi ≡ 37)
 Suits (Types first count fresh) lo hi = (k : ℕ) → within lo hi k ≡ true → (ps : List Part) × (partsOf k ≡ Key ∷ ps)
-Suits (After last) lo hi = ⊥
 
 pub record Before (s : List ℕ) (seen : Seen) (lo hi at : ℕ) : Type 0 where
   pub valid : Valid s seen

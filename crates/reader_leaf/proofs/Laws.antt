@@ -1,6 +1,6 @@
 -- Each part of a block that holds no block, as the code sees it: the tree is forgotten.
 use mathlib.Core.Path.{_≡_, refl, sym, _∙_, ap}
-use mathlib.Core.Bool.{Bool, true, false, not, _||_}
+use mathlib.Core.Bool.{Bool, true, false, cond, not, _||_}
 use mathlib.Core.List.{List, [], _∷_}
 use Prim.Native.Nat.{ℕ, zero, suc, _+_, _-_, _^_, _<_, _≤_}
 use native.Mathlib.Omega.{arith}
@@ -24,7 +24,7 @@ use Rattle.blocks.specs.declared.Part.{Part}
 use Rattle.blocks.proofs.Part.{the-type}
 use Rattle.blocks.specs.declared.Part.the-variants.{Text, Key, Number, Flag, Size, OptNumber, OptText, Literal, Block, OptBlock, Blocks, Ascending, Distinct, Names, Paths, Values}
 use Rattle.reader_leaf.specs.declared.Seen.{Seen}
-use Rattle.reader_leaf.specs.declared.Seen.the-variants.{Nothing, Owners, Types, After}
+use Rattle.reader_leaf.specs.declared.Seen.the-variants.{Nothing, Owners, Types}
 use Rattle.reader_leaf.specs.declared.Read.{Read}
 use Rattle.reader_leaf.specs.declared.Read.the-variants.{Ok, Refused}
 use Rattle.reader_leaf.specs.Answer.{forget, Inside, TextIn, EntryIn, WideIn}
@@ -133,17 +133,41 @@ module _ (s : List ℕ) (start end at : ℕ) where
         let g : at + 2 + le2 s at ≡ n = cc in
         rw (f, g)
 
+    -- so a name in its order is accepted, and another is refused by 6
+    pub key-settled : forget (readKey s start end e at) ≡ cond (inOrder e (nameAt s at)) (Ok n) (Refused 6 start)
+    unfolding forget _>>=_ ask
+    key-settled = key-is ∙ go (inOrder e (nameAt s at))
+      where
+        go : (t : Bool) → forget (ask t (unread 6 start) >>= (λ u. done (name (nameAt s at), n))) ≡ cond t (Ok n) (Refused 6 start)
+        go true = refl
+        go false = refl
+
     -- a name in its order is accepted
     pub key-yes : inOrder e (nameAt s at) ≡ true → forget (readKey s start end e at) ≡ Ok n
-    unfolding forget _>>=_ ask
-    key-yes h = key-is ∙ rw h
+    key-yes h = key-settled ∙ rw h
 
-    -- a name out of its order is refused by question 6
-    pub key-no : inOrder e (nameAt s at) ≡ false → forget (readKey s start end e at) ≡ Refused 6 start
-    unfolding forget _>>=_ ask
-    key-no h = key-is ∙ rw h
+  -- a name that is in its order whatever it is, is read as a text
+  pub key-free : (e : Earlier) → true ≡ inOrder e (nameAt s at) → forget (readText s start end at) ≡ forget (readKey s start end e at)
+  key-free e h = go (forget (readText s start end at)) refl
+    where
+      go : (r : Read) → forget (readText s start end at) ≡ r → r ≡ forget (readKey s start end e at)
+      go (Ok n) d = sym (key-settled e d ∙ rw (sym h))
+      go (Refused q o) d = sym (key-stop e d)
+
+  -- what question 6 says alike of two lists of names is read alike behind both
+  pub key-alike : (e f : Earlier) → inOrder e (nameAt s at) ≡ inOrder f (nameAt s at) → forget (readKey s start end e at) ≡ forget (readKey s start end f at)
+  key-alike e f h = go (forget (readText s start end at)) refl
+    where
+      go : (r : Read) → forget (readText s start end at) ≡ r → forget (readKey s start end e at) ≡ forget (readKey s start end f at)
+      go (Ok n) d = key-settled e d ∙ rw h (sym (key-settled f d))
+      go (Refused q o) d = key-stop e d ∙ sym (key-stop f d)
 
 -- ---- what was read lies inside
+
+-- a text stays where it is, whatever question 6 says
+pub text-settled : (s : List ℕ) (at end : ℕ) (r : Read) (t : Bool) (n start : ℕ) → r ≡ cond t (Ok n) (Refused 6 start) → TextIn (Ok n) s at end → TextIn r s at end
+text-settled s at end r true n start e h = rw e h
+text-settled s at end r false n start e h = rw e tt
 
 -- a text that was read ends inside
 pub text-inside : (r : Read) (s : List ℕ) (at end : ℕ) → TextIn r s at end → Inside r end
@@ -265,4 +289,3 @@ unfolding earlierOf seenPaths
 paths-before s Nothing = refl
 paths-before s (Owners first count last paths) = refl
 paths-before s (Types first count fresh) = refl
-paths-before s (After last) = refl

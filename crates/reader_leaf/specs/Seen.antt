@@ -14,7 +14,7 @@ use Rattle.blocks.specs.Read.{Earlier}
 use Rattle.blocks.specs.declared.Part.{Part}
 use Rattle.blocks.specs.declared.Part.the-variants.{Text, Key, Number, Flag, Size, OptNumber, OptText, Literal, Block, OptBlock, Blocks, Ascending, Distinct, Names, Paths, Values}
 use Rattle.reader_leaf.specs.declared.Seen.{Seen}
-use Rattle.reader_leaf.specs.declared.Seen.the-variants.{Nothing, Owners, Types, After}
+use Rattle.reader_leaf.specs.declared.Seen.the-variants.{Nothing, Owners, Types}
 
 -- the names with which n blocks begin, the last first
 unfoldable pub namesBefore : List ℕ → ℕ → ℕ → List Name
@@ -41,28 +41,24 @@ unfoldable pub earlierOf : List ℕ → Seen → Earlier
 earlierOf s Nothing = Earlier.any
 earlierOf s (Owners first count last paths) = Earlier.ascending (namesBefore s first count) paths
 earlierOf s (Types first count fresh) = Earlier.distinct (namesBefore s first count)
-earlierOf s (After last) = Earlier.ascending (lastName s last) 0
 
 -- how many paths the owners before have
 unfoldable pub seenPaths : Seen → ℕ
 seenPaths Nothing = 0
 seenPaths (Owners first count last paths) = paths
 seenPaths (Types first count fresh) = 0
-seenPaths (After last) = 0
 
 -- what is kept is so
 unfoldable pub Valid : List ℕ → Seen → Type 0
 Valid s Nothing = Unit
 Valid s (Owners first count last paths) = Stand s first count × (last ≡ lastOf s first count) × (paths ≤ 64)
 Valid s (Types first count fresh) = Stand s first count × Fresh s first fresh
-Valid s (After last) = LastIn s last
 
 -- the name at an offset is that of the next block
 unfoldable pub Here : List ℕ → Seen → ℕ → Type 0
 Here s Nothing at = Unit
 Here s (Owners first count last paths) at = at ≡ behind s first count + 6
 Here s (Types first count fresh) at = at ≡ behind s first count + 6
-Here s (After last) at = Unit
 
 -- a part that holds no block
 unfoldable pub Plain : Part → Type 0
@@ -88,11 +84,9 @@ unfoldable pub grownOf : List ℕ → Seen → ℕ → Seen
 grownOf s Nothing at = Nothing
 grownOf s (Owners first count last paths) at = Owners first (count + 1) (at + 6) (paths + le2 s (at + 6 + 2 + le2 s (at + 6)))
 grownOf s (Types first count fresh) at = Types first (count + 1) fresh
-grownOf s (After last) at = After last
 
 -- that block's name, and an owner's count, lie inside the input
 unfoldable pub Grows : List ℕ → Seen → ℕ → Type 0
 Grows s Nothing at = Unit
 Grows s (Owners first count last paths) at = (count ≤ at) × (at + 6 + 2 + le2 s (at + 6) + 2 ≤ length s) × (paths ≤ 64)
 Grows s (Types first count fresh) at = (count ≤ at) × NameIn s (at + 6)
-Grows s (After last) at = Unit

@@ -2,7 +2,7 @@
 use blocks::Part;
 use wire::Block;
 ghost use mathlib.Core.Path.{_≡_};
-ghost use mathlib.Core.Bool.{true, false, not, _||_};
+ghost use mathlib.Core.Bool.{true, false, cond, not, _||_};
 ghost use mathlib.Core.List.{[]};
 ghost use Prim.Native.Nat.{_+_, _-_, _≤_, _<_};
 ghost use lib.Dec.{ltb, leb};
@@ -13,6 +13,7 @@ ghost use Rattle.blocks.specs.Name.{among};
 ghost use Rattle.blocks.specs.Read.{Earlier, inOrder, inType, readText, readKey, readNumber, readFlag, readOptional, readLiteral, readCount, readList, readHeader, Reader, readPart};
 ghost use Rattle.reader_leaf.specs.Answer.{forget, headOf, countOf, announced, readEntry, Inside, TextIn, EntryIn, WideIn, HeadIn, CountIn};
 ghost use Rattle.marks.specs.Table.{Linked};
+ghost use Rattle.reader_leaf.specs.declared.Read.the-variants.{Ok, Refused};
 ghost use Rattle.reader_leaf.specs.Mark.{shortOf, step, markOf, markIn};
 ghost use Rattle.reader_leaf.specs.Seen.{nameAt, NameIn, LastIn, lastName, behind, namesBefore, Fresh, Stand, Valid, Here, earlierOf, seenPaths, Plain, grownOf, Grows};
 
@@ -43,8 +44,6 @@ pub enum Seen {
     // the names are distinct: the first block's offset, how many blocks, and how many from the first on, read or not, are known to
     // have names of their own
     Types(usize, usize, usize),
-    // the names of a list of names ascend: the offset of the last name (0 if there is none)
-    After(usize),
 }
 
 // A name or a text.
@@ -383,37 +382,51 @@ pub fn fresh(s: &[u8], at: usize, end: usize) -> usize
     fresh_marked(s, 8, first, n, end)
 }
 
-// Question 6 on the name at `at`.
-fn in_order(s: &[u8], seen: Seen, at: usize) -> bool
-    requires { ⌜ (Valid (now s) seen) × (Here (now s) seen at) × (NameIn (now s) at) ⌝ }
-    ensures { λ r. ⌜ r ≡ inOrder (earlierOf (now (s .entry)) seen) (nameAt (now (s .entry)) at) ⌝ }
+// A name that was read, up to `next`, and whether it is in its order.
+fn settled(in_order: bool, next: usize, start: usize) -> Read
+    ensures { λ r. ⌜ r ≡ cond «in_order» (Ok next) (Refused 6 start) ⌝ }
 {
-    match seen {
-        Seen::Nothing => true,
-        Seen::Owners(_, _, last, _) => ascends(s, last, at),
-        Seen::Types(first, count, fresh) => {
-            if count < fresh {
-                return true;
-            }
-            differs(s, first, count, at)
-        }
-        Seen::After(last) => ascends(s, last, at),
+    if in_order {
+        return Read::Ok(next);
+    }
+    Read::Refused(6, start)
+}
+
+// A name that ascends from the one at `last`, if there is one.
+fn later_key(s: &[u8], last: usize, start: usize, at: usize, end: usize) -> Read
+    requires { ⌜ (at ≤ end) × (end ≤ length (now s)) × (LastIn (now s) last) ⌝ }
+    ensures { λ r. ⌜ (r ≡ forget (readKey (now (s .entry)) start end (Earlier.ascending (lastName (now (s .entry)) last) 0) at)) × (TextIn r (now (s .entry)) at end) ⌝ }
+{
+    match text(s, start, at, end) {
+        Read::Refused(q, o) => Read::Refused(q, o),
+        Read::Ok(next) => settled(ascends(s, last, at), next, start),
     }
 }
 
-// A block's name, then question 6.
+// A name with which none of these blocks begins.
+fn other_key(s: &[u8], first: usize, count: usize, start: usize, at: usize, end: usize) -> Read
+    requires { ⌜ (at ≤ end) × (end ≤ length (now s)) × (Stand (now s) first count) ⌝ }
+    ensures { λ r. ⌜ (r ≡ forget (readKey (now (s .entry)) start end (Earlier.distinct (namesBefore (now (s .entry)) first count)) at)) × (TextIn r (now (s .entry)) at end) ⌝ }
+{
+    match text(s, start, at, end) {
+        Read::Refused(q, o) => Read::Refused(q, o),
+        Read::Ok(next) => settled(differs(s, first, count, at), next, start),
+    }
+}
+
+// A block's name, then question 6. Of a block that is known to have a name of its own nothing is asked.
 fn key(s: &[u8], seen: Seen, start: usize, at: usize, end: usize) -> Read
     requires { ⌜ (at ≤ end) × (end ≤ length (now s)) × (Valid (now s) seen) × (Here (now s) seen at) ⌝ }
     ensures { λ r. ⌜ (r ≡ forget (readKey (now (s .entry)) start end (earlierOf (now (s .entry)) seen) at)) × (TextIn r (now (s .entry)) at end) ⌝ }
 {
-    match text(s, start, at, end) {
-        Read::Refused(q, o) => Read::Refused(q, o),
-        Read::Ok(next) => {
-            if in_order(s, seen, at) {
-                Read::Ok(next)
-            } else {
-                Read::Refused(6, start)
+    match seen {
+        Seen::Nothing => text(s, start, at, end),
+        Seen::Owners(_, _, last, _) => later_key(s, last, start, at, end),
+        Seen::Types(first, count, fresh) => {
+            if count < fresh {
+                return text(s, start, at, end);
             }
+            other_key(s, first, count, start, at, end)
         }
     }
 }
@@ -449,7 +462,7 @@ fn next_entry(s: &[u8], pairs: bool, last: usize, start: usize, at: usize, end: 
     requires { ⌜ (at ≤ end) × (end ≤ length (now s)) × (LastIn (now s) last) ⌝ }
     ensures { λ r. ⌜ (r ≡ forget (readEntry pairs (now (s .entry)) start end (Earlier.ascending (lastName (now (s .entry)) last) 0) at)) × (EntryIn r (now (s .entry)) at end) ⌝ }
 {
-    match key(s, Seen::After(last), start, at, end) {
+    match later_key(s, last, start, at, end) {
         Read::Refused(q, o) => Read::Refused(q, o),
         Read::Ok(next) => {
             if pairs {
@@ -497,7 +510,6 @@ fn remaining(limit: usize, seen: Seen) -> usize
         Seen::Owners(_, _, _, paths) => { if limit < paths { 0 } else { limit - paths } }
         Seen::Nothing => limit,
         Seen::Types(_, _, _) => limit,
-        Seen::After(_) => limit,
     }
 }
 
@@ -540,6 +552,5 @@ pub fn grown(s: &[u8], seen: Seen, at: usize) -> Seen
             let more = count + 1;
             Seen::Types(first, more, fresh)
         }
-        Seen::After(last) => Seen::After(last),
     }
 }

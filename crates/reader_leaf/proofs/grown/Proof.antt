@@ -59,9 +59,6 @@ add-more-2 c =
     let g = rw (c .before .seen2 .given .1) at (at-start .pre) in
     omega arith
 
-enum-known-seen-3 : tie.Need-enum-known-seen-3
-enum-known-seen-3 c = search needs
-
 returns : tie.Need-returns
 unfolding grownOf
 returns c = rw (c .enum-told .given .1)
@@ -76,10 +73,6 @@ returns-3 : tie.Need-returns-3
 unfolding grownOf
 returns-3 c = rw (c .before .seen2 .given .1)
 
-returns-4 : tie.Need-returns-4
-unfolding grownOf
-returns-4 c = rw (c .before .seen3 .given .1)
-
 pub grown-spec : {M : Type 1} → statement M
 grown-spec =
     tie.close
@@ -93,8 +86,6 @@ grown-spec =
     add-all
     enum-known-seen-2
     add-more-2
-    enum-known-seen-3
     returns
     returns-2
-    returns-3
-    returns-4)
+    returns-3)

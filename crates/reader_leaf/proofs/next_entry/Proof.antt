@@ -3,15 +3,13 @@ use mathlib.Core.Path.{sym, _∙_}
 use native.Mathlib.Omega.{arith}
 use borrow.Author.Needs.{needs}
 use Rattle.reader_leaf.specs.Answer.{readEntry}
-use Rattle.reader_leaf.specs.Seen.{Valid, Here, earlierOf}
 use Rattle.reader_leaf.proofs.Lists.{entry-stop, value-then}
 use Rattle.reader_leaf.proofs.Laws.{pair-inside}
 use Rattle.reader_leaf.proofs.next_entry.Statement.{statement}
 use Rattle.reader_leaf.proofs.next_entry.Tie as tie
 
-key-requires : tie.Need-key-requires
-unfolding Valid Here
-key-requires c κs = (c .before .pre .0, c .before .pre .1, c .before .pre .2, tt)
+later-key-requires : tie.Need-later-key-requires
+later-key-requires c κs = search needs
 
 enum-known-q : tie.Need-enum-known-q
 enum-known-q c = search needs
@@ -23,37 +21,36 @@ number-requires : tie.Need-number-requires
 number-requires c κs =
     let at-next = c .before .before in
     let at-key = at-next .before .before in
-    let h = rw (at-next .next .given .1) at (at-key .key .ensures .1) in
+    let h = rw (at-next .next .given .1) at (at-key .later-key .ensures .1) in
     omega arith
 
 returns : tie.Need-returns
-unfolding earlierOf
 returns c =
     let at-key = c .before .before .before in
-    (sym (entry-stop _ _ _ _ _ _ (sym (at-key .key .ensures .0) ∙ c .before .q .given .1)), tt)
+    (sym (entry-stop _ _ _ _ _ _ (sym (at-key .later-key .ensures .0) ∙ c .before .q .given .1)), tt)
 
 returns-2 : tie.Need-returns-2
-unfolding earlierOf readEntry
+unfolding readEntry
 returns-2 c =
     let at-next = c .before .before .before in
     let at-key = at-next .before .before in (
       rw
           (c .before .if1 .taken)
           (c .number .ensures .0
-          ∙ sym (value-then _ _ _ _ _ (sym (at-key .key .ensures .0) ∙ at-next .next .given .1))),
+          ∙ sym (value-then _ _ _ _ _ (sym (at-key .later-key .ensures .0) ∙ at-next .next .given .1))),
       pair-inside
           (c .number .result) _ _ _ _
-          (rw (at-next .next .given .1) at (at-key .key .ensures .1))
+          (rw (at-next .next .given .1) at (at-key .later-key .ensures .1))
           (c .number .ensures .1),
     )
 
 returns-3 : tie.Need-returns-3
-unfolding earlierOf readEntry
+unfolding readEntry
 returns-3 c =
     let at-next = c .before .before in
     let at-key = at-next .before .before in
-    let h = rw (at-next .next .given .1) at (at-key .key .ensures .1) in (
-      rw (c .if1 .left) (sym (sym (at-key .key .ensures .0) ∙ at-next .next .given .1)),
+    let h = rw (at-next .next .given .1) at (at-key .later-key .ensures .1) in (
+      rw (c .if1 .left) (sym (sym (at-key .later-key .ensures .0) ∙ at-next .next .given .1)),
       (omega arith, h .1),
     )
 
@@ -61,7 +58,7 @@ pub next-entry-spec : {M : Type 1} → statement M
 next-entry-spec =
     tie.close
     (tie.spec
-    key-requires
+    later-key-requires
     enum-known-q
     enum-known-next
     number-requires

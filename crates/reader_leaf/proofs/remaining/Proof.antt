@@ -14,9 +14,6 @@ enum-told c = search needs
 enum-told-2 : tie.Need-enum-told-2
 enum-told-2 c = search needs
 
-enum-told-3 : tie.Need-enum-told-3
-enum-told-3 c = search needs
-
 returns : tie.Need-returns
 unfolding seenPaths
 returns c = rw (c .before .before .seen .given .1) (omega arith)
@@ -33,10 +30,6 @@ returns-4 : tie.Need-returns-4
 unfolding seenPaths
 returns-4 c = rw (c .enum-told2 .given .1) (omega arith)
 
-returns-5 : tie.Need-returns-5
-unfolding seenPaths
-returns-5 c = rw (c .enum-told3 .given .1) (omega arith)
-
 pub remaining-spec : {M : Type 1} → statement M
 remaining-spec =
     tie.close
@@ -44,9 +37,7 @@ remaining-spec =
     enum-known-seen
     enum-told
     enum-told-2
-    enum-told-3
     returns
     returns-2
     returns-3
-    returns-4
-    returns-5)
+    returns-4)
