@@ -56,6 +56,7 @@ module _ (m : ℕ) (layout : List ℕ) where
 
 -- ---- the program has ended
 
+-- what a call leaves that printed the last of all lines: the ways to end use it
 told-ended : {last : Bool} {f : List ℕ → List ℕ} {s out : List ℕ} {w : ℕ} {r : State} (layout input : List ℕ) → IsEnded last w r → w ≤ length out →
     ((rest : List ℕ) → Ends last rest → f (s ++ rest) ≡ take w out ++ []) → Told last f s layout input out r
 told-ended layout input e h g =
