@@ -166,11 +166,11 @@ module _ {s : List ℕ} {left owner : ℕ} (z : 0 < left) (l : Listed s 37 37 le
   pub owner-inside : owner + 4 + le4 s owner ≤ length s
   owner-inside = omega (arith, next-owner .inside, l .fits)
 
-module _ {s xs ws vs zs : List ℕ} {left owner q count : ℕ} {c a : Collected} (z : 0 < left) (w : (b : Accepted s 37 37 owner) → OwnerAt b q) (ec : count ≡ le2 s q)
-    (f : (l : Entries s Item.names count (q + 2)) → Behind s xs c ws vs zs a (collect-paths (nameAt s (owner + 6)) (textsOf (l .got .0)))) where
+module _ {s xs ws vs zs : List ℕ} {left owner q count at : ℕ} {c a : Collected} (z : 0 < left) (w : (b : Accepted s 37 37 owner) → OwnerAt b q) (ec : count ≡ le2 s q)
+    (en : at ≡ owner + 6) (f : (l : Entries s Item.names count (q + 2)) → Behind s xs c ws vs zs a (collect-paths (nameAt s at) (textsOf (l .got .0)))) where
   -- the arguments of the first owner
   of-owner : (b : Accepted s 37 37 owner) → Behind s xs c ws vs zs a (collect-paths (ownerOf (tree b) .name) (ownerOf (tree b) .paths))
-  of-owner b = subst (λ (o : Owner). Behind s xs c ws vs zs a (collect-paths (o .name) (o .paths))) (sym (w b .is)) ((rw ec at f) (w b .paths .list))
+  of-owner b = subst (λ (o : Owner). Behind s xs c ws vs zs a (collect-paths (o .name) (o .paths))) (sym (w b .is)) ((rw (ec, en) at f) (w b .paths .list))
 
   -- the first owner was refused
   pub owners-stop : (a .number ≡ 0 → ⊥) → (l : Listed s 37 37 left owner) → Behind s xs c ws vs zs a (collect-callee-arguments (entries ownerOf (l .got .0)))

@@ -13,7 +13,7 @@ use Rattle.ir.specs.Layout.{entriesTree, argumentTree}
 use Rattle.builder.specs.Registry.{Registry, Build}
 use Rattle.wire.specs.Poke.{Wrote}
 use Rattle.resolved_parts.specs.Types.{Named}
-use Rattle.builder_registry.specs.Words.{Standing, Indexed, entriesOf}
+use Rattle.builder_registry.specs.Words.{Standing, Indexed, held, entriesOf, ownerMark}
 use Rattle.builder_calls.specs.declared.Collected.{Collected}
 
 -- how many paths owners have
@@ -54,16 +54,18 @@ pub record Room (s ws : List ℕ) (c : Collected) : Type 0 where
   pub cursor : c .at < 2 ^ 57 + 520 * c .made
   pub goes : c .number ≡ 0
 
--- the names of an owner and of a path
-pub record ReadyPath (s ws : List ℕ) (owner path : ℕ) (c : Collected) : Type 0 where
+-- the names of an owner, with its mark, and of a path
+pub record ReadyPath (s ws : List ℕ) (owner mark path : ℕ) (c : Collected) : Type 0 where
   pub room : Room s ws c
   pub owned : Named s owner
+  pub marked : mark ≡ ownerMark (held s owner)
   pub named : Named s path
 
--- the name of an owner and its paths, `left` of them
-pub record ReadyPaths (s ws : List ℕ) (owner left path : ℕ) (c : Collected) : Type 0 where
+-- the name of an owner, with its mark, and its paths, `left` of them
+pub record ReadyPaths (s ws : List ℕ) (owner mark left path : ℕ) (c : Collected) : Type 0 where
   pub room : Room s ws c
   pub owned : Named s owner
+  pub marked : mark ≡ ownerMark (held s owner)
   pub list : Entries s Item.names left path
 
 -- owners, `left` of them

@@ -1,5 +1,6 @@
 // builder.rs, `build_typeref_node` and `collect_callee_arguments`.
 use builder_nodes::Built;
+use builder_registry::Owner;
 ghost use mathlib.Core.Path.{_≡_};
 ghost use mathlib.Core.List.{[], _∷_};
 ghost use Prim.Native.Nat.{_+_, _^_, _≤_};
@@ -29,9 +30,9 @@ pub struct Collected {
     pub number: u64,
 }
 
-// Paths of an owner: where its name stands, how many paths are left, and where the next stands.
+// An owner, how many of its paths are left, and where the next stands.
 struct OwnerPaths {
-    owner: usize,
+    owner: Owner,
     left: usize,
     path: usize,
 }
@@ -72,16 +73,16 @@ fn count_paths(s: &[u8], references: usize) -> usize
 fn put_argument(
     s: &[u8],
     words: &mut [u64],
-    owner: usize,
+    owner: Owner,
     path: usize,
     out: &mut [u8],
     c: Collected,
 ) -> Collected
-    requires { ⌜ ReadyPath (now s) (now words) owner path c ⌝ }
+    requires { ⌜ ReadyPath (now s) (now words) (owner .at) (owner .mark) path c ⌝ }
     ensures { λ r. ⌜ Fills c r ⌝ }
-    ensures { λ r. ⌜ Behind (now (s .entry)) (now (out .entry)) c (now (words .entry)) (now (words .exit)) (now (out .exit)) r (collect-paths (nameAt (now (s .entry)) owner) (nameAt (now (s .entry)) path ∷ [])) ⌝ }
+    ensures { λ r. ⌜ Behind (now (s .entry)) (now (out .entry)) c (now (words .entry)) (now (words .exit)) (now (out .exit)) r (collect-paths (nameAt (now (s .entry)) (owner .at)) (nameAt (now (s .entry)) path ∷ [])) ⌝ }
 {
-    let o = resolved_parts::name_at(s, owner);
+    let o = resolved_parts::name_at(s, owner.at);
     let p = resolved_parts::name_at(s, path);
     if 255 < builder_names::canonical_length(o, p) {
         return Collected {
@@ -128,9 +129,9 @@ fn put_arguments(
     out: &mut [u8],
     c: Collected,
 ) -> Collected
-    requires { ⌜ ReadyPaths (now s) (now words) (paths .owner) (paths .left) (paths .path) c ⌝ }
+    requires { ⌜ ReadyPaths (now s) (now words) (paths .owner .at) (paths .owner .mark) (paths .left) (paths .path) c ⌝ }
     ensures { λ r. ⌜ Fills c r ⌝ }
-    ensures { λ r. ⌜ ((l : Entries (now (s .entry)) Item.names (paths .left) (paths .path)) → Behind (now (s .entry)) (now (out .entry)) c (now (words .entry)) (now (words .exit)) (now (out .exit)) r (collect-paths (nameAt (now (s .entry)) (paths .owner)) (textsOf (l .got .0)))) ⌝ }
+    ensures { λ r. ⌜ ((l : Entries (now (s .entry)) Item.names (paths .left) (paths .path)) → Behind (now (s .entry)) (now (out .entry)) c (now (words .entry)) (now (words .exit)) (now (out .exit)) r (collect-paths (nameAt (now (s .entry)) (paths .owner .at)) (textsOf (l .got .0)))) ⌝ }
 {
     let owner = paths.owner;
     let left = paths.left;
@@ -170,10 +171,10 @@ fn put_owners(
     }
     let q = resolved_parts::owner_paths(s, owner);
     let count = wire::read2(s, q);
-    let name = owner + 6;
+    let marked = builder_registry::marked_owner(s, owner + 6);
     let first = q + 2;
     let paths = OwnerPaths {
-        owner: name,
+        owner: marked,
         left: count,
         path: first,
     };

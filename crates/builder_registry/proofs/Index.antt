@@ -25,7 +25,7 @@ use Rattle.builder_names.proofs.Qualified.{or-false}
 use Rattle.builder_registry.specs.declared.Alias.{Alias}
 use Rattle.builder_registry.specs.declared.Alias.the-variants.{Mark, LeftOut}
 use Rattle.builder_registry.specs.Word.{ownerAt, pathAt, madeOf, wordOf, derivedWord}
-use Rattle.builder_registry.specs.Words.{held, madePath, madeEntry, entryOf, entriesOf, keyIn, aliasIn, keyMark, aliasMark, slotOf, slotMark, Indexed, Sought, Marked, AliasIs, Linking}
+use Rattle.builder_registry.specs.Words.{held, madePath, madeEntry, entryOf, entriesOf, keyIn, aliasIn, ownerMark, keyMark, aliasMark, slotOf, slotMark, Indexed, Sought, Marked, AliasIs, Linking}
 use Rattle.builder_registry.specs.Place.{placeOf}
 use Rattle.builder_registry.proofs.Word.{word-owner, word-path, word-made, still-owner, still-path, still-made}
 use Rattle.builder_registry.proofs.Keys.{owner-is}
@@ -419,18 +419,18 @@ module _ {s ws : List ℕ} {n : ℕ} {o x : Name} {mark : ℕ} where
 -- ---- what is searched for
 
 -- the key of an owner whose name stands at an offset
-pub sought-at : {s : List ℕ} {m h at : ℕ} {o k : Name} → m ≡ markOf h k → h ≡ markOf 0 o → o ≡ held s at → Sought s m at o k
+pub sought-at : {s : List ℕ} {m h at : ℕ} {o k : Name} → m ≡ markOf h k → h ≡ ownerMark o → o ≡ held s at → Sought s m at o k
 sought-at {o = o} {k = k} e f g = record {
   mark = e ∙ ap (λ (x : ℕ). markOf x k) f;
   owner = λ l. sym (ap (same o) (sym g) ∙ same-refl o);
 }
 
 -- of an owner whose offset is not known
-pub sought-any : {s : List ℕ} {m h : ℕ} {o k : Name} → m ≡ markOf h k → h ≡ markOf 0 o → Sought s m 65536 o k
+pub sought-any : {s : List ℕ} {m h : ℕ} {o k : Name} → m ≡ markOf h k → h ≡ ownerMark o → Sought s m 65536 o k
 sought-any {k = k} e f = record { mark = e ∙ ap (λ (x : ℕ). markOf x k) f; owner = λ l. absurd (let z : ⊥ = omega arith in z) }
 
 -- the same of a key in two parts
-pub sought-joined : {s : List ℕ} {m h g : ℕ} {o : Name} (a b : Name) → m ≡ markOf h b → h ≡ markOf g a → g ≡ markOf 0 o → Sought s m 65536 o (a ++ b)
+pub sought-joined : {s : List ℕ} {m h g : ℕ} {o : Name} (a b : Name) → m ≡ markOf h b → h ≡ markOf g a → g ≡ ownerMark o → Sought s m 65536 o (a ++ b)
 sought-joined {g = g} a b e f i = sought-any (e ∙ (ap (λ (x : ℕ). markOf x b) f ∙ sym (mark-append g a b))) i
 
 -- ---- the alias of a word's entry
@@ -474,13 +474,13 @@ module _ (s ws : List ℕ) (n w : ℕ) (fit : n ≤ length ws) (o : Name) (eo : 
       go false = omega arith
 
   -- any other has its mark
-  pub alias-new : {m h : ℕ} → (length a ≡ 0 → ⊥) → i ≡ placeOf o a (entriesOf s ws n) → n ≤ i → m ≡ markOf h a → h ≡ markOf 0 (held s (ownerAt w)) →
+  pub alias-new : {m h : ℕ} → (length a ≡ 0 → ⊥) → i ≡ placeOf o a (entriesOf s ws n) → n ≤ i → m ≡ markOf h a → h ≡ ownerMark (held s (ownerAt w)) →
       aliasMark (entriesOf s ws n) (held s (ownerAt w)) (aliasIn s w) ≡ m
   unfolding aliasMark
   alias-new {m} {h} z e l em eh =
       let q : ltb (placeOf o a (entriesOf s ws n)) (length (entriesOf s ws n)) ≡ false =
       le-ltb (placeOf o a (entriesOf s ws n)) (length (entriesOf s ws n)) (omega (arith, entries-length s ws n fit)) in
-      rw (← ea, ← eo, q) (go a z ∙ sym (em ∙ ap (λ (x : ℕ). markOf x a) (eh ∙ ap (markOf 0) (sym eo))))
+      rw (← ea, ← eo, q) (go a z ∙ sym (em ∙ ap (λ (x : ℕ). markOf x a) (eh ∙ ap ownerMark (sym eo))))
     where
       go : (a : Name) → (length a ≡ 0 → ⊥) → cond (isEmpty a || false) 18446744073709551616 (keyMark o a) ≡ keyMark o a
       go [] z = absurd (z refl)
@@ -490,17 +490,17 @@ module _ (s ws : List ℕ) (n w : ℕ) (fit : n ≤ length ws) (o : Name) (eo : 
 
 -- of a path
 pub marked-path : {s : List ℕ} {owner path w h m : ℕ} {o p k : Name} → w ≡ wordOf owner path 0 → owner < 65536 → path < 65536 →
-    o ≡ held s owner → p ≡ held s path → h ≡ markOf 0 (held s owner) → k ≡ normalize-path o p → m ≡ markOf h k → Marked s w h m
+    o ≡ held s owner → p ≡ held s path → h ≡ ownerMark (held s owner) → k ≡ normalize-path o p → m ≡ markOf h k → Marked s w h m
 unfolding keyIn
 marked-path {s} {owner} {path} {w} {h} {m} {o} {p} {k} ew a b eo ep eh ek em =
     let x : ownerAt w ≡ owner = ap ownerAt ew ∙ word-owner owner path 0 a b (omega arith) in
     let y : pathAt w ≡ path = ap pathAt ew ∙ word-path owner path 0 a b (omega arith) in
     let z : madeOf w ≡ 0 = ap madeOf ew ∙ word-made owner path 0 a b (omega arith) in
-    record { owner = rw x eh; key = rw (x, z, y, ← eo, ← ep, ← ek) (em ∙ ap (λ (u : ℕ). markOf u k) (eh ∙ ap (markOf 0) (sym eo))) }
+    record { owner = rw x eh; key = rw (x, z, y, ← eo, ← ep, ← ek) (em ∙ ap (λ (u : ℕ). markOf u k) (eh ∙ ap ownerMark (sym eo))) }
 
 -- of a made parameter
 pub marked-made : (s : List ℕ) (owner made w : ℕ) {h m : ℕ} {o p k : Name} → ((t : List ℕ) → entryOf t w ≡ madeEntry made (held t owner)) →
-    o ≡ held s owner → p ≡ madePath made → h ≡ markOf 0 o → k ≡ normalize-path o p → m ≡ markOf h k → Marked s w h m
+    o ≡ held s owner → p ≡ madePath made → h ≡ ownerMark o → k ≡ normalize-path o p → m ≡ markOf h k → Marked s w h m
 unfolding madeEntry
 marked-made s owner made w {h} {m} {o} {p} {k} e eo ep eh ek em =
     let x : held s (ownerAt w) ≡ o = sym (owner-is s w) ∙ (ap (λ (y : Entry). y .owner) (e s) ∙ sym eo) in

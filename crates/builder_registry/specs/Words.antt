@@ -80,9 +80,13 @@ keyIn s w = normalize-path (held s (ownerAt w)) (cond (eqb (madeOf w) 0) (held s
 unfoldable pub aliasIn : List ℕ → ℕ → Name
 aliasIn s w = cond (eqb (madeOf w) 0) (aliasOf (held s (pathAt w)) (keyIn s w)) []
 
+-- the mark of an owner: of its name, and behind it a byte that no name has, so that one text, split into an owner and a key in two ways, has two marks
+abbrev pub ownerMark : Name → ℕ
+ownerMark owner = markOf (markOf 0 owner) (0 ∷ [])
+
 -- the mark of a key of an owner
 abbrev pub keyMark : Name → Name → ℕ
-keyMark owner key = markOf (markOf 0 owner) key
+keyMark owner key = markOf (ownerMark owner) key
 
 -- The mark of an entry's alias. It is left out, by a number that is no mark, where the entry has none, and where the alias is a key of
 -- one of the entries g before it: the first entry for a key decides.
@@ -110,7 +114,7 @@ pub record Sought (s : List ℕ) (m at : ℕ) (o key : Name) : Type 0 where
 
 -- the marks by which the entry of a word is linked: that of its owner, o, and that of its first key, k
 pub record Marked (s : List ℕ) (w o k : ℕ) : Type 0 where
-  pub owner : o ≡ markOf 0 (held s (ownerAt w))
+  pub owner : o ≡ ownerMark (held s (ownerAt w))
   pub key : k ≡ keyMark (held s (ownerAt w)) (keyIn s w)
 
 -- what the code says of an alias's mark m

@@ -19,7 +19,7 @@ ghost use Rattle.builder.specs.Names.{qualify-parent-path, normalize-path};
 ghost use Rattle.builder.specs.Registry.{enter, ensure, ensure-all, extend-with, lookup-name, owner-parameters, add-synthetic, mark-derived, keyedBy, entryOf as pathEntry};
 ghost use Rattle.builder.specs.Nodes.{lookupQualified};
 ghost use Rattle.builder_registry.specs.Word.{ownerAt, pathAt, madeOf, derivedOf, wordOf, derivedWord};
-ghost use Rattle.builder_registry.specs.Words.{Indexed, Sought, Marked, Linking, AliasIs, aliasMark, aliasIn, Standing, Kept, Tags, Looked, held, madePath, madeParameter, madeEntry, entryOf, entriesOf, entryName};
+ghost use Rattle.builder_registry.specs.Words.{Indexed, Sought, Marked, Linking, AliasIs, ownerMark, aliasMark, aliasIn, Standing, Kept, Tags, Looked, held, madePath, madeParameter, madeEntry, entryOf, entriesOf, entryName};
 ghost use Rattle.builder_registry.specs.Texts.{describing};
 ghost use Rattle.builder_registry.specs.Place.{placeOf, foundIn, ifOwned};
 ghost use Rattle.builder_registry.specs.NameMarks.{OwnerMarked};
@@ -54,9 +54,9 @@ struct Search {
 }
 
 // An owner: the offset of its name, and its mark.
-struct Owner {
-    at: usize,
-    mark: u64,
+pub struct Owner {
+    pub at: usize,
+    pub mark: u64,
 }
 
 // By what an entry is linked: the mark of its owner, and that of its first key.
@@ -90,6 +90,23 @@ fn held_at<'a>(s: &'a [u8], at: usize) -> &'a [u8]
         return &s[..0];
     }
     &s[from..to]
+}
+
+// The mark of an owner, from which the marks of its keys start.
+fn mark_of(owner: &[u8]) -> u64
+    ensures { λ r. ⌜ r ≡ ownerMark (now (owner .entry)) ⌝ }
+{
+    marks::mark(marks::mark(0, owner), b"\0")
+}
+
+// The owner whose name stands at an offset, marked once for all its paths.
+pub fn marked_owner(s: &[u8], at: usize) -> Owner
+    requires { ⌜ at < 65536 ⌝ }
+    ensures { λ r. ⌜ r .at ≡ at ⌝ }
+    ensures { λ r. ⌜ r .mark ≡ ownerMark (held (now (s .entry)) at) ⌝ }
+{
+    let mark = mark_of(held_at(s, at));
+    Owner { at, mark }
 }
 
 // The fields of a word. No other function knows where a field stands in it.
@@ -263,7 +280,7 @@ fn path_place(s: &[u8], words: &[u64], n: usize, owner: &[u8], path: &[u8]) -> u
     ensures { λ r. ⌜ r ≤ n ⌝ }
 {
     let key = builder_names::normalize_path(owner, path);
-    let mark = marks::mark(marks::mark(0, owner), key);
+    let mark = marks::mark(mark_of(owner), key);
     let search = Search {
         count: n,
         mark,
@@ -295,7 +312,7 @@ pub fn lookup_qualified(s: &[u8], words: &[u64], n: usize, owner: &[u8], path: &
         Key::Joined(a, b) => {
             let head = &owner[..a];
             let rest = &path[b..];
-            let mark = marks::mark(marks::mark(marks::mark(0, owner), head), rest);
+            let mark = marks::mark(marks::mark(mark_of(owner), head), rest);
             let search = Search {
                 count: n,
                 mark,
@@ -336,7 +353,7 @@ pub fn name_length(s: &[u8], w: u64) -> usize
 
 // The mark of the alias of a word's entry, behind n entries: left out where it has none, or one of these has it.
 fn alias_mark(s: &[u8], words: &[u64], n: usize, w: u64, owner: u64) -> Alias
-    requires { ⌜ Standing (now s) (now words) n × (owner ≡ markOf 0 (held (now s) (ownerAt w))) ⌝ }
+    requires { ⌜ Standing (now s) (now words) n × (owner ≡ ownerMark (held (now s) (ownerAt w))) ⌝ }
     ensures { λ r. ⌜ AliasIs (aliasMark (entriesOf (now (s .entry)) (now (words .entry)) n) (held (now (s .entry)) (ownerAt w)) (aliasIn (now (s .entry)) w)) r ⌝ }
 {
     if made_of(w) != 0 {
@@ -404,8 +421,8 @@ fn enter(s: &[u8], words: &mut [u64], n: usize, w: u64, by: Marks) -> Held
 }
 
 // A path of an owner, whose name stands at an offset, entered if its key is new.
-fn ensure_of(s: &[u8], words: &mut [u64], n: usize, owner: Owner, path: usize) -> Held
-    requires { ⌜ Standing (now s) (now words) n × (owner .at < 65536) × (owner .mark ≡ markOf 0 (held (now s) (owner .at))) × (path < 65536) ⌝ }
+pub fn ensure(s: &[u8], words: &mut [u64], n: usize, owner: Owner, path: usize) -> Held
+    requires { ⌜ Standing (now s) (now words) n × (owner .at < 65536) × (owner .mark ≡ ownerMark (held (now s) (owner .at))) × (path < 65536) ⌝ }
     ensures { λ r. ⌜ r .count ≤ 512 ⌝ }
     ensures { λ r. ⌜ Kept (now (s .entry)) (now (words .exit)) r (ensure (held (now (s .entry)) (owner .at)) (held (now (s .entry)) path) (entriesOf (now (s .entry)) (now (words .entry)) n)) ⌝ }
 {
@@ -433,28 +450,18 @@ fn ensure_of(s: &[u8], words: &mut [u64], n: usize, owner: Owner, path: usize) -
     enter(s, words, n, pack(at, path, 0), by)
 }
 
-// The same, with the offset of the owner's name.
-pub fn ensure(s: &[u8], words: &mut [u64], n: usize, owner: usize, path: usize) -> Held
-    requires { ⌜ Standing (now s) (now words) n × (owner < 65536) × (path < 65536) ⌝ }
-    ensures { λ r. ⌜ r .count ≤ 512 ⌝ }
-    ensures { λ r. ⌜ Kept (now (s .entry)) (now (words .exit)) r (ensure (held (now (s .entry)) owner) (held (now (s .entry)) path) (entriesOf (now (s .entry)) (now (words .entry)) n)) ⌝ }
-{
-    let mark = marks::mark(0, held_at(s, owner));
-    ensure_of(s, words, n, Owner { at: owner, mark }, path)
-}
-
 // Every path of the owner whose name stands at an offset. The paths stand behind their count.
 fn ensure_all(s: &[u8], words: &mut [u64], n: usize, owner: usize, paths: usize) -> Held
     requires { ⌜ Standing (now s) (now words) n × (owner < 65536) × PathsAt (now s) paths ⌝ }
     ensures { λ r. ⌜ r .count ≤ 512 ⌝ }
     ensures { λ r. ⌜ ((p : PathsAt (now (s .entry)) paths) → Kept (now (s .entry)) (now (words .exit)) r (ensure-all (held (now (s .entry)) owner) (textsOf (p .list .got .0)) (entriesOf (now (s .entry)) (now (words .entry)) n))) ⌝ }
 {
-    let mark = marks::mark(0, held_at(s, owner));
+    let marked = marked_owner(s, owner);
     let mut left = wire::read2(s, paths);
     let mut at = paths + 2;
     let mut count = n;
     while 0 < left {
-        let e = ensure_of(s, words, count, Owner { at: owner, mark }, at);
+        let e = ensure(s, words, count, marked, at);
         if e.number != 0 {
             return e;
         }
@@ -510,7 +517,7 @@ pub fn add_synthetic(s: &[u8], words: &mut [u64], n: usize, owner: usize, made: 
     let o = held_at(s, owner);
     let text = pick(made, b"__computed_tag", b"__variant", b"__payload_size");
     let key = builder_names::normalize_path(o, text);
-    let owner_mark = marks::mark(0, o);
+    let owner_mark = mark_of(o);
     let mark = marks::mark(owner_mark, key);
     let search = Search {
         count: n,

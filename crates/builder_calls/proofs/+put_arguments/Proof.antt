@@ -42,7 +42,7 @@ callees t = (
 
 -- The places, each seen from a later one: what was known there.
 abbrev start : {t : ℕ} → walk.Else1 (callees t) (entered t) self.Post → walk.Start (callees t) (entered t) self.Post
-start r = r .before .before .before .before
+start r = r .before .before .before .before .before
 
 abbrev left : {t : ℕ} → walk.After-put-argument (callees t) (entered t) self.Post → walk.Else1 (callees t) (entered t) self.Post
 left r = r .before .before .before
@@ -53,7 +53,7 @@ path-here r = entry-named (start r .pre .1 .list) (above (r .if1 .left))
 
 returns : (t : ℕ) → walk.Need-returns (callees t) (entered t) self.Post
 returns t c =
-    let at-start = c .before .before .before .before in (
+    let at-start = c .before .before .before .before .before in (
       fills-none (at-start .pre .1 .room),
       walk-none (paths-walk _) (at-start .pre .1 .room) (c .if1 .taken),
     )
@@ -62,7 +62,7 @@ put-argument-requires : (t : ℕ) → walk.Need-put-argument-requires (callees t
 put-argument-requires t c κs =
     let at-else1 = c .before .before in
     let at-start = start at-else1 in
-    record { room = at-start .pre .1 .room; owned = at-start .pre .1 .owned; named = path-here at-else1 }
+    record { room = at-start .pre .1 .room; owned = at-start .pre .1 .owned; marked = at-start .pre .1 .marked; named = path-here at-else1 }
 
 returns-2 : (t : ℕ) → walk.Need-returns-2 (callees t) (entered t) self.Post
 returns-2 t c =
@@ -99,6 +99,7 @@ put-arguments-requires t c κs =
             (at-put-argument .put-argument .ensures .0)
             (behind-index (at-else2 .if2 .left) (at-put-argument .put-argument .ensures .1));
         owned = at-start .pre .1 .owned;
+        marked = at-start .pre .1 .marked;
         list = rw (at-next-name .next-name .ensures) (next-path (above (at-else1 .if1 .left)) (at-start .pre .1 .list) .rest);
       },
     )

@@ -14,6 +14,7 @@ use Rattle.builder_calls.proofs.put_owners.Kinds as kinds
 use Rattle.builder_calls.proofs.+put_owners.Lts-put_owners as walk
 use Rattle.builder_calls.proofs.next_block.Reads as next-block-reads
 use Rattle.builder_calls.proofs.put_arguments.Reads as put-arguments-reads
+use Rattle.builder_registry.proofs.marked_owner.Reads as marked-owner-reads
 use Rattle.wire.proofs.read2.Reads as read2-reads
 use Rattle.resolved_parts.proofs.owner_paths.Reads as owner-paths-reads
 use Rattle.builder_calls.proofs.+put_owners.{statement}
@@ -38,6 +39,8 @@ callees t = (
   owner-paths-reads.Learnt,
   read2-reads.Asked,
   read2-reads.Learnt,
+  marked-owner-reads.Asked,
+  marked-owner-reads.Learnt,
   put-arguments-reads.Asked,
   put-arguments-reads.Learnt,
   next-block-reads.Asked,
@@ -50,8 +53,8 @@ callees t = (
 abbrev start : {t : ℕ} → walk.Else1 (callees t) (entered t) self.Post → walk.Start (callees t) (entered t) self.Post
 start r = r .before .before .before .before
 
-abbrev first-read : {t : ℕ} → walk.After-put-arguments (callees t) (entered t) self.Post → walk.After-read2 (callees t) (entered t) self.Post
-first-read r = r .before .before .before
+abbrev owner-marked : {t : ℕ} → walk.After-put-arguments (callees t) (entered t) self.Post → walk.After-marked-owner (callees t) (entered t) self.Post
+owner-marked r = r .before .before .before
 
 -- the first of the owners that are left, and its paths
 here : {t : ℕ} (r : walk.Else1 (callees t) (entered t) self.Post) → Accepted (start r .args .s .now) 37 37 (start r .args .owner)
@@ -73,33 +76,42 @@ owner-paths-requires t c κs = here c
 read2-requires : (t : ℕ) → walk.Need-read2-requires (callees t) (entered t) self.Post
 read2-requires t c κs = owner-at c .paths .inside
 
-add-name : (t : ℕ) → walk.Need-add-name (callees t) (entered t) self.Post
-add-name t c =
+add-marked-owner : (t : ℕ) → walk.Need-add-marked-owner (callees t) (entered t) self.Post
+add-marked-owner t c =
     let at-else1 = c .before .before in
     let at-start = start at-else1 in
     omega (arith, owner-inside (above (at-else1 .if1 .left)) (at-start .pre .1 .list), at-start .pre .1 .room .standing .size)
 
+marked-owner-requires : (t : ℕ) → walk.Need-marked-owner-requires (callees t) (entered t) self.Post
+marked-owner-requires t c κs =
+    let at-owner-paths = c .before in
+    let at-start = start (at-owner-paths .before) in
+    omega (arith, owner-at at-owner-paths .named .inside, at-start .pre .1 .room .standing .size)
+
 add-first : (t : ℕ) → walk.Need-add-first (callees t) (entered t) self.Post
 add-first t c =
-    let at-owner-paths = c .before in
+    let at-owner-paths = c .before .before in
     omega (arith, owner-at at-owner-paths .paths .inside)
 
 put-arguments-requires : (t : ℕ) → walk.Need-put-arguments-requires (callees t) (entered t) self.Post
 put-arguments-requires t c κs =
-    let at-read2 = c .before .before in
+    let at-marked-owner = c .before .before in
+    let at-read2 = at-marked-owner .before in
     let at-owner-paths = at-read2 .before in
     let at-else1 = at-owner-paths .before in
     let at-start = start at-else1 in
     record {
       room = at-start .pre .1 .room;
-      owned = owner-at at-owner-paths .named;
+      owned = rw (at-marked-owner .marked-owner .ensures .0) (owner-at at-owner-paths .named);
+      marked = rw (at-marked-owner .marked-owner .ensures .0) (at-marked-owner .marked-owner .ensures .1);
       list = paths-list (at-read2 .read2 .ensures .0) (owner-at at-owner-paths .paths);
     }
 
 returns-2 : (t : ℕ) → walk.Need-returns-2 (callees t) (entered t) self.Post
 returns-2 t c =
     let at-put-arguments = c .before .before .before .before .before .before in
-    let at-read2 = first-read at-put-arguments in
+    let at-marked-owner = owner-marked at-put-arguments in
+    let at-read2 = at-marked-owner .before in
     let at-owner-paths = at-read2 .before in
     let at-else1 = at-owner-paths .before in (
       at-put-arguments .put-arguments .ensures .0,
@@ -107,19 +119,20 @@ returns-2 t c =
           (above (at-else1 .if1 .left))
           (at-owner-paths .owner-paths .ensures)
           (at-read2 .read2 .ensures .0)
+          (at-marked-owner .marked-owner .ensures .0)
           (at-put-arguments .put-arguments .ensures .1)
           (c .if2 .taken),
     )
 
 next-block-requires : (t : ℕ) → walk.Need-next-block-requires (callees t) (entered t) self.Post
 next-block-requires t c κs =
-    let at-else1 = c .before .before .before .before .before .before .before .before .before .before .before in
+    let at-else1 = c .before .before .before .before .before .before .before .before .before .before .before .before in
     let at-start = start at-else1 in
     (owner-inside (above (at-else1 .if1 .left)) (at-start .pre .1 .list), at-start .pre .1 .room .standing .size)
 
 sub-put-owners : (t : ℕ) → walk.Need-sub-put-owners (callees t) (entered t) self.Post
 sub-put-owners t c =
-    let at-else1 = c .before .before .before .before .before .before .before .before .before .before .before .before .before in
+    let at-else1 = c .before .before .before .before .before .before .before .before .before .before .before .before .before .before in
     omega (arith, at-else1 .if1 .left)
 
 put-owners-requires : (t : ℕ) → walk.Need-put-owners-requires (callees t) (entered t) self.Post
@@ -127,7 +140,8 @@ put-owners-requires t c κs =
     let at-next-block = c .before .before in
     let at-else2 = at-next-block .before in
     let at-put-arguments = at-else2 .before .before .before .before .before .before in
-    let at-read2 = first-read at-put-arguments in
+    let at-marked-owner = owner-marked at-put-arguments in
+    let at-read2 = at-marked-owner .before in
     let at-owner-paths = at-read2 .before in
     let at-else1 = at-owner-paths .before in
     let at-start = start at-else1 in
@@ -149,7 +163,8 @@ returns-3 t c =
     let at-next-block = at-put-owners .before .before .before in
     let at-else2 = at-next-block .before in
     let at-put-arguments = at-else2 .before .before .before .before .before .before in
-    let at-read2 = first-read at-put-arguments in
+    let at-marked-owner = owner-marked at-put-arguments in
+    let at-read2 = at-marked-owner .before in
     let at-owner-paths = at-read2 .before in
     let at-else1 = at-owner-paths .before in (
       fills-both (at-put-arguments .put-arguments .ensures .0) (at-put-owners .put-owners .ensures .0),
@@ -157,6 +172,7 @@ returns-3 t c =
           (above (at-else1 .if1 .left))
           (at-owner-paths .owner-paths .ensures)
           (at-read2 .read2 .ensures .0)
+          (at-marked-owner .marked-owner .ensures .0)
           (at-put-arguments .put-arguments .ensures .1)
           (at-else2 .if2 .left)
           (at-next-block .next-block .ensures)
@@ -179,6 +195,6 @@ pub +put-owners-spec : {M : Type 1} → statement M
 +put-owners-spec =
     close μ
     (λ t. walk.spec (callees t) (entered t) self.Post (returns t) (owner-paths-requires t) (read2-requires t)
-    (add-name t) (add-first t) (put-arguments-requires t) (same-length t) (same-length-2 t) (returns-2 t)
+    (add-marked-owner t) (marked-owner-requires t) (add-first t) (put-arguments-requires t) (same-length t) (same-length-2 t) (returns-2 t)
     (next-block-requires t) (sub-put-owners t) (put-owners-requires t) (same-length-3 t) (same-length-4 t)
     (returns-3 t))

@@ -32,7 +32,7 @@ block-open r = r .before .before .before .before
 -- the two names, once they were found short enough
 names : (r : tie.Else1) → Names
     (start (first-name (r .before)) .args .s .now)
-    (start (first-name (r .before)) .args .owner)
+    (start (first-name (r .before)) .args .owner .at)
     (start (first-name (r .before)) .args .path)
     (now (first-name (r .before) .name-at .result))
     (now (r .before .before .name-at2 .result))
@@ -66,6 +66,7 @@ ensure-requires c κs =
     let at-start = start at-name-at in (
       at-start .pre .room .standing,
       omega (arith, at-start .pre .owned .inside, at-start .pre .room .standing .size),
+      at-start .pre .marked,
       omega (arith, at-start .pre .named .inside, at-start .pre .room .standing .size),
     )
 

@@ -26,23 +26,23 @@ pick-requires c κs = search needs
 normalize-path-requires : tie.Need-normalize-path-requires
 normalize-path-requires c κs = search needs
 
+mark-of-requires : tie.Need-mark-of-requires
+mark-of-requires c κs = search needs
+
 mark-requires : tie.Need-mark-requires
 mark-requires c κs = search needs
-
-mark-requires-2 : tie.Need-mark-requires-2
-mark-requires-2 c κs = search needs
 
 slice-aggregate-place : tie.Need-slice-aggregate-place
 slice-aggregate-place c = search needs
 
 place-requires : tie.Need-place-requires
 place-requires c κs =
-    let at-mark2 = c .before .before in
-    let at-mark = at-mark2 .before in
-    let at-held-at = at-mark .before .before .before .before .before .before in
+    let at-mark = c .before .before in
+    let at-mark-of = at-mark .before in
+    let at-held-at = at-mark-of .before .before .before .before .before .before in
     let at-start = at-held-at .before .before .before in (
       at-start .pre .0,
-      sought-at (at-mark2 .mark2 .ensures) (at-mark .mark .ensures) (at-held-at .held-at .ensures .0),
+      sought-at (at-mark .mark .ensures) (at-mark-of .mark-of .ensures) (at-held-at .held-at .ensures .0),
     )
 
 same-length : tie.Need-same-length
@@ -67,16 +67,16 @@ made-word-requires c κs = search needs
 
 enter-requires : tie.Need-enter-requires
 enter-requires c κs =
-    let at-mark2 = c .before .before .before .before .before .before in
-    let at-mark = at-mark2 .before in
-    let at-normalize-path = at-mark .before in
+    let at-mark = c .before .before .before .before .before .before in
+    let at-mark-of = at-mark .before in
+    let at-normalize-path = at-mark-of .before in
     let at-pick = at-normalize-path .before in
     let at-held-at = at-pick .before .before .before .before in
     let at-start = at-held-at .before .before .before in (
       at-start .pre .0,
       marked-made _ _ (at-start .args .made) _ (c .made-word .ensures) (at-held-at .held-at .ensures .0)
-          (made-text _ _ (at-pick .pick .ensures)) (at-mark .mark .ensures)
-          (at-normalize-path .normalize-path .ensures) (at-mark2 .mark2 .ensures),
+          (made-text _ _ (at-pick .pick .ensures)) (at-mark-of .mark-of .ensures)
+          (at-normalize-path .normalize-path .ensures) (at-mark .mark .ensures),
     )
 
 same-length-2 : tie.Need-same-length-2
@@ -110,8 +110,8 @@ add-synthetic-spec =
     slice-aggregate-pick-3
     pick-requires
     normalize-path-requires
+    mark-of-requires
     mark-requires
-    mark-requires-2
     slice-aggregate-place
     place-requires
     same-length

@@ -1,7 +1,7 @@
 -- `builder_registry::alias_mark` meets its contract: an alias that is empty, or a key of an entry before, is left out. Assumes nothing.
 use Rattle.builder_registry.proofs.Index.{sought-at, alias-is, alias-made, alias-none, alias-known, alias-new}
 use Rattle.builder_registry.proofs.Keys.{held-of}
-use Rattle.marks.specs.Mark.{markOf}
+use Rattle.builder_registry.specs.Words.{ownerMark}
 use borrow.Author.Needs.{needs}
 use mathlib.Core.Path.{_∙_, ap, sym}
 use native.Mathlib.Omega.{arith}
@@ -61,7 +61,7 @@ place-requires c κs =
     let at-start = at-owner-at .before .before .before .before .before in (
       at-start .pre .0,
       sought-at (at-mark .mark .ensures)
-          (at-start .pre .1 ∙ ap (markOf 0)
+          (at-start .pre .1 ∙ ap ownerMark
           (sym (held-of _ (at-held-at .held-at .ensures .0) (at-owner-at .owner-at .ensures .0))))
           (at-held-at .held-at .ensures .0),
     )

@@ -3,27 +3,23 @@ use Prim.Native.Nat.{_≤_}
 use Rattle.builder_registry.proofs.Extend.{Paths, paths-begin, paths-more, paths-stop, paths-end}
 use Rattle.builder_registry.proofs.Laws.{standing, kept-index}
 use Rattle.builder_registry.specs.Words.{held, entriesOf, Indexed}
-use Rattle.marks.specs.Mark.{markOf}
 use Rattle.resolved_parts.proofs.Laws.{entry-named}
 use borrow.Author.Needs.{needs}
 use lib.ListN.{length}
-use mathlib.Core.Path.{_≡_, _∙_, ap}
+use mathlib.Core.Path.{_≡_}
 use native.Mathlib.Omega.{arith}
 use Rattle.builder_registry.proofs.ensure_all.Statement.{statement}
 use Rattle.builder_registry.proofs.ensure_all.Tie as tie
 
 abbrev Inv-loop : tie.InvT-loop
-Inv-loop s words₀ n owner paths mark left₀ at₀ count₀ words left at count =
+Inv-loop s words₀ n owner paths marked left₀ at₀ count₀ words left at count =
     (count ≤ 512) × (length words ≡ length words₀) × Paths s (held s owner) (entriesOf s words₀ n) (entriesOf s words count) paths left at × Indexed s words count
 
 abbrev μ-loop : tie.MeasureT-loop
-μ-loop s words₀ n owner paths mark left₀ at₀ count₀ words left at count = left
+μ-loop s words₀ n owner paths marked left₀ at₀ count₀ words left at count = left
 
-held-at-requires : tie.Need-held-at-requires Inv-loop μ-loop
-held-at-requires c κs = search needs
-
-mark-requires : tie.Need-mark-requires Inv-loop μ-loop
-mark-requires c κs = search needs
+marked-owner-requires : tie.Need-marked-owner-requires Inv-loop μ-loop
+marked-owner-requires c κs = search needs
 
 read2-requires : tie.Need-read2-requires Inv-loop μ-loop
 read2-requires c κs = omega arith
@@ -33,23 +29,22 @@ add-at c = omega arith
 
 loop-holds : tie.Need-loop-holds Inv-loop μ-loop
 loop-holds c =
-    let at-start = c .before .before .before .before .before in (
+    let at-start = c .before .before .before .before in (
       omega arith,
       search needs,
       paths-begin _ _ (c .read2 .ensures .0) (at-start .pre .2),
       at-start .pre .0 .index,
     )
 
-ensure-of-requires : tie.Need-ensure-of-requires Inv-loop μ-loop
-ensure-of-requires c κs =
+ensure-requires : tie.Need-ensure-requires Inv-loop μ-loop
+ensure-requires c κs =
     let at-loop-test = c .before in
     let at-loop = at-loop-test .before in
-    let at-mark = at-loop .before .before in
-    let at-held-at = at-mark .before in
-    let at-start = at-held-at .before .before .before in (
+    let at-marked-owner = at-loop .before .before in
+    let at-start = at-marked-owner .before .before .before in (
       standing (at-start .pre .0) (at-loop .loop .inv .1) (at-loop .loop .inv .0) (at-loop .loop .inv .3),
-      omega arith,
-      at-mark .mark .ensures ∙ ap (markOf 0) (at-held-at .held-at .ensures .0),
+      omega (arith, at-marked-owner .marked-owner .ensures .0),
+      rw (at-marked-owner .marked-owner .ensures .0) (at-marked-owner .marked-owner .ensures .1),
       omega (arith, entry-named (at-loop .loop .inv .2 .here) (at-loop-test .loop-test .taken)),
     )
 
@@ -58,11 +53,12 @@ same-length c = search needs
 
 returns : tie.Need-returns Inv-loop μ-loop
 returns c =
-    let at-ensure-of = c .before .before .before .before in
-    let at-loop-test = at-ensure-of .before .before in
-    let at-loop = at-loop-test .before in (
+    let at-ensure = c .before .before .before .before in
+    let at-loop-test = at-ensure .before .before in
+    let at-loop = at-loop-test .before in
+    let at-marked-owner = at-loop .before .before in (
       omega arith,
-      paths-stop _ _ _ _ (at-loop-test .loop-test .taken) (at-ensure-of .ensure-of .ensures .1)
+      paths-stop _ _ _ _ (at-loop-test .loop-test .taken) (rw (at-marked-owner .marked-owner .ensures .0) at (at-ensure .ensure .ensures .1))
           (c .if1 .taken) (at-loop .loop .inv .2),
     )
 
@@ -81,14 +77,15 @@ loop-less c = omega arith
 loop-again : tie.Need-loop-again Inv-loop μ-loop
 loop-again c =
     let at-if1 = c .before in
-    let at-ensure-of = at-if1 .before .before .before .before in
-    let at-loop-test = at-ensure-of .before .before in
-    let at-loop = at-loop-test .before in (
+    let at-ensure = at-if1 .before .before .before .before in
+    let at-loop-test = at-ensure .before .before in
+    let at-loop = at-loop-test .before in
+    let at-marked-owner = at-loop .before .before in (
       omega arith,
       search needs,
-      paths-more _ _ _ _ (at-loop-test .loop-test .taken) (at-ensure-of .ensure-of .ensures .1)
+      paths-more _ _ _ _ (at-loop-test .loop-test .taken) (rw (at-marked-owner .marked-owner .ensures .0) at (at-ensure .ensure .ensures .1))
           (c .next-name .ensures) (at-if1 .if1 .left) (at-loop .loop .inv .2),
-      kept-index (at-if1 .if1 .left) (at-ensure-of .ensure-of .ensures .1),
+      kept-index (at-if1 .if1 .left) (at-ensure .ensure .ensures .1),
     )
 
 same-length-2 : tie.Need-same-length-2 Inv-loop μ-loop
@@ -105,12 +102,11 @@ ensure-all-spec =
     (tie.spec
     Inv-loop
     μ-loop
-    held-at-requires
-    mark-requires
+    marked-owner-requires
     read2-requires
     add-at
     loop-holds
-    ensure-of-requires
+    ensure-requires
     same-length
     returns
     next-name-requires

@@ -28,21 +28,21 @@ part-rest-start c = search rest-fits
 part-rest-end : tie.Need-part-rest-end
 part-rest-end c = search needs
 
+mark-of-requires : tie.Need-mark-of-requires
+mark-of-requires c κs = search needs
+
 mark-requires : tie.Need-mark-requires
 mark-requires c κs = search needs
 
 mark-requires-2 : tie.Need-mark-requires-2
 mark-requires-2 c κs = search needs
 
-mark-requires-3 : tie.Need-mark-requires-3
-mark-requires-3 c κs = search needs
-
 place-requires : tie.Need-place-requires
 place-requires c κs =
-    let at-mark2 = c .before in
-    let at-mark = at-mark2 .before in
-    let at-start = at-mark .before .before .before .before .before .before .before .before .before .before .before in
-    (at-start .pre, sought-joined _ _ (c .mark3 .ensures) (at-mark2 .mark2 .ensures) (at-mark .mark .ensures))
+    let at-mark = c .before in
+    let at-mark-of = at-mark .before in
+    let at-start = at-mark-of .before .before .before .before .before .before .before .before .before .before .before in
+    (at-start .pre, sought-joined _ _ (c .mark2 .ensures) (at-mark .mark .ensures) (at-mark-of .mark-of .ensures))
 
 returns : tie.Need-returns
 returns c =
@@ -80,9 +80,9 @@ lookup-qualified-spec =
     sub-rest
     part-rest-start
     part-rest-end
+    mark-of-requires
     mark-requires
     mark-requires-2
-    mark-requires-3
     place-requires
     returns
     enum-told

@@ -8,21 +8,21 @@ use Rattle.builder_registry.proofs.path_place.Tie as tie
 normalize-path-requires : tie.Need-normalize-path-requires
 normalize-path-requires c κs = search needs
 
+mark-of-requires : tie.Need-mark-of-requires
+mark-of-requires c κs = search needs
+
 mark-requires : tie.Need-mark-requires
 mark-requires c κs = search needs
-
-mark-requires-2 : tie.Need-mark-requires-2
-mark-requires-2 c κs = search needs
 
 slice-aggregate-place : tie.Need-slice-aggregate-place
 slice-aggregate-place c = search needs
 
 place-requires : tie.Need-place-requires
 place-requires c κs =
-    let at-mark2 = c .before in
-    let at-mark = at-mark2 .before in
-    let at-start = at-mark .before .before .before .before .before .before in
-    (at-start .pre, sought-any (at-mark2 .mark2 .ensures) (at-mark .mark .ensures))
+    let at-mark = c .before in
+    let at-mark-of = at-mark .before in
+    let at-start = at-mark-of .before .before .before .before .before .before in
+    (at-start .pre, sought-any (at-mark .mark .ensures) (at-mark-of .mark-of .ensures))
 
 returns : tie.Need-returns
 returns c =
@@ -36,8 +36,8 @@ path-place-spec =
     tie.close
     (tie.spec
     normalize-path-requires
+    mark-of-requires
     mark-requires
-    mark-requires-2
     slice-aggregate-place
     place-requires
     returns)
