@@ -56,8 +56,6 @@ module _ (room : ℕ) (s : List ℕ) (end : ℕ) where
 
   -- what is left of the list of n trees, whose names are distinct, behind `count` of them
   pub record Going (at n count i : ℕ) : Type 0 where
-    pub inside : i ≤ end
-    pub bounded : count ≤ n
     pub before : Before s (Types (at + 2) count n) 161 161 i
     pub same : (start : ℕ) → forget (readList entry (Earlier.distinct []) 256 s start end at) ≡ forget (readEntries entry (earlierOf s (Types (at + 2) count n)) (n - count) i)
 
@@ -65,8 +63,6 @@ module _ (room : ℕ) (s : List ℕ) (end : ℕ) where
   pub going-first : (at n : ℕ) → at + 2 ≤ end → n ≡ le2 s at → n ≤ 256 → Fresh s (at + 2) n → Going at n 0 (at + 2)
   unfolding earlierOf namesBefore
   going-first at n h e l f = record {
-    inside = h;
-    bounded = omega arith;
     before = types-before s 161 161 (at + 2) f (inr (refl, refl));
     same = λ start. let z : n - 0 ≡ n = omega arith in rw z (list-yes s 256 at end entry (Earlier.distinct []) start n h e l);
   }
@@ -78,17 +74,14 @@ module _ (room : ℕ) (s : List ℕ) (end : ℕ) where
     going-order l = sym (fresh-order s (at + 2) n count (i + 6) (g .before .valid .1) l (g .before .here))
 
     -- a tree was read: what is left behind it
-    pub going-next : {next : ℕ} → count < n → 0 < next → next ≤ end → ((e : Earlier) → inOrder e (nameAt s (i + 6)) ≡ true → Reads next (readBlock room s e 161 161 i end))
+    pub going-next : {next : ℕ} → count < n → 0 < next → ((e : Earlier) → inOrder e (nameAt s (i + 6)) ≡ true → Reads next (readBlock room s e 161 161 i end))
         → Going at n (count + 1) next
     unfolding grownOf
-    going-next l z h d =
+    going-next l z d =
         let b = d (earlierOf s (Types (at + 2) count n)) (going-order l) z in
         let w = list-go room s 161 161 end fits (g .before) b (n - count) {r = Types (at + 2) (count + 1) n} (omega arith) refl in
         let e : n - count - 1 ≡ n - (count + 1) = omega arith in
-        record { inside = h; bounded = l′ l; before = w .0; same = λ start. g .same start ∙ rw (← e) (w .1) }
-      where
-        l′ : count < n → count + 1 ≤ n
-        l′ l = omega arith
+        record { before = w .0; same = λ start. g .same start ∙ rw (← e) (w .1) }
 
     -- no tree is left: the list ends here
     pub going-last : n ≤ count → (start : ℕ) → forget (readList entry (Earlier.distinct []) 256 s start end at) ≡ Ok i

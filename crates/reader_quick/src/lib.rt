@@ -423,10 +423,10 @@ fn tree(s: &[u8], room: usize, at: usize, end: usize) -> usize
     closed(entries(s, 162, j, stop), stop)
 }
 
-// n type trees behind their count at `at`. Their names are known to be distinct.
-fn fresh_trees(s: &[u8], room: usize, at: usize, n: usize, end: usize) -> usize
-    requires { ⌜ (Counted (now s) at n end) × (Fresh (now s) (at + 2) n) ⌝ }
-    ensures { λ r. ⌜ ((start : ℕ) → Reads r (readList (λ f a. readBlock room (now (s .entry)) f 161 161 a end) (Earlier.distinct []) 256 (now (s .entry)) start end at)) × (r ≤ end) ⌝ }
+// n type trees behind their count at `at`. Whether their names are distinct is not asked.
+fn each_tree(s: &[u8], room: usize, at: usize, n: usize, end: usize) -> usize
+    requires { ⌜ Counted (now s) at n end ⌝ }
+    ensures { λ r. ⌜ (Fresh (now (s .entry)) (at + 2) n → (start : ℕ) → Reads r (readList (λ f a. readBlock room (now (s .entry)) f 161 161 a end) (Earlier.distinct []) 256 (now (s .entry)) start end at)) × (r ≤ end) ⌝ }
 {
     let mut i = at + 2;
     let mut count = 0;
@@ -441,7 +441,7 @@ fn fresh_trees(s: &[u8], room: usize, at: usize, n: usize, end: usize) -> usize
     i
 }
 
-// A count and type trees, their names distinct.
+// A count and type trees, their names distinct: that is asked last, as a layout may be refused in a tree.
 fn trees(s: &[u8], room: usize, at: usize, end: usize) -> usize
     requires { ⌜ (at ≤ end) × (end ≤ length (now s)) ⌝ }
     ensures { λ r. ⌜ ((start : ℕ) → Reads r (readList (λ f a. readBlock room (now (s .entry)) f 161 161 a end) (Earlier.distinct []) 256 (now (s .entry)) start end at)) × (r ≤ end) ⌝ }
@@ -453,10 +453,14 @@ fn trees(s: &[u8], room: usize, at: usize, end: usize) -> usize
     if 256 < n {
         return 0;
     }
+    let r = each_tree(s, room, at, n, end);
+    if r == 0 {
+        return 0;
+    }
     if reader_leaf::fresh(s, at, end) < n {
         return 0;
     }
-    fresh_trees(s, room, at, n, end)
+    r
 }
 
 // Whether the input is a layout. If not, nothing is said.

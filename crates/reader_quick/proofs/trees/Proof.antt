@@ -1,4 +1,4 @@
--- `reader_quick::trees` meets its contract: where all names are known to be distinct, the trees decide. Assumes nothing.
+-- `reader_quick::trees` meets its contract: where the trees were read, their names decide. Assumes nothing.
 use native.Mathlib.Omega.{arith}
 use borrow.Author.Needs.{needs}
 use Rattle.reader_quick.proofs.Listed.{fresh-part}
@@ -17,17 +17,22 @@ read2-requires c κs = search needs
 returns-2 : tie.Need-returns-2
 returns-2 c = (λ start z. absurd (omega arith), omega arith)
 
-fresh-requires : tie.Need-fresh-requires
-fresh-requires c κs = search needs
+each-tree-requires : tie.Need-each-tree-requires
+each-tree-requires c κs = search needs
 
 returns-3 : tie.Need-returns-3
 returns-3 c = (λ start z. absurd (omega arith), omega arith)
 
-fresh-trees-requires : tie.Need-fresh-trees-requires
-fresh-trees-requires c κs = (search needs, fresh-part _ _ (c .if3 .left) (c .before .fresh .ensures))
+fresh-requires : tie.Need-fresh-requires
+fresh-requires c κs = search needs
 
 returns-4 : tie.Need-returns-4
-returns-4 c = search needs
+returns-4 c = (λ start z. absurd (omega arith), omega arith)
+
+returns-5 : tie.Need-returns-5
+returns-5 c =
+    let at-each = c .before .before .before in
+    (at-each .each-tree .ensures .0 (fresh-part _ _ (c .if4 .left) (c .before .fresh .ensures)), at-each .each-tree .ensures .1)
 
 pub trees-spec : {M : Type 1} → statement M
 trees-spec =
@@ -37,7 +42,8 @@ trees-spec =
     returns
     read2-requires
     returns-2
-    fresh-requires
+    each-tree-requires
     returns-3
-    fresh-trees-requires
-    returns-4)
+    fresh-requires
+    returns-4
+    returns-5)
