@@ -25,7 +25,8 @@ use Rattle.builder_names.proofs.Qualified.{or-false}
 use Rattle.builder_registry.specs.declared.Alias.{Alias}
 use Rattle.builder_registry.specs.declared.Alias.the-variants.{Mark, LeftOut}
 use Rattle.builder_registry.specs.Word.{ownerAt, pathAt, madeOf, wordOf, derivedWord}
-use Rattle.builder_registry.specs.Words.{held, madePath, madeEntry, entryOf, entriesOf, keyIn, aliasIn, ownerMark, keyMark, aliasMark, slotOf, slotMark, Indexed, Sought, Marked, AliasIs, Linking}
+use Rattle.builder_registry.specs.Words.{held, madePath, madeEntry, entryOf, entriesOf}
+use Rattle.builder_registry.specs.Words.{keyIn, aliasIn, ownerMark, keyMark, aliasMark, slotOf, slotMark, Indexed, Sought, Marked, AliasIs, Linking}
 use Rattle.builder_registry.specs.Place.{placeOf}
 use Rattle.builder_registry.proofs.Word.{word-owner, word-path, word-made, still-owner, still-path, still-made}
 use Rattle.builder_registry.proofs.Keys.{owner-is}

@@ -397,6 +397,13 @@ fn mark(h: u64, name: &str) -> u64 {
     name.bytes().fold(h, step)
 }
 
+/// The mark of an owner, from which those of its keys start, as
+/// crates/builder_registry has it: behind the name stands a byte that no name
+/// has.
+fn owner_mark(owner: &str) -> u64 {
+    mark(mark(0, owner), "\0")
+}
+
 /// Whether a name stands at the first place of that table.
 fn at_first_place(h: u64, name: &str) -> bool {
     mark(h, name) % 127 == 0
@@ -431,7 +438,7 @@ impl Scale {
     /// as in `calls`.
     fn paths_of_one_place(self) -> Set {
         let owner = "o".repeat(240);
-        let h = mark(0, &owner);
+        let h = owner_mark(&owner);
         let whole = |alias: String| {
             let path = |i: usize| format!("{i:04}::{alias}");
             (0..).map(path).find(|path| at_first_place(h, path))
@@ -444,9 +451,9 @@ impl Scale {
         self.with_structs(set, || calls_of_all(self.fields))
     }
 
-    /// One text, split at each place into an owner and a path: the mark of
-    /// both together is one. Structs call the type that refers to them. Too
-    /// much for a layout.
+    /// One text, split at each place into an owner and a path, with an end to
+    /// the path so that all keys share a place. Structs call the type that
+    /// refers to them. Too much for a layout.
     fn one_name_split(self) -> Set {
         let text = |from: usize, to: usize| -> String {
             let letter = |i: usize| char::from(b'a' + (i % 26) as u8);
@@ -454,7 +461,11 @@ impl Scale {
         };
         let mut ty = no_variants("0");
         for i in 1..=self.paths {
-            ty = with_paths(ty, &text(0, i), vec![text(i, 65)]);
+            let owner = text(0, i);
+            let h = owner_mark(&owner);
+            let path = |end: usize| text(i, 65) + &format!("{end:03}");
+            let good = (0..).map(path).filter(|path| at_first_place(h, path));
+            ty = with_paths(ty, &owner, good.take(1).collect());
         }
         let calls = || (0..self.fields).map(|_| call("0")).collect();
         self.with_structs(vec![ty], calls)
