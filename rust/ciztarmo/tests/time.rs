@@ -21,16 +21,16 @@ use slow::{Call, Slow};
 /// Milliseconds of processor time that a call may take on each input: ten times what it took on a
 /// virtual machine with an Intel Xeon; for readings, which took 0.03 to 0.06, more.
 const MOST: [(&str, f64); 19] = [
-    ("calls", 430.0),
+    ("calls", 80.0),
     ("references", 6.0),
     ("parameters-64", 0.25),
     ("parameters-512", 1.4),
     ("parameters-collide", 2.8),
-    ("parameters-collide-calls", 400.0),
-    ("paths-alike", 120.0),
-    ("paths-of-one-place", 2400.0),
-    ("one-name-split", 310.0),
-    ("cases", 10.0),
+    ("parameters-collide-calls", 130.0),
+    ("paths-alike", 100.0),
+    ("paths-of-one-place", 2200.0),
+    ("one-name-split", 300.0),
+    ("cases", 6.0),
     ("targets", 3.0),
     ("jagged", 24.0),
     ("types-differ-at-start", 1.0),
