@@ -15,7 +15,7 @@ use Rattle.blocks.specs.Read.{Earlier, inOrder}
 use Rattle.blocks.proofs.Name.{same-eq}
 use Rattle.marks.specs.Table.{Linked, Prior}
 use Rattle.marks.proofs.Tables.{linked-none}
-use Rattle.reader_leaf.specs.Mark.{step, shortOf, markFrom, markOf, markIn}
+use Rattle.reader_leaf.specs.Mark.{step, shortOf, lengthOf, lastStep, markFrom, markOf, markIn}
 use Rattle.reader_leaf.specs.Seen.{nameAt, NameIn, behind, namesBefore, Fresh, Stand}
 use Rattle.reader_leaf.proofs.Laws.{among-none}
 
@@ -98,11 +98,11 @@ not-not false e = sym e
 -- ---- the mark of a name
 
 -- the product in a step is bounded by its factors
-pub step-product : (h x : ℕ) → (4294967296 + h % 1073741824) * (1073741824 + x % 2147483648) ≤ 17293822560512770049
+pub step-product : (h x : ℕ) → (4294967296 + h % 4294967296) * (x % 2147483648) ≤ 18446744062972133377
 step-product h x =
-    let a : 4294967296 + h % 1073741824 ≤ 5368709119 = omega arith in
-    let b : 1073741824 + x % 2147483648 ≤ 3221225471 = omega arith in
-    let c : (4294967296 + h % 1073741824) * (1073741824 + x % 2147483648) ≤ 5368709119 * 3221225471 = mul-le-mul a b in
+    let a : 4294967296 + h % 4294967296 ≤ 8589934591 = omega arith in
+    let b : x % 2147483648 ≤ 2147483647 = omega arith in
+    let c : (4294967296 + h % 4294967296) * (x % 2147483648) ≤ 8589934591 * 2147483647 = mul-le-mul a b in
     omega arith
 
 module _ (n : Name) where
@@ -124,43 +124,43 @@ module _ (n : Name) where
 
   module _ (apart : ℕ) where
     -- the mark of a short name
-    pub mark-short : length n < 8 → {r q x : ℕ} → r ≡ step q (length n) → q ≡ step 0 x → x ≡ shortOf n → r ≡ markOf apart n
+    pub mark-short : length n < 8 → {r q x : ℕ} → r ≡ step q (lengthOf n) → q ≡ step 0 x → x ≡ shortOf n → r ≡ markOf apart n
     unfolding markOf
-    mark-short h g e f = rw (lt-ltb (length n) 8 h, g, e, f)
+    mark-short h e f g = rw (lt-ltb (length n) 8 h, e, f, g)
 
-    -- the steps before i have made h
-    pub record Marked (i h : ℕ) : Type 0 where
+    -- the steps before i have made h and g
+    pub record Marked (i h g : ℕ) : Type 0 where
       pub steps : ℕ
       pub enough : length n ≤ i + steps
-      pub same : markFrom apart (length n) n 0 0 ≡ markFrom apart steps n i h
+      pub same : markFrom apart (length n) n 0 0 (lengthOf n) ≡ markFrom apart steps n i h g
 
     -- before the first step
-    pub marked-none : Marked 0 0
+    pub marked-none : Marked 0 0 (lengthOf n)
     marked-none = record { steps = length n; enough = omega arith; same = refl }
 
-    module _ {i h : ℕ} (m : Marked i h) where
+    module _ {i h g : ℕ} (m : Marked i h g) where
       -- a step more
-      pub marked-more : 0 < apart → i + 8 < length n → {r x : ℕ} → r ≡ step h x → x ≡ le8 n i → Marked (i + apart) r
+      pub marked-more : 0 < apart → i + 8 < length n → {r x : ℕ} → r ≡ step h x → x ≡ le8 n i → Marked (i + apart) g r
       unfolding markFrom
       marked-more z l {r} e f = go (m .steps) (m .enough) (m .same)
         where
-          go : (k : ℕ) → length n ≤ i + k → markFrom apart (length n) n 0 0 ≡ markFrom apart k n i h → Marked (i + apart) r
+          go : (k : ℕ) → length n ≤ i + k → markFrom apart (length n) n 0 0 (lengthOf n) ≡ markFrom apart k n i h g → Marked (i + apart) g r
           go zero a b = absurd (omega arith)
           go (suc k) a b = record { steps = k; enough = omega arith; same = b ∙ rw (lt-ltb (i + 8) (length n) l, e, f) }
 
-      -- no step is left
-      marked-all : length n ≤ i + 8 → markFrom apart (length n) n 0 0 ≡ h
+      -- no step is left but the last
+      marked-all : length n ≤ i + 8 → markFrom apart (length n) n 0 0 (lengthOf n) ≡ lastStep n h g
       unfolding markFrom
       marked-all l = m .same ∙ go (m .steps)
         where
-          go : (k : ℕ) → markFrom apart k n i h ≡ h
+          go : (k : ℕ) → markFrom apart k n i h g ≡ lastStep n h g
           go zero = refl
           go (suc k) = rw (le-ltb (i + 8) (length n) l)
 
-      -- the last eight bytes, and the length
-      pub mark-long : 8 ≤ length n → length n ≤ i + 8 → {r w x : ℕ} → r ≡ step w (length n) → w ≡ step h x → x ≡ le8 n (length n - 8) → r ≡ markOf apart n
+      -- the last step
+      pub mark-long : 8 ≤ length n → length n ≤ i + 8 → {r w x : ℕ} → r ≡ step w g → w ≡ step h x → x ≡ le8 n (length n - 8) → r ≡ markOf apart n
       unfolding markOf
-      mark-long l b g u f = rw (le-ltb (length n) 8 l, marked-all b, g, u, f)
+      mark-long l b e u f = rw (le-ltb (length n) 8 l, marked-all b, e, u, f)
 
 -- ---- the table of marks
 

@@ -9,9 +9,9 @@ use Rattle.blocks.specs.Blocks.{blockAt}
 use Rattle.blocks.specs.Name.{Name}
 
 -- A mark with eight bytes more, which are a number. It stays below 2 ^ 64. Two texts of eight bytes never give the same from one mark: their lower
--- halves are in a product with at least 2 ^ 32, and what is added of their upper halves is less.
+-- halves, below 2 ^ 31, are in a product with at least 2 ^ 32, and what is added of their upper halves is less.
 unfoldable pub step : ℕ → ℕ → ℕ
-step h x = (4294967296 + h % 1073741824) * (1073741824 + x % 2147483648) + h / 1073741824 + x / 2147483648
+step h x = (4294967296 + h % 4294967296) * (x % 2147483648) + h / 4294967296 + x / 4294967296
 
 -- a name of less than eight bytes as a number: its first bytes, and its last in the upper half
 unfoldable pub shortOf : Name → ℕ
@@ -20,14 +20,23 @@ shortOf n =
     (getD n 0 0)
     (cond (ltb (length n) 4) (le2 n 0 + 4294967296 * le2 n (length n - 2)) (le4 n 0 + 4294967296 * le4 n (length n - 4)))
 
--- a mark h with what a name has from i on, at most f steps and as far as eight bytes are followed by others
-unfoldable pub markFrom : ℕ → ℕ → Name → ℕ → ℕ → ℕ
-markFrom apart zero n i h = h
-markFrom apart (suc f) n i h = cond (ltb (i + 8) (length n)) (markFrom apart f n (i + apart) (step h (le8 n i))) h
+-- a name's length as a number for a step: there it is a factor, so it is made large
+abbrev pub lengthOf : Name → ℕ
+lengthOf n = 1640531527 + length n
 
--- the mark of a name: such steps, its last eight bytes, which may be taken twice, and its length
+-- the last step of a name's mark: its last eight bytes, which may be taken twice, and the other mark
+abbrev pub lastStep : Name → ℕ → ℕ → ℕ
+lastStep n h g = step (step h (le8 n (length n - 8))) g
+
+-- A name's mark from what it has from i on: at most f steps, as far as eight bytes are followed by others, and the last. The steps go by turns from
+-- two marks, now h and then g.
+unfoldable pub markFrom : ℕ → ℕ → Name → ℕ → ℕ → ℕ → ℕ
+markFrom apart zero n i h g = lastStep n h g
+markFrom apart (suc f) n i h g = cond (ltb (i + 8) (length n)) (markFrom apart f n (i + apart) g (step h (le8 n i))) (lastStep n h g)
+
+-- the mark of a name: one of the two marks begins with its length
 unfoldable pub markOf : ℕ → Name → ℕ
-markOf apart n = step (cond (ltb (length n) 8) (step 0 (shortOf n)) (step (markFrom apart (length n) n 0 0) (le8 n (length n - 8)))) (length n)
+markOf apart n = cond (ltb (length n) 8) (step (step 0 (shortOf n)) (lengthOf n)) (markFrom apart (length n) n 0 0 (lengthOf n))
 
 -- the mark of the name with which block k begins
 unfoldable pub markIn : List ℕ → ℕ → ℕ → ℕ → ℕ

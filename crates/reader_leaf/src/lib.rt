@@ -283,40 +283,37 @@ fn short(name: &[u8]) -> usize
 fn step(h: usize, x: usize) -> usize
     ensures { λ r. ⌜ r ≡ step h x ⌝ }
 {
-    let a = 4294967296 + h % 1073741824;
-    let b = 1073741824 + x % 2147483648;
-    a * b + h / 1073741824 + x / 2147483648
+    let a = 4294967296 + h % 4294967296;
+    let b = x % 2147483648;
+    a * b + h / 4294967296 + x / 4294967296
 }
 
-// The mark of a name: eight bytes at each step, the steps so far apart; its last eight, which may be taken twice, and its length.
+// The mark of a name: eight bytes at each step, the steps so far apart; its last eight, which may be taken twice, and its length. The steps go
+// by turns from two marks, so that a step need not wait for the one before it.
 fn mark(name: &[u8], apart: usize) -> u64
     requires { ⌜ (0 < apart) × (apart ≤ 32) ⌝ }
     ensures { λ r. ⌜ r ≡ markOf apart (now (name .entry)) ⌝ }
 {
     let n = name.len();
-    if n < 8 {
-        return step(step(0, short(name)), n) as u64;
-    }
     let mut h = 0;
+    let mut g = 1640531527 + n;
+    if n < 8 {
+        return step(step(h, short(name)), g) as u64;
+    }
     let mut i = 0;
     while i + 8 < n {
-        h = step(h, wire::read8(name, i));
+        let next = step(h, wire::read8(name, i));
+        h = g;
+        g = next;
         i += apart;
     }
-    step(step(h, wire::read8(name, n - 8)), n) as u64
+    step(step(h, wire::read8(name, n - 8)), g) as u64
 }
 
 // Whether none of these blocks, all of whose marks are in the table, begins with the name at `at`. Its mark is entered behind them. Where one
 // of them may have its mark, it is compared only if all bytes are in the marks.
-fn is_new(
-    s: &[u8],
-    table: &mut [u64; 383],
-    apart: usize,
-    first: usize,
-    count: usize,
-    at: usize,
-) -> bool
-    requires { ⌜ (Stand (now s) first count) × (NameIn (now s) at) × (count < 256) × (0 < apart) × (apart ≤ 32) × (Linked (now table) (markIn (now s) apart first) count) ⌝ }
+fn is_new(s: &[u8], table: &mut [u64], apart: usize, first: usize, count: usize, at: usize) -> bool
+    requires { ⌜ (Stand (now s) first count) × (NameIn (now s) at) × (count < 256) × (0 < apart) × (apart ≤ 32) × (Linked (now table) (markIn (now s) apart first) count) × (127 + count < length (now table)) ⌝ }
     ensures { λ r. ⌜ (r ≡ true → among (nameAt (now (s .entry)) at) (namesBefore (now (s .entry)) first count) ≡ false) ⌝ }
     ensures { λ _. ⌜ (at ≡ behind (now (s .entry)) first count + 6 → Linked (now (table .exit)) (markIn (now (s .entry)) apart first) (count + 1)) ⌝ }
 {
@@ -332,12 +329,19 @@ fn is_new(
     differs(s, first, count, at)
 }
 
-// The same as `fresh_compared` for many, by marks with steps so far apart; it may stop earlier where not all bytes are in the marks.
-fn fresh_marked(s: &[u8], apart: usize, first: usize, n: usize, end: usize) -> usize
-    requires { ⌜ (first ≤ end) × (end ≤ length (now s)) × (n ≤ 256) × (0 < apart) × (apart ≤ 32) ⌝ }
+// The same as `fresh_compared` for many, by marks with steps so far apart, in a table that has none before; it may stop earlier where not all
+// bytes are in the marks.
+fn fresh_linked(
+    s: &[u8],
+    table: &mut [u64],
+    apart: usize,
+    first: usize,
+    n: usize,
+    end: usize,
+) -> usize
+    requires { ⌜ (first ≤ end) × (end ≤ length (now s)) × (n ≤ 256) × (0 < apart) × (apart ≤ 32) × (Linked (now table) (markIn (now s) apart first) 0) × (127 + n ≤ length (now table)) ⌝ }
     ensures { λ r. ⌜ Fresh (now (s .entry)) first r ⌝ }
 {
-    let mut table = [0u64; 383];
     let mut at = first;
     let mut count = 0;
     while count < n {
@@ -345,7 +349,7 @@ fn fresh_marked(s: &[u8], apart: usize, first: usize, n: usize, end: usize) -> u
         if next == 0 {
             return count;
         }
-        if !is_new(s, &mut table, apart, first, count, at + 6) {
+        if !is_new(s, table, apart, first, count, at + 6) {
             return count;
         }
         at = next;
@@ -354,9 +358,27 @@ fn fresh_marked(s: &[u8], apart: usize, first: usize, n: usize, end: usize) -> u
     count
 }
 
+// The same with a table of its own.
+fn fresh_marked(s: &[u8], apart: usize, first: usize, n: usize, end: usize) -> usize
+    requires { ⌜ (first ≤ end) × (end ≤ length (now s)) × (n ≤ 256) × (0 < apart) × (apart ≤ 32) ⌝ }
+    ensures { λ r. ⌜ Fresh (now (s .entry)) first r ⌝ }
+{
+    let mut table = [0u64; 383];
+    fresh_linked(s, &mut table, apart, first, n, end)
+}
+
+// The same of up to 32 blocks by all bytes, with a smaller table: it takes less time to clear.
+fn fresh_small(s: &[u8], first: usize, n: usize, end: usize) -> usize
+    requires { ⌜ (first ≤ end) × (end ≤ length (now s)) × (n ≤ 32) ⌝ }
+    ensures { λ r. ⌜ Fresh (now (s .entry)) first r ⌝ }
+{
+    let mut table = [0u64; 159];
+    fresh_linked(s, &mut table, 8, first, n, end)
+}
+
 // Of the blocks behind their count at `at`, how many begin with a name that none before has. Nothing is said of more than 256, nor
-// behind the first block that does not lie before `end`. To compare a few names takes less time than to clear a table of marks. Of many, some
-// of the bytes mostly tell that the names are distinct; where they do not, all bytes are taken.
+// behind the first block that does not lie before `end`. To compare a few names takes less time than to clear a table of marks. Of more than 32,
+// some of the bytes mostly tell that the names are distinct; where they do not, all bytes are taken.
 pub fn fresh(s: &[u8], at: usize, end: usize) -> usize
     requires { ⌜ (at ≤ end) × (end ≤ length (now s)) ⌝ }
     ensures { λ r. ⌜ Fresh (now (s .entry)) (at + 2) r ⌝ }
@@ -371,6 +393,9 @@ pub fn fresh(s: &[u8], at: usize, end: usize) -> usize
     let first = at + 2;
     if n < 6 {
         return fresh_compared(s, first, n, end);
+    }
+    if n <= 32 {
+        return fresh_small(s, first, n, end);
     }
     if 256 < n {
         return 0;

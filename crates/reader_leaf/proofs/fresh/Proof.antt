@@ -26,20 +26,26 @@ fresh-compared-requires c κs = search needs
 returns-3 : tie.Need-returns-3
 returns-3 c = search needs
 
+fresh-small-requires : tie.Need-fresh-small-requires
+fresh-small-requires c κs = search needs
+
 returns-4 : tie.Need-returns-4
-returns-4 c = fresh-few _ _ 0 (omega arith)
+returns-4 c = search needs
+
+returns-5 : tie.Need-returns-5
+returns-5 c = fresh-few _ _ 0 (omega arith)
 
 fresh-marked-requires : tie.Need-fresh-marked-requires
 fresh-marked-requires c κs = search needs
 
-returns-5 : tie.Need-returns-5
-returns-5 c = search needs
+returns-6 : tie.Need-returns-6
+returns-6 c = search needs
 
 fresh-marked-requires-2 : tie.Need-fresh-marked-requires-2
 fresh-marked-requires-2 c κs = search needs
 
-returns-6 : tie.Need-returns-6
-returns-6 c = search needs
+returns-7 : tie.Need-returns-7
+returns-7 c = search needs
 
 pub fresh-spec : {M : Type 1} → statement M
 fresh-spec =
@@ -52,8 +58,10 @@ fresh-spec =
     add-first
     fresh-compared-requires
     returns-3
+    fresh-small-requires
     returns-4
-    fresh-marked-requires
     returns-5
+    fresh-marked-requires
+    returns-6
     fresh-marked-requires-2
-    returns-6)
+    returns-7)

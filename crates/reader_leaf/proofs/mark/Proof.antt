@@ -1,4 +1,4 @@
--- `reader_leaf::mark` meets its contract. The loop's invariant: the steps before i have made h. Assumes nothing.
+-- `reader_leaf::mark` meets its contract. The loop's invariant: the steps before i have made h and g. Assumes nothing.
 use Prim.Native.Nat.{_-_, _+_, _≤_, _<_}
 use mathlib.Core.Path.{_≡_}
 use native.Mathlib.Omega.{arith}
@@ -9,10 +9,13 @@ use Rattle.reader_leaf.proofs.mark.Statement.{statement}
 use Rattle.reader_leaf.proofs.mark.Tie as tie
 
 abbrev Inv-loop : tie.InvT-loop
-Inv-loop name apart n h₀ i₀ h i = Marked name apart i h × (i < n + 32) × (n ≡ length name) × (8 ≤ n)
+Inv-loop name apart n h₀ g₀ i₀ h g i = Marked name apart i h g × (i < n + 32) × (n ≡ length name) × (8 ≤ n)
 
 abbrev μ-loop : tie.MeasureT-loop
-μ-loop name apart n h₀ i₀ h i = n + 32 - i
+μ-loop name apart n h₀ g₀ i₀ h g i = n + 32 - i
+
+add-g : tie.Need-add-g Inv-loop μ-loop
+add-g c = omega arith
 
 short-requires : tie.Need-short-requires Inv-loop μ-loop
 short-requires c κs = omega arith
@@ -82,6 +85,7 @@ mark-spec =
     (tie.spec
     Inv-loop
     μ-loop
+    add-g
     short-requires
     step-requires
     step-requires-2

@@ -9,9 +9,6 @@ use Rattle.reader_leaf.proofs.step.Tie as tie
 add-a : tie.Need-add-a
 add-a c = omega arith
 
-add-b : tie.Need-add-b
-add-b c = omega arith
-
 mul-result : tie.Need-mul-result
 mul-result c = omega (arith, step-product (c .args .h) (c .args .x))
 
@@ -26,4 +23,4 @@ unfolding step
 returns c = refl
 
 pub step-spec : {M : Type 1} → statement M
-step-spec = tie.close (tie.spec add-a add-b mul-result add-result add-result-2 returns)
+step-spec = tie.close (tie.spec add-a mul-result add-result add-result-2 returns)
