@@ -404,7 +404,27 @@ fn owner_mark(owner: &str) -> u64 {
     mark(mark(0, owner), "\0")
 }
 
-/// Whether a name stands at the first place of that table.
+/// The mark of a type's name that is asked for first, as crates/reader_leaf has
+/// it for more than 32 types: eight bytes of every 32, and the last eight.
+fn type_mark(name: &str) -> u64 {
+    let bytes = name.as_bytes();
+    let eight = |i: usize| {
+        bytes[i..i + 8]
+            .iter()
+            .rev()
+            .fold(0, |x, b| x << 8 | u64::from(*b))
+    };
+    let step = |h: u64, x: u64| {
+        ((1 << 32) + h % (1 << 32)) * (x % (1 << 31)) + h / (1 << 32) + x / (1 << 32)
+    };
+    let (mut h, mut g) = (0, 1_640_531_527 + bytes.len() as u64);
+    for i in (0..bytes.len() - 8).step_by(32) {
+        (h, g) = (g, step(h, eight(i)));
+    }
+    step(step(h, eight(bytes.len() - 8)), g)
+}
+
+/// Whether a name stands at the first place of the registry's table.
 fn at_first_place(h: u64, name: &str) -> bool {
     mark(h, name) % 127 == 0
 }
@@ -427,10 +447,10 @@ impl Scale {
         self.with_structs(set, || calls_of_all(8))
     }
 
-    /// Names of one length whose marks share a place.
+    /// Names of one length whose marks share a place in the table of a reader.
     fn of_one_place(self) -> Vec<String> {
         let name = |i: usize| format!("{i:06}") + &"n".repeat(NAME - 6);
-        let good = (0..).map(name).filter(|name| at_first_place(0, name));
+        let good = (0..).map(name).filter(|name| type_mark(name) % 127 == 0);
         good.take(self.names).collect()
     }
 
