@@ -107,6 +107,7 @@ impl Scale {
         };
         let alike = write::layout(&trees(self.alike(8)));
         let placed = write::layout(&trees(self.of_one_place()));
+        let marked = write::layout(&trees(self.of_one_mark()));
         vec![
             set("types-differ-at-start", constants(self.alike(0))),
             set("types-differ-in-middle", constants(self.alike(NAME / 2))),
@@ -115,6 +116,8 @@ impl Scale {
             layout("trees-collide", 0, alike.clone()),
             layout("trees-collide-refused", 2, last_damaged(alike)),
             layout("trees-of-one-place-refused", 2, last_damaged(placed)),
+            layout("trees-of-one-mark", 0, marked.clone()),
+            layout("trees-of-one-mark-refused", 2, last_damaged(marked)),
         ]
     }
 }
@@ -404,24 +407,40 @@ fn owner_mark(owner: &str) -> u64 {
     mark(mark(0, owner), "\0")
 }
 
-/// The mark of a type's name that is asked for first, as crates/reader_leaf has
-/// it for more than 32 types: eight bytes of every 32, and the last eight.
+/// Eight bytes as a number, the low byte first.
+fn eight(bytes: &[u8]) -> u64 {
+    let more = |x, b: &u8| x << 8 | u64::from(*b);
+    bytes[..8].iter().rev().fold(0, more)
+}
+
+/// A mark of a type's name with eight bytes more, as crates/reader_leaf has it.
+fn step(h: u64, x: u64) -> u64 {
+    ((1 << 32) + h % (1 << 32)) * (x % (1 << 31)) + h / (1 << 32) + x / (1 << 32)
+}
+
+/// The mark that is asked for first of more than 32 types: eight bytes of every
+/// 32, and the last eight. The steps go by turns from two marks.
 fn type_mark(name: &str) -> u64 {
     let bytes = name.as_bytes();
-    let eight = |i: usize| {
-        bytes[i..i + 8]
-            .iter()
-            .rev()
-            .fold(0, |x, b| x << 8 | u64::from(*b))
-    };
-    let step = |h: u64, x: u64| {
-        ((1 << 32) + h % (1 << 32)) * (x % (1 << 31)) + h / (1 << 32) + x / (1 << 32)
-    };
     let (mut h, mut g) = (0, 1_640_531_527 + bytes.len() as u64);
     for i in (0..bytes.len() - 8).step_by(32) {
-        (h, g) = (g, step(h, eight(i)));
+        (h, g) = (g, step(h, eight(&bytes[i..])));
     }
-    step(step(h, eight(bytes.len() - 8)), g)
+    step(step(h, eight(&bytes[bytes.len() - 8..])), g)
+}
+
+/// The eight bytes of a text, if there are some, that take one mark to another.
+fn between(h: u64, mark: u64) -> Option<[u8; 8]> {
+    let factor = (1 << 32) + h % (1 << 32);
+    let rest = mark.checked_sub(h / (1 << 32))?;
+    let solve = |low: u64| {
+        let high = rest.checked_sub(factor * low)?;
+        let small = low < 1 << 31 && high < 1 << 32;
+        let bytes = (low | high << 32).to_le_bytes();
+        let text = bytes.iter().all(|b| (0x20..0x7F).contains(b));
+        (small && text).then_some(bytes)
+    };
+    solve(rest / factor).or_else(|| solve((rest / factor).checked_sub(1)?))
 }
 
 /// Whether a name stands at the first place of the registry's table.
@@ -452,6 +471,22 @@ impl Scale {
         let name = |i: usize| format!("{i:06}") + &"n".repeat(NAME - 6);
         let good = (0..).map(name).filter(|name| type_mark(name) % 127 == 0);
         good.take(self.names).collect()
+    }
+
+    /// Names of one length that have one mark of all their bytes, and are alike
+    /// in those of which the first mark is made. The bytes from 8 on are tried
+    /// one behind the other, those from 24 on solved for.
+    fn of_one_mark(self) -> Vec<String> {
+        let start = 1_640_531_527 + NAME as u64;
+        let begun = |i: u64| step(start, eight(format!("{i:08}").as_bytes()));
+        let mark = step(begun(0), eight(b"AAAAAAAA"));
+        let name = |i: u64| {
+            let solved = between(begun(i), mark)?;
+            let solved = std::str::from_utf8(&solved).ok()?;
+            let n = "n".repeat(8);
+            Some(format!("{n}{i:08}{n}{solved}") + &"n".repeat(NAME - 32))
+        };
+        (0..).filter_map(name).take(self.names).collect()
     }
 
     /// Paths under one owner of which each and its alias share a place, called

@@ -19,8 +19,8 @@ use ciztarmo::{Refusal, Work, LIMIT};
 use slow::{Call, Slow};
 
 /// Milliseconds of processor time that a call may take on each input: ten times what it took on a
-/// virtual machine with an Intel Xeon; for readings, which took 0.03 to 0.06, more.
-const MOST: [(&str, f64); 19] = [
+/// virtual machine with an Intel Xeon; for readings, which took 0.01 to 0.4, more.
+const MOST: [(&str, f64); 21] = [
     ("calls", 80.0),
     ("references", 6.0),
     ("parameters-64", 0.25),
@@ -40,6 +40,8 @@ const MOST: [(&str, f64); 19] = [
     ("trees-collide", 1.0),
     ("trees-collide-refused", 1.0),
     ("trees-of-one-place-refused", 1.0),
+    ("trees-of-one-mark", 5.0),
+    ("trees-of-one-mark-refused", 5.0),
 ];
 
 /// Milliseconds of the first of three tries that is quick enough, else of the quickest. The
