@@ -133,7 +133,7 @@ void ciztarmo_read_run(uint64_t *words, size_t words_len, const uint8_t *run, si
  *
  * It always ends. Its time grows with what is built, also where that is refused with 18 in the end because it is too long: a set of
  * 65,536 bytes can ask for some 65 MB. Of the sets that were made to take long (judge/README.md, "Inputs that take long") the slowest
- * took 0.24 s of the processor of docs/BENCH.md.
+ * took 0.19 s of the processor of docs/BENCH.md.
  */
 void ciztarmo_build_set(uint64_t *words, size_t words_len, const uint8_t *set, size_t set_len, uint8_t *out, size_t out_len,
                         uint64_t answer[4]);
