@@ -1,5 +1,6 @@
 -- The program `lengths`: from the bytes of standard input to the bytes of its lines.
-use Prim.Native.Nat.{ℕ, zero, suc, _+_, _*_, _/_, _%_}
+use Prim.Native.Nat.{ℕ, zero, suc, _+_, _-_, _*_, _/_, _%_, _≤_}
+use mathlib.Core.Path.{_≡_}
 use mathlib.Core.Bool.{Bool, true, false, cond}
 use mathlib.Core.List.{List, [], _∷_, _++_}
 use lib.Dec.{leb, ltb, eqb}
@@ -19,9 +20,25 @@ digits (suc k) n = elim (ltb n 10) [ true ↦ (0x30 + n) ∷ [] | false ↦ digi
 abbrev pub decimal : ℕ → List ℕ
 decimal = digits 20
 
--- "Fill is 100 × count / length to the nearest whole number, a half going up; 0 for a refusal or length 0."
+-- how far apart two numbers lie
+abbrev pub distance : ℕ → ℕ → ℕ
+distance m n = (m - n) + (n - m)
+
+-- n is a / b rounded:
+pub record Rounded (a b n : ℕ) : Type 0 where
+  -- "to the nearest whole number": n × b lies no further from a than half of b
+  pub near : 2 * distance (n * b) a ≤ b
+  -- "The fill printed by `lengths` now rounds an exact half to the even neighbour": where it lies just so far, n is even
+  pub even : 2 * distance (n * b) a ≡ b → n % 2 ≡ 0
+
+-- That number, from the whole part and the rest of a / b: the one below if the rest is less than half of b, the one above if it is more,
+-- else the even one of the two. It is `Rounded`, and no other number is (`rounded` and `one-rounded` in proofs/Fill.antt).
+unfoldable pub nearest : ℕ → ℕ → ℕ → ℕ
+nearest whole rest b = cond (ltb (2 * rest) b) whole (cond (ltb b (2 * rest)) (whole + 1) (whole + whole % 2))
+
+-- "Fill is 100 × count / length to the nearest whole number .. 0 for a refusal or length 0."
 unfoldable pub fill : ℕ → ℕ → ℕ
-fill count len = cond (eqb len 0) 0 ((200 * count + len) / (2 * len))
+fill count len = cond (eqb len 0) 0 (nearest (100 * count / len) (100 * count % len) len)
 
 -- "a line per run: run from 0, number (0 if accepted), count or value, fill"
 unfoldable pub line : ℕ → ℕ → ℕ → ℕ → List ℕ

@@ -15,7 +15,7 @@ use Rattle.builder.proofs.Compute.{compute as builder}
 use Rattle.interpreter.specs.Arithmetic.{Result, value, fault, bits, align-up, checked-sub, checked-left-shift, checked-right-shift}
 use Rattle.interpreter.specs.Validate.{validate-type}
 use Rattle.interpreter.proofs.Compute.{compute as interpreter}
-use Rattle.lengths_definition.specs.Lengths.{digits, fill, line, stopped, next-block, run-length, answer-lines, block-lines, run-lines, set-lines, input-lines, lengths}
+use Rattle.lengths_definition.specs.Lengths.{digits, nearest, fill, line, stopped, next-block, run-length, answer-lines, block-lines, run-lines, set-lines, input-lines, lengths}
 
 pub data Entry : Type 0 where
   number : Result → Entry
@@ -122,9 +122,14 @@ expected =
     -- M12
     names (ascii "q.r" ∷ []) ∷
     -- M13
-    lines (ascii "0 0 13 100\n1 0 1 13\n2 25 13 0\n3 21 0 0\n") ∷
+    lines (ascii "0 0 13 100\n1 0 1 12\n2 25 13 0\n3 21 0 0\n") ∷
     []
 
 pub table : answers ≡ expected
-unfolding answers expected errors blocks expr resolved ir builder interpreter digits fill line stopped next-block run-length answer-lines block-lines run-lines set-lines input-lines lengths
+unfolding answers expected errors blocks expr resolved ir builder interpreter digits nearest fill line stopped next-block run-length answer-lines block-lines run-lines set-lines input-lines lengths
 table = refl
+
+-- "1 byte of 8 is 12, 3 of 8 is 38."
+pub halves : (fill 1 8 ≡ 12) × (fill 3 8 ≡ 38)
+unfolding nearest fill
+halves = (refl, refl)

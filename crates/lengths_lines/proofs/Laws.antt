@@ -1,10 +1,10 @@
 -- The laws of the lines. Assumes nothing.
-use mathlib.Core.Path.{_≡_, refl, sym, ap, _∙_}
+use mathlib.Core.Path.{_≡_, refl, sym, ap, ap₂, _∙_}
 use mathlib.Core.Bool.{Bool, true, false, cond}
 use mathlib.Core.List.{List, [], _∷_, _++_, append-assoc}
-use Prim.Native.Nat.{ℕ, zero, suc, _+_, _-_, _*_, _/_, _%_, _<_, _≤_}
+use Prim.Native.Nat.{ℕ, zero, suc, _+_, _-_, _*_, _/_, _%_, _^_, _<_, _≤_}
 use native.Mathlib.Numerals.{sub-one}
-use native.Mathlib.Nat.{add-mul, mul-left-comm, div-eq-of-lt-le}
+use native.Mathlib.Nat.{add-mul, div-eq-of-lt-le, mul-add-mod-self-right, mod-eq-of-lt, mod-lt, div-le-self}
 use native.Mathlib.Omega.{arith}
 use borrow.Author.Tests.{lt-ltb, le-ltb, eq-eqb, ne-eqb, le-leb, lt-leb, leb-true}
 use lib.Dec.{leb}
@@ -30,7 +30,7 @@ use Rattle.errors.specs.Meaning.{refusalOf, outcomeOf}
 use Rattle.interpreter_validate.proofs.Laws.{run-at}
 use Rattle.reader_leaf.specs.declared.Read.the-variants.{Ok}
 use Rattle.reader_calls.specs.Inputs.{readCall, passed, passedOf}
-use Rattle.lengths_definition.specs.Lengths.{digits, decimal, fill, line, stopped, run-length, answer-lines}
+use Rattle.lengths_definition.specs.Lengths.{digits, decimal, nearest, fill, line, stopped, run-length, answer-lines}
 use Rattle.lengths_lines.specs.declared.Printed.the-variants as printed
 use Rattle.lengths_lines.specs.Lines.{IsLayout, Answered, AcceptedRun}
 
@@ -98,35 +98,46 @@ pub fill-none : (count len : ℕ) → len ≡ 0 → 0 ≡ fill count len
 unfolding fill
 fill-none count len h = rw (eq-eqb len 0 h)
 
--- the fill is the number between these bounds
-filled : (count len q : ℕ) → (len ≡ 0 → ⊥) → q * (2 * len) ≤ 200 * count + len → 200 * count + len < (q + 1) * (2 * len) → q ≡ fill count len
-unfolding fill
-filled count len q h a b = rw (ne-eqb len 0 h) (sym (div-eq-of-lt-le (2 * len) a b))
+module _ (whole rest len : ℕ) (below : rest < len) where
+  -- a rest that is less than what is missing is dropped
+  pub nearest-down : rest < len - rest → whole ≡ nearest whole rest len
+  unfolding nearest
+  nearest-down h = rw (lt-ltb (2 * rest) len (omega arith))
 
--- where the products are not too large, it is what they say
-pub fill-short : (count len : ℕ) → (len ≡ 0 → ⊥) → (200 * count + len) / (2 * len) ≡ fill count len
-unfolding fill
-fill-short count len h = rw (ne-eqb len 0 h)
+  -- with a rest that is more, it is the next number
+  pub nearest-up : len - rest < rest → whole + 1 ≡ nearest whole rest len
+  unfolding nearest
+  nearest-up h = rw (le-ltb (2 * rest) len (omega arith), lt-ltb len (2 * rest) (omega arith))
 
--- two may be taken out of the product
-twice : (q len : ℕ) → q * (2 * len) ≡ 2 * (q * len)
-twice q len = mul-left-comm q 2 len
+  -- an exact half goes to the even number
+  pub nearest-even : len - rest ≤ rest → rest ≤ len - rest → whole + whole % 2 ≡ nearest whole rest len
+  unfolding nearest
+  nearest-even h g = rw (le-ltb (2 * rest) len (omega arith), le-ltb len (2 * rest) (omega arith))
+
+-- the fill from the whole number and the rest
+pub fill-parts : (count len : ℕ) {r : ℕ} → (len ≡ 0 → ⊥) → r ≡ nearest (100 * count / len) (100 * count % len) len → r ≡ fill count len
+unfolding fill
+fill-parts count len h e = rw (ne-eqb len 0 h) e
+
+-- below 2^56 the whole number can be raised by one, and the rest is below the length
+pub fill-fits : (count len : ℕ) → (len ≡ 0 → ⊥) → len < 2 ^ 56 → count ≤ len → (100 * count / len < 2 ^ 63) × (100 * count % len < len)
+fill-fits count len h l g = (omega (arith, div-le-self (100 * count) len), mod-lt (100 * count) {m = len} (omega arith))
 
 module _ {count len i whole rest : ℕ} (h : len ≡ 0 → ⊥) (t : 100 ≤ i) (f : Filled count len i whole rest) where
   -- a hundred counts are so many whole lengths and a rest
-  hundred : 100 * count ≡ whole * len + rest
-  hundred = let e : i ≡ 100 = omega (arith, f .turns) in rw e at (f .is)
+  hundred : whole * len + rest ≡ 100 * count
+  hundred = let e : i ≡ 100 = omega (arith, f .turns) in sym (rw e at (f .is))
 
-  -- a rest below half of the length is dropped
-  pub fill-down : rest < len - rest → whole ≡ fill count len
-  fill-down g =
-      filled count len whole h (omega (arith, twice whole len, hundred)) (omega (arith, twice (whole + 1) len, add-mul whole 1 len, hundred))
+  -- they are the whole number and the rest of the division
+  divided : 100 * count / len ≡ whole
+  divided = div-eq-of-lt-le len (omega (arith, hundred)) (omega (arith, hundred, add-mul whole 1 len, f .below))
 
-  -- another counts as one more
-  pub fill-up : len - rest ≤ rest → whole + 1 ≡ fill count len
-  fill-up g =
-      filled count len (whole + 1) h (omega (arith, twice (whole + 1) len, add-mul whole 1 len, hundred))
-      (omega (arith, twice (whole + 1 + 1) len, add-mul (whole + 1) 1 len, add-mul whole 1 len, hundred, f .below))
+  remains : 100 * count % len ≡ rest
+  remains = ap (λ n. n % len) (sym hundred) ∙ mul-add-mod-self-right whole len rest ∙ mod-eq-of-lt (f .below)
+
+  -- so the fill is the number nearest to them
+  pub fill-long : {r : ℕ} → r ≡ nearest whole rest len → r ≡ fill count len
+  fill-long e = fill-parts count len h (e ∙ sym (ap₂ (λ w p. nearest w p len) divided remains))
 
 -- ---- a run's buffer length
 

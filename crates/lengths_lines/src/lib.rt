@@ -8,7 +8,7 @@ ghost use Prim.Native.Nat.{_+_, _^_, _≤_, _<_};
 ghost use Rattle.errors.specs.Refusal.{plain};
 ghost use Rattle.interpreter.specs.Validate.{validate-run};
 ghost use Rattle.wire.specs.Poke.{Wrote};
-ghost use Rattle.lengths_definition.specs.Lengths.{digits, decimal, fill, line, stopped, words, run-length, answer-lines};
+ghost use Rattle.lengths_definition.specs.Lengths.{digits, decimal, nearest, fill, line, stopped, words, run-length, answer-lines};
 ghost use Rattle.lengths_lines.specs.Lines.{IsLayout, Answered, AcceptedRun, bytesOf};
 
 // What was printed for a run block, and the cursor behind it.
@@ -19,8 +19,24 @@ pub enum Printed {
     Last(usize),
 }
 
+// The whole number nearest to whole and rest of len parts; an exact half goes to the even neighbour. The rest is held against what is
+// missing to the next whole number, so that nothing is doubled.
+fn nearest(whole: u64, rest: u64, len: u64) -> u64
+    requires { ⌜ (whole < 2 ^ 63) × (rest < len) ⌝ }
+    ensures { λ r. ⌜ r ≡ nearest whole rest len ⌝ }
+{
+    let missing = len - rest;
+    if rest < missing {
+        return whole;
+    }
+    if missing < rest {
+        return whole + 1;
+    }
+    whole + whole % 2
+}
+
 // A hundred times the count is added up without a product that could be too large: whole lengths are counted, and rest, below
-// the length, is what is left. A half goes up.
+// the length, is what is left.
 fn long_fill(count: u64, len: u64) -> u64
     requires { ⌜ (count ≤ len) × (0 < len) ⌝ }
     ensures { λ r. ⌜ r ≡ fill count len ⌝ }
@@ -38,10 +54,7 @@ fn long_fill(count: u64, len: u64) -> u64
         }
         i += 1;
     }
-    if rest < len - rest {
-        return whole;
-    }
-    whole + 1
+    nearest(whole, rest, len)
 }
 
 // Below 2^56 the product is not too large.
@@ -53,7 +66,8 @@ fn fill(count: u64, len: u64) -> u64
         return 0;
     }
     if len < 72057594037927936 {
-        return (200 * count + len) / (2 * len);
+        let hundred = 100 * count;
+        return nearest(hundred / len, hundred % len, len);
     }
     long_fill(count, len)
 }

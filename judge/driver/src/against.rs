@@ -7,15 +7,19 @@ use std::collections::BTreeMap;
 use std::io::Write;
 use std::process::{Command, Stdio};
 
-fn output(program: &str, input: &[u8]) -> Result<String, String> {
+/// What a program prints on an input, which is written beside the reading: neither waits for the other.
+pub fn output(program: &str, input: &[u8]) -> Result<String, String> {
     let mut child = Command::new(program)
         .stdin(Stdio::piped())
         .stdout(Stdio::piped())
         .spawn()
         .map_err(|e| format!("{program}: {e}"))?;
-    // A program may end before it has read everything.
-    let _ = child.stdin.take().unwrap().write_all(input);
-    let done = child.wait_with_output();
+    let mut stdin = child.stdin.take().unwrap();
+    let done = std::thread::scope(|scope| {
+        // A program may end before it has read everything.
+        scope.spawn(move || stdin.write_all(input));
+        child.wait_with_output()
+    });
     let done = done.map_err(|e| format!("{program}: {e}"))?;
     Ok(String::from_utf8_lossy(&done.stdout).into_owned())
 }

@@ -8,6 +8,7 @@ mod call;
 mod cases;
 mod compare;
 mod data;
+mod fills;
 mod findings;
 mod gen;
 mod plain;
@@ -39,6 +40,8 @@ const USAGE: &str = "usage: judge/run COMMAND
                                    with --sets one build for each case and no runs
   against PROGRAM [--cases N] [--seed S]
                                    hold a program `lengths` against the rules
+  fills PROGRAM [--cases N] [--seed S]
+                                   hold the fill that it prints against exact arithmetic
   bench [--markdown] [--only TEXT] time, ours beside the Rust: all tables, or those with TEXT
                                    in their title
   slow FOLDER                      write the bench's larger sets and layouts, and the inputs that
@@ -100,6 +103,7 @@ fn run() -> Result<(), String> {
         "stream" if flag("--sets") => stream::sets(option(rest, "--cases", 1000)?, seed),
         "stream" => stream::all(option(rest, "--cases", 1000)?, seed),
         "against" => against::against(program(rest)?, option(rest, "--cases", 1000)?, seed),
+        "fills" => fills::fills(program(rest)?, option(rest, "--cases", 100_000)?, seed),
         "trip" => trip::trip(),
         "findings" => findings::show_all(),
         #[cfg(feature = "bench")]
@@ -119,7 +123,7 @@ fn program(args: &[String]) -> Result<&str, String> {
 /// An option that is misspelt, or another command's, must not be passed over.
 fn known_options(command: &str, args: &[String]) -> Result<(), String> {
     let known: &[&str] = match command {
-        "compare" | "against" | "antt" => &["--cases", "--seed"],
+        "compare" | "against" | "fills" | "antt" => &["--cases", "--seed"],
         "stream" => &["--cases", "--seed", "--sets"],
         "case" => &["--seed", "--index", "--sets"],
         "inputs" => &["--runs"],

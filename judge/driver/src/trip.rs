@@ -6,7 +6,7 @@ use crate::rules::{build, eval, lengths};
 use crate::text::hex;
 use crate::write;
 
-const LINES: &str = "0 0 13 100\n1 0 1 13\n2 25 13 0\n3 21 0 0\n";
+const LINES: &str = "0 0 13 100\n1 0 1 12\n2 25 13 0\n3 21 0 0\n";
 
 fn constant(name: &str, size: u64) -> Type {
     Type {

@@ -5,7 +5,7 @@ use crate::cases::{make, small_case};
 use crate::compare::{call_name, kinds_met};
 use crate::data::*;
 use crate::rules::build;
-use crate::{findings, trip, write};
+use crate::{fills, findings, trip, write};
 use std::collections::BTreeMap;
 use std::path::Path;
 
@@ -213,6 +213,7 @@ fn picked() -> Vec<Call> {
     let set = write::set(&trip::set());
     let mut out = vec![build_call(WORDS, LIMIT as u64, &set)];
     out.push(Call::Lengths(trip::input()));
+    out.push(Call::Lengths(fills::table_input()));
     out.extend(trip_runs(&set));
     for f in findings::all() {
         out.extend(f.calls());

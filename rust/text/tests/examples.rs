@@ -8,8 +8,9 @@ mod common;
 use ciztarmo::Work;
 use ciztarmo_text::commands;
 use common::{blocks, cut, read, show};
+use std::cmp::Ordering;
 
-const EXAMPLES: [&str; 3] = ["trip", "zones", "transfers"];
+const EXAMPLES: [&str; 4] = ["trip", "zones", "transfers", "fill"];
 
 fn text(example: &str) -> String {
     String::from_utf8(read(&format!("examples/{example}.txt"))).unwrap()
@@ -20,17 +21,26 @@ fn trip_is_the_worked_example() {
     assert_eq!(blocks(&text("trip")), read("examples/trip"));
 }
 
+/// 100 × count / length to the nearest whole number, an exact half to the even neighbour.
+fn fill(count: u64, length: u64) -> u128 {
+    let (hundred, length) = (100 * u128::from(count), u128::from(length));
+    let Some(whole) = hundred.checked_div(length) else {
+        return 0;
+    };
+    match (2 * (hundred % length)).cmp(&length) {
+        Ordering::Less => whole,
+        Ordering::Equal => whole + whole % 2,
+        Ordering::Greater => whole + 1,
+    }
+}
+
 /// A line of `lengths` for a run.
 fn line(work: &mut Work, layout: &[u8], number: usize, run: &[u8]) -> String {
     // The buffer length stands behind the type's name.
     let name = usize::from(u16::from_le_bytes([run[6], run[7]]));
     let length = u64::from_le_bytes(run[8 + name..16 + name].try_into().unwrap());
     match work.validate_run(layout, run) {
-        Ok(count) => {
-            let (count, length) = (u128::from(count), u128::from(length));
-            let fill = (200 * count + length).checked_div(2 * length).unwrap_or(0);
-            format!("{number} 0 {count} {fill}\n")
-        }
+        Ok(count) => format!("{number} 0 {count} {}\n", fill(count, length)),
         Err(refusal) => format!(
             "{number} {} {} 0\n",
             refusal.number().code(),

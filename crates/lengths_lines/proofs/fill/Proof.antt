@@ -1,5 +1,5 @@
--- `fill` meets its contract: it is what the definition says, or the longer way comes to it.
-use Rattle.lengths_lines.proofs.Laws.{fill-none, fill-short}
+-- `fill` meets its contract: the whole number and the rest are those of the division, or the longer way comes to them.
+use Rattle.lengths_lines.proofs.Laws.{fill-none, fill-parts, fill-fits}
 use borrow.Author.Needs.{needs}
 use Rattle.lengths_lines.proofs.fill.Statement.{statement}
 use Rattle.lengths_lines.proofs.fill.Tie as tie
@@ -7,20 +7,20 @@ use Rattle.lengths_lines.proofs.fill.Tie as tie
 returns : tie.Need-returns
 returns c = fill-none _ _ (c .if1 .taken)
 
-mul-result : tie.Need-mul-result
-mul-result c = search needs
+mul-hundred : tie.Need-mul-hundred
+mul-hundred c = search needs
 
-add-result : tie.Need-add-result
-add-result c = search needs
+div-nearest : tie.Need-div-nearest
+div-nearest c = search needs
 
-mul-result-2 : tie.Need-mul-result-2
-mul-result-2 c = search needs
+rem-nearest : tie.Need-rem-nearest
+rem-nearest c = search needs
 
-div-result : tie.Need-div-result
-div-result c = search needs
+nearest-requires : tie.Need-nearest-requires
+nearest-requires c κs = fill-fits _ _ (c .before .if1 .left) (c .if2 .taken) (c .before .before .pre)
 
 returns-2 : tie.Need-returns-2
-returns-2 c = fill-short _ _ (c .before .if1 .left)
+returns-2 c = fill-parts _ _ (c .before .before .if1 .left) (c .nearest .ensures)
 
 long-fill-requires : tie.Need-long-fill-requires
 long-fill-requires c κs = search needs
@@ -33,10 +33,10 @@ fill-spec =
     tie.close
     (tie.spec
     returns
-    mul-result
-    add-result
-    mul-result-2
-    div-result
+    mul-hundred
+    div-nearest
+    rem-nearest
+    nearest-requires
     returns-2
     long-fill-requires
     returns-3)

@@ -2,7 +2,7 @@
 use Prim.Native.Nat.{_-_}
 use mathlib.Core.Logic.{⊎-elim}
 use borrow.Author.Needs.{needs}
-use Rattle.lengths_lines.proofs.Laws.{Filled, positive, fill-in, fill-over, fill-down, fill-up}
+use Rattle.lengths_lines.proofs.Laws.{Filled, positive, fill-in, fill-over, fill-long}
 use Rattle.lengths_lines.proofs.long_fill.Statement.{statement}
 use Rattle.lengths_lines.proofs.long_fill.Tie as tie
 
@@ -45,21 +45,13 @@ loop-again c =
     (w .2))
     (c .if1 .came)
 
-sub-if2 : tie.Need-sub-if2 Inv-loop μ-loop
-sub-if2 c = search needs
+nearest-requires : tie.Need-nearest-requires Inv-loop μ-loop
+nearest-requires c κs = search needs
 
 returns : tie.Need-returns Inv-loop μ-loop
 returns c =
     let at-loop = c .before .before in
-    fill-down (positive (at-loop .before .pre .1)) (c .before .loop-test .left) (at-loop .loop .inv) (c .if2 .taken)
-
-add-result : tie.Need-add-result Inv-loop μ-loop
-add-result c = search needs
-
-returns-2 : tie.Need-returns-2 Inv-loop μ-loop
-returns-2 c =
-    let at-loop = c .before .before in
-    fill-up (positive (at-loop .before .pre .1)) (c .before .loop-test .left) (at-loop .loop .inv) (c .if2 .left)
+    fill-long (positive (at-loop .before .pre .1)) (c .before .loop-test .left) (at-loop .loop .inv) (c .nearest .ensures)
 
 pub long-fill-spec : {M : Type 1} → statement M
 long-fill-spec =
@@ -74,7 +66,5 @@ long-fill-spec =
     add-i
     loop-less
     loop-again
-    sub-if2
-    returns
-    add-result
-    returns-2)
+    nearest-requires
+    returns)

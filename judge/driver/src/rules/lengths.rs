@@ -2,6 +2,7 @@
 
 use super::{build, eval, read};
 use crate::data::*;
+use std::cmp::Ordering;
 
 enum Cut<'a> {
     Block(&'a [u8], &'a [u8]),
@@ -84,11 +85,17 @@ fn line(i: usize, trees: &Layout, run: &Run) -> String {
     }
 }
 
-/// 100 × count / length to the nearest whole number, a half going up.
+/// 100 × count / length to the nearest whole number, an exact half to the even neighbour.
 pub fn fill(count: u64, length: u64) -> u64 {
     if length == 0 {
         return 0;
     }
-    let (count, length) = (count as u128, length as u128);
-    ((200 * count + length) / (2 * length)) as u64
+    let (hundred, length) = (100 * count as u128, length as u128);
+    let (whole, rest) = (hundred / length, hundred % length);
+    let up = match (2 * rest).cmp(&length) {
+        Ordering::Less => 0,
+        Ordering::Equal => whole % 2,
+        Ordering::Greater => 1,
+    };
+    (whole + up) as u64
 }
