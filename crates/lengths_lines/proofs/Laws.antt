@@ -119,9 +119,9 @@ pub fill-parts : (count len : ℕ) {r : ℕ} → (len ≡ 0 → ⊥) → r ≡ n
 unfolding fill
 fill-parts count len h e = rw (ne-eqb len 0 h) e
 
--- below 2^56 the whole number can be raised by one, and the rest is below the length
-pub fill-fits : (count len : ℕ) → (len ≡ 0 → ⊥) → len < 2 ^ 56 → count ≤ len → (100 * count / len < 2 ^ 63) × (100 * count % len < len)
-fill-fits count len h l g = (omega (arith, div-le-self (100 * count) len), mod-lt (100 * count) {m = len} (omega arith))
+-- the whole number of a division can be raised by one, and its rest is below what it is divided by
+pub parts-fit : (a b : ℕ) → (b ≡ 0 → ⊥) → a < 2 ^ 63 → (a / b < 2 ^ 63) × (a % b < b)
+parts-fit a b h l = (omega (arith, div-le-self a b), mod-lt a {m = b} (omega arith))
 
 module _ {count len i whole rest : ℕ} (h : len ≡ 0 → ⊥) (t : 100 ≤ i) (f : Filled count len i whole rest) where
   -- a hundred counts are so many whole lengths and a rest

@@ -1,5 +1,6 @@
 -- `fill` meets its contract: the whole number and the rest are those of the division, or the longer way comes to them.
-use Rattle.lengths_lines.proofs.Laws.{fill-none, fill-parts, fill-fits}
+use Rattle.lengths_lines.proofs.Laws.{fill-none, fill-parts, parts-fit}
+use native.Mathlib.Omega.{arith}
 use borrow.Author.Needs.{needs}
 use Rattle.lengths_lines.proofs.fill.Statement.{statement}
 use Rattle.lengths_lines.proofs.fill.Tie as tie
@@ -17,7 +18,8 @@ rem-nearest : tie.Need-rem-nearest
 rem-nearest c = search needs
 
 nearest-requires : tie.Need-nearest-requires
-nearest-requires c κs = fill-fits _ _ (c .before .if1 .left) (c .if2 .taken) (c .before .before .pre)
+nearest-requires c κs =
+    parts-fit _ _ (c .before .if1 .left) (omega (arith, c .if2 .taken, c .before .before .pre))
 
 returns-2 : tie.Need-returns-2
 returns-2 c = fill-parts _ _ (c .before .before .if1 .left) (c .nearest .ensures)
