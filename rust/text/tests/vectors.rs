@@ -188,7 +188,7 @@ fn inputs_of_lengths() {
             runs += behind.len();
         }
     }
-    assert_eq!((accepted, runs), (207, 109));
+    assert_eq!((accepted, runs), (207, 129));
 }
 
 /// The accepted blocks hold every kind of block that there is.
