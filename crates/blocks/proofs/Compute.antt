@@ -1,6 +1,7 @@
 -- What a proof by computation opens: `unfolding compute` unfolds every definition of this crate.
 use Rattle.blocks.specs.Bytes.{le, bytes}
-use Rattle.blocks.specs.Name.{printable, isText, same, less, among}
+use Rattle.blocks.specs.Utf8.{utf8-char, begun, rest-of, utf8-octets}
+use Rattle.blocks.specs.Name.{allowed, wellFormed, isText, same, less, among}
 use Rattle.blocks.specs.Grammar.{grammar, nodeTable, findRow, partsOf}
 use Rattle.blocks.specs.Tree.{part, entries, view, partOr, partView}
 use Rattle.blocks.specs.Read.{inOrder, nameOf, readText, readKey, readNumber, readFlag, readIf, readOptional, inType, readLiteral, readCount, readEntries, readList, readValue, readPart, readParts, readHeader, readBlock, small, readInput}
@@ -8,5 +9,5 @@ use Rattle.blocks.specs.Write.{write}
 
 -- has no value of interest: a proof that unfolds it unfolds what it names
 unfoldable pub compute : Unit {0}
-unfolding le bytes printable isText same less among grammar nodeTable findRow partsOf part entries view partOr partView inOrder nameOf readText readKey readNumber readFlag readIf readOptional inType readLiteral readCount readEntries readList readValue readPart readParts readHeader readBlock small readInput write
+unfolding le bytes utf8-char begun rest-of utf8-octets allowed wellFormed isText same less among grammar nodeTable findRow partsOf part entries view partOr partView inOrder nameOf readText readKey readNumber readFlag readIf readOptional inType readLiteral readCount readEntries readList readValue readPart readParts readHeader readBlock small readInput write
 compute = tt

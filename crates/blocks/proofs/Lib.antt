@@ -1,5 +1,6 @@
 pub mod Bytes
 pub mod Blocks
 pub mod Name
+pub mod Utf8
 pub mod Compute
 pub mod Refusals

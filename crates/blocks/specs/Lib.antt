@@ -1,4 +1,5 @@
 pub mod Bytes
+pub mod Utf8
 pub mod Name
 pub mod Grammar
 pub mod Tree

@@ -2,10 +2,11 @@
 use Prim.Native.Nat.{ℕ}
 use Prim.Native.String.{String, [] as empty, _∷_ as _then_}
 use Prim.Native.Char.{code}
-use mathlib.Core.Bool.{Bool, true, false, _&&_, _||_}
+use mathlib.Core.Bool.{Bool, true, false, not, _&&_, _||_}
 use mathlib.Core.List.{List, [], _∷_}
 use lib.Dec.{leb, ltb, eqb}
 use lib.ListN.{length}
+use Rattle.blocks.specs.Utf8.{utf8-octets}
 
 -- "A name or a text is a 2-byte length and its bytes": here, its bytes
 abbrev pub Name : Type 0
@@ -16,14 +17,18 @@ abbrev pub ascii : String → Name
 ascii empty = []
 ascii (c then s) = code c ∷ ascii s
 
--- "each 0x20 to 0x7E"
-unfoldable pub printable : List ℕ → Bool
-printable [] = true
-printable (b ∷ bs) = (leb 0x20 b && leb b 0x7E) && printable bs
+-- "without bytes below 0x20 and without 0x7F"
+unfoldable pub allowed : List ℕ → Bool
+allowed [] = true
+allowed (b ∷ bs) = (leb 0x20 b && not (eqb b 0x7F)) && allowed bs
 
--- 3: "is each name or text at most 255 bytes, each 0x20 to 0x7E?"
+-- "valid UTF-8 (RFC 3629), without bytes below 0x20 and without 0x7F"
+unfoldable pub wellFormed : Name → Bool
+wellFormed n = utf8-octets n && allowed n
+
+-- 3, as document 02, wish 2, reads it; "the limit of 255 bytes is unchanged"
 unfoldable pub isText : Name → Bool
-isText n = leb (length n) 255 && printable n
+isText n = leb (length n) 255 && wellFormed n
 
 unfoldable pub same : Name → Name → Bool
 same [] [] = true
