@@ -25,11 +25,11 @@ some-some : {f g : Form} → _≡_ {A = Option Form} (some f) (some g) → f ≡
 some-some e = cc
 
 -- what a test of a byte by a range says
-in-range : (r : Range) (b : ℕ) → inRange r b ≡ true → (r .lo ≤ b) × (b ≤ r .hi)
+pub in-range : (r : Range) (b : ℕ) → inRange r b ≡ true → (r .lo ≤ b) × (b ≤ r .hi)
 in-range r b e = (leb-true _ _ (and-left (leb (r .lo) b) _ e), leb-true _ _ (and-right (leb (r .lo) b) _ e))
 
 -- the other way round
-range-in : (r : Range) (b : ℕ) → r .lo ≤ b → b ≤ r .hi → inRange r b ≡ true
+pub range-in : (r : Range) (b : ℕ) → r .lo ≤ b → b ≤ r .hi → inRange r b ≡ true
 range-in r b l h = both (leb (r .lo) b) (leb b (r .hi)) (le-leb _ _ l) (le-leb _ _ h)
 
 -- ---- what the test accepts is of the grammar
@@ -78,13 +78,13 @@ octets-accepted n e = left-octets (left-accepted [] n e)
 -- ---- what is of the grammar is accepted
 
 -- each form begins behind the bytes that those before it begin with, from n on
-abbrev After : ℕ → List Form → Type 0
+abbrev pub After : ℕ → List Form → Type 0
 After n [] = Unit
 After n ([] ∷ fs) = ⊥
 After n ((r ∷ rs) ∷ fs) = (n ≤ r .lo) × (r .lo ≤ r .hi) × After (suc (r .hi)) fs
 
 -- the forms of the grammar do
-chars-after : After 0 utf8-char
+pub chars-after : After 0 utf8-char
 unfolding utf8-char
 chars-after = (
   omega arith,
@@ -283,3 +283,75 @@ text-short n e = leb-true _ _ (and-left _ _ e)
 pub well-text : (n : Name) → wellFormed n ≡ true → leb (length n) 255 ≡ true → isText n ≡ true
 unfolding isText
 well-text n e h = both (leb (length n) 255) (wellFormed n) h e
+
+-- ---- the form that a byte begins, for code that tells it by comparing
+
+-- a form of some
+pub data FormIn (f : Form) : List Form → Type 0 where
+  this : {fs : List Form} → FormIn f (f ∷ fs)
+  later : {g : Form} {fs : List Form} → FormIn f fs → FormIn f (g ∷ fs)
+
+-- forms that begin behind a byte are not begun by it
+begun-before : (n : ℕ) (fs : List Form) (b : ℕ) → After n fs → b < n → begun fs b ≡ none
+unfolding begun
+begun-before n [] b a l = refl
+begun-before n ((r ∷ rs) ∷ fs) b a l =
+    let e : leb (r .lo) b ≡ false = lt-leb (r .lo) b (omega (arith, a .0)) in rw e (begun-before (suc (r .hi)) fs b (a .2) (omega (arith, a .0, a .1)))
+
+-- a range that ends before a byte has not got it
+pub range-past : (r : Range) (b : ℕ) → r .hi < b → inRange r b ≡ false
+range-past r b l = go (leb (r .lo) b) (leb b (r .hi)) (lt-leb _ _ l)
+  where
+    go : (x y : Bool) → y ≡ false → (x && y) ≡ false
+    go true y e = e
+    go false y e = refl
+
+-- a range that begins behind a byte has not got it
+pub range-before : (r : Range) (b : ℕ) → b < r .lo → inRange r b ≡ false
+range-before r b l = rw (lt-leb (r .lo) b l) refl
+
+-- the first form, where it ends before a byte, is not begun by it
+begun-past : (r : Range) (rs : Form) (fs : List Form) (b : ℕ) → r .hi < b → begun ((r ∷ rs) ∷ fs) b ≡ begun fs b
+unfolding begun
+begun-past r rs fs b l = rw (range-past r b l) refl
+
+-- such a form begins with a byte from n on
+form-first : (n : ℕ) (fs : List Form) {r : Range} {rs : Form} (b : ℕ) → After n fs → FormIn (r ∷ rs) fs → r .lo ≤ b → n ≤ b
+form-first n ((q ∷ qs) ∷ fs) b a FormIn.this l = omega (arith, a .0)
+form-first n ((q ∷ qs) ∷ fs) b a (FormIn.later i) l = omega (arith, a .0, a .1, form-first (suc (q .hi)) fs b (a .2) i l)
+
+-- a byte in the first range of a form begins it
+begun-form : (n : ℕ) (fs : List Form) {r : Range} {rs : Form} (b : ℕ) → After n fs → FormIn (r ∷ rs) fs → r .lo ≤ b → b ≤ r .hi → begun fs b ≡ some rs
+unfolding begun
+begun-form n ((q ∷ qs) ∷ fs) b a FormIn.this l h = rw (range-in q b l h) refl
+begun-form n ((q ∷ qs) ∷ fs) b a (FormIn.later i) l h = begun-past q qs fs b (form-first (suc (q .hi)) fs b (a .2) i l) ∙ begun-form (suc (q .hi)) fs b (a .2) i l h
+
+-- a byte in the first range of a form of the grammar begins it
+pub begun-char : {r : Range} {rs : Form} (b : ℕ) → FormIn (r ∷ rs) utf8-char → r .lo ≤ b → b ≤ r .hi → begun utf8-char b ≡ some rs
+begun-char b i l h = begun-form 0 utf8-char b chars-after i l h
+
+-- a byte from 0x80 to 0xC1 begins no character
+pub begun-tail : (b : ℕ) → 0x80 ≤ b → b < 0xC2 → begun utf8-char b ≡ none
+unfolding utf8-char
+begun-tail b l h = begun-past _ [] _ b (omega arith) ∙ begun-before 0xC2 _ b (omega arith, chars-after .2 .1, chars-after .2 .2) h
+
+-- each form begins with a byte below n
+abbrev Under : ℕ → List Form → Type 0
+Under n [] = Unit
+Under n ([] ∷ fs) = Under n fs
+Under n ((r ∷ rs) ∷ fs) = (r .hi < n) × Under n fs
+
+-- no byte from there on begins one
+begun-behind : (n : ℕ) (fs : List Form) (b : ℕ) → Under n fs → n ≤ b → begun fs b ≡ none
+unfolding begun
+begun-behind n [] b u l = refl
+begun-behind n ([] ∷ fs) b u l = begun-behind n fs b u l
+begun-behind n ((r ∷ rs) ∷ fs) b u l = begun-past r rs fs b (omega (arith, u .0)) ∙ begun-behind n fs b (u .1) l
+
+-- a byte from 0xF5 on begins no character
+pub begun-above : (b : ℕ) → 0xF5 ≤ b → begun utf8-char b ≡ none
+unfolding utf8-char
+begun-above b l =
+    begun-behind 0xF5 utf8-char b
+    (omega arith, (omega arith, (omega arith, (omega arith, (omega arith, (omega arith, (omega arith, (omega arith, (omega arith, tt)))))))))
+    l

@@ -60,7 +60,7 @@ fn text(s: &[u8], start: usize, at: usize, end: usize) -> Read
     }
     let from = at + 2;
     let to = at + 2 + n;
-    if wire::is_text(&s[from..to]) {
+    if texts::is_text(&s[from..to]) {
         Read::Ok(to)
     } else {
         Read::Refused(3, start)

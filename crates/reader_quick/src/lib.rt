@@ -45,7 +45,7 @@ fn text(s: &[u8], at: usize, end: usize) -> usize
     }
     let from = at + 2;
     let to = at + 2 + n;
-    if wire::is_text(&s[from..to]) {
+    if texts::is_text(&s[from..to]) {
         return to;
     }
     0

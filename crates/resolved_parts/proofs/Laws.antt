@@ -6,11 +6,10 @@ use Prim.Native.Nat.{ℕ, _+_, _≤_, _<_}
 use native.Mathlib.Omega.{arith}
 use lib.ListN.{length, drop, length-drop, length-take}
 use lib.Seq.{length-take-le}
-use borrow.Author.Tests.{leb-true}
 use Rattle.blocks.specs.Bytes.{le2, le4}
 use Rattle.blocks.specs.Name.{isText}
+use Rattle.blocks.proofs.Utf8.{text-short}
 use Rattle.blocks.specs.Tree.{Tree, view}
-use Rattle.blocks.proofs.Name.{and-left}
 use Rattle.resolved.specs.Resolved.{ResolvedTypeKind, kindOf}
 use Rattle.resolved.specs.Set.{typeOf, thingOf, makeThing, formOf}
 use Rattle.accepted.specs.Accepted.{Accepted, tree, nameAt, Item, Entries}
@@ -37,10 +36,9 @@ primitive a e = ap (λ (z : Tree). kindOf (typeOf z)) (opened a e refl .tree)
 
 -- a text that was read is a name inside the bytes
 pub named : {s : List ℕ} {at : ℕ} → at + 2 + le2 s at ≤ length s → isText (nameAt s at) ≡ true → Named s at
-unfolding isText
 named {s} {at} h t =
     let l : length (nameAt s at) ≡ le2 s at = length-take-le (le2 s at) (drop (at + 2) s) (rw length-drop (omega arith)) in
-    let b = leb-true (length (nameAt s at)) 255 (and-left _ _ t) in
+    let b = text-short (nameAt s at) t in
     record { inside = h; short = omega (arith, l, b) }
 
 -- a name of an accepted list of names

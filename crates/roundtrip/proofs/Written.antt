@@ -1,19 +1,20 @@
 -- What is within the limits is read back from its writing.
 use mathlib.Core.Logic.{_↔_}
 use mathlib.Core.Path.{_≡_, refl, sym, _∙_, ap, ap₂}
-use mathlib.Core.Bool.{Bool, true, false, and-eq-true-iff}
+use mathlib.Core.Bool.{Bool, true, false}
 use mathlib.Core.List.{List, [], _∷_, _++_, append-assoc, append-nil}
 use Prim.Native.Nat.{ℕ, zero, suc, _+_, _≤_, _<_}
 use native.Mathlib.Omega.{arith}
 use lib.ListN.{length, getD, drop, length-append}
-use lib.Dec.{leb, eqb}
-use borrow.Author.Tests.{leb-true, le-leb, eq-eqb}
+use lib.Dec.{eqb}
+use borrow.Author.Tests.{le-leb, eq-eqb}
 use Rattle.errors.specs.Refusal.{done, _>>=_}
 use Rattle.errors.proofs.Laws.{asked-yes, bound-done}
 use Rattle.blocks.specs.declared.Part.{Part}
 use Rattle.blocks.specs.Bytes.{bytes, le2, le4}
 use Rattle.blocks.proofs.Bytes.{bytes-length, le-one, after, behind, back-below}
-use Rattle.blocks.specs.Name.{isText, printable}
+use Rattle.blocks.specs.Name.{isText}
+use Rattle.blocks.proofs.Utf8.{text-short}
 use Rattle.blocks.specs.Grammar.{partsOf, within}
 use Rattle.blocks.specs.Tree.{Tree, name, num, block, nil, cons, number, first, part}
 use Rattle.blocks.specs.Read.{Step, Earlier, inOrder, nameOf, pathsOf, met, inType, Reader, readText, readKey, readNumber, readFlag, readIf, readOptional, readLiteral, readCount, readEntries, readList, readValue, readPart, readParts, readHeader, readBlock, readInput}
@@ -106,18 +107,13 @@ none-read : (s : List ℕ) (end : ℕ) → Reads s end (λ at. done (nil, at)) N
 unfolding write placed
 none-read s end t nothing at r h e = given refl (omega arith)
 
--- question 3 bounds the length
-short : (n : List ℕ) → isText n ≡ true → length n ≤ 255
-unfolding isText
-short n q = leb-true _ _ (and-eq-true-iff (leb (length n) 255) (printable n) .0 q .0)
-
 module _ (s : List ℕ) (end : ℕ) where
   -- each reader reads what is within its limits: that of a text
   text-read : (start : ℕ) → Reads s end (readText s start end) TextFits
   unfolding readText write placed
   text-read start t (text {n} q) at r h e =
       let l : length (bytes 2 (length n) ++ n) ≡ 2 + length n = text-length n in
-      let b = text-back s at n r (omega (arith, short n q)) h in
+      let b = text-back s at n r (omega (arith, text-short n q)) h in
       asked-yes _ _ (le-leb (at + 2) end (omega arith)) ∙ asked-yes _ _ (le-leb (at + 2 + le2 s at) end (omega (arith, b .0))) ∙ asked-yes _ _ (ap isText (b .1) ∙ q)
       ∙ given (ap name (b .1)) (omega (arith, b .0))
 

@@ -26,7 +26,7 @@ pub data Nothing : Tree → Type 0 where
 pub data Both (P : Limits) (Q : Tree → Limits) : Tree → Type 0 where
   both : {a b : Tree} → P a → Q a b → Both P Q (cons a b)
 
--- 3: "is each name or text at most 255 bytes, each 0x20 to 0x7E?"
+-- 3: "valid UTF-8 (RFC 3629), without bytes below 0x20 and without 0x7F; the limit of 255 bytes is unchanged"
 pub data TextFits : Tree → Type 0 where
   text : {n : Name} → isText n ≡ true → TextFits (name n)
 

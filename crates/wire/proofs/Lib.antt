@@ -1,5 +1,4 @@
 pub mod Names
 mod Order
 mod Search
-mod Texts
 pub mod Laws

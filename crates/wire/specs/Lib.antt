@@ -1,4 +1,3 @@
-pub mod Clear
 pub mod Poke
 pub mod Named
 pub mod Order

@@ -5,11 +5,10 @@ ghost use mathlib.Core.List.{[], _∷_};
 ghost use Prim.Native.Nat.{_+_, _*_, _^_, _≤_, _<_, _-_};
 ghost use lib.ListN.{length, drop, replicate};
 ghost use Rattle.blocks.specs.Bytes.{le2, le4, le8, nameAt, bytes};
-ghost use Rattle.blocks.specs.Name.{printable, isText, same, less};
+ghost use Rattle.blocks.specs.Name.{same, less};
 ghost use Rattle.blocks.specs.Blocks.{Stand};
 ghost use Rattle.blocks.specs.Tree.{name, num};
 ghost use Rattle.blocks.specs.Write.{write};
-ghost use Rattle.wire.specs.Clear.{clear1, clear2, clear4, clear8};
 ghost use Rattle.wire.specs.Named.{BlockNamed};
 ghost use Rattle.wire.specs.Order.{Turned, be, firstBytes, Lesser, Shorter};
 ghost use Rattle.wire.specs.Poke.{Wrote, opened};
@@ -66,76 +65,6 @@ pub fn behind_name(s: &[u8], at: usize) -> usize
     ensures { λ r. ⌜ r ≡ at + 2 + le2 (now (s .entry)) at ⌝ }
 {
     at + 2 + read2(s, at)
-}
-
-// Whether the byte at `at`, and the 2, 4 or 8 from there on, may stand in a text. No byte ends the question early, so that
-// eight are compared at once.
-fn clear(s: &[u8], at: usize) -> bool
-    requires { ⌜ at + 1 ≤ length (now s) ⌝ }
-    ensures { λ r. ⌜ r ≡ clear1 (now (s .entry)) at ⌝ }
-{
-    let b = s[at];
-    (0x20 <= b) & (b <= 0x7E)
-}
-
-fn clear_2(s: &[u8], at: usize) -> bool
-    requires { ⌜ at + 2 ≤ length (now s) ⌝ }
-    ensures { λ r. ⌜ r ≡ clear2 (now (s .entry)) at ⌝ }
-{
-    clear(s, at) & clear(s, at + 1)
-}
-
-fn clear_4(s: &[u8], at: usize) -> bool
-    requires { ⌜ at + 4 ≤ length (now s) ⌝ }
-    ensures { λ r. ⌜ r ≡ clear4 (now (s .entry)) at ⌝ }
-{
-    clear_2(s, at) & clear_2(s, at + 2)
-}
-
-fn clear_8(s: &[u8], at: usize) -> bool
-    requires { ⌜ at + 8 ≤ length (now s) ⌝ }
-    ensures { λ r. ⌜ r ≡ clear8 (now (s .entry)) at ⌝ }
-{
-    clear_4(s, at) & clear_4(s, at + 4)
-}
-
-// The same for all bytes of eight or more. The last eight may be asked twice.
-fn clear_all(s: &[u8]) -> bool
-    requires { ⌜ 8 ≤ length (now s) ⌝ }
-    ensures { λ r. ⌜ r ≡ printable (now (s .entry)) ⌝ }
-{
-    let last = s.len() - 8;
-    let mut i = 0;
-    while i < last {
-        if !clear_8(s, i) {
-            return false;
-        }
-        i += 8;
-    }
-    clear_8(s, last)
-}
-
-// Question 3.
-pub fn is_text(s: &[u8]) -> bool
-    ensures { λ r. ⌜ r ≡ isText (now (s .entry)) ⌝ }
-{
-    let n = s.len();
-    if 255 < n {
-        return false;
-    }
-    if 8 <= n {
-        return clear_all(s);
-    }
-    if 4 <= n {
-        return clear_4(s, 0) & clear_4(s, n - 4);
-    }
-    if 2 <= n {
-        return clear_2(s, 0) & clear_2(s, n - 2);
-    }
-    if n == 1 {
-        return clear(s, 0);
-    }
-    true
 }
 
 // Whether two names of eight bytes or more, as many in both, are the same: eight are compared at a step, the last first, since names

@@ -1,4 +1,4 @@
--- Bytes that may stand in a text, by one, two, four and eight: "each 0x20 to 0x7E".
+-- ASCII bytes that may stand in a text, by one, two, four and eight: 0x20 to 0x7E.
 use Prim.Native.Nat.{ℕ, _+_}
 use mathlib.Core.Bool.{Bool, _&&_}
 use mathlib.Core.List.{List}

@@ -1,9 +1,9 @@
--- `wire::clear_2` meets its contract: two tests of one byte. Assumes nothing.
+-- `texts::clear_2` meets its contract: two tests of one byte. Assumes nothing.
 use mathlib.Core.Path.{ap₂}
 use mathlib.Core.Bool.{_&&_}
 use borrow.Author.Needs.{needs}
-use Rattle.wire.proofs.clear_2.Statement.{statement}
-use Rattle.wire.proofs.clear_2.Tie as tie
+use Rattle.texts.proofs.clear_2.Statement.{statement}
+use Rattle.texts.proofs.clear_2.Tie as tie
 
 clear-requires : tie.Need-clear-requires
 clear-requires c κs = search needs

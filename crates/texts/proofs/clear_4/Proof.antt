@@ -1,9 +1,9 @@
--- `wire::clear_4` meets its contract: two tests of two bytes. Assumes nothing.
+-- `texts::clear_4` meets its contract: two tests of two bytes. Assumes nothing.
 use mathlib.Core.Path.{ap₂}
 use mathlib.Core.Bool.{_&&_}
 use borrow.Author.Needs.{needs}
-use Rattle.wire.proofs.clear_4.Statement.{statement}
-use Rattle.wire.proofs.clear_4.Tie as tie
+use Rattle.texts.proofs.clear_4.Statement.{statement}
+use Rattle.texts.proofs.clear_4.Tie as tie
 
 clear-2-requires : tie.Need-clear-2-requires
 clear-2-requires c κs = search needs

@@ -1,9 +1,9 @@
--- `wire::clear_8` meets its contract: two tests of four bytes. Assumes nothing.
+-- `texts::clear_8` meets its contract: two tests of four bytes. Assumes nothing.
 use mathlib.Core.Path.{ap₂}
 use mathlib.Core.Bool.{_&&_}
 use borrow.Author.Needs.{needs}
-use Rattle.wire.proofs.clear_8.Statement.{statement}
-use Rattle.wire.proofs.clear_8.Tie as tie
+use Rattle.texts.proofs.clear_8.Statement.{statement}
+use Rattle.texts.proofs.clear_8.Tie as tie
 
 clear-4-requires : tie.Need-clear-4-requires
 clear-4-requires c κs = search needs

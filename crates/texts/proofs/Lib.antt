@@ -1,0 +1,3 @@
+mod Characters
+mod Steps
+mod Pairs

@@ -1,0 +1,282 @@
+// Question 3: whether the bytes of a name or text are at most 255, valid UTF-8, and none below 0x20 or 0x7F.
+ghost use mathlib.Core.Path.{_≡_};
+ghost use mathlib.Core.Bool.{true};
+ghost use mathlib.Core.List.{List, _∷_};
+ghost use Prim.Native.Nat.{ℕ, _+_, _-_, _≤_};
+ghost use lib.ListN.{length};
+ghost use Rattle.blocks.specs.Utf8.{utf8-char, begun};
+ghost use Rattle.blocks.specs.Name.{wellFormed, isText};
+ghost use Rattle.texts.specs.Clear.{clear1, clear2, clear4, clear8};
+ghost use Rattle.texts.specs.Pairs.{first, second, pair1, pair2, pair4, pair8, pair16, Paired};
+ghost use Rattle.texts.specs.Left.{form, goes, High};
+ghost use Rattle.texts.specs.declared.Left.the-variants.{Bytes};
+
+// Of a character that was begun: how many bytes must follow, and from where to where the next lies; those behind it lie from 0x80 to
+// 0xBF. Or that nothing makes it a character.
+pub enum Left {
+    Bytes(usize, u8, u8),
+    Never,
+}
+
+// Whether the byte at `at`, and the 2, 4 or 8 from there on, are ASCII bytes that may stand in a text. No byte ends the question early,
+// so that eight are compared at once.
+fn clear(s: &[u8], at: usize) -> bool
+    requires { ⌜ at + 1 ≤ length (now s) ⌝ }
+    ensures { λ r. ⌜ r ≡ clear1 (now (s .entry)) at ⌝ }
+{
+    let b = s[at];
+    (0x20 <= b) & (b <= 0x7E)
+}
+
+fn clear_2(s: &[u8], at: usize) -> bool
+    requires { ⌜ at + 2 ≤ length (now s) ⌝ }
+    ensures { λ r. ⌜ r ≡ clear2 (now (s .entry)) at ⌝ }
+{
+    clear(s, at) & clear(s, at + 1)
+}
+
+fn clear_4(s: &[u8], at: usize) -> bool
+    requires { ⌜ at + 4 ≤ length (now s) ⌝ }
+    ensures { λ r. ⌜ r ≡ clear4 (now (s .entry)) at ⌝ }
+{
+    clear_2(s, at) & clear_2(s, at + 2)
+}
+
+fn clear_8(s: &[u8], at: usize) -> bool
+    requires { ⌜ at + 8 ≤ length (now s) ⌝ }
+    ensures { λ r. ⌜ r ≡ clear8 (now (s .entry)) at ⌝ }
+{
+    clear_4(s, at) & clear_4(s, at + 4)
+}
+
+// The same for all bytes of eight or more: where it holds, they are well-formed. The last eight may be asked twice.
+fn clear_long(s: &[u8]) -> bool
+    requires { ⌜ 8 ≤ length (now s) ⌝ }
+    ensures { λ r. ⌜ (r ≡ true → wellFormed (now (s .entry)) ≡ true) ⌝ }
+{
+    let last = s.len() - 8;
+    let mut i = 0;
+    while i < last {
+        if !clear_8(s, i) {
+            return false;
+        }
+        i += 8;
+    }
+    clear_8(s, last)
+}
+
+// The same for any number of bytes.
+fn clear_all(s: &[u8]) -> bool
+    ensures { λ r. ⌜ (r ≡ true → wellFormed (now (s .entry)) ≡ true) ⌝ }
+{
+    let n = s.len();
+    if 8 <= n {
+        return clear_long(s);
+    }
+    if 4 <= n {
+        return clear_4(s, 0) & clear_4(s, n - 4);
+    }
+    if 2 <= n {
+        return clear_2(s, 0) & clear_2(s, n - 2);
+    }
+    if n == 1 {
+        return clear(s, 0);
+    }
+    true
+}
+
+// The first and the second byte of a character of two.
+fn first_of_two(s: &[u8], at: usize) -> bool
+    requires { ⌜ at + 1 ≤ length (now s) ⌝ }
+    ensures { λ r. ⌜ r ≡ first (now (s .entry)) at ⌝ }
+{
+    let b = s[at];
+    (0xC2 <= b) & (b <= 0xDF)
+}
+
+fn second_of_two(s: &[u8], at: usize) -> bool
+    requires { ⌜ at + 1 ≤ length (now s) ⌝ }
+    ensures { λ r. ⌜ r ≡ second (now (s .entry)) at ⌝ }
+{
+    let b = s[at];
+    (0x80 <= b) & (b <= 0xBF)
+}
+
+// Whether the byte behind the one at `at`, and the 2, 4, 8 or 16 from there on, each go with the one before: behind the first of two stands
+// the second, behind any other byte a clear one or the first of two. Again no byte ends the question early.
+fn pair(s: &[u8], at: usize) -> bool
+    requires { ⌜ at + 2 ≤ length (now s) ⌝ }
+    ensures { λ r. ⌜ r ≡ pair1 (now (s .entry)) at ⌝ }
+{
+    let begun = first_of_two(s, at);
+    let next = at + 1;
+    (begun & second_of_two(s, next)) | (!begun & (clear(s, next) | first_of_two(s, next)))
+}
+
+fn pair_2(s: &[u8], at: usize) -> bool
+    requires { ⌜ at + 3 ≤ length (now s) ⌝ }
+    ensures { λ r. ⌜ r ≡ pair2 (now (s .entry)) at ⌝ }
+{
+    pair(s, at) & pair(s, at + 1)
+}
+
+fn pair_4(s: &[u8], at: usize) -> bool
+    requires { ⌜ at + 5 ≤ length (now s) ⌝ }
+    ensures { λ r. ⌜ r ≡ pair4 (now (s .entry)) at ⌝ }
+{
+    pair_2(s, at) & pair_2(s, at + 2)
+}
+
+fn pair_8(s: &[u8], at: usize) -> bool
+    requires { ⌜ at + 9 ≤ length (now s) ⌝ }
+    ensures { λ r. ⌜ r ≡ pair8 (now (s .entry)) at ⌝ }
+{
+    pair_4(s, at) & pair_4(s, at + 4)
+}
+
+fn pair_16(s: &[u8], at: usize) -> bool
+    requires { ⌜ at + 17 ≤ length (now s) ⌝ }
+    ensures { λ r. ⌜ r ≡ pair16 (now (s .entry)) at ⌝ }
+{
+    pair_8(s, at) & pair_8(s, at + 8)
+}
+
+// The same for all bytes of 17 or more. The last sixteen may be asked twice.
+fn pair_long(s: &[u8]) -> bool
+    requires { ⌜ 17 ≤ length (now s) ⌝ }
+    ensures { λ r. ⌜ (r ≡ true → Paired (now (s .entry)) 0 (length (now (s .entry)) - 1)) ⌝ }
+{
+    let last = s.len() - 17;
+    let mut i = 0;
+    while i < last {
+        if !pair_16(s, i) {
+            return false;
+        }
+        i += 16;
+    }
+    pair_16(s, last)
+}
+
+// Whether all bytes make characters of one and two bytes: where it holds, they are well-formed. Short names are left to `chars`.
+fn pair_all(s: &[u8]) -> bool
+    ensures { λ r. ⌜ (r ≡ true → wellFormed (now (s .entry)) ≡ true) ⌝ }
+{
+    let n = s.len();
+    if n < 9 {
+        return false;
+    }
+    let begins = clear(s, 0) | first_of_two(s, 0);
+    if !begins {
+        return false;
+    }
+    if first_of_two(s, n - 1) {
+        return false;
+    }
+    if n < 17 {
+        return pair_8(s, 0) & pair_8(s, n - 9);
+    }
+    pair_long(s)
+}
+
+// What a byte from 0x80 on begins.
+fn begin_long(b: u8) -> Left
+    requires { ⌜ 0x80 ≤ b ⌝ }
+    ensures { λ r. ⌜ begun utf8-char b ≡ form r ⌝ }
+    ensures { λ r. ⌜ High r ⌝ }
+{
+    if b < 0xC2 {
+        return Left::Never;
+    }
+    if b < 0xE0 {
+        return Left::Bytes(1, 0x80, 0xBF);
+    }
+    if b == 0xE0 {
+        return Left::Bytes(2, 0xA0, 0xBF);
+    }
+    if b == 0xED {
+        return Left::Bytes(2, 0x80, 0x9F);
+    }
+    if b < 0xF0 {
+        return Left::Bytes(2, 0x80, 0xBF);
+    }
+    if b == 0xF0 {
+        return Left::Bytes(3, 0x90, 0xBF);
+    }
+    if b < 0xF4 {
+        return Left::Bytes(3, 0x80, 0xBF);
+    }
+    if b == 0xF4 {
+        return Left::Bytes(3, 0x80, 0x8F);
+    }
+    Left::Never
+}
+
+// What a byte begins that may stand in a text.
+fn begin(b: u8) -> Left
+    ensures { λ r. ⌜ ((bs : List ℕ) → goes (Bytes 0 0x80 0xBF) (b ∷ bs) ≡ goes r bs) × High r ⌝ }
+{
+    if b < 0x20 {
+        return Left::Never;
+    }
+    if b < 0x7F {
+        return Left::Bytes(0, 0x80, 0xBF);
+    }
+    if b == 0x7F {
+        return Left::Never;
+    }
+    begin_long(b)
+}
+
+// What is left behind one byte more.
+fn go_on(left: Left, b: u8) -> Left
+    requires { ⌜ High left ⌝ }
+    ensures { λ r. ⌜ ((bs : List ℕ) → goes left (b ∷ bs) ≡ goes r bs) × High r ⌝ }
+{
+    match left {
+        Left::Never => Left::Never,
+        Left::Bytes(n, lo, hi) => {
+            if n == 0 {
+                return begin(b);
+            }
+            if b < lo {
+                return Left::Never;
+            }
+            if hi < b {
+                return Left::Never;
+            }
+            Left::Bytes(n - 1, 0x80, 0xBF)
+        }
+    }
+}
+
+// Whether the bytes are characters that may stand in a text, one byte after the other.
+fn chars(s: &[u8]) -> bool
+    ensures { λ r. ⌜ r ≡ wellFormed (now (s .entry)) ⌝ }
+{
+    let mut left = Left::Bytes(0, 0x80, 0xBF);
+    let mut i = 0;
+    while i < s.len() {
+        left = go_on(left, s[i]);
+        i += 1;
+    }
+    match left {
+        Left::Never => false,
+        Left::Bytes(n, _, _) => n == 0,
+    }
+}
+
+// Question 3. Most names are ASCII, and most others have characters of two bytes: these are asked many bytes at a step.
+pub fn is_text(s: &[u8]) -> bool
+    ensures { λ r. ⌜ r ≡ isText (now (s .entry)) ⌝ }
+{
+    if 255 < s.len() {
+        return false;
+    }
+    if clear_all(s) {
+        return true;
+    }
+    if pair_all(s) {
+        return true;
+    }
+    chars(s)
+}
