@@ -1,3 +1,4 @@
 mod Characters
 mod Steps
 mod Pairs
+mod Triples

@@ -1,3 +1,4 @@
 pub mod Clear
 pub mod Pairs
+pub mod Triples
 pub mod Left

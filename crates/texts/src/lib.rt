@@ -1,6 +1,6 @@
 // Question 3: whether the bytes of a name or text are at most 255, valid UTF-8, and none below 0x20 or 0x7F.
 ghost use mathlib.Core.Path.{_≡_};
-ghost use mathlib.Core.Bool.{true};
+ghost use mathlib.Core.Bool.{true, _||_};
 ghost use mathlib.Core.List.{List, _∷_};
 ghost use Prim.Native.Nat.{ℕ, _+_, _-_, _≤_};
 ghost use lib.ListN.{length};
@@ -8,6 +8,7 @@ ghost use Rattle.blocks.specs.Utf8.{utf8-char, begun};
 ghost use Rattle.blocks.specs.Name.{wellFormed, isText};
 ghost use Rattle.texts.specs.Clear.{clear1, clear2, clear4, clear8};
 ghost use Rattle.texts.specs.Pairs.{first, second, pair1, pair2, pair4, pair8, pair16, Paired};
+ghost use Rattle.texts.specs.Triples.{leads, leads3, tail, clearByte, fits, triple1, triple2, triple4, triple8, triple16, Tripled};
 ghost use Rattle.texts.specs.Left.{form, goes, High};
 ghost use Rattle.texts.specs.declared.Left.the-variants.{Bytes};
 
@@ -178,6 +179,116 @@ fn pair_all(s: &[u8]) -> bool
     pair_long(s)
 }
 
+// Characters of one to three bytes: the first byte of two or three, of three; whether a byte follows another.
+fn leads_on(b: u8) -> bool
+    ensures { λ r. ⌜ r ≡ leads b ⌝ }
+{
+    (0xC2 <= b) & (b <= 0xEF)
+}
+
+fn leads_two(b: u8) -> bool
+    ensures { λ r. ⌜ r ≡ leads3 b ⌝ }
+{
+    (0xE0 <= b) & (b <= 0xEF)
+}
+
+fn follows(b: u8) -> bool
+    ensures { λ r. ⌜ r ≡ tail b ⌝ }
+{
+    (0x80 <= b) & (b <= 0xBF)
+}
+
+fn begins(b: u8) -> bool
+    ensures { λ r. ⌜ r ≡ (clearByte b || leads b) ⌝ }
+{
+    ((0x20 <= b) & (b <= 0x7E)) | leads_on(b)
+}
+
+// Whether a byte b goes with a before it and q before that: a tail while a character is open, which behind 0xE0 and 0xED is not any; else a
+// clear byte or the first of another character.
+fn fits_behind(q: u8, a: u8, b: u8) -> bool
+    ensures { λ r. ⌜ r ≡ fits q a b ⌝ }
+{
+    let open = leads_on(a) | leads_two(q);
+    let wide = (a == 0xE0) & (b < 0xA0);
+    let half = (a == 0xED) & (0x9F < b);
+    ((open & follows(b)) | (!open & begins(b))) & (!wide & !half)
+}
+
+// Whether the byte behind the two at `at`, and the 2, 4, 8 or 16 from there on, each go with the two before.
+fn triple(s: &[u8], at: usize) -> bool
+    requires { ⌜ at + 3 ≤ length (now s) ⌝ }
+    ensures { λ r. ⌜ r ≡ triple1 (now (s .entry)) at ⌝ }
+{
+    let next = at + 1;
+    let last = at + 2;
+    fits_behind(s[at], s[next], s[last])
+}
+
+fn triple_2(s: &[u8], at: usize) -> bool
+    requires { ⌜ at + 4 ≤ length (now s) ⌝ }
+    ensures { λ r. ⌜ r ≡ triple2 (now (s .entry)) at ⌝ }
+{
+    triple(s, at) & triple(s, at + 1)
+}
+
+fn triple_4(s: &[u8], at: usize) -> bool
+    requires { ⌜ at + 6 ≤ length (now s) ⌝ }
+    ensures { λ r. ⌜ r ≡ triple4 (now (s .entry)) at ⌝ }
+{
+    triple_2(s, at) & triple_2(s, at + 2)
+}
+
+fn triple_8(s: &[u8], at: usize) -> bool
+    requires { ⌜ at + 10 ≤ length (now s) ⌝ }
+    ensures { λ r. ⌜ r ≡ triple8 (now (s .entry)) at ⌝ }
+{
+    triple_4(s, at) & triple_4(s, at + 4)
+}
+
+fn triple_16(s: &[u8], at: usize) -> bool
+    requires { ⌜ at + 18 ≤ length (now s) ⌝ }
+    ensures { λ r. ⌜ r ≡ triple16 (now (s .entry)) at ⌝ }
+{
+    triple_8(s, at) & triple_8(s, at + 8)
+}
+
+// The same for all bytes of 18 or more. The last sixteen may be asked twice.
+fn triple_long(s: &[u8]) -> bool
+    requires { ⌜ 18 ≤ length (now s) ⌝ }
+    ensures { λ r. ⌜ (r ≡ true → Tripled (now (s .entry)) 0 (length (now (s .entry)) - 2)) ⌝ }
+{
+    let last = s.len() - 18;
+    let mut i = 0;
+    while i < last {
+        if !triple_16(s, i) {
+            return false;
+        }
+        i += 16;
+    }
+    triple_16(s, last)
+}
+
+// Whether all bytes make characters of one to three bytes: where it holds, they are well-formed. Short names are left to `chars`.
+fn triple_all(s: &[u8]) -> bool
+    ensures { λ r. ⌜ (r ≡ true → wellFormed (now (s .entry)) ≡ true) ⌝ }
+{
+    let n = s.len();
+    if n < 18 {
+        return false;
+    }
+    let starts = begins(s[0]) & fits_behind(0x20, s[0], s[1]);
+    if !starts {
+        return false;
+    }
+    let last = n - 1;
+    let before = n - 2;
+    if leads_on(s[last]) | leads_two(s[before]) {
+        return false;
+    }
+    triple_long(s)
+}
+
 // What a byte from 0x80 on begins.
 fn begin_long(b: u8) -> Left
     requires { ⌜ 0x80 ≤ b ⌝ }
@@ -265,7 +376,8 @@ fn chars(s: &[u8]) -> bool
     }
 }
 
-// Question 3. Most names are ASCII, and most others have characters of two bytes: these are asked many bytes at a step.
+// Question 3. Most names are ASCII, most others have characters of at most two bytes, most of the rest of at most three: these are asked
+// many bytes at a step.
 pub fn is_text(s: &[u8]) -> bool
     ensures { λ r. ⌜ r ≡ isText (now (s .entry)) ⌝ }
 {
@@ -276,6 +388,9 @@ pub fn is_text(s: &[u8]) -> bool
         return true;
     }
     if pair_all(s) {
+        return true;
+    }
+    if triple_all(s) {
         return true;
     }
     chars(s)

@@ -23,8 +23,14 @@ returns-3 c = text-all _ (c .before .before .before .before .if1 .left) (sym (c 
 chars-requires : tie.Need-chars-requires
 chars-requires c κs = search needs
 
+triple-all-requires : tie.Need-triple-all-requires
+triple-all-requires c κs = search needs
+
 returns-4 : tie.Need-returns-4
-returns-4 c = text-all _ (c .before .before .before .before .before .if1 .left) (c .chars .ensures)
+returns-4 c = text-all _ (c .before .before .before .before .before .before .if1 .left) (sym (c .before .triple-all .ensures (c .if4 .taken)))
+
+returns-5 : tie.Need-returns-5
+returns-5 c = text-all _ (c .before .before .before .before .before .before .before .if1 .left) (c .chars .ensures)
 
 pub is-text-spec : {M : Type 1} → statement M
 is-text-spec =
@@ -35,5 +41,7 @@ is-text-spec =
     returns-2
     pair-all-requires
     returns-3
+    triple-all-requires
+    returns-4
     chars-requires
-    returns-4)
+    returns-5)
