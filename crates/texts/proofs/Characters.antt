@@ -7,9 +7,8 @@ use Prim.Native.Nat.{ℕ, zero, suc, _+_, _-_, _<_, _≤_}
 use native.Mathlib.Omega.{arith}
 use native.Mathlib.Numerals.{add-one}
 use lib.Dec.{leb, eqb}
-use lib.ListN.{length, getD, drop, replicate}
-use lib.ListN.{drop-of-length-le}
-use lib.Seq.{drop-cons}
+use lib.ListN.{length, getD, take, drop, replicate, drop-of-length-le}
+use lib.Seq.{drop-cons, take-all}
 use borrow.Author.Tests.{le-leb, lt-leb, leb-true, leb-false, eq-eqb, ne-eqb}
 use Rattle.blocks.specs.Utf8.{Range, Form, range, utf8-tail, utf8-char, inRange, begun, rest-of, utf8-octets}
 use Rattle.blocks.specs.Name.{allowed, wellFormed, isText}
@@ -187,3 +186,7 @@ text-long s h = rw (lt-leb _ _ h)
 pub text-all : (s : List ℕ) → length s ≤ 255 → {r : Bool} → r ≡ wellFormed s → r ≡ isText s
 unfolding isText
 text-all s l e = rw (le-leb _ _ l) e
+
+-- the same of the part that is all of them
+pub text-whole : (s : List ℕ) → length s ≤ 255 → {r : Bool} → r ≡ wellFormed (take (length s) s) → r ≡ isText s
+text-whole s l e = text-all s l (e ∙ ap wellFormed (take-all (length s) s (omega arith)))

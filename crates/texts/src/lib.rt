@@ -2,7 +2,7 @@
 ghost use mathlib.Core.Path.{_≡_};
 ghost use mathlib.Core.Bool.{true, _||_};
 ghost use mathlib.Core.List.{List, _∷_};
-ghost use Prim.Native.Nat.{ℕ, _+_, _-_, _≤_};
+ghost use Prim.Native.Nat.{ℕ, _+_, _-_, _≤_, _<_};
 ghost use lib.ListN.{length};
 ghost use Rattle.blocks.specs.Utf8.{utf8-char, begun};
 ghost use Rattle.blocks.specs.Name.{wellFormed, isText};
@@ -66,14 +66,12 @@ fn clear_long(s: &[u8]) -> bool
     clear_8(s, last)
 }
 
-// The same for any number of bytes.
-fn clear_all(s: &[u8]) -> bool
+// The same for fewer.
+fn clear_short(s: &[u8]) -> bool
+    requires { ⌜ length (now s) < 8 ⌝ }
     ensures { λ r. ⌜ (r ≡ true → wellFormed (now (s .entry)) ≡ true) ⌝ }
 {
     let n = s.len();
-    if 8 <= n {
-        return clear_long(s);
-    }
     if 4 <= n {
         return clear_4(s, 0) & clear_4(s, n - 4);
     }
@@ -376,17 +374,11 @@ fn chars(s: &[u8]) -> bool
     }
 }
 
-// Question 3. Most names are ASCII, most others have characters of at most two bytes, most of the rest of at most three: these are asked
-// many bytes at a step.
-pub fn is_text(s: &[u8]) -> bool
-    ensures { λ r. ⌜ r ≡ isText (now (s .entry)) ⌝ }
+// Whether bytes that are not all ASCII are well-formed. Most have characters of at most two bytes, most of the rest of at most three: these
+// are asked many bytes at a step.
+fn well_formed(s: &[u8]) -> bool
+    ensures { λ r. ⌜ r ≡ wellFormed (now (s .entry)) ⌝ }
 {
-    if 255 < s.len() {
-        return false;
-    }
-    if clear_all(s) {
-        return true;
-    }
     if pair_all(s) {
         return true;
     }
@@ -394,4 +386,24 @@ pub fn is_text(s: &[u8]) -> bool
         return true;
     }
     chars(s)
+}
+
+// Question 3. Most names are ASCII. (The rest gets a part of `s` that is all of it: handing on `s` itself costs all names time.)
+pub fn is_text(s: &[u8]) -> bool
+    ensures { λ r. ⌜ r ≡ isText (now (s .entry)) ⌝ }
+{
+    let n = s.len();
+    if 255 < n {
+        return false;
+    }
+    if 8 <= n {
+        if clear_long(s) {
+            return true;
+        }
+        return well_formed(&s[..n]);
+    }
+    if clear_short(s) {
+        return true;
+    }
+    well_formed(&s[..n])
 }
