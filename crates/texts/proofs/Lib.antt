@@ -1,4 +1,3 @@
 mod Characters
 mod Steps
-mod Pairs
-mod Triples
+mod Fitting

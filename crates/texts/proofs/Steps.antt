@@ -42,9 +42,13 @@ module _ (t : ℕ → Bool) where
         says = λ a e k h g. joined a (a + m) (a + m) (a + m + m) (omega arith) (w .says a (and-left (f a) _ e)) (w .says (a + m) (and-right (f a) _ e)) k h (omega arith);
       }
 
-  -- no place is asked before the first stretch
-  pub before-first : Each t 0 0
-  before-first k h g = absurd (omega arith)
+  -- of no place all holds
+  pub none-yet : (a : ℕ) → Each t a a
+  none-yet a k h g = absurd (omega arith)
+
+  -- one place more
+  pub one-more : {a i : ℕ} → Each t a i → t i ≡ true → Each t a (i + 1)
+  one-more {a} {i} c e = joined a i i (i + 1) (omega arith) c (one .says i e)
 
   -- ---- a walk in steps of m places; the test f was put at each step
 

@@ -1,4 +1,3 @@
 pub mod Clear
-pub mod Pairs
 pub mod Triples
 pub mod Left

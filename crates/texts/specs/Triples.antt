@@ -1,4 +1,4 @@
--- Bytes that go with the two before them, where characters have one to three bytes; by one, two, four, eight and sixteen.
+-- Bytes that go with the two before them, where characters have one to three bytes.
 use Prim.Native.Nat.{ℕ, _+_, _≤_, _<_}
 use mathlib.Core.Path.{_≡_}
 use mathlib.Core.Bool.{Bool, true, not, _&&_, _||_}
@@ -37,18 +37,6 @@ fits q a b = ((unended q a && tail b) || (not (unended q a) && (clearByte b || l
 -- the byte behind the two at an offset
 abbrev pub triple1 : List ℕ → ℕ → Bool
 triple1 s at = fits (getD s at 0) (getD s (at + 1) 0) (getD s (at + 2) 0)
-
-abbrev pub triple2 : List ℕ → ℕ → Bool
-triple2 s at = triple1 s at && triple1 s (at + 1)
-
-abbrev pub triple4 : List ℕ → ℕ → Bool
-triple4 s at = triple2 s at && triple2 s (at + 2)
-
-abbrev pub triple8 : List ℕ → ℕ → Bool
-triple8 s at = triple4 s at && triple4 s (at + 4)
-
-abbrev pub triple16 : List ℕ → ℕ → Bool
-triple16 s at = triple8 s at && triple8 s (at + 8)
 
 -- those behind the ones from a to b
 abbrev pub Tripled : List ℕ → ℕ → ℕ → Type 0

@@ -7,8 +7,7 @@ ghost use lib.ListN.{length};
 ghost use Rattle.blocks.specs.Utf8.{utf8-char, begun};
 ghost use Rattle.blocks.specs.Name.{wellFormed, isText};
 ghost use Rattle.texts.specs.Clear.{clear1, clear2, clear4, clear8};
-ghost use Rattle.texts.specs.Pairs.{first, second, pair1, pair2, pair4, pair8, pair16, Paired};
-ghost use Rattle.texts.specs.Triples.{leads, leads3, tail, clearByte, fits, triple1, triple2, triple4, triple8, triple16, Tripled};
+ghost use Rattle.texts.specs.Triples.{leads, leads3, tail, clearByte, fits, triple1, Tripled};
 ghost use Rattle.texts.specs.Left.{form, goes, High};
 ghost use Rattle.texts.specs.declared.Left.the-variants.{Bytes};
 
@@ -84,99 +83,6 @@ fn clear_short(s: &[u8]) -> bool
     true
 }
 
-// The first and the second byte of a character of two.
-fn first_of_two(s: &[u8], at: usize) -> bool
-    requires { ⌜ at + 1 ≤ length (now s) ⌝ }
-    ensures { λ r. ⌜ r ≡ first (now (s .entry)) at ⌝ }
-{
-    let b = s[at];
-    (0xC2 <= b) & (b <= 0xDF)
-}
-
-fn second_of_two(s: &[u8], at: usize) -> bool
-    requires { ⌜ at + 1 ≤ length (now s) ⌝ }
-    ensures { λ r. ⌜ r ≡ second (now (s .entry)) at ⌝ }
-{
-    let b = s[at];
-    (0x80 <= b) & (b <= 0xBF)
-}
-
-// Whether the byte behind the one at `at`, and the 2, 4, 8 or 16 from there on, each go with the one before: behind the first of two stands
-// the second, behind any other byte a clear one or the first of two. Again no byte ends the question early.
-fn pair(s: &[u8], at: usize) -> bool
-    requires { ⌜ at + 2 ≤ length (now s) ⌝ }
-    ensures { λ r. ⌜ r ≡ pair1 (now (s .entry)) at ⌝ }
-{
-    let begun = first_of_two(s, at);
-    let next = at + 1;
-    (begun & second_of_two(s, next)) | (!begun & (clear(s, next) | first_of_two(s, next)))
-}
-
-fn pair_2(s: &[u8], at: usize) -> bool
-    requires { ⌜ at + 3 ≤ length (now s) ⌝ }
-    ensures { λ r. ⌜ r ≡ pair2 (now (s .entry)) at ⌝ }
-{
-    pair(s, at) & pair(s, at + 1)
-}
-
-fn pair_4(s: &[u8], at: usize) -> bool
-    requires { ⌜ at + 5 ≤ length (now s) ⌝ }
-    ensures { λ r. ⌜ r ≡ pair4 (now (s .entry)) at ⌝ }
-{
-    pair_2(s, at) & pair_2(s, at + 2)
-}
-
-fn pair_8(s: &[u8], at: usize) -> bool
-    requires { ⌜ at + 9 ≤ length (now s) ⌝ }
-    ensures { λ r. ⌜ r ≡ pair8 (now (s .entry)) at ⌝ }
-{
-    pair_4(s, at) & pair_4(s, at + 4)
-}
-
-fn pair_16(s: &[u8], at: usize) -> bool
-    requires { ⌜ at + 17 ≤ length (now s) ⌝ }
-    ensures { λ r. ⌜ r ≡ pair16 (now (s .entry)) at ⌝ }
-{
-    pair_8(s, at) & pair_8(s, at + 8)
-}
-
-// The same for all bytes of 17 or more. The last sixteen may be asked twice.
-fn pair_long(s: &[u8]) -> bool
-    requires { ⌜ 17 ≤ length (now s) ⌝ }
-    ensures { λ r. ⌜ (r ≡ true → Paired (now (s .entry)) 0 (length (now (s .entry)) - 1)) ⌝ }
-{
-    let last = s.len() - 17;
-    let mut i = 0;
-    while i < last {
-        if !pair_16(s, i) {
-            return false;
-        }
-        i += 16;
-    }
-    pair_16(s, last)
-}
-
-// Whether all bytes make characters of one and two bytes: where it holds, they are well-formed. Short names are left to `chars`.
-fn pair_all(s: &[u8]) -> bool
-    ensures { λ r. ⌜ (r ≡ true → wellFormed (now (s .entry)) ≡ true) ⌝ }
-{
-    let n = s.len();
-    if n < 9 {
-        return false;
-    }
-    let begins = clear(s, 0) | first_of_two(s, 0);
-    if !begins {
-        return false;
-    }
-    if first_of_two(s, n - 1) {
-        return false;
-    }
-    if n < 17 {
-        return pair_8(s, 0) & pair_8(s, n - 9);
-    }
-    pair_long(s)
-}
-
 // Characters of one to three bytes: the first byte of two or three, of three; whether a byte follows another.
 fn leads_on(b: u8) -> bool
     ensures { λ r. ⌜ r ≡ leads b ⌝ }
@@ -213,7 +119,7 @@ fn fits_behind(q: u8, a: u8, b: u8) -> bool
     ((open & follows(b)) | (!open & begins(b))) & (!wide & !half)
 }
 
-// Whether the byte behind the two at `at`, and the 2, 4, 8 or 16 from there on, each go with the two before.
+// Whether the byte behind the two at `at` goes with them.
 fn triple(s: &[u8], at: usize) -> bool
     requires { ⌜ at + 3 ≤ length (now s) ⌝ }
     ensures { λ r. ⌜ r ≡ triple1 (now (s .entry)) at ⌝ }
@@ -223,32 +129,34 @@ fn triple(s: &[u8], at: usize) -> bool
     fits_behind(s[at], s[next], s[last])
 }
 
-fn triple_2(s: &[u8], at: usize) -> bool
-    requires { ⌜ at + 4 ≤ length (now s) ⌝ }
-    ensures { λ r. ⌜ r ≡ triple2 (now (s .entry)) at ⌝ }
-{
-    triple(s, at) & triple(s, at + 1)
-}
-
-fn triple_4(s: &[u8], at: usize) -> bool
-    requires { ⌜ at + 6 ≤ length (now s) ⌝ }
-    ensures { λ r. ⌜ r ≡ triple4 (now (s .entry)) at ⌝ }
-{
-    triple_2(s, at) & triple_2(s, at + 2)
-}
-
+// The same for the eight, and for the sixteen, from there on. No byte ends the question early, and how many there are is a constant, so that
+// all are compared at once.
 fn triple_8(s: &[u8], at: usize) -> bool
     requires { ⌜ at + 10 ≤ length (now s) ⌝ }
-    ensures { λ r. ⌜ r ≡ triple8 (now (s .entry)) at ⌝ }
+    ensures { λ r. ⌜ (r ≡ true → Tripled (now (s .entry)) at (at + 8)) ⌝ }
 {
-    triple_4(s, at) & triple_4(s, at + 4)
+    let end = at + 8;
+    let mut k = at;
+    let mut all = true;
+    while k < end {
+        all = all & triple(s, k);
+        k += 1;
+    }
+    all
 }
 
 fn triple_16(s: &[u8], at: usize) -> bool
     requires { ⌜ at + 18 ≤ length (now s) ⌝ }
-    ensures { λ r. ⌜ r ≡ triple16 (now (s .entry)) at ⌝ }
+    ensures { λ r. ⌜ (r ≡ true → Tripled (now (s .entry)) at (at + 16)) ⌝ }
 {
-    triple_8(s, at) & triple_8(s, at + 8)
+    let end = at + 16;
+    let mut k = at;
+    let mut all = true;
+    while k < end {
+        all = all & triple(s, k);
+        k += 1;
+    }
+    all
 }
 
 // The same for all bytes of 18 or more. The last sixteen may be asked twice.
@@ -267,12 +175,13 @@ fn triple_long(s: &[u8]) -> bool
     triple_16(s, last)
 }
 
-// Whether all bytes make characters of one to three bytes: where it holds, they are well-formed. Short names are left to `chars`.
+// Whether all bytes make characters of one to three bytes: where it holds, they are well-formed. Names of fewer than ten bytes are left to
+// `chars`.
 fn triple_all(s: &[u8]) -> bool
     ensures { λ r. ⌜ (r ≡ true → wellFormed (now (s .entry)) ≡ true) ⌝ }
 {
     let n = s.len();
-    if n < 18 {
+    if n < 10 {
         return false;
     }
     let starts = begins(s[0]) & fits_behind(0x20, s[0], s[1]);
@@ -283,6 +192,9 @@ fn triple_all(s: &[u8]) -> bool
     let before = n - 2;
     if leads_on(s[last]) | leads_two(s[before]) {
         return false;
+    }
+    if n < 18 {
+        return triple_8(s, 0) & triple_8(s, n - 10);
     }
     triple_long(s)
 }
@@ -374,14 +286,10 @@ fn chars(s: &[u8]) -> bool
     }
 }
 
-// Whether bytes that are not all ASCII are well-formed. Most have characters of at most two bytes, most of the rest of at most three: these
-// are asked many bytes at a step.
+// Whether bytes that are not all ASCII are well-formed. Most have characters of at most three bytes: these are asked many at a step.
 fn well_formed(s: &[u8]) -> bool
     ensures { λ r. ⌜ r ≡ wellFormed (now (s .entry)) ⌝ }
 {
-    if pair_all(s) {
-        return true;
-    }
     if triple_all(s) {
         return true;
     }

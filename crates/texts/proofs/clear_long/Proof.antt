@@ -3,7 +3,7 @@ use Prim.Native.Nat.{_+_, _-_, _<_}
 use native.Mathlib.Omega.{arith}
 use Rattle.blocks.proofs.Name.{false-true}
 use Rattle.texts.specs.Clear.{clear1}
-use Rattle.texts.proofs.Steps.{Each, before-first, next, last, eight, clear-well}
+use Rattle.texts.proofs.Steps.{Each, none-yet, next, last, eight, clear-well}
 use Rattle.texts.proofs.clear_long.Statement.{statement}
 use Rattle.texts.proofs.clear_long.Tie as tie
 
@@ -17,7 +17,7 @@ sub-last : tie.Need-sub-last Inv-loop μ-loop
 sub-last c = omega arith
 
 loop-holds : tie.Need-loop-holds Inv-loop μ-loop
-loop-holds c = (omega arith, before-first (clear1 (c .before .args .s .now)))
+loop-holds c = (omega arith, none-yet (clear1 (c .before .args .s .now)) 0)
 
 clear-8-requires : tie.Need-clear-8-requires Inv-loop μ-loop
 clear-8-requires c κs = omega arith

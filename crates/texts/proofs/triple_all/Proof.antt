@@ -7,8 +7,10 @@ use mathlib.Core.List.{List}
 use lib.ListN.{length, getD}
 use borrow.Author.Tests.{not-false}
 use Rattle.blocks.proofs.Name.{false-true, and-left, and-right}
-use Rattle.texts.specs.Triples.{clearByte, leads, leads3, fits}
-use Rattle.texts.proofs.Triples.{or-left, or-right, triples-well}
+use Rattle.blocks.specs.Name.{wellFormed}
+use Rattle.texts.specs.Triples.{clearByte, leads, leads3, fits, triple1, Tripled}
+use Rattle.texts.proofs.Steps.{joined}
+use Rattle.texts.proofs.Fitting.{or-left, or-right, triples-well}
 use borrow.Author.Needs.{needs}
 use Rattle.texts.proofs.triple_all.Statement.{statement}
 use Rattle.texts.proofs.triple_all.Tie as tie
@@ -73,12 +75,29 @@ returns-3 c e = false-true e
 triple-long-requires : tie.Need-triple-long-requires
 triple-long-requires c κs = search needs
 
+-- all between them
+all-well : (r : tie.Else3) → Tripled (bytes-of (started r)) 0 (length (bytes-of (started r)) - 2) → wellFormed (bytes-of (started r)) ≡ true
+all-well r all =
+    let s = bytes-of (started r) in
+    triples-well s (omega arith) (and-left (clearByte (getD s 0 0) || leads (getD s 0 0)) _ (starts (started r))) (and-right (clearByte (getD s 0 0) || leads (getD s 0 0)) _ (starts (started r)))
+    (or-left _ _ (ends r)) (or-right (leads (getD s (length s - 1) 0)) _ (ends r)) all
+
+triple-8-requires : tie.Need-triple-8-requires
+triple-8-requires c κs = search needs
+
+triple-8-requires-2 : tie.Need-triple-8-requires-2
+triple-8-requires-2 c κs = search needs
+
 returns-4 : tie.Need-returns-4
 returns-4 c e =
-    let r = started (c .before) in
-    let s = bytes-of r in
-    triples-well s (omega arith) (and-left (clearByte (getD s 0 0) || leads (getD s 0 0)) _ (starts r)) (and-right (clearByte (getD s 0 0) || leads (getD s 0 0)) _ (starts r))
-    (or-left _ _ (ends (c .before))) (or-right (leads (getD s (length s - 1) 0)) _ (ends (c .before))) (c .triple-long .ensures e)
+    let r = c .before .before .before in
+    let s = bytes-of (started r) in
+    let front = c .before .triple-8 .ensures (and-left _ _ e) in
+    let back = c .triple-82 .ensures (and-right (c .before .triple-8 .result) _ e) in
+    all-well r (λ k l h. joined (triple1 s) 0 _ _ _ (omega arith) front back k l (omega arith))
+
+returns-5 : tie.Need-returns-5
+returns-5 c e = all-well (c .before .before) (c .triple-long .ensures e)
 
 pub triple-all-spec : {M : Type 1} → statement M
 triple-all-spec =
@@ -98,5 +117,8 @@ triple-all-spec =
     shared-slice-read-leads-two
     leads-two-requires
     returns-3
+    triple-8-requires
+    triple-8-requires-2
+    returns-4
     triple-long-requires
-    returns-4)
+    returns-5)

@@ -1,28 +1,20 @@
--- `texts::well_formed` meets its contract: what is paired or tripled is well-formed; the characters decide the rest. Assumes nothing.
+-- `texts::well_formed` meets its contract: what fits is well-formed; the characters decide the rest. Assumes nothing.
 use mathlib.Core.Path.{sym}
 use borrow.Author.Needs.{needs}
 use Rattle.texts.proofs.well_formed.Statement.{statement}
 use Rattle.texts.proofs.well_formed.Tie as tie
 
-pair-all-requires : tie.Need-pair-all-requires
-pair-all-requires c κs = search needs
-
-returns : tie.Need-returns
-returns c = sym (c .before .pair-all .ensures (c .if1 .taken))
-
 triple-all-requires : tie.Need-triple-all-requires
 triple-all-requires c κs = search needs
 
-returns-2 : tie.Need-returns-2
-returns-2 c = sym (c .before .triple-all .ensures (c .if2 .taken))
+returns : tie.Need-returns
+returns c = sym (c .before .triple-all .ensures (c .if1 .taken))
 
 chars-requires : tie.Need-chars-requires
 chars-requires c κs = search needs
 
-returns-3 : tie.Need-returns-3
-returns-3 c = search needs
+returns-2 : tie.Need-returns-2
+returns-2 c = search needs
 
 pub well-formed-spec : {M : Type 1} → statement M
-well-formed-spec =
-    tie.close
-    (tie.spec pair-all-requires returns triple-all-requires returns-2 chars-requires returns-3)
+well-formed-spec = tie.close (tie.spec triple-all-requires returns chars-requires returns-2)

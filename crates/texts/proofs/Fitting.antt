@@ -11,27 +11,9 @@ use borrow.Author.Tests.{le-leb, lt-leb, leb-true, leb-false, eqb-true, eqb-fals
 use Rattle.blocks.specs.Utf8.{Form, range, utf8-tail, utf8-char, begun, rest-of}
 use Rattle.blocks.specs.Name.{allowed, wellFormed}
 use Rattle.blocks.proofs.Name.{and-left, and-right, false-true}
-use Rattle.texts.specs.Triples.{leads, leads3, tail, clearByte, unended, narrow, fits, triple1, triple2, triple4, triple8, triple16, Tripled}
+use Rattle.texts.specs.Triples.{leads, leads3, tail, clearByte, unended, narrow, fits, triple1, Tripled}
 use Rattle.texts.specs.Left.{well, wellBehind, rangesOf}
-use Rattle.texts.proofs.Steps.{Asks, one, twice}
 use Rattle.texts.proofs.Characters.{well-is, clear-byte, begun-byte, begins-2, begins-E0, begins-ED, begins-3, range-byte}
-
-module _ (s : List ℕ) where
-  -- the test of two places
-  two : Asks (triple1 s) 2 (triple2 s)
-  two = twice (triple1 s) (one (triple1 s))
-
-  -- of four
-  four : Asks (triple1 s) 4 (triple4 s)
-  four = twice (triple1 s) two
-
-  -- of eight
-  eight : Asks (triple1 s) 8 (triple8 s)
-  eight = twice (triple1 s) four
-
-  -- of sixteen
-  pub sixteen : Asks (triple1 s) 16 (triple16 s)
-  sixteen = twice (triple1 s) eight
 
 -- two tests that both fail
 pub or-left : (x y : Bool) → (x || y) ≡ false → x ≡ false
