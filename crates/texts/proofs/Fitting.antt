@@ -15,15 +15,6 @@ use Rattle.texts.specs.Triples.{leads, leads3, tail, clearByte, unended,
 use Rattle.texts.specs.Left.{well, wellBehind, rangesOf}
 use Rattle.texts.proofs.Characters.{well-is, clear-byte, begun-byte, begins-2, begins-E0, begins-ED, begins-3, range-byte}
 
--- two tests that both fail
-pub or-left : (x y : Bool) → (x || y) ≡ false → x ≡ false
-or-left true y e = e
-or-left false y e = refl
-
-pub or-right : (x y : Bool) → (x || y) ≡ false → y ≡ false
-or-right true y e = false-true (sym e)
-or-right false y e = e
-
 -- ---- a byte by its place in the characters
 
 -- a byte between two bounds passes their test
@@ -59,19 +50,20 @@ pick-other false t c e h = e
 
 -- behind 0xE0 no overlong form
 narrow-E0 : (a b : ℕ) → a ≡ 0xE0 → narrow a b ≡ true → 0xA0 ≤ b
-narrow-E0 a b e n = go (ltb b 0xA0) refl (rw (eq-eqb a 0xE0 e) at n)
+narrow-E0 a b e n = go (leb 0xA0 b) refl (rw (eq-eqb a 0xE0 e) at n)
   where
-    go : (x : Bool) → ltb b 0xA0 ≡ x → (not (true && x) && not (eqb a 0xED && ltb 0x9F b)) ≡ true → 0xA0 ≤ b
-    go true h f = false-true f
-    go false h f = ltb-false b 0xA0 h
+    go : (x : Bool) → leb 0xA0 b ≡ x → not ((true && not x) || (eqb a 0xED && x)) ≡ true → 0xA0 ≤ b
+    go true h f = leb-true 0xA0 b h
+    go false h f = false-true f
 
 -- behind 0xED no surrogate
 narrow-ED : (a b : ℕ) → a ≡ 0xED → narrow a b ≡ true → b ≤ 0x9F
-narrow-ED a b e n = go (ltb 0x9F b) refl (and-right (not (eqb a 0xE0 && ltb b 0xA0)) _ n)
+narrow-ED a b e n = go (eqb a 0xE0) (leb 0xA0 b) refl (rw (eq-eqb a 0xED e) at n)
   where
-    go : (x : Bool) → ltb 0x9F b ≡ x → not (eqb a 0xED && x) ≡ true → b ≤ 0x9F
-    go true h f = false-true (rw (eq-eqb a 0xED e) at f)
-    go false h f = ltb-false 0x9F b h
+    go : (y x : Bool) → leb 0xA0 b ≡ x → not ((y && not x) || (true && x)) ≡ true → b ≤ 0x9F
+    go true true h f = false-true f
+    go false true h f = false-true f
+    go y false h f = omega (arith, leb-false 0xA0 b h)
 
 leads-so : (a : ℕ) → leads a ≡ true → Leads a
 leads-so a e = go (ltb a 0xE0) refl (bounds 0xC2 0xEF a e)

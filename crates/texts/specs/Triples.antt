@@ -28,7 +28,7 @@ unended q a = leads a || leads3 q
 
 -- "%xE0 %xA0-BF" and "%xED %x80-9F"
 abbrev pub narrow : ℕ → ℕ → Bool
-narrow a b = not (eqb a 0xE0 && ltb b 0xA0) && not (eqb a 0xED && ltb 0x9F b)
+narrow a b = not ((eqb a 0xE0 && not (leb 0xA0 b)) || (eqb a 0xED && leb 0xA0 b))
 
 -- b goes with q and a before it
 abbrev pub fits : ℕ → ℕ → ℕ → Bool

@@ -114,9 +114,9 @@ fn fits_behind(q: u8, a: u8, b: u8) -> bool
     ensures { λ r. ⌜ r ≡ fits q a b ⌝ }
 {
     let open = leads_on(a) | leads_two(q);
-    let wide = (a == 0xE0) & (b < 0xA0);
-    let half = (a == 0xED) & (0x9F < b);
-    ((open & follows(b)) | (!open & begins(b))) & (!wide & !half)
+    let high = 0xA0 <= b;
+    let wrong = ((a == 0xE0) & !high) | ((a == 0xED) & high);
+    ((open & follows(b)) | (!open & begins(b))) & !wrong
 }
 
 // Whether the byte behind the two at `at` goes with them.
@@ -184,13 +184,18 @@ fn triple_all(s: &[u8]) -> bool
     if n < 10 {
         return false;
     }
-    let starts = begins(s[0]) & fits_behind(0x20, s[0], s[1]);
-    if !starts {
+    if !begins(s[0]) {
+        return false;
+    }
+    if !fits_behind(0x20, s[0], s[1]) {
         return false;
     }
     let last = n - 1;
+    if leads_on(s[last]) {
+        return false;
+    }
     let before = n - 2;
-    if leads_on(s[last]) | leads_two(s[before]) {
+    if leads_two(s[before]) {
         return false;
     }
     if n < 18 {
