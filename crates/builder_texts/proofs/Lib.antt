@@ -1,2 +1,4 @@
 pub mod All
 pub mod Names
+pub mod Reading
+pub mod Types
