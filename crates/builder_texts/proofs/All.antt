@@ -30,6 +30,6 @@ module _ {A : Type 0} where
   maybe-map f (Maybe.some p) = Maybe.some (f _ p)
 
   -- of what a test chooses: used where it does not matter which
-  pub either : (P : A → Type 0) (b : Bool) (x y : A) → P x → P y → P (cond b x y)
-  either P true x y p q = p
-  either P false x y p q = q
+  pub either : (P : A → Type 0) (b : Bool) {x y : A} → P x → P y → P (cond b x y)
+  either P true p q = p
+  either P false p q = q

@@ -2,3 +2,5 @@ pub mod All
 pub mod Names
 pub mod Reading
 pub mod Types
+pub mod Keeps
+pub mod Registry

@@ -75,12 +75,12 @@ unowned owner path w = go (strip-owner-well owner path w)
 -- `normalize_path`: a key of the registry
 pub normalize-path-well : (owner path : Name) → Well path → Well (normalize-path owner path)
 unfolding normalize-path
-normalize-path-well owner path w = either Well (same path owner) _ _ empty-well (unowned owner path w)
+normalize-path-well owner path w = either Well (same path owner) empty-well (unowned owner path w)
 
 -- `canonical_name`: a parameter's or an argument's name
 pub canonical-name-well : (owner path : Name) → Well owner → Well path → Well (canonical-name owner path)
 unfolding canonical-name
-canonical-name-well owner path v w = either Well (isEmpty path || same path owner) _ _ v (between owner (ascii ".") _ v dot-well (unowned owner path w))
+canonical-name-well owner path v w = either Well (isEmpty path || same path owner) v (between owner (ascii ".") _ v dot-well (unowned owner path w))
 
 -- ---- a name cut at its last `::`
 
@@ -120,7 +120,7 @@ aliases-well path normal w = go (rsplit-once-well path w)
   where
     go : {o : Option (Name × Name)} → Maybe BothWell o → All Well (aliasUnless normal o)
     go Maybe.none = All.none
-    go (Maybe.some {a} m) = either (All Well) (isEmpty (a .1) || same (a .1) normal) _ _ All.none (All.more (m .1) All.none)
+    go (Maybe.some {a} m) = either (All Well) (isEmpty (a .1) || same (a .1) normal) All.none (All.more (m .1) All.none)
 
 -- `qualify_parent_path`: a path that is looked up
 pub qualify-parent-path-well : (owner path : Name) → Well owner → Well path → Maybe Well (qualify-parent-path owner path)
@@ -174,7 +174,7 @@ extend-element-prefix-well prefix w = well-join prefix (ascii "element.") w elem
 -- `apply_path_prefix`: the path of a reference
 pub apply-path-prefix-well : (prefix path : Name) → Well prefix → Well path → Well (apply-path-prefix prefix path)
 unfolding apply-path-prefix
-apply-path-prefix-well prefix path v w = either Well (isEmpty prefix) _ _ w (either Well (isEmpty path) _ _ (trim-end-well prefix v) (well-join prefix path v w))
+apply-path-prefix-well prefix path v w = either Well (isEmpty prefix) w (either Well (isEmpty path) (trim-end-well prefix v) (well-join prefix path v w))
 
 -- ---- texts of nodes
 
