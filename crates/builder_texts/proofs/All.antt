@@ -13,6 +13,10 @@ pub data Maybe {A : Type 0} (P : A → Type 0) : Option A → Type 0 where
   none : Maybe P Option.none
   some : {a : A} → P a → Maybe P (Option.some a)
 
+-- nothing is asked
+abbrev pub Any : {A : Type 0} → A → Type 0
+Any a = Unit
+
 module _ {A : Type 0} where
   -- of one list behind another
   pub all-append : {P : A → Type 0} {xs ys : List A} → All P xs → All P ys → All P (xs ++ ys)
@@ -28,6 +32,11 @@ module _ {A : Type 0} where
   pub maybe-map : {P Q : A → Type 0} → ((a : A) → P a → Q a) → {o : Option A} → Maybe P o → Maybe Q o
   maybe-map f Maybe.none = Maybe.none
   maybe-map f (Maybe.some p) = Maybe.some (f _ p)
+
+  -- of a value of which nothing is asked
+  pub whatever : (o : Option A) → Maybe Any o
+  whatever Option.none = Maybe.none
+  whatever (Option.some a) = Maybe.some tt
 
   -- of what a test chooses: used where it does not matter which
   pub either : (P : A → Type 0) (b : Bool) {x y : A} → P x → P y → P (cond b x y)

@@ -8,7 +8,7 @@ use Rattle.errors.proofs.Laws.{done-one, not-done, bound}
 use Rattle.ir.specs.Ir.{IrParameter}
 use Rattle.builder.specs.Registry.{Entry, Registry, Build, _>>=_, give, refuse, require, need, reads, change}
 use Rattle.builder_texts.specs.Texts.{IsText}
-use Rattle.builder_texts.proofs.All.{All, Maybe}
+use Rattle.builder_texts.proofs.All.{All, Maybe, Any}
 use Rattle.builder_texts.proofs.Names.{Well}
 
 -- a parameter with texts only: it is written
@@ -29,10 +29,6 @@ Fine = All EntryFine
 -- from a fine registry, where the action gives: P holds of the value, and the registry that is left is fine
 pub record Keeps {A : Type 0} (P : A → Type 0) (m : Build A) : Type 0 where
   pub run : (r : Registry) → Fine r → (x : A × Registry) → m r ≡ done x → P (x .0) × Fine (x .1)
-
--- of the value nothing is asked
-abbrev pub Any : {A : Type 0} → A → Type 0
-Any a = Unit
 
 -- one answer only, so what holds of one holds of the other
 moved : {A : Type 0} (P : A → Type 0) {x y : A × Registry} → P (x .0) → Fine (x .1) → done x ≡ done y → P (y .0) × Fine (y .1)

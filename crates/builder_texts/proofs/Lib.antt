@@ -4,3 +4,4 @@ pub mod Reading
 pub mod Types
 pub mod Keeps
 pub mod Registry
+pub mod Nodes

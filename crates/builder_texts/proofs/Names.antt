@@ -22,7 +22,8 @@ Well n = wellFormed n ≡ true
 
 -- ---- the bytes that the builder puts between names
 
-empty-well : Well []
+-- no bytes: used for a prefix that is not there
+pub empty-well : Well []
 unfolding compute
 empty-well = refl
 

@@ -14,10 +14,10 @@ use Rattle.builder.specs.Names.{normalize-path, alternate-owner-aliases, canoni
 use Rattle.builder.specs.Registry.{Entry, Registry, Build, keyedBy, findKey, enter, entryOf, unlessFound, ensure, ensure-all, extend-with, parameterName, lookup-name}
 use Rattle.builder.specs.Registry.{owner-parameters, namedOr, add-synthetic, derivedEntry, mark, mark-derived, firsts, into-parameters, short}
 use Rattle.builder_texts.specs.Texts.{IsText}
-use Rattle.builder_texts.proofs.All.{All, Maybe, all-append, all-map, either}
+use Rattle.builder_texts.proofs.All.{All, Maybe, Any, all-append, all-map, either}
 use Rattle.builder_texts.proofs.Names.{Well, normalize-path-well, aliases-well, canonical-name-well}
 use Rattle.builder_texts.proofs.Types.{OwnerTexts}
-use Rattle.builder_texts.proofs.Keeps.{ParameterTexts, EntryFine, Fine, Keeps, Any, gives, says, changes, requires, binds, forgets}
+use Rattle.builder_texts.proofs.Keeps.{ParameterTexts, EntryFine, Fine, Keeps, gives, says, changes, requires, binds, forgets}
 
 -- texts are well-formed
 pub texts-well : {ns : List Name} → All IsText ns → All Well ns
