@@ -5,3 +5,5 @@ pub mod Types
 pub mod Keeps
 pub mod Registry
 pub mod Nodes
+pub mod Roots
+pub mod Written
