@@ -8,13 +8,13 @@ use lib.ListN.{length, getD}
 use Rattle.errors.specs.Refusal.{done, _>>=_}
 use Rattle.errors.proofs.Laws.{done-one, not-done, asked, bound}
 use Rattle.blocks.specs.declared.Part.{Part}
-use Rattle.blocks.specs.declared.Part.the-variants.{Text, Key, Number, Flag, Size, OptNumber, OptText, Literal, Block, OptBlock, Blocks, Ascending, Distinct, Names, Paths, Values}
 use Rattle.blocks.specs.Bytes.{le2, nameAt}
 use Rattle.blocks.specs.Name.{isText}
 use Rattle.blocks.specs.Grammar.{partsOf}
 use Rattle.blocks.specs.Tree.{Tree, name, block, cons, number}
 use Rattle.blocks.specs.Read.{Step, Earlier, inOrder, nameOf, inType, met, Reader, readText, readKey, readNumber, readFlag, readIf, readOptional, readLiteral, readCount, readEntries, readList, readValue}
 use Rattle.blocks.specs.Read.{readPart, readParts, readHeader, readBlock, readInput}
+use Rattle.roundtrip.proofs.Parts.{each-part}
 use Rattle.builder_texts.specs.Texts.{Texts}
 
 -- an answer, if one is given, is a tree of texts
@@ -108,23 +108,16 @@ module _ (s : List ℕ) (start end : ℕ) where
   module _ (rb : Reader) (m : (e : Earlier) (lo hi at end : ℕ) → Answer (rb e lo hi at end)) where
     -- of any part of the grammar
     part-texts : (p : Part) (e : Earlier) (at : ℕ) → Answer (readPart rb s e start end p at)
-    unfolding readPart
-    part-texts Text e at = text-texts at
-    part-texts Key e at = key-texts e at
-    part-texts Number e at = number-texts at
-    part-texts Flag e at = flag-texts at
-    part-texts Size e at = optional-texts number-texts 0 at
-    part-texts OptNumber e at = optional-texts number-texts 1 at
-    part-texts OptText e at = optional-texts text-texts 1 at
-    part-texts Literal e at = literal-texts at
-    part-texts (Block lo hi) e at = m Earlier.any lo hi at end
-    part-texts (OptBlock lo hi) e at = optional-texts (λ a. m Earlier.any lo hi a end) 1 at
-    part-texts (Blocks lo hi limit) e at = list-texts (λ f a. m f lo hi a end) _ _ at
-    part-texts (Ascending lo hi limit) e at = list-texts (λ f a. m f lo hi a end) _ _ at
-    part-texts (Distinct lo hi limit) e at = list-texts (λ f a. m f lo hi a end) _ _ at
-    part-texts (Names limit) e at = list-texts key-texts _ _ at
-    part-texts (Paths limit) e at = list-texts key-texts _ _ at
-    part-texts (Values limit) e at = list-texts value-texts _ _ at
+    part-texts p e = each-part {R = λ f P. (at : ℕ) → Answer (f at)} (record {
+      text = text-texts;
+      key = key-texts;
+      number = number-texts;
+      flag = flag-texts;
+      literal = literal-texts;
+      value = value-texts;
+      optional = λ h on. optional-texts h on;
+      list = λ h o limit. list-texts h o limit;
+    }) rb {B = λ f lo hi t. Unit {0}} (λ f lo hi at. m f lo hi at end) p e
 
     -- of all parts of a body
     parts-texts : (ps : List Part) (e : Earlier) (at : ℕ) → Answer (readParts rb s e start end ps at)
