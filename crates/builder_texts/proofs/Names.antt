@@ -27,18 +27,22 @@ pub empty-well : Well []
 unfolding compute
 empty-well = refl
 
+-- between an owner and a path, and between the segments of a path
 dot-well : Well (ascii ".")
 unfolding compute
 dot-well = refl
 
+-- between an owner and a path in a size text
 colon-well : Well (ascii ":")
 unfolding compute
 colon-well = refl
 
+-- between a parent and a path
 colons-well : Well (ascii "::")
 unfolding compute
 colons-well = refl
 
+-- before the paths of an array's element
 element-well : Well (ascii "element.")
 unfolding compute
 element-well = refl

@@ -1,5 +1,5 @@
 -- Nodes, as they are built, write texts only: one law for each function of the builder's Nodes, up to its switches.
-use Prim.Native.Nat.{ℕ, suc}
+use Prim.Native.Nat.{ℕ}
 use mathlib.Core.Path.{_≡_, refl, sym, subst}
 use mathlib.Core.Bool.{Bool, true, false, _&&_, cond}
 use mathlib.Core.List.{List, [], _∷_, _++_}
@@ -15,13 +15,13 @@ use Rattle.expr.specs.Expr.{ExprKind}
 use Rattle.resolved.specs.Resolved.{Owner, Size, Head, ResolvedType, ResolvedTypeKind, head, kindOf, get, get-type-info, targetOf, jaggedOf}
 use Rattle.ir.specs.Ir.{IrParameter, IrArgument, BinaryOp, IrNode, SwitchCases, DefaultNode, NodeMetadata, aligned, default-metadata, unplaced}
 use Rattle.ir.specs.Layout.{optionalTree, entriesTree, flagTree, parameterTree, argumentTree, nodeTree, casesTree}
-use Rattle.builder.specs.Names.{canonical-name, join, extend-element-prefix, apply-path-prefix, isSome, rsplit-once}
-use Rattle.builder.specs.Registry.{Build, give, short, lookup-name, owner-parameters}
-use Rattle.builder.specs.Nodes.{align-node, constOf, const-node, const-or-zero, add-all, combine-checked-add, refText, build-field-ref-nodes, sum-refs, operationOf, buffer-size, build-path, build-expr-ir}
+use Rattle.builder.specs.Names.{canonical-name, join, apply-path-prefix, isSome, rsplit-once}
+use Rattle.builder.specs.Registry.{Build, give, short}
+use Rattle.builder.specs.Nodes.{align-node, constOf, const-node, const-or-zero, add-all, combine-checked-add, refText, build-field-ref-nodes, sum-refs, buffer-size, build-path, build-expr-ir}
 use Rattle.builder.specs.Nodes.{argument, collect-paths, collect-callee-arguments, build-typeref-node, sum-over-array, build-element, build-elements, isVariable}
 use Rattle.builder.specs.Nodes.{build-array-node-with-prefix, build-array-kind, fieldKey, has, select-array-owner, build-array-node, Alternative, build-alternative, build-cases, build-switch}
 use Rattle.builder_texts.specs.Texts.{IsText, Texts}
-use Rattle.builder_texts.proofs.All.{All, Maybe, Any, all-append, maybe-map, whatever, either}
+use Rattle.builder_texts.proofs.All.{All, Maybe, all-append, whatever, either}
 use Rattle.builder_texts.proofs.Names.{Well, empty-well, canonical-name-well, join-well, extend-element-prefix-well, apply-path-prefix-well, ref-text-well}
 use Rattle.builder_texts.proofs.Types.{ExprTexts, OwnerTexts, HeadTexts, TypeTexts, KindTexts}
 use Rattle.builder_texts.proofs.Keeps.{ParameterTexts, Keeps, gives, refuses, needs, says, requires, binds}
@@ -29,13 +29,15 @@ use Rattle.builder_texts.proofs.Registry.{texts-well, lookup-name-text,
 
 -- ---- what is written
 
--- a node, the cases of a switch, an argument are written as trees of texts
+-- a node is written as a tree of texts
 abbrev pub NodeTexts : IrNode → Type 0
 NodeTexts n = Texts (nodeTree n)
 
+-- so are the cases of a switch
 abbrev pub CasesTexts : SwitchCases → Type 0
 CasesTexts cs = Texts (casesTree cs)
 
+-- and an argument
 abbrev pub ArgumentTexts : IrArgument → Type 0
 ArgumentTexts x = Texts (argumentTree x)
 

@@ -1,6 +1,6 @@
 -- What was read has texts only: question 3 is put at each name and text.
 use Prim.Native.Nat.{ℕ, zero, suc, _+_}
-use mathlib.Core.Path.{_≡_, refl, subst}
+use mathlib.Core.Path.{_≡_, subst}
 use mathlib.Core.Bool.{Bool, true, false}
 use mathlib.Core.List.{List, [], _∷_}
 use lib.Dec.{leb, eqb}
@@ -12,8 +12,8 @@ use Rattle.blocks.specs.Bytes.{le2, nameAt}
 use Rattle.blocks.specs.Name.{isText}
 use Rattle.blocks.specs.Grammar.{partsOf}
 use Rattle.blocks.specs.Tree.{Tree, name, block, cons, number}
-use Rattle.blocks.specs.Read.{Step, Earlier, inOrder, nameOf, inType, met, Reader, readText, readKey, readNumber, readFlag, readIf, readOptional, readLiteral, readCount, readEntries, readList, readValue}
-use Rattle.blocks.specs.Read.{readPart, readParts, readHeader, readBlock, readInput}
+use Rattle.blocks.specs.Read.{Step, Earlier, inOrder, nameOf, inType, met, Reader, readText, readKey, readNumber, readFlag, readIf, readOptional, readLiteral, readCount, readEntries}
+use Rattle.blocks.specs.Read.{readList, readValue, readPart, readParts, readHeader, readBlock, readInput}
 use Rattle.roundtrip.proofs.Parts.{each-part}
 use Rattle.builder_texts.specs.Texts.{Texts}
 

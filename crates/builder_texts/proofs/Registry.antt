@@ -1,8 +1,6 @@
 -- The registry stays fine, and what it says of a parameter is a text.
-use Prim.Native.Nat.{ℕ}
-use mathlib.Core.Path.{_≡_, refl}
-use mathlib.Core.Bool.{Bool, true, false, cond}
-use mathlib.Core.List.{List, [], _∷_, _++_}
+use mathlib.Core.Bool.{Bool, true, false}
+use mathlib.Core.List.{List, [], _∷_}
 use mathlib.Core.Option.{Option, some, none}
 use lib.Dec.{ltb}
 use lib.ListN.{length}
@@ -10,8 +8,8 @@ use Rattle.blocks.specs.Name.{Name, same, among}
 use Rattle.blocks.proofs.Utf8.{text-well, well-text}
 use Rattle.resolved.specs.Resolved.{Owner}
 use Rattle.ir.specs.Ir.{IrParameter}
-use Rattle.builder.specs.Names.{normalize-path, alternate-owner-aliases, canonical-name}
-use Rattle.builder.specs.Registry.{Entry, Registry, Build, keyedBy, findKey, enter, entryOf, unlessFound, ensure, ensure-all, extend-with, parameterName, lookup-name}
+use Rattle.builder.specs.Names.{normalize-path}
+use Rattle.builder.specs.Registry.{Entry, Registry, keyedBy, findKey, enter, entryOf, unlessFound, ensure, ensure-all, extend-with, parameterName, lookup-name}
 use Rattle.builder.specs.Registry.{owner-parameters, namedOr, add-synthetic, derivedEntry, mark, mark-derived, firsts, into-parameters, short}
 use Rattle.builder_texts.specs.Texts.{IsText}
 use Rattle.builder_texts.proofs.All.{All, Maybe, Any, all-append, all-map, either}

@@ -1,6 +1,6 @@
 -- Enums, unions, structs and any type, as they are built, write texts only: the rest of the builder's Nodes, and its BuildType.
 use Prim.Native.Nat.{ℕ, suc, _+_, _-_, _^_}
-use mathlib.Core.Path.{_≡_, refl}
+use mathlib.Core.Path.{refl}
 use mathlib.Core.Bool.{Bool, true, false}
 use mathlib.Core.List.{List, [], _∷_, _++_}
 use mathlib.Core.Option.{Option, some, none}
@@ -9,9 +9,9 @@ use Rattle.blocks.specs.Name.{Name, ascii}
 use Rattle.blocks.proofs.Compute.{compute}
 use Rattle.blocks.proofs.Utf8.{text-well, well-join}
 use Rattle.expr.specs.Expr.{ExprKind}
-use Rattle.resolved.specs.Resolved.{Owner, Size, Head, ResolvedType, ResolvedTypeKind, Fields, Variants, head, kindOf, fields, variants, get, targetOf}
-use Rattle.ir.specs.Ir.{IrParameter, IrNode, TypeIr}
-use Rattle.ir.specs.Layout.{nodeTree, parameterTree, typeIrTree}
+use Rattle.resolved.specs.Resolved.{Owner, Size, Head, ResolvedType, ResolvedTypeKind, Fields, Variants, fields, variants}
+use Rattle.ir.specs.Ir.{IrParameter}
+use Rattle.ir.specs.Layout.{parameterTree, typeIrTree}
 use Rattle.builder.specs.Names.{ends-with, qualify-parent-path, join, orElse}
 use Rattle.builder.specs.Registry.{Registry, add-synthetic}
 use Rattle.builder.specs.Nodes.{field-refs, mark-all, lookupQualified, first-of, tag-lookup, computed-tag, enum-tag-parameter, enum-alternatives, build-enum-node}
@@ -95,17 +95,19 @@ tag-keeps owner (ExprKind.Alignof n) t = computed-tag-keeps owner _ t
 tag-keeps owner (ExprKind.Binary k l r) t = computed-tag-keeps owner _ t
 tag-keeps owner (ExprKind.Unary k x) t = computed-tag-keeps owner _ t
 
--- the alternatives of each have its variants' names
+-- the alternatives of an enum have its variants' names
 enum-names : {vs : Variants} → VariantsTexts vs → All AlternativeText (enum-alternatives (variants vs))
 unfolding enum-alternatives variants
 enum-names VariantsTexts.noVariant = All.none
 enum-names (VariantsTexts.variant v n t vs) = All.more n (enum-names vs)
 
+-- those of a union have its fields'
 union-names : (i : ℕ) {fs : Fields} → FieldsTexts fs → All AlternativeText (union-alternatives i (fields fs))
 unfolding union-alternatives fields
 union-names i FieldsTexts.noField = All.none
 union-names i (FieldsTexts.field o n t fs) = All.more n (union-names (suc i) fs)
 
+-- those of a size-discriminated union have its variants'
 sized-names : {vs : Variants} → VariantsTexts vs → All AlternativeText (sized-alternatives (variants vs))
 unfolding sized-alternatives variants
 sized-names VariantsTexts.noVariant = All.none
@@ -181,7 +183,16 @@ prefix-keeps end none s = gives _ tt
 prefix-keeps end (some o) (Size.Const v) = binds (requires (ltb (o + v) (2 ^ 64)) 16) (λ _ _. gives _ tt)
 prefix-keeps end (some o) Size.Variable = gives _ tt
 
--- in a set of types with texts as names
+-- ---- parameters
+
+-- `filter_jagged_element_parameters`
+filter-texts : (t : ResolvedType) {ps : List IrParameter} → All ParameterTexts ps → All ParameterTexts (filter-jagged-element-parameters t ps)
+unfolding filter-jagged-element-parameters
+filter-texts t All.none = All.none
+filter-texts t (All.more {x} p ps) = either (All ParameterTexts) (is-jagged-element-parameter t (x .name)) (filter-texts t ps) (All.more p (filter-texts t ps))
+
+-- ---- in a set of types with texts as names
+
 module _ {types : List ResolvedType} (known : All TypeTexts types) where
   -- a field of variable size, by its kind
   variable-field-keeps : {refs : List Owner} (n : Name) (h : Head) {k : ResolvedTypeKind} → All OwnerTexts refs → IsText n → HeadTexts h → KindTexts k
@@ -251,12 +262,6 @@ module _ {types : List ResolvedType} (known : All TypeTexts types) where
       go : {o : Option Name} → Maybe IsText o → Keeps NodeTexts (unlessTarget types h k o)
       go (Maybe.some {a} r) = typeref-keeps h a known r
       go Maybe.none = by-size (h .size)
-
-  -- `filter_jagged_element_parameters`
-  filter-texts : (t : ResolvedType) {ps : List IrParameter} → All ParameterTexts ps → All ParameterTexts (filter-jagged-element-parameters t ps)
-  unfolding filter-jagged-element-parameters
-  filter-texts t All.none = All.none
-  filter-texts t (All.more {x} p ps) = either (All ParameterTexts) (is-jagged-element-parameter t (x .name)) (filter-texts t ps) (All.more p (filter-texts t ps))
 
   -- `build_type`: what is written of a type
   pub type-keeps : {t : ResolvedType} → TypeTexts t → Keeps (λ x. Texts (typeIrTree x)) (build-type-ir types t)

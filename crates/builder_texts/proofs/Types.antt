@@ -1,10 +1,10 @@
 -- The types of a tree of texts have texts as names: nothing is asked of the tree's shape, since a part that is not there is read as the empty text.
 use Prim.Native.Nat.{ℕ, zero, suc}
-use mathlib.Core.Path.{_≡_, refl}
+use mathlib.Core.Path.{refl}
 use mathlib.Core.Bool.{Bool}
 use mathlib.Core.List.{List, []}
 use mathlib.Core.Option.{Option}
-use Rattle.blocks.specs.Name.{Name, isText}
+use Rattle.blocks.specs.Name.{Name}
 use Rattle.blocks.specs.Tree.{Tree, name, num, block, nil, cons, View, first, rest, body, text, part, entries, listed, view, firstView, restView, itemOr, partOr, partView, kind}
 use Rattle.blocks.proofs.Compute.{compute}
 use Rattle.expr.specs.Expr.{LiteralExpr, ExprKind, unknown, makeExpr, exprOf}

@@ -1,7 +1,7 @@
 -- The theorem: what the builder writes from valid texts is valid.
 use Prim.Native.Nat.{ℕ, suc}
-use mathlib.Core.Path.{_≡_, refl, subst}
-use mathlib.Core.List.{List, [], _∷_}
+use mathlib.Core.Path.{_≡_, subst}
+use mathlib.Core.List.{List, []}
 use Rattle.errors.specs.Refusal.{Outcome, done, refused, atType}
 use Rattle.errors.proofs.Laws.{done-one, not-done, bound}
 use Rattle.blocks.specs.Tree.{Tree}
