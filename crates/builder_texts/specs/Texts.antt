@@ -4,7 +4,7 @@ use mathlib.Core.Bool.{true}
 use Rattle.blocks.specs.Name.{Name, isText}
 use Rattle.blocks.specs.Tree.{Tree, name, num, block, nil, cons}
 
--- 3: "is each name or text at most 255 bytes", valid UTF-8, "without bytes below 0x20 and without 0x7F?"
+-- 3: "valid UTF-8 (RFC 3629), without bytes below 0x20 and without 0x7F; the limit of 255 bytes is unchanged"
 abbrev pub IsText : Name → Type 0
 IsText n = isText n ≡ true
 
