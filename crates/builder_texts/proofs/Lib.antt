@@ -7,3 +7,4 @@ pub mod Registry
 pub mod Nodes
 pub mod Roots
 pub mod Written
+pub mod Passing

@@ -33,15 +33,15 @@ cut-length nil = refl
 cut-length (cons a b) = length-append (write (cut a)) (write (cut b)) ∙ ap₂ _+_ (cut-length a) (cut-length b) ∙ sym (length-append (write a) (write b))
 
 -- what is to be read at `at`
-abbrev put : ℕ → Tree → (Tree × ℕ)
+abbrev pub put : ℕ → Tree → (Tree × ℕ)
 put at t = (placed at (cut t), at + length (write t))
 
 -- if the bytes of t stand at `at`, then this step gives t or is refused
-abbrev Finds : List ℕ → Step → ℕ → Tree → Type 0
+abbrev pub Finds : List ℕ → Step → ℕ → Tree → Type 0
 Finds s o at t = (r : List ℕ) → drop at s ≡ write t ++ r → length (write t) ≤ 65536 → (x : Tree × ℕ) → o ≡ done x → x ≡ put at t
 
 -- so for every tree of a form
-abbrev FindsAll : List ℕ → (ℕ → Step) → Form → Type 0
+abbrev pub FindsAll : List ℕ → (ℕ → Step) → Form → Type 0
 FindsAll s f F = (t : Tree) → Shaped F t → (at : ℕ) → Finds s (f at) at t
 
 -- a tree and an offset are equal if both parts are
@@ -73,17 +73,17 @@ unfolding write placed cut
 literal-put v u c at y x e d f = sym f ∙ rw (e, d) (pair refl (omega (arith, length-append (bytes 1 v) (bytes 8 u), bytes-length 1 v)))
 
 -- an entry has two bytes or more
-text-wide : (t : Tree) → Shaped Form.text t → 2 ≤ length (write t)
+pub text-wide : (t : Tree) → Shaped Form.text t → 2 ≤ length (write t)
 unfolding write
 text-wide t (Shaped.text {n}) = omega (arith, text-length n)
 
 -- so has a block
-block-wide : (t : Tree) → Shaped Form.block t → 2 ≤ length (write t)
+pub block-wide : (t : Tree) → Shaped Form.block t → 2 ≤ length (write t)
 unfolding write
 block-wide t (Shaped.block {k} {t = b} m p) = omega (arith, frame (2 + length (write b)) k (write b))
 
 -- and a name with a number
-value-wide : (t : Tree) → Shaped (Form.both Form.text (Form.number 8)) t → 2 ≤ length (write t)
+pub value-wide : (t : Tree) → Shaped (Form.both Form.text (Form.number 8)) t → 2 ≤ length (write t)
 unfolding write
 value-wide t (Shaped.both {a} {b} p q) = omega (arith, length-append (write a) (write b), text-wide a p)
 
@@ -105,7 +105,7 @@ module _ (s : List ℕ) (end start : ℕ) where
       sym (done-one (q3 .1)) ∙ pair (ap name (b .1)) (omega (arith, b .0))
 
   -- of a name in its order
-  key-finds : (e : Earlier) → FindsAll s (readKey s start end e) Form.text
+  pub key-finds : (e : Earlier) → FindsAll s (readKey s start end e) Form.text
   unfolding readKey
   key-finds e t p at r h l x d =
       let b = bound (readText s start end at) _ _ d in
@@ -120,7 +120,7 @@ module _ (s : List ℕ) (end start : ℕ) where
       sym (done-one (q .1)) ∙ width-finds 8 v (le8 s at) at r h refl
 
   -- of a flag
-  flag-finds : FindsAll s (readFlag s start end) (Form.number 1)
+  pub flag-finds : FindsAll s (readFlag s start end) (Form.number 1)
   unfolding readFlag write
   flag-finds t (Shaped.number {v}) at r h l x e =
       let q1 = asked (leb (at + 1) end) _ _ _ e in
@@ -128,7 +128,7 @@ module _ (s : List ℕ) (end start : ℕ) where
       sym (done-one (q2 .1)) ∙ width-finds 1 v (getD s at 0) at r h (le-one s at)
 
   -- of a list's count
-  count-finds : (limit : ℕ) → FindsAll s (readCount limit s start end) (Form.number 2)
+  pub count-finds : (limit : ℕ) → FindsAll s (readCount limit s start end) (Form.number 2)
   unfolding readCount write
   count-finds limit t (Shaped.number {v}) at r h l x e =
       let q1 = asked (leb (at + 2) end) _ _ _ e in
@@ -164,7 +164,7 @@ module _ (s : List ℕ) (end start : ℕ) where
       literal-put v u (getD s at 0) at (b .0) x c d (done-one (q3 .1))
 
   -- entries have bytes, so a count below 65,536 is that of the list
-  enough : {F : Form} → ((t : Tree) → Shaped F t → 2 ≤ length (write t)) → (n : ℕ) (t : Tree) → Shaped (times n F) t → n + n ≤ length (write t)
+  pub enough : {F : Form} → ((t : Tree) → Shaped F t → 2 ≤ length (write t)) → (n : ℕ) (t : Tree) → Shaped (times n F) t → n + n ≤ length (write t)
   unfolding times write
   enough w zero t Shaped.nothing = omega arith
   enough w (suc n) t (Shaped.both {a} {b} p q) = omega (arith, w a p, enough w n b q, length-append (write a) (write b))
@@ -185,14 +185,14 @@ module _ (s : List ℕ) (end start : ℕ) where
       (λ r h l. let e : n % 65536 ≡ n = mod-eq-of-lt (omega (arith, enough w n a p)) in rw e (entries-finds hf n o a p (at + length (bytes 2 n)) r h l))
 
   -- of a value: a name and a number
-  value-finds : (e : Earlier) → FindsAll s (readValue s start end e) (Form.both Form.text (Form.number 8))
+  pub value-finds : (e : Earlier) → FindsAll s (readValue s start end e) (Form.both Form.text (Form.number 8))
   unfolding readValue
   value-finds e t (Shaped.both {a} {b} p q) at = chain s (readKey s start end e at) (λ x. readNumber s start end (x .1)) a b at (key-finds e a p at) (number-finds b q (at + length (write a)))
 
   -- rb reads blocks
   module _ (rb : Reader) (m : (e : Earlier) (lo hi : ℕ) → FindsAll s (λ at. rb e lo hi at end) Form.block) where
     -- of any part of the grammar
-    part-finds : (p : Part) (e : Earlier) → FindsAll s (readPart rb s e start end p) (formOf p)
+    pub part-finds : (p : Part) (e : Earlier) → FindsAll s (readPart rb s e start end p) (formOf p)
     unfolding readPart formOf
     part-finds Text e = text-finds
     part-finds Key e = key-finds e
