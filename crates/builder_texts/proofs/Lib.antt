@@ -8,3 +8,4 @@ pub mod Nodes
 pub mod Roots
 pub mod Written
 pub mod Passing
+pub mod Reread

@@ -46,8 +46,8 @@ module _ {types : List ResolvedType} (known : All TypeTexts types) where
       let (xs, d′, j′) = bound (build-types types (suc i) ts) _ _ j in
       subst (All Written) (done-one j′) (All.more (type-written h (placed i (build-type types t) d)) (types-written (suc i) hs d′))
 
--- Every name and text that the builder writes from a set that was read passes question 3. It is said of the tree; that a tree within the limits
--- is read back from its writing is roundtrip's.
+-- Every name and text that the builder writes from a set that was read passes question 3. It is said of the tree; `layout-not-3` says it of the
+-- bytes, where they are read.
 pub texts-written : (set : List ℕ) (t : Tree) (ts : List TypeIr) → readSet set ≡ done t → build-types (typesOf t) 0 (typesOf t) ≡ done ts → Texts (layoutTree ts)
 unfolding layoutTree
 texts-written set t ts read built =
