@@ -4,3 +4,4 @@ pub mod Name
 pub mod Utf8
 pub mod Compute
 pub mod Refusals
+pub mod Worked
