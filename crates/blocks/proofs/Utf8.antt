@@ -1,13 +1,13 @@
 -- UTF-8: the test says what the grammar says; texts may be joined, and cut at an ASCII byte.
-use Prim.Native.Nat.{ℕ, zero, suc, _<_, _≤_}
+use Prim.Native.Nat.{ℕ, suc, _<_, _≤_}
 use native.Mathlib.Omega.{arith}
-use mathlib.Core.Path.{_≡_, refl, sym, _∙_, ap}
+use mathlib.Core.Path.{_≡_, refl, _∙_, ap}
 use mathlib.Core.Bool.{Bool, true, false, not, _&&_, cond}
 use mathlib.Core.List.{List, [], _∷_, _++_}
 use mathlib.Core.Option.{Option, some, none}
 use lib.Dec.{leb, eqb}
 use lib.ListN.{length}
-use borrow.Author.Tests.{le-leb, lt-leb, leb-true, leb-false}
+use borrow.Author.Tests.{le-leb, lt-leb, leb-true}
 use Rattle.blocks.specs.Utf8.{Range, Form, Matches, OneOf, Octets, utf8-char, inRange, begun, rest-of, utf8-octets}
 use Rattle.blocks.specs.Name.{Name, allowed, wellFormed, isText}
 use Rattle.blocks.proofs.Name.{and-left, and-right, false-true}
@@ -53,6 +53,7 @@ data Left (f : Form) : List ℕ → Type 0 where
 left-octets : {n : List ℕ} → Left [] n → Octets n
 left-octets (Left.left Matches.nothing o) = o
 
+-- what is accepted behind the part of a character: the rest of it, and characters
 left-accepted : (f : Form) (n : List ℕ) → rest-of f n ≡ true → Left f n
 unfolding rest-of
 left-accepted [] [] e = Left.left Matches.nothing Octets.nothing
@@ -155,6 +156,7 @@ accepted-octets (Octets.char {c = c} {bs = bs} o os) = go c o (accepted-octets o
 
 -- ---- joined
 
+-- accepted bytes, of which the first may be the rest of a character, and accepted ones behind them
 rest-join : (f : Form) (a b : List ℕ) → rest-of f a ≡ true → rest-of [] b ≡ true → rest-of f (a ++ b) ≡ true
 unfolding rest-of
 rest-join [] [] b e g = g
@@ -167,6 +169,7 @@ rest-join [] (x ∷ xs) b e g = go (begun utf8-char x) e (λ rs h. rest-join rs 
     go none h ih = h
     go (some rs) h ih = ih rs h
 
+-- bytes that are allowed, one list behind the other
 allowed-join : (a b : List ℕ) → allowed a ≡ true → allowed b ≡ true → allowed (a ++ b) ≡ true
 unfolding allowed
 allowed-join [] b e g = g
@@ -248,6 +251,7 @@ rest-cut [] (y ∷ ys) x b h l e = go (begun utf8-char y) refl e (λ rs t g. res
     go none q g ih = false-true g
     go (some rs) q g ih = ih rs (begun-high utf8-char y chars-tails q) g
 
+-- parts of bytes that are allowed
 allowed-cut : (a : List ℕ) (x : ℕ) (b : List ℕ) → allowed (a ++ (x ∷ b)) ≡ true → (allowed a ≡ true) × (allowed b ≡ true)
 unfolding allowed
 allowed-cut [] x b e = (refl, and-right (leb 0x20 x && not (eqb x 0x7F)) _ e)

@@ -1,6 +1,6 @@
 -- Characters, byte by byte: what a byte does to what is left of a character. Assumes nothing.
 use mathlib.Core.Path.{_≡_, refl, sym, _∙_, ap}
-use mathlib.Core.Bool.{Bool, true, false, not, _&&_}
+use mathlib.Core.Bool.{Bool, true, false, _&&_}
 use mathlib.Core.List.{List, [], _∷_}
 use mathlib.Core.Option.{Option, some, none}
 use Prim.Native.Nat.{ℕ, zero, suc, _+_, _-_, _<_, _≤_}
@@ -12,7 +12,7 @@ use lib.Seq.{drop-cons, take-all}
 use borrow.Author.Tests.{le-leb, lt-leb, leb-true, leb-false, eq-eqb, ne-eqb}
 use Rattle.blocks.specs.Utf8.{Range, Form, range, utf8-tail, utf8-char, inRange, begun, rest-of, utf8-octets}
 use Rattle.blocks.specs.Name.{allowed, wellFormed, isText}
-use Rattle.blocks.proofs.Utf8.{FormIn, begun-char, begun-tail, begun-above, range-in, range-before, range-past}
+use Rattle.blocks.proofs.Utf8.{FormIn, begun-char, range-in}
 use Rattle.texts.specs.Left.{rangesOf, form, well, wellBehind, goes, High}
 use Rattle.texts.specs.declared.Left.{Left}
 use Rattle.texts.specs.declared.Left.the-variants.{Bytes, Never}
@@ -172,6 +172,7 @@ nothing-left (suc n) lo hi = sym (ne-eqb (suc n) 0 (λ e. omega arith))
 pub ended : (left : Left) {n lo hi : ℕ} → left ≡ Bytes n lo hi → goes left [] ≡ eqb n 0
 ended left {n} {lo} {hi} e = rw e (nothing-left n lo hi)
 
+-- it is none where nothing makes it a character
 pub ended-none : (left : Left) → left ≡ Never → goes left [] ≡ false
 ended-none left e = rw e refl
 

@@ -7,12 +7,12 @@ use Prim.Native.Nat.{ℕ, zero, suc, _+_, _-_, _<_, _≤_}
 use native.Mathlib.Omega.{arith}
 use lib.Dec.{leb, ltb, eqb}
 use lib.ListN.{length, getD}
-use borrow.Author.Tests.{le-leb, lt-leb, leb-true, leb-false, eqb-true, eqb-false, eq-eqb, ltb-true, ltb-false, lt-ltb}
+use borrow.Author.Tests.{le-leb, lt-leb, leb-true, leb-false, eqb-true, eqb-false, eq-eqb, ltb-true, ltb-false}
 use Rattle.blocks.specs.Utf8.{Form, range, utf8-tail, utf8-char, begun, rest-of}
 use Rattle.blocks.specs.Name.{allowed, wellFormed}
 use Rattle.blocks.proofs.Name.{and-left, and-right, false-true}
 use Rattle.texts.specs.Triples.{leads, leads3, tail, clearByte, unended, narrow, fits, triple1, Tripled}
-use Rattle.texts.specs.Left.{well, wellBehind, rangesOf}
+use Rattle.texts.specs.Left.{well, wellBehind}
 use Rattle.texts.proofs.Characters.{well-is, clear-byte, begun-byte, begins-2, begins-E0, begins-ED, begins-3, range-byte}
 
 -- ---- a byte by its place in the characters
@@ -65,6 +65,7 @@ narrow-ED a b e n = go (eqb a 0xE0) (leb 0xA0 b) refl (rw (eq-eqb a 0xED e) at n
     go false true h f = false-true f
     go y false h f = omega (arith, leb-false 0xA0 b h)
 
+-- each first byte of two or three leaves one of these
 leads-so : (a : ℕ) → leads a ≡ true → Leads a
 leads-so a e = go (ltb a 0xE0) refl (bounds 0xC2 0xEF a e)
   where
@@ -118,10 +119,11 @@ abbrev More : ℕ → ℕ → ℕ → List ℕ → Type 0
 More q a b bs = (well (left q a) (b ∷ bs) ≡ well (left a b) bs) × (leads3 a ≡ true → tail b ≡ true)
 
 module _ (q a b : ℕ) (bs : List ℕ) (i : leads3 q ≡ true → tail a ≡ true) (f : fits q a b ≡ true) where
-  -- a character that is open goes on, one that is not has ended
+  -- a character that has not ended goes on
   on : unended q a ≡ true → tail b ≡ true
   on o = pick (unended q a) (tail b) (clearByte b || leads b) (and-left ((unended q a && tail b) || (not (unended q a) && (clearByte b || leads b))) _ f) o
 
+  -- and another begins
   new : unended q a ≡ false → (clearByte b || leads b) ≡ true
   new o = pick-other (unended q a) (tail b) (clearByte b || leads b) (and-left ((unended q a && tail b) || (not (unended q a) && (clearByte b || leads b))) _ f) o
 
@@ -147,22 +149,25 @@ module _ (q a b : ℕ) (bs : List ℕ) (i : leads3 q ≡ true → tail a ≡ tru
       let z : leads3 a ≡ false = below 0xE0 0xEF a (omega (arith, k .1)) in
       (rw (left-tail q a e g, left-none a b (tail-leads b t) z) (range-byte utf8-tail [] b bs (omega arith) (h .0) (h .1)), λ x. t)
 
-  -- a first byte: a clear one, or the first of a character
+  -- a clear byte
   clear-first : leads a ≡ false → leads3 q ≡ false → clearByte b ≡ true → More q a b bs
   clear-first e g c =
       let h = bounds 0x20 0x7E b c in
       let z = below 0xC2 0xEF b (omega (arith, h .1)) in
       (rw (left-none q a e g, left-none a b z (not-leads a e)) (clear-byte b bs (h .0) (h .1)), λ x. false-true (sym (not-leads a e) ∙ x))
 
+  -- the first of a character, by what it leaves
   led : leads a ≡ false → leads3 q ≡ false → leads b ≡ true → {f : Form} → begun utf8-char b ≡ some f → More q a b bs
   led e g c {f} k =
       let h = bounds 0xC2 0xEF b c in
       (rw (left-none q a e g, left-led a b c k) (begun-byte b bs (omega (arith, h .0)) ∙ ap (λ (o : Option Form). wellBehind o bs) k), λ x. false-true (sym (not-leads a e) ∙ x))
 
+  -- whatever it leaves
   led-first : leads a ≡ false → leads3 q ≡ false → leads b ≡ true → Leads b → More q a b bs
   led-first e g c (Leads.of-two l k) = led e g c k
   led-first e g c (Leads.of-three l u r k m) = led e g c k
 
+  -- a first byte: a clear one, or the first of a character
   first : leads a ≡ false → leads3 q ≡ false → More q a b bs
   first e g = go (clearByte b) refl (new (rw (e, g) refl))
     where
@@ -170,6 +175,7 @@ module _ (q a b : ℕ) (bs : List ℕ) (i : leads3 q ≡ true → tail a ≡ tru
       go true c h = clear-first e g c
       go false c h = led-first e g h (leads-so b h)
 
+  -- by what was left
   more : More q a b bs
   more = go (leads a) refl (leads3 q) refl
     where

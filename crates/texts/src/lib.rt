@@ -129,22 +129,7 @@ fn triple(s: &[u8], at: usize) -> bool
     fits_behind(s[at], s[next], s[last])
 }
 
-// The same for the eight, and for the sixteen, from there on. No byte ends the question early, and how many there are is a constant, so that
-// all are compared at once.
-fn triple_8(s: &[u8], at: usize) -> bool
-    requires { ⌜ at + 10 ≤ length (now s) ⌝ }
-    ensures { λ r. ⌜ (r ≡ true → Tripled (now (s .entry)) at (at + 8)) ⌝ }
-{
-    let end = at + 8;
-    let mut k = at;
-    let mut all = true;
-    while k < end {
-        all = all & triple(s, k);
-        k += 1;
-    }
-    all
-}
-
+// The same for the sixteen from there on. No byte ends the question early, and sixteen is a constant, so that all are compared at once.
 fn triple_16(s: &[u8], at: usize) -> bool
     requires { ⌜ at + 18 ≤ length (now s) ⌝ }
     ensures { λ r. ⌜ (r ≡ true → Tripled (now (s .entry)) at (at + 16)) ⌝ }
@@ -175,13 +160,12 @@ fn triple_long(s: &[u8]) -> bool
     triple_16(s, last)
 }
 
-// Whether all bytes make characters of one to three bytes: where it holds, they are well-formed. Names of fewer than ten bytes are left to
-// `chars`.
+// Whether all bytes make characters of one to three bytes: where it holds, they are well-formed. Short names are left to `chars`.
 fn triple_all(s: &[u8]) -> bool
     ensures { λ r. ⌜ (r ≡ true → wellFormed (now (s .entry)) ≡ true) ⌝ }
 {
     let n = s.len();
-    if n < 10 {
+    if n < 18 {
         return false;
     }
     if !begins(s[0]) {
@@ -197,9 +181,6 @@ fn triple_all(s: &[u8]) -> bool
     let before = n - 2;
     if leads_two(s[before]) {
         return false;
-    }
-    if n < 18 {
-        return triple_8(s, 0) & triple_8(s, n - 10);
     }
     triple_long(s)
 }

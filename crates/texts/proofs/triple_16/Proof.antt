@@ -1,5 +1,5 @@
 -- `texts::triple_16` meets its contract. The loop's invariant: where `all` holds, the bytes behind those from `at` to k go with them. Assumes nothing.
-use Prim.Native.Nat.{_+_, _-_, _≤_}
+use Prim.Native.Nat.{_-_, _≤_}
 use native.Mathlib.Omega.{arith}
 use mathlib.Core.Path.{_≡_, sym, _∙_}
 use mathlib.Core.Bool.{true}

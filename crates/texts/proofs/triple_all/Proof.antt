@@ -7,9 +7,8 @@ use mathlib.Core.List.{List}
 use lib.ListN.{length}
 use borrow.Author.Tests.{not-false}
 use Rattle.blocks.specs.Name.{wellFormed}
-use Rattle.blocks.proofs.Name.{false-true, and-left, and-right}
-use Rattle.texts.specs.Triples.{triple1, Tripled}
-use Rattle.texts.proofs.Steps.{joined}
+use Rattle.blocks.proofs.Name.{false-true}
+use Rattle.texts.specs.Triples.{Tripled}
 use Rattle.texts.proofs.Fitting.{triples-well}
 use borrow.Author.Needs.{needs}
 use Rattle.texts.proofs.triple_all.Statement.{statement}
@@ -89,24 +88,11 @@ leads-two-requires c κs = search needs
 returns-5 : tie.Need-returns-5
 returns-5 c e = false-true e
 
-triple-8-requires : tie.Need-triple-8-requires
-triple-8-requires c κs = search needs
-
-triple-8-requires-2 : tie.Need-triple-8-requires-2
-triple-8-requires-2 c κs = search needs
-
-returns-6 : tie.Need-returns-6
-returns-6 c e =
-    let r = c .before .before .before in
-    let front = c .before .triple-8 .ensures (and-left _ _ e) in
-    let back = c .triple-82 .ensures (and-right (c .before .triple-8 .result) _ e) in
-    all-well r (λ k l h. joined (triple1 (bytes-of r)) 0 _ _ _ (omega arith) front back k l (omega arith))
-
 triple-long-requires : tie.Need-triple-long-requires
 triple-long-requires c κs = search needs
 
-returns-7 : tie.Need-returns-7
-returns-7 c e = all-well (c .before .before) (c .triple-long .ensures e)
+returns-6 : tie.Need-returns-6
+returns-6 c e = all-well (c .before) (c .triple-long .ensures e)
 
 pub triple-all-spec : {M : Type 1} → statement M
 triple-all-spec =
@@ -128,8 +114,5 @@ triple-all-spec =
     shared-slice-read-leads-two
     leads-two-requires
     returns-5
-    triple-8-requires
-    triple-8-requires-2
-    returns-6
     triple-long-requires
-    returns-7)
+    returns-6)
