@@ -3,7 +3,8 @@
 use crate::call::{judge, Answer, Call, Verdict};
 use crate::cases::{make, What};
 use crate::data::*;
-use crate::rules::read;
+use crate::gen::spelling;
+use crate::rules::{lengths, read};
 use std::collections::BTreeMap;
 use std::panic::{catch_unwind, AssertUnwindSafe};
 
@@ -17,7 +18,18 @@ pub struct Tally {
     panics: u64,
     pair_answers: usize,
     pair_added: usize,
+    beyond: Beyond,
     differences: Vec<String>,
+}
+
+/// How much of it had a name beyond ASCII that was read: cases, those in which
+/// the Rust confirmed such a call, such calls, and those that it confirmed.
+#[derive(Default)]
+struct Beyond {
+    cases: u64,
+    cases_confirmed: u64,
+    calls: u64,
+    calls_confirmed: u64,
 }
 
 pub fn call_name(call: &Call) -> &'static str {
@@ -51,6 +63,7 @@ impl Tally {
             self.differences
                 .push(format!("{place}: old and new: {text}"));
         }
+        let before = (self.beyond.calls, self.beyond.calls_confirmed);
         for (i, call) in case.calls.iter().enumerate() {
             let place = format!("{place} call {i}");
             match catch_unwind(AssertUnwindSafe(|| judge(call))) {
@@ -58,6 +71,8 @@ impl Tally {
                 Err(_) => self.panicked(&place, "in the call"),
             }
         }
+        self.beyond.cases += u64::from(self.beyond.calls > before.0);
+        self.beyond.cases_confirmed += u64::from(self.beyond.calls_confirmed > before.1);
     }
 
     fn panicked(&mut self, place: &str, when: &str) {
@@ -77,6 +92,10 @@ impl Tally {
         counts.1 += v.confirmed as u64;
         for kind in kinds_met(call, &v.answer) {
             *self.kinds.entry(kind).or_default() += 1;
+        }
+        if beyond_ascii(call) {
+            self.beyond.calls += 1;
+            self.beyond.calls_confirmed += u64::from(v.confirmed);
         }
         if let Some(text) = v.differs {
             self.differences.push(format!("{place}: {text}"));
@@ -105,6 +124,15 @@ impl Tally {
             "old and new layout: {} pairs of answers, {} of them an old 22 with an added case",
             self.pair_answers, self.pair_added
         );
+        let Beyond {
+            cases,
+            cases_confirmed,
+            calls,
+            calls_confirmed,
+        } = self.beyond;
+        println!("with a name beyond ASCII that was read; confirmed by the Rust");
+        println!("  cases           {cases:>9}{cases_confirmed:>10}");
+        println!("  calls           {calls:>9}{calls_confirmed:>10}");
         println!("not compared, evaluation too long: {}", self.stopped);
         println!("panics: {}", self.panics);
         println!("differences: {}", self.differences.len());
@@ -127,6 +155,25 @@ impl Tally {
             return true;
         }
         !self.differences.is_empty()
+    }
+}
+
+/// Whether an input that the call reads has a name beyond ASCII.
+pub fn beyond_ascii(call: &Call) -> bool {
+    let beyond = |name: &str| !name.is_ascii();
+    let in_set = |set: &[u8]| read::set(set).is_ok_and(spelling::beyond_in_set);
+    let in_layout = |layout: &[u8]| read::layout(layout).is_ok_and(spelling::beyond_in_layout);
+    let in_values = |v: Values| v.iter().any(|(name, _)| beyond(name));
+    match call {
+        Call::Build { set, .. } => in_set(set),
+        Call::Validate { layout, values, .. } => {
+            in_layout(layout) || read::values(values).is_ok_and(in_values)
+        }
+        Call::Run { layout, run, .. } => {
+            in_layout(layout)
+                || read::run(run).is_ok_and(|r| beyond(&r.name) || in_values(r.values))
+        }
+        Call::Lengths(input) => lengths::blocks(input).is_some_and(|(set, _)| in_set(set)),
     }
 }
 

@@ -47,7 +47,8 @@ const USAGE: &str = "usage: judge/run COMMAND
   slow FOLDER                      write the bench's larger sets and layouts, and the inputs that
                                    take long, a file each: NAME.set or NAME.layout
   trip                             M13: bytes and lines of the worked example
-  antt [--cases N] [--seed S]      small cases as lines of text";
+  antt [--cases N] [--seed S]      small cases as lines of text
+  test                             the judge's own tests";
 
 fn main() -> ExitCode {
     // A layout holds up to 256 blocks open and 16 calls.

@@ -49,7 +49,7 @@ impl<'a> Cursor<'a> {
     pub fn text(&mut self) -> Option<&'a str> {
         let n = self.short()?;
         let b = self.take(n)?;
-        let good = n <= 255 && b.iter().all(|c| (0x20..=0x7E).contains(c));
+        let good = n <= 255 && !b.iter().any(|c| *c < 0x20 || *c == 0x7F);
         std::str::from_utf8(b).ok().filter(|_| good)
     }
 

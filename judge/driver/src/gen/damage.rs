@@ -1,5 +1,6 @@
 //! Damaged copies of good inputs, for questions 1 to 6.
 
+use super::texts::{BAD, GOOD};
 use crate::prng::Rng;
 
 /// Starts of the blocks of a good input, found without its meaning: a length
@@ -31,14 +32,14 @@ fn once(r: &mut Rng, b: &mut Vec<u8>) {
         b.push(r.next() as u8);
         return;
     }
-    match r.weighted(&[14, 10, 10, 10, 10, 10, 8, 14, 8, 1, 5, 6]) {
+    match r.weighted(&[14, 10, 10, 10, 10, 10, 8, 14, 8, 1, 5, 6, 12, 6, 6]) {
         0 => {
             let at = r.below(b.len());
             b[at] ^= 1 << r.below(8);
         }
         1 => {
             let at = r.below(b.len());
-            b[at] = *r.pick(&[0, 1, 2, 9, 0x1F, 0x7F, 0x80, 0xFF]);
+            b[at] = *r.pick(&[0, 1, 2, 9, 0x1F, 0x7F, 0x80, 0xA9, 0xC3, 0xE2, 0xF0, 0xFF]);
         }
         2 => b.truncate(r.below(b.len())),
         3 => b.extend((0..r.between(1, 8)).map(|i| i as u8)),
@@ -49,7 +50,10 @@ fn once(r: &mut Rng, b: &mut Vec<u8>) {
         8 => remove_inside(r, b),
         9 => b.resize(r.between(65_530, 65_545), 0),
         10 => copy_block(r, b),
-        _ => long_name(r, b),
+        11 => long_name(r, b),
+        12 => other_text(r, b),
+        13 => cut_name(r, b),
+        _ => byte_to_next_name(r, b),
     }
 }
 
@@ -152,26 +156,122 @@ fn copy_block(r: &mut Rng, b: &mut Vec<u8>) {
     b.splice(at..at, copy);
 }
 
-/// A name grown to about 255 bytes: a short that is followed by that many
-/// bytes is taken for a name's length.
+/// A name: where its length stands, and its bytes.
+struct Name {
+    at: usize,
+    bytes: Vec<u8>,
+}
+
+/// What may be names: a short that is followed by that many bytes of text is
+/// taken for a name's length.
+fn names(b: &[u8]) -> Vec<Name> {
+    (6..b.len().saturating_sub(3))
+        .filter_map(|at| name_at(b, at))
+        .collect()
+}
+
+fn name_at(b: &[u8], at: usize) -> Option<Name> {
+    let head = b.get(at..at + 2)?;
+    let length = u16::from_le_bytes([head[0], head[1]]) as usize;
+    let bytes = b.get(at + 2..at + 2 + length)?;
+    let text = std::str::from_utf8(bytes).is_ok_and(|t| !t.chars().any(|c| c.is_ascii_control()));
+    let name = || Name {
+        at,
+        bytes: bytes.to_vec(),
+    };
+    (text && (1..=255).contains(&length)).then(name)
+}
+
+/// Another name in its place, with the lengths around it changed to match.
+fn rename(b: &mut Vec<u8>, old: &Name, new: &[u8]) {
+    let blocks = around(b, old.at);
+    raise(b, &blocks, new.len() as i64 - old.bytes.len() as i64);
+    let end = old.at + 2 + old.bytes.len();
+    let mut both = (new.len() as u16).to_le_bytes().to_vec();
+    both.extend(new);
+    b.splice(old.at..end, both);
+}
+
+/// A name grown to about 255 bytes.
 fn long_name(r: &mut Rng, b: &mut Vec<u8>) {
-    let printable = |c: &u8| (0x20..=0x7E).contains(c);
-    let names: Vec<usize> = (6..b.len().saturating_sub(3))
-        .filter(|at| b[at + 1] == 0 && b[*at] > 0 && b.len() > at + 2 + b[*at] as usize)
-        .filter(|at| b[at + 2..at + 2 + b[*at] as usize].iter().all(printable))
-        .collect();
+    let names = names(b);
     if names.is_empty() {
         return;
     }
-    let at = *r.pick(&names);
-    let old = b[at] as usize;
-    let new = r.between(254, 257);
-    if old >= new {
+    let old = r.pick(&names);
+    let length = r.between(254, 257);
+    let mut new = old.bytes.clone();
+    let tail = *r.pick(&["z", "z", "\u{E9}", "\u{20AC}", "\u{1F68C}"]);
+    while new.len() + tail.len() <= length {
+        new.extend(tail.as_bytes());
+    }
+    new.resize(length.max(new.len()), b'z');
+    rename(b, old, &new);
+}
+
+/// A text of the lists in a name, in place of it, or before or behind it: a
+/// bad one mostly.
+fn other_text(r: &mut Rng, b: &mut Vec<u8>) {
+    let names = names(b);
+    if names.is_empty() {
         return;
     }
-    let blocks = around(b, at);
-    raise(b, &blocks, (new - old) as i64);
-    b[at..at + 2].copy_from_slice(&(new as u16).to_le_bytes());
-    let tail = vec![b'z'; new - old];
-    b.splice(at + 2 + old..at + 2 + old, tail);
+    let old = r.pick(&names);
+    let text = match r.chance(75) {
+        true => *r.pick(&BAD),
+        false => r.pick(&GOOD).as_bytes(),
+    };
+    let length = old.bytes.len();
+    let range = match r.below(4) {
+        0 => 0..length,
+        1 => 0..0,
+        2 => length..length,
+        _ => r.below(length)..length,
+    };
+    let mut new = old.bytes.clone();
+    new.splice(range, text.iter().copied());
+    rename(b, old, &new);
+}
+
+/// A name without its last byte or its first: half a character where it had
+/// more than one byte.
+fn cut_name(r: &mut Rng, b: &mut Vec<u8>) {
+    let mut names = names(b);
+    if r.chance(80) && names.iter().any(|n| !n.bytes.is_ascii()) {
+        names.retain(|n| !n.bytes.is_ascii());
+    }
+    if names.is_empty() {
+        return;
+    }
+    let old = r.pick(&names);
+    let new = match r.chance(70) {
+        true => &old.bytes[..old.bytes.len() - 1],
+        false => &old.bytes[1..],
+    };
+    rename(b, old, new);
+}
+
+/// The last byte of a name goes to the front of the name behind it: together
+/// they have whole characters still.
+fn byte_to_next_name(r: &mut Rng, b: &mut [u8]) {
+    let follows = |n: &Name| name_at(b, n.at + 2 + n.bytes.len()).map(|next| next.at);
+    let mut pairs: Vec<(Name, usize)> = Vec::new();
+    for name in names(b) {
+        if let Some(next) = follows(&name) {
+            pairs.push((name, next));
+        }
+    }
+    if pairs.iter().any(|(n, _)| !n.bytes.is_ascii()) {
+        pairs.retain(|(n, _)| !n.bytes.is_ascii());
+    }
+    if pairs.is_empty() {
+        return;
+    }
+    let (name, next) = r.pick(&pairs);
+    if b[*next] == 255 {
+        return;
+    }
+    b[name.at] -= 1;
+    b[*next] += 1;
+    b[next - 1..next + 2].rotate_left(1);
 }

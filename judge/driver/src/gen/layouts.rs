@@ -1,21 +1,22 @@
 //! Random layouts that no build gave: every node kind, defaults, missing
 //! called types, arguments of one name.
 
-use super::names;
+use super::{names, spelling};
 use crate::data::*;
 use crate::prng::{some_number, Rng, EDGES};
 
 pub const NAMES: [&str; 8] = ["a", "b", "c", "n", "t", "x.y", "", "__buffer_size"];
 
 pub fn layout(r: &mut Rng) -> Layout {
-    match r.weighted(&[90, 7, 3]) {
+    let layout = match r.weighted(&[90, 7, 3]) {
         0 => {
             let n = r.between(1, 5);
             (0..n).map(|i| tree(r, i, n)).collect()
         }
         1 => chain(r),
         _ => deep(r),
-    }
+    };
+    spelling::layout(r, layout)
 }
 
 fn tree(r: &mut Rng, i: usize, n: usize) -> Tree {

@@ -1,6 +1,7 @@
 //! Inputs that are good but for one thing, or that stand just at a limit:
 //! counts, lengths, order of names, literals.
 
+use super::texts::GOOD;
 use crate::data::*;
 use crate::prng::Rng;
 
@@ -141,12 +142,17 @@ pub fn counted_values(r: &mut Rng) -> Values {
 
 /// A name that question 3 refuses, or the longest that it does not.
 fn bad_name(r: &mut Rng) -> String {
-    match r.below(5) {
+    match r.below(10) {
         0 => "x".repeat(255),
         1 => "x".repeat(256),
         2 => "\u{7f}".to_string(),
         3 => "a\u{1f}".to_string(),
-        _ => "\u{e9}".to_string(),
+        4 => "\u{e9}".repeat(127),
+        5 => "\u{e9}".repeat(128),
+        6 => "\u{20ac}".repeat(85),
+        7 => "\u{1f68c}".repeat(r.between(63, 64)),
+        8 => format!("{}{}", "x".repeat(r.between(252, 254)), r.pick(&GOOD)),
+        _ => format!("\u{e9}\u{7f}{}", r.pick(&GOOD)),
     }
 }
 

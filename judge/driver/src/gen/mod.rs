@@ -8,3 +8,5 @@ pub mod names;
 pub mod pairs;
 pub mod runs;
 pub mod sets;
+pub mod spelling;
+pub mod texts;

@@ -13,7 +13,7 @@ pub fn newer(r: &mut Rng, old: &Set) -> Set {
         grow(r, t);
     }
     for i in 0..r.below(3) {
-        let name = format!("New{i}");
+        let name = format!("{}{i}", r.pick(&["New", "New", "N\u{e9}w"]));
         let other = match r.chance(50) {
             true => plain(r, &name),
             false => sets::another(r, old, &name, false),
@@ -75,8 +75,17 @@ fn how_many(r: &mut Rng, variable: bool, have: usize) -> usize {
 }
 
 fn variant_name(r: &mut Rng) -> String {
-    r.pick(&["a", "b", "n", "tag", "new", "element"])
-        .to_string()
+    r.pick(&[
+        "a",
+        "b",
+        "n",
+        "tag",
+        "new",
+        "element",
+        "\u{e9}",
+        "\u{1f68c}",
+    ])
+    .to_string()
 }
 
 fn plain(r: &mut Rng, name: &str) -> Type {

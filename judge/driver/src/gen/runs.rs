@@ -77,8 +77,9 @@ fn extra(r: &mut Rng, out: &mut Values) {
         3
     };
     let have: BTreeSet<String> = out.iter().map(|(k, _)| k.clone()).collect();
+    let before = *r.pick(&["~", "~", "\u{ffff}", "\u{10000}"]);
     for i in 0..n {
-        let name = format!("~{i:03}");
+        let name = format!("{before}{i:03}");
         if !have.contains(&name) {
             out.push((name, some_number(r)));
         }

@@ -1,6 +1,6 @@
 //! Random type sets that reach every rule of "Building".
 
-use super::names;
+use super::{names, spelling};
 use crate::data::*;
 use crate::prng::{some_number, Rng, EDGES};
 use std::collections::BTreeMap;
@@ -60,13 +60,14 @@ pub fn another(r: &mut Rng, set: &Set, name: &str, long: bool) -> Type {
 }
 
 fn of_style(r: &mut Rng, style: Style) -> Set {
-    match style {
+    let set = match style {
         Style::Plain | Style::LongNames => plain(r, style == Style::LongNames),
         Style::Full => full(r),
         Style::Chain => chain(r),
         Style::Big => big(r),
         Style::Deep => deep(r),
-    }
+    };
+    spelling::set(r, set)
 }
 
 fn plain(r: &mut Rng, long: bool) -> Set {

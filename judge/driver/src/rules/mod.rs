@@ -5,3 +5,4 @@ pub mod build;
 pub mod eval;
 pub mod lengths;
 pub mod read;
+mod utf8;

@@ -1,5 +1,6 @@
 //! Questions 1 to 6: blocks to values, front to back; the first "no" decides.
 
+use super::utf8::well_formed;
 use crate::data::*;
 
 type R<T> = Result<T, No>;
@@ -60,7 +61,7 @@ impl<'a> Reader<'a> {
     fn name(&mut self) -> R<String> {
         let length = self.short()?;
         let b = self.take(length)?;
-        if length > 255 || b.iter().any(|c| !(0x20..=0x7E).contains(c)) {
+        if length > 255 || !well_formed(b) {
             return Err(self.no(3));
         }
         Ok(String::from_utf8(b.to_vec()).unwrap())
