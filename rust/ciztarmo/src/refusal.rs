@@ -16,7 +16,8 @@ pub enum Number {
     /// A block does not lie inside its parent, may not stand here, or its body is not used up
     /// exactly; or bytes stand behind the outermost block.
     BlockDoesNotFit = 2,
-    /// A name or text is longer than 255 bytes or has a byte outside 0x20 to 0x7E.
+    /// A name or text is longer than 255 bytes, is not UTF-8 (RFC 3629), or has a byte below 0x20 or
+    /// the byte 0x7F.
     InvalidName = 3,
     /// A count, or the number of blocks open together, is above its limit.
     AboveLimit = 4,
@@ -90,7 +91,7 @@ const SENTENCES: [(Number, At, &str); 24] = [
     (
         Number::InvalidName,
         At::Input,
-        "a name or text is longer than 255 bytes or is not printable ASCII",
+        "a name or text is longer than 255 bytes, is not UTF-8, or has a byte below 0x20 or the byte 0x7F",
     ),
     (
         Number::AboveLimit,

@@ -10,7 +10,7 @@ use stored::{records, Answer, Call};
 const SENTENCES: [(u8, &str); 24] = [
     (1, "1: an input is longer than 65,536 bytes"),
     (2, "2: a block does not fit its place, at byte {o} of the input"),
-    (3, "3: a name or text is longer than 255 bytes or is not printable ASCII, at byte {o} of the input"),
+    (3, "3: a name or text is longer than 255 bytes, is not UTF-8, or has a byte below 0x20 or the byte 0x7F, at byte {o} of the input"),
     (4, "4: there are more entries, or deeper blocks, than the limits allow, at byte {o} of the input"),
     (5, "5: a flag is neither 0 nor 1, or a literal is outside its type, at byte {o} of the input"),
     (6, "6: names do not ascend, or two types have one name, at byte {o} of the input"),

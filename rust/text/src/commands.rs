@@ -249,12 +249,12 @@ fn no_type(file: &str, name: &str, types: &[TypeTree]) -> String {
         true => "there are no types".to_string(),
         false => format!("there are {}", names.join(", ")),
     };
-    let ascii = match name.bytes().all(|b| matches!(b, 0x20..=0x7e)) {
-        true => "",
-        false => " (a name has characters from 0x20 to 0x7E only)",
+    let control = match name.bytes().any(|b| b.is_ascii_control()) {
+        true => " (a name has no byte below 0x20 and no 0x7F)",
+        false => "",
     };
     let name = written(name);
-    format!("{file}: no type has the name {name}{ascii}; {there}")
+    format!("{file}: no type has the name {name}{control}; {there}")
 }
 
 fn to_parameters(file: &str, input: &[u8], name: &str) -> Answer {

@@ -125,9 +125,16 @@ impl<'b> Reader<'b> {
     fn name(&mut self) -> Taken<String> {
         let length = self.short()?;
         let bytes = self.bytes(usize::from(length))?;
-        match bytes.iter().find(|b| !matches!(b, 0x20..=0x7e)) {
+        let name = match std::str::from_utf8(bytes) {
+            Ok(name) => name,
+            Err(e) => {
+                let byte = bytes[e.valid_up_to()];
+                return self.fault(format!("a name is not UTF-8 at its byte 0x{byte:02x}"));
+            }
+        };
+        match name.bytes().find(u8::is_ascii_control) {
             Some(byte) => self.fault(format!("a name has the byte 0x{byte:02x}")),
-            None => Ok(bytes.iter().map(|b| char::from(*b)).collect()),
+            None => Ok(name.to_string()),
         }
     }
 

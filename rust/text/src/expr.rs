@@ -1,7 +1,7 @@
 //! Expressions, between operands and parentheses. Where two operators meet, parentheses are
 //! needed, so there is no precedence to remember.
 
-use crate::lines::{is_plain, quoted, whole, written, Cursor};
+use crate::lines::{is_plain, is_segment_character, quoted, whole, written, Cursor};
 use crate::model::*;
 
 /// The operators between two operands with their kinds, longer ones before those that they begin
@@ -179,7 +179,7 @@ fn operand_of(c: &mut Cursor, depth: usize) -> Read<Expr> {
         [b'(', ..] => return in_parentheses(c, depth),
         [b'0'..=b'9' | b'-', ..] => read_literal(c)?,
         [b'.', ..] => no_segments(c)?,
-        [b'"' | b'_' | b'a'..=b'z' | b'A'..=b'Z', ..] => path_or_word(c, depth)?,
+        [b'"' | b'_' | b'a'..=b'z' | b'A'..=b'Z' | 0x80.., ..] => path_or_word(c, depth)?,
         _ => return c.fail(format!("{} where an operand must stand", c.shown())),
     };
     Ok(Expr { spot, form })
@@ -205,18 +205,11 @@ fn close(c: &mut Cursor, opened: &Cursor) -> Read<()> {
     }
 }
 
-/// The bytes up to the first that is none of these.
-fn run_of<'t>(c: &Cursor<'t>, of: fn(u8) -> bool) -> &'t str {
-    let rest = c.rest();
-    let end = rest.iter().position(|b| !of(*b)).unwrap_or(rest.len());
-    std::str::from_utf8(&rest[..end]).expect("words hold ASCII only")
-}
-
 fn read_literal(c: &mut Cursor) -> Read<Form> {
     let begun = *c;
     let negative = c.rest()[0] == b'-';
     c.advance(usize::from(negative));
-    let word = run_of(c, |b| b.is_ascii_alphanumeric() || b == b'_');
+    let word = c.run_of(|c| c.is_alphanumeric() || c == '_');
     let digits = word.trim_start_matches(|b: char| b.is_ascii_digit());
     let (digits, suffix) = (&word[..word.len() - digits.len()], digits);
     let Some(code) = LITERALS.iter().position(|l| *l == suffix) else {
@@ -243,7 +236,7 @@ fn read_literal(c: &mut Cursor) -> Read<Form> {
 /// The path of no segments.
 fn no_segments(c: &mut Cursor) -> Read<Form> {
     match c.rest() {
-        [b'.', b'"' | b'_' | b'.' | b'a'..=b'z' | b'A'..=b'Z', ..] => {
+        [b'.', b'"' | b'_' | b'.' | b'a'..=b'z' | b'A'..=b'Z' | 0x80.., ..] => {
             c.fail("a path does not begin with a dot")
         }
         _ => {
@@ -254,15 +247,11 @@ fn no_segments(c: &mut Cursor) -> Read<Form> {
 }
 
 fn path_or_word(c: &mut Cursor, depth: usize) -> Read<Form> {
-    let word = run_of(c, is_segment_byte);
+    let word = c.run_of(is_segment_character);
     match WORDS.iter().find(|w| w.0 == word) {
         Some((_, kind)) => word_form(c, word, *kind, depth),
         None => read_path(c),
     }
-}
-
-fn is_segment_byte(b: u8) -> bool {
-    b.is_ascii_alphanumeric() || b == b'_' || b == b':'
 }
 
 /// sizeof, alignof or popcount, and what is in its parentheses.
@@ -290,7 +279,7 @@ fn name_inside(c: &mut Cursor) -> Read<String> {
     if c.rest().first() == Some(&b'"') {
         return c.quoted_name();
     }
-    let word = run_of(c, |b| is_segment_byte(b) || b == b'.');
+    let word = c.run_of(|c| is_segment_character(c) || c == '.');
     if !is_plain(word) {
         return c.fail("a name must stand here, in quotes if it is not plain");
     }
@@ -311,7 +300,7 @@ fn segment(c: &mut Cursor) -> Read<String> {
     if c.rest().first() == Some(&b'"') {
         return c.quoted_name();
     }
-    let word = run_of(c, is_segment_byte);
+    let word = c.run_of(is_segment_character);
     if WORDS.iter().any(|w| w.0 == word) {
         return c.fail(format!("the segment {word} needs quotes"));
     }

@@ -32,9 +32,7 @@ pub fn named(input: &[u8]) -> Option<String> {
         return Some(format!("this is {what}, neither text nor blocks: {help}"));
     }
     let width = wide(input)?;
-    Some(format!(
-        "this is UTF-{width} text: save it as UTF-8, or as ASCII"
-    ))
+    Some(format!("this is UTF-{width} text: save it as UTF-8"))
 }
 
 /// Whether the input is text of 16 or 32 bits a character: it has the mark of one, or an ASCII
@@ -70,9 +68,9 @@ pub fn not_text(input: &[u8]) -> String {
     }
 }
 
-/// What is said of a byte that may not stand where words are: the character that begins here.
-pub fn byte(rest: &[u8]) -> String {
-    const MAY: &str = "a name has characters from 0x20 to 0x7E only (ASCII)";
+/// What is said of a character that may not stand where words are: the one that begins here.
+pub fn character_told(rest: &[u8]) -> String {
+    const BARE: &str = "a name without quotes has letters, digits, `_`, `.` and `:` only";
     let first = rest[0];
     if first == b'\t' {
         return "a tab: write spaces".to_string();
@@ -82,11 +80,12 @@ pub fn byte(rest: &[u8]) -> String {
     }
     let Some(character) = character(rest) else {
         return format!(
-            "the byte 0x{first:02x}, which is not UTF-8, may stand only in a comment: {MAY}"
+            "the byte 0x{first:02x}, which is not UTF-8, may stand only in a comment: \
+             save the text as UTF-8"
         );
     };
     let code = format!("U+{:04X}", u32::from(character));
-    let shown = match character.is_alphanumeric() || "“”„‘’«»".contains(character) {
+    let shown = match "“”„‘’«»".contains(character) {
         true => format!("`{character}` ({code})"),
         false => code,
     };
@@ -95,7 +94,7 @@ pub fn byte(rest: &[u8]) -> String {
         '\u{a0}' => "; between words stand spaces (0x20)",
         _ => "",
     };
-    format!("{shown} may stand only in a comment: {MAY}{help}")
+    format!("{shown} may stand only in quotes or in a comment: {BARE}{help}")
 }
 
 /// The character that begins here, if it is UTF-8.

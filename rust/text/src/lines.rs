@@ -52,12 +52,15 @@ impl<'t> Lines<'t> {
 fn split(number: u32, line: &[u8]) -> Read<Option<Line<'_>>> {
     let line = line.strip_suffix(b"\r").unwrap_or(line);
     let indent = line.iter().take_while(|b| **b == b' ').count();
-    let spot = |at: usize| Spot {
+    let spot = |before: usize| Spot {
         line: number,
-        column: at as u32 + 1,
+        column: before as u32 + 1,
     };
-    let end = words_end(line).map_err(|at| Problem::new(spot(at), foreign::byte(&line[at..])))?;
-    if indent >= end {
+    let text = words(line).map_err(|before| {
+        let message = foreign::character_told(&line[before.len()..]);
+        Problem::new(spot(before.chars().count()), message)
+    })?;
+    if indent >= text.len() {
         return Ok(None);
     }
     if indent % 2 == 1 {
@@ -73,36 +76,71 @@ fn split(number: u32, line: &[u8]) -> Read<Option<Line<'_>>> {
         depth: indent / 2,
         words: Cursor {
             line: number,
-            text: &line[..end],
+            text,
             at: indent,
+            before: indent,
         },
     }))
 }
 
-/// Where the words end: at a comment or at the line's end. A byte that may not stand in words is
-/// an error.
-fn words_end(line: &[u8]) -> Result<usize, usize> {
+/// The words, up to a comment or the line's end. Where a character may not stand, or bytes are none,
+/// the error has what stands before it.
+fn words(line: &[u8]) -> Result<&str, &str> {
+    let (text, whole) = beginning(line);
     let mut quoted = false;
     let mut escaped = false;
-    for (at, byte) in line.iter().enumerate() {
-        match byte {
-            b'#' if !quoted => return Ok(at),
-            0x20..=0x7e => {}
-            _ => return Err(at),
+    for (at, c) in text.char_indices() {
+        if c == '#' && !quoted {
+            return Ok(&text[..at]);
         }
-        if *byte == b'"' && !escaped {
+        if !may_stand(c, quoted) {
+            return Err(&text[..at]);
+        }
+        if c == '"' && !escaped {
             quoted = !quoted;
         }
-        escaped = quoted && *byte == b'\\' && !escaped;
+        escaped = quoted && c == '\\' && !escaped;
     }
-    Ok(line.len())
+    match whole {
+        true => Ok(text),
+        false => Err(text),
+    }
+}
+
+/// What of a line is UTF-8, from its start on, and whether all of it is.
+fn beginning(line: &[u8]) -> (&str, bool) {
+    match line.utf8_chunks().next() {
+        Some(chunk) => (chunk.valid(), chunk.invalid().is_empty()),
+        None => ("", true),
+    }
+}
+
+/// Control characters of ASCII stand in comments alone; beyond ASCII, letters and digits stand
+/// anywhere and everything else in quotes.
+fn may_stand(c: char, quoted: bool) -> bool {
+    match c.is_ascii() {
+        true => !c.is_ascii_control(),
+        false => quoted || c.is_alphanumeric(),
+    }
 }
 
 /// Is it a name that needs no quotes?
 pub fn is_plain(name: &str) -> bool {
-    let rest = |b: u8| matches!(b, b'A'..=b'Z' | b'a'..=b'z' | b'0'..=b'9' | b'_' | b'.' | b':');
-    let first = name.bytes().next();
-    first.is_some_and(|b| b.is_ascii_alphabetic() || b == b'_') && name.bytes().all(rest)
+    let first = name.chars().next();
+    first.is_some_and(|c| c.is_alphabetic() || c == '_') && name.chars().all(is_plain_character)
+}
+
+/// A letter, a digit or another character that a name without quotes may have.
+fn is_plain_character(c: char) -> bool {
+    is_segment_character(c) || c == '.'
+}
+
+/// The same for a segment of a path.
+pub fn is_segment_character(c: char) -> bool {
+    match c.is_ascii() {
+        true => c.is_ascii_alphanumeric() || matches!(c, '_' | ':'),
+        false => c.is_alphanumeric(),
+    }
 }
 
 /// A name in quotes.
@@ -122,32 +160,42 @@ pub fn written(name: &str) -> String {
 #[derive(Clone, Copy)]
 pub struct Cursor<'t> {
     line: u32,
-    text: &'t [u8],
+    text: &'t str,
     at: usize,
+    /// How many characters stand before it: a column counts them.
+    before: usize,
 }
 
 impl<'t> Cursor<'t> {
-    fn spot_of(&self, at: usize) -> Spot {
-        Spot {
-            line: self.line,
-            column: at as u32 + 1,
-        }
-    }
-
     /// How deep the line stands.
     pub fn depth(&self) -> usize {
-        self.text.iter().take_while(|b| **b == b' ').count() / 2
+        self.text.bytes().take_while(|b| *b == b' ').count() / 2
     }
 
     pub fn skip_spaces(&mut self) {
-        self.at += self.rest().iter().take_while(|b| **b == b' ').count();
+        let spaces = self.rest().iter().take_while(|b| **b == b' ').count();
+        self.advance(spaces);
     }
 
     pub fn rest(&self) -> &'t [u8] {
+        self.left().as_bytes()
+    }
+
+    /// The same as characters.
+    fn left(&self) -> &'t str {
         &self.text[self.at..]
     }
 
+    /// The characters up to the first that is none of these.
+    pub fn run_of(&self, of: impl Fn(char) -> bool) -> &'t str {
+        let left = self.left();
+        let end = left.find(|c| !of(c)).unwrap_or(left.len());
+        &left[..end]
+    }
+
+    /// Goes on by some bytes, up to where a character begins.
     pub fn advance(&mut self, count: usize) {
+        self.before += self.left()[..count].chars().count();
         self.at += count;
     }
 
@@ -155,7 +203,10 @@ impl<'t> Cursor<'t> {
     pub fn spot(&self) -> Spot {
         let mut next = *self;
         next.skip_spaces();
-        self.spot_of(next.at)
+        Spot {
+            line: self.line,
+            column: next.before as u32 + 1,
+        }
     }
 
     /// A problem at the next word.
@@ -168,10 +219,7 @@ impl<'t> Cursor<'t> {
     pub fn word(&self) -> &'t str {
         let mut next = *self;
         next.skip_spaces();
-        let rest = next.rest();
-        let ends = |b: &u8| matches!(b, b' ' | b'"');
-        let end = rest.iter().position(ends).unwrap_or(rest.len());
-        std::str::from_utf8(&rest[..end]).expect("words hold ASCII only")
+        next.run_of(|c| !matches!(c, ' ' | '"'))
     }
 
     /// The next word as a message names it.
@@ -289,8 +337,10 @@ impl<'t> Cursor<'t> {
         self.advance(1);
         let mut name = String::new();
         loop {
+            let plain = self.run_of(|c| !matches!(c, '"' | '\\'));
+            name.push_str(plain);
+            self.advance(plain.len());
             match *self.rest() {
-                [] => return opened.fail("this quote is not closed on its line"),
                 [b'"', ..] => {
                     self.advance(1);
                     return Ok(name);
@@ -302,17 +352,16 @@ impl<'t> Cursor<'t> {
                 [b'\\', ..] => {
                     return self.fail("behind \\ in quotes stands \" or \\");
                 }
-                [byte, ..] => {
-                    name.push(char::from(byte));
-                    self.advance(1);
-                }
+                _ => return opened.fail("this quote is not closed on its line"),
             }
         }
     }
 
     /// The line must end here.
     pub fn finish(&self) -> Read<()> {
-        match self.spot().column as usize > self.text.len() {
+        let mut next = *self;
+        next.skip_spaces();
+        match next.rest().is_empty() {
             true => Ok(()),
             false => self.fail(format!("{} is more than belongs here", self.shown())),
         }
@@ -328,10 +377,10 @@ pub fn whole(digits: &str) -> Result<u64, String> {
     digits.parse().map_err(above)
 }
 
-/// A word for a message, cut where it is long.
+/// A word for a message, cut where it has more than 40 characters.
 pub fn shortened(word: &str) -> String {
-    match word.len() > 40 {
-        true => format!("{}..", &word[..40]),
-        false => word.to_string(),
+    match word.char_indices().nth(40) {
+        Some((end, _)) => format!("{}..", &word[..end]),
+        None => word.to_string(),
     }
 }

@@ -4,7 +4,7 @@
 //! is not asked further.
 
 use crate::expr;
-use crate::lines::written;
+use crate::lines::{shortened, written};
 use crate::model::*;
 use crate::parse::TYPES;
 use crate::registry::{self, Registry, TooMuch, MOST_BYTES, MOST_ENTRIES};
@@ -458,6 +458,6 @@ fn too_much(spot: Spot, what: &str, much: TooMuch) -> Box<Stumble> {
 }
 
 fn long_name(spot: Spot, what: &str, name: &str) -> Box<Stumble> {
-    let words = format!("{what} has {}.. of {} bytes", &name[..40], name.len());
+    let words = format!("{what} has {} of {} bytes", shortened(name), name.len());
     stumble(17, spot, words)
 }

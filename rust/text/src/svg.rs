@@ -85,7 +85,7 @@ fn wrapped(values: &[String]) -> Vec<String> {
     let mut lines: Vec<String> = Vec::new();
     for value in values {
         match lines.last_mut() {
-            Some(line) if line.len() + value.len() + 2 <= most => *line += &format!(", {value}"),
+            Some(line) if width(line) + width(value) + 2 <= most => *line += &format!(", {value}"),
             _ => lines.push(value.clone()),
         }
     }
@@ -134,14 +134,34 @@ fn fitting(name: &str, wide: u64) -> String {
     let field = name.rsplit('.').next().unwrap_or(name);
     let element = name.rfind('[').map_or(field, |at| &name[at..]);
     let ends = [name, field, element];
-    match ends.iter().find(|end| end.len() <= most) {
+    match ends.iter().find(|end| width(end) <= most) {
         Some(end) => end.to_string(),
-        None => format!("{}..", &field[..most.saturating_sub(2).min(field.len())]),
+        None => format!("{}..", beginning(field, most.saturating_sub(2))),
     }
 }
 
-/// Text between tags.
+/// How many letters wide a text may be: characters from U+1100 on may have the width of two.
+fn width(text: &str) -> usize {
+    text.chars().map(letters).sum()
+}
+
+fn letters(c: char) -> usize {
+    1 + usize::from(c >= '\u{1100}')
+}
+
+/// As much of a text as is so many letters wide.
+fn beginning(text: &str, most: usize) -> &str {
+    let mut wide = 0;
+    let passes = |c: char| {
+        wide += letters(c);
+        wide > most
+    };
+    &text[..text.find(passes).unwrap_or(text.len())]
+}
+
+/// Text between tags. Two characters that a name may have and XML may not are shown as U+FFFD.
 fn escaped(text: &str) -> String {
     let text = text.replace('&', "&amp;").replace('<', "&lt;");
-    text.replace('>', "&gt;")
+    let text = text.replace('>', "&gt;");
+    text.replace(['\u{fffe}', '\u{ffff}'], "\u{fffd}")
 }

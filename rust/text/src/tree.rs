@@ -40,7 +40,7 @@ pub fn draw(layout: &Layout, set: &[Type]) -> String {
             out += &format!("  parameter {}\n", parameter_words(parameter));
         }
         let formula = formula(&tree.root);
-        if formula.len() <= MOST_FOR_TYPE {
+        if formula.chars().count() <= MOST_FOR_TYPE {
             out += &format!("  count = {formula}\n");
         }
         let mut pen = Pen {
@@ -188,7 +188,7 @@ fn words(node: &Node) -> String {
                 before => format!("sum of these {}", before + 1),
             };
             let formula = formula(node);
-            match formula.len() <= MOST_FOR_NODE {
+            match formula.chars().count() <= MOST_FOR_NODE {
                 true => format!("{word}: {formula}"),
                 false => word,
             }

@@ -12,7 +12,9 @@ pub fn reading(number: u8, kind: u16, outermost: u16) -> String {
         (2, _) => {
             "a block does not lie inside its parent, may not stand here, or has too many parts"
         }
-        (3, _) => "a name or text is longer than 255 bytes or has a byte outside 0x20 to 0x7E",
+        (3, _) => {
+            "a name or text is longer than 255 bytes, is not UTF-8, or has a byte below 0x20 or the byte 0x7F"
+        }
         (4, _) => return above(kind, outermost),
         (5, 64) => "a literal is outside its type",
         (5, _) => "a flag is neither 0 nor 1",

@@ -178,7 +178,7 @@ fn the_messages_of_the_description() {
         shown(&commands::check("fares.txt", text.as_bytes()).unwrap_err());
     };
     refused("set\n\n  struct Trip variable\n    field n at 0 primitive u8 size 1\n    field legs array Trip::legs variable count n\n      element primitive leg size 4\n");
-    refused("set\n  # Names.\n\n  primitive é size 1\n");
+    refused("set\n  # Names.\n\n  primitive St.–Denis size 1\n");
     let overlap = "set\n  struct T variable\n    field a at 0 primitive p size 4\n    field b at 2 primitive p size 4\n";
     let warned = commands::check("fares.txt", overlap.as_bytes()).unwrap();
     warned.remarks.iter().for_each(|remark| shown(remark));

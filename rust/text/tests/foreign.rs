@@ -29,7 +29,7 @@ fn utf16(text: &str, bytes: fn(u16) -> [u8; 2]) -> Vec<u8> {
 
 #[test]
 fn wide_texts() {
-    let wide = "t: this is UTF-16 text: save it as UTF-8, or as ASCII";
+    let wide = "t: this is UTF-16 text: save it as UTF-8";
     let trip = String::from_utf8(read("examples/trip.txt")).unwrap();
     for text in [&trip, "set\n", "\u{feff}set\n", "\u{feff}# é\n"] {
         assert_eq!(told(&utf16(text, u16::to_le_bytes)), wide, "{text}");
@@ -100,8 +100,9 @@ fn blocks_where_text_is_asked_for() {
 /// A name that can't stand in a set is told what names may be.
 #[test]
 fn asked_types() {
-    let said = commands::parameters("t", b"set\n  primitive T size 1\n", "é").unwrap_err();
-    let message =
-        "t: no type has the name \"é\" (a name has characters from 0x20 to 0x7E only); there are T";
-    assert_eq!(said, message);
+    let said = |name| commands::parameters("t", b"set\n  primitive T size 1\n", name).unwrap_err();
+    assert_eq!(said("é"), "t: no type has the name é; there are T");
+    assert_eq!(said("🚌"), "t: no type has the name \"🚌\"; there are T");
+    let message = "t: no type has the name \"\u{7f}\" (a name has no byte below 0x20 and no 0x7F); there are T";
+    assert_eq!(said("\u{7f}"), message);
 }

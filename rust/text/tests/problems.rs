@@ -64,37 +64,41 @@ fn indentation() {
     says("set\n  primitive a\tsize 1\n", "2:14: a tab: write spaces");
 }
 
-const ASCII: &str =
-    "may stand only in a comment: a name has characters from 0x20 to 0x7E only (ASCII)";
+const QUOTED: &str =
+    "may stand only in quotes or in a comment: a name without quotes has letters, digits, `_`, `.` and `:` only";
+const UTF_8: &str = "may stand only in a comment: save the text as UTF-8";
 
 #[test]
 fn bytes() {
-    says(
-        "set\n  primitive é size 1\n",
-        &format!("2:13: `é` (U+00E9) {ASCII}"),
-    );
-    says(
-        "set\n  primitive \"é\" size 1\n",
-        &format!("2:14: `é` (U+00E9) {ASCII}"),
-    );
-    says(
-        "set\n  primitive 切符 size 1\n",
-        &format!("2:13: `切` (U+5207) {ASCII}"),
-    );
-    says("run 🚌 length 1\n", &format!("1:5: U+1F68C {ASCII}"));
+    says("run 🚌 length 1\n", &format!("1:5: U+1F68C {QUOTED}"));
+    says("run Kö🚌 length 1\n", &format!("1:7: U+1F68C {QUOTED}"));
+    // An accent that is a character of its own.
+    says("run e\u{301} length 1\n", &format!("1:6: U+0301 {QUOTED}"));
     says(
         "run “T” length 1\n",
-        &format!("1:5: `“` (U+201C) {ASCII}; a name in quotes has \" around it"),
+        &format!("1:5: `“` (U+201C) {QUOTED}; a name in quotes has \" around it"),
     );
     says(
         "run\u{a0}T length 1\n",
-        &format!("1:4: U+00A0 {ASCII}; between words stand spaces (0x20)"),
+        &format!("1:4: U+00A0 {QUOTED}; between words stand spaces (0x20)"),
     );
-    // Latin-1, also at the line's end.
+    // Latin-1, also at the line's end and in quotes, and a character that is cut.
     says(
         b"run a\xe9",
-        &format!("1:6: the byte 0xe9, which is not UTF-8, {ASCII}"),
+        &format!("1:6: the byte 0xe9, which is not UTF-8, {UTF_8}"),
     );
+    says(
+        b"run \"\xc3\xa9\xc3\" length 1\n",
+        &format!("1:7: the byte 0xc3, which is not UTF-8, {UTF_8}"),
+    );
+    says(
+        b"run \"\xed\xa0\x80\" length 1\n",
+        &format!("1:6: the byte 0xed, which is not UTF-8, {UTF_8}"),
+    );
+}
+
+#[test]
+fn control_bytes() {
     says(
         "set\n  primitive a size 1\r \n",
         "2:21: the byte 0x0d may stand only in a comment",
@@ -103,6 +107,29 @@ fn bytes() {
         b"set\n  primitive a\x7f size 1\n",
         "2:14: the byte 0x7f may stand only in a comment",
     );
+    says(
+        "set\n  primitive \"é\u{1f}\" size 1\n",
+        "2:15: the byte 0x1f may stand only in a comment",
+    );
+}
+
+/// A column counts characters, however many bytes they have.
+#[test]
+fn columns() {
+    says("run 駅é length x\n", "1:15: `x` where a number must stand");
+    says(
+        "run \"🚌é\" length 1 2\n",
+        "1:19: `2` is more than belongs here",
+    );
+    says(
+        "set\n  array a variable count é + + b\n    element primitive b size 1\n",
+        "2:30: `+` where an operand must stand",
+    );
+    says(
+        "run é\"b\" length 1\n",
+        "1:6: a quoted name without a space before it",
+    );
+    says("run ²é length 1\n", "1:5: the name `²é` needs quotes");
 }
 
 #[test]
@@ -134,6 +161,10 @@ fn names() {
     says(
         "run a\"b\" length 1\n",
         "1:6: a quoted name without a space before it",
+    );
+    says(
+        &format!("run {} length 1\n", "é-".repeat(30)),
+        &format!("1:5: the name `{}..` needs quotes", "é-".repeat(20)),
     );
     let long = "x-".repeat(30);
     let cut = &long[..40];

@@ -16,7 +16,7 @@ fn refused(text: &str, message: &str) {
     assert_eq!(done.remarks, [remark]);
 }
 
-const LONG: &str = "3: a name or text is longer than 255 bytes or has a byte outside 0x20 to 0x7E";
+const LONG: &str = "3: a name or text is longer than 255 bytes, is not UTF-8, or has a byte below 0x20 or the byte 0x7F";
 
 /// Lines, one for each number.
 fn lines(count: usize, line: impl Fn(usize) -> String) -> String {
@@ -383,7 +383,12 @@ fn without_a_text() {
     let accented = [&[1, 0][..], &[1, 0, 0xe9], &[0; 8]].concat();
     faulty(
         block(192, &accented),
-        "byte 0: it has no text: a name has the byte 0xe9",
+        "byte 0: it has no text: a name is not UTF-8 at its byte 0xe9",
+    );
+    let control = [&[1, 0][..], &[3, 0, 0xc3, 0xa9, 0x7f], &[0; 8]].concat();
+    faulty(
+        block(192, &control),
+        "byte 0: it has no text: a name has the byte 0x7f",
     );
     let unknown = [&[1, 0][..], &block(9, &[])].concat();
     faulty(block(36, &unknown), &format!("byte 8: {past}"));
