@@ -124,7 +124,7 @@ fn intended_limits() -> Vec<Finding> {
     let twice = [1, 2].map(|n| ty("T", Some(n), &[], Kind::Primitive));
     let above = ty("\u{7f}", Some(1), &[], Kind::Primitive);
     vec![
-        of_set("3 a byte above 0x7E", vec![above], vec![]),
+        of_set("3 the byte 0x7F", vec![above], vec![]),
         of_set("4 65 fields", vec![many], vec![]),
         of_set("6 two types of one name", twice.to_vec(), vec![]),
     ]

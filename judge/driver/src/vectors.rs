@@ -2,10 +2,10 @@
 
 use crate::call::{judge, Answer, Call};
 use crate::cases::{make, small_case};
-use crate::compare::{call_name, kinds_met};
+use crate::compare::{beyond_ascii, call_name, kinds_met};
 use crate::data::*;
 use crate::rules::build;
-use crate::{fills, findings, trip, write};
+use crate::{fills, findings, names, trip, write};
 use std::collections::BTreeMap;
 use std::path::Path;
 
@@ -21,6 +21,7 @@ const ALWAYS: usize = usize::MAX;
 /// How many records each answer and each kind should have at least.
 const PER_NUMBER: u64 = 110;
 const PER_KIND: u64 = 50;
+const PER_SPELLING: u64 = 30;
 const CASES: u64 = 60_000;
 
 struct List {
@@ -46,6 +47,12 @@ fn features(call: &Call, answer: &Answer, confirmed: bool) -> Vec<(String, u64)>
         out.push((
             format!("kind {kind:>3} in {name} accepted {}", answer.number() == 0),
             PER_KIND / 4,
+        ));
+    }
+    if beyond_ascii(call) {
+        out.push((
+            format!("beyond ASCII {name} answer {:>3}", answer.number()),
+            PER_SPELLING,
         ));
     }
     if let Answer::Lines(lines) = answer {
@@ -207,8 +214,8 @@ fn counts(list: &List) -> String {
     out
 }
 
-/// The worked example, the inputs of docs/DIFFERENCES.md, and limits that a
-/// random case seldom meets.
+/// The worked example, the inputs of docs/DIFFERENCES.md, names beyond ASCII,
+/// and limits that a random case seldom meets.
 fn picked() -> Vec<Call> {
     let set = write::set(&trip::set());
     let mut out = vec![build_call(WORDS, LIMIT as u64, &set)];
@@ -218,6 +225,7 @@ fn picked() -> Vec<Call> {
     for f in findings::all() {
         out.extend(f.calls());
     }
+    out.extend(names::calls());
     for (words, room) in [
         (8191, 65_536),
         (0, 0),

@@ -111,5 +111,9 @@ fn limits_are_the_readers() {
     let number = |bytes: &[u8]| ciztarmo::read_values(bytes).map_err(|no| no.number().code());
     assert_eq!(number(write_values(&all[..512], &mut out).unwrap()), Ok(()));
     assert_eq!(number(write_values(&all, &mut out).unwrap()), Err(4));
-    assert_eq!(number(write_values(&[("ü", 1)], &mut out).unwrap()), Err(3));
+    let mut one = |name: &str| number(write_values(&[(name, 1)], &mut out).unwrap());
+    assert_eq!(one("ü"), Ok(()));
+    assert_eq!(one("ü\u{7f}"), Err(3));
+    assert_eq!(one(&"ü".repeat(127)), Ok(()));
+    assert_eq!(one(&"ü".repeat(128)), Err(3));
 }
