@@ -33,6 +33,40 @@ pub fn with_values(many: usize) -> Asked {
     Asked { values, ..asked }
 }
 
+/// What the long names are written with: the stops of a town in several
+/// spellings.
+pub const SPELLINGS: [(&str, &str); 5] = [
+    ("ASCII", "Gare de Lyon, Saint-Michel, Place d'Italie, "),
+    (
+        "one letter in six of two bytes",
+        "Évry, Besançon Hôtel, Crépy, Cité, Châtelet, ",
+    ),
+    ("Greek, two bytes a letter", "ΑθήναΜοναστηράκιΣύνταγμα"),
+    ("Japanese, three bytes a letter", "東京駅新宿上野"),
+    ("four bytes a letter", "🚌🚏🚇"),
+];
+
+/// Bytes of a long name: so many that 512 values fill a block of 65,536.
+const LONG_NAME: usize = 117;
+
+/// The same with 511 values more, whose names are numbered and then written
+/// with the letters of a text, all of one length in bytes.
+pub fn with_long_names(text: &str) -> Asked {
+    let mut asked = trip();
+    let other = |i: usize| {
+        let mut name = format!("{i:03}");
+        let mut letters = text.chars().cycle();
+        while name.len() + 4 <= LONG_NAME {
+            name.extend(letters.next());
+        }
+        name += &"n".repeat(LONG_NAME - name.len());
+        (name, 1)
+    };
+    let mut values: Values = (1..512).map(other).collect();
+    values.append(&mut asked.values);
+    Asked { values, ..asked }
+}
+
 /// The same in a layout of so many types like it, of which the last is asked.
 pub fn among(many: usize) -> Asked {
     let like = |i: usize| Type {

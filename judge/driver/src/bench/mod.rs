@@ -20,7 +20,7 @@ use measure::{medians, work};
 use ours::Words;
 use std::hint::black_box;
 use table::{Aim, Group, Parts, Row};
-use validating::{looking, validate_parts, validating, validating_runs};
+use validating::{looking, spellings, validate_parts, validating, validating_runs};
 
 /// What ours answers where it accepts, with this last word.
 fn accepted(value: u64) -> ours::Answer {
@@ -64,6 +64,8 @@ fn heads() -> Vec<Head> {
         LONG_BUILDS,
         LONG_SETS,
         LONG_LAYOUTS,
+        LONG_NAMES,
+        ACCENTED_NAMES,
     ];
     [&[READ], &OWN[..], &LENT[..], &rest[..]].concat()
 }
@@ -85,7 +87,9 @@ fn table_at(lent: &mut [u64], place: usize, head: Head) -> Result<Group, String>
         13 => looking(lent, head, &trip()),
         14 => long::building(head),
         15 => long::reading_sets(lent, head),
-        _ => long::reading_layouts(lent, head),
+        16 => long::reading_layouts(lent, head),
+        17 => spellings(head, &inputs::SPELLINGS[..1]),
+        _ => spellings(head, &inputs::SPELLINGS[1..]),
     }
 }
 
@@ -146,6 +150,8 @@ const RUNS_CALLS: Head = ("validate_runs, 15 calls, times per run", "run");
 const LONG_BUILDS: Head = ("layout_of, inputs that take long", "byte");
 const LONG_SETS: Head = ("read a set, inputs that take long", "byte");
 const LONG_LAYOUTS: Head = ("read a layout, inputs that take long", "byte");
+const LONG_NAMES: Head = ("length_of, 512 long names in ASCII", "value");
+const ACCENTED_NAMES: Head = ("length_of, 512 long names beyond ASCII", "value");
 
 /// What is aimed at, beside what was measured.
 fn aims(groups: &[Group], parts: &[Parts]) -> Vec<Aim> {

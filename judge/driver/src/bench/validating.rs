@@ -5,7 +5,7 @@ use super::measure::{medians, work};
 use super::ours::Words;
 use super::table::{Group, Parts, Row};
 use super::words::widest;
-use super::{accepted, lean, ours, Head};
+use super::{accepted, inputs, lean, ours, Head};
 use crate::data::*;
 use crate::rules::read;
 use crate::{rust, write};
@@ -23,6 +23,17 @@ pub fn validating(
         let asked = asked(size);
         let what = label(size, head, &asked);
         rows.push(validating_row(words, what, size, &asked)?);
+    }
+    Ok(Group { head, rows })
+}
+
+/// Names of one length in bytes, in some spellings: what reading them takes.
+pub fn spellings(head: Head, spellings: &[(&str, &str)]) -> Result<Group, String> {
+    let mut rows = Vec::new();
+    for (what, text) in spellings {
+        let asked = inputs::with_long_names(text);
+        let row = validating_row(&mut Words::Own, what.to_string(), 512, &asked)?;
+        rows.push(Row { size: None, ..row });
     }
     Ok(Group { head, rows })
 }
