@@ -250,6 +250,59 @@ fn answer_to(text: &[u8]) -> Answer {
     answers[0]
 }
 
+/// Letters of one byte and of more, which long names are written with.
+const LETTERS: [&str; 7] = [
+    "Gare de Lyon",
+    "ΑθήναΜοναστηράκι",
+    "Évry, Besançon",
+    "東京駅",
+    "🚌🚏",
+    "aé€🚌",
+    "ñandú 駅 x 🚌🚌é",
+];
+
+/// What each byte of a long name is changed to: the edges of what may stand where.
+const BYTES: [u8; 30] = [
+    0x00, 0x1f, 0x20, 0x41, 0x7e, 0x7f, 0x80, 0x8f, 0x90, 0x9f, 0xa0, 0xa9, 0xbf, 0xc0, 0xc1, 0xc2,
+    0xc3, 0xdf, 0xe0, 0xe1, 0xec, 0xed, 0xee, 0xef, 0xf0, 0xf1, 0xf3, 0xf4, 0xf5, 0xff,
+];
+
+/// Whether each of these is a name, asked in one call.
+fn asked_together(texts: &[Vec<u8>]) -> usize {
+    let runs: Vec<u8> = texts.iter().flat_map(|text| run(text)).collect();
+    let mut answers = vec![Answer::default(); texts.len()];
+    let (mut words, layout) = (vec![0; WORDS], block(160, &[&NONE]));
+    Lent::new(&mut words).validate_runs_into(&layout, &runs, &mut answers);
+    let (good, bad) = (answer_to(b"a"), answer_to(b"\x80"));
+    for (text, answer) in texts.iter().zip(&answers) {
+        let expected = if is_name(text) { good } else { bad };
+        assert!(*answer == expected, "{text:02x?}");
+    }
+    answers.iter().filter(|answer| **answer == good).count()
+}
+
+/// Long names with one byte changed, at every place: wherever a reader takes many bytes at once.
+#[test]
+fn one_byte_of_a_long_name() {
+    let (mut names, mut all) = (0, 0);
+    for letters in LETTERS {
+        for length in (1..=40).chain(60..70).chain(120..=132).chain(250..=255) {
+            let text: Vec<u8> = letters.bytes().cycle().take(length).collect();
+            let mut texts = vec![text.clone()];
+            for at in 0..length {
+                texts.extend(BYTES.map(|byte| {
+                    let mut changed = text.clone();
+                    changed[at] = byte;
+                    changed
+                }));
+            }
+            names += asked_together(&texts);
+            all += texts.len();
+        }
+    }
+    assert!(names > 20_000 && all - names > 500_000, "{names} of {all}");
+}
+
 /// How many of the strings that begin with one of these bytes, and have two or `more` behind it,
 /// are names.
 fn names_from(firsts: std::ops::Range<u16>, more: bool) -> usize {
