@@ -19,7 +19,7 @@ static const struct text texts[] = {
     {CIZTARMO_BLOCK_DOES_NOT_FIT, "BlockDoesNotFit",
      "a block does not lie inside its parent, may not stand there or is not used up exactly, or bytes follow the outermost "
      "block"},
-    {CIZTARMO_INVALID_NAME, "InvalidName", "a name or text is longer than 255 bytes or has a byte outside 0x20 to 0x7E"},
+    {CIZTARMO_INVALID_NAME, "InvalidName", "a name or text is longer than 255 bytes, is not UTF-8, or has a byte below 0x20 or the byte 0x7F"},
     {CIZTARMO_ABOVE_LIMIT, "AboveLimit", "a count, or the number of blocks open together, is above its limit"},
     {CIZTARMO_INVALID_FLAG_OR_LITERAL, "InvalidFlagOrLiteral", "a flag is neither 0 nor 1, or a literal is outside its type"},
     {CIZTARMO_NAMES_OUT_OF_ORDER, "NamesOutOfOrder", "names do not ascend, or two types have one name"},

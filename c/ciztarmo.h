@@ -88,7 +88,7 @@ enum ciztarmo_refusal {
     /* reading */
     CIZTARMO_INPUT_TOO_LONG = 1,          /* an input is longer than 65,536 bytes */
     CIZTARMO_BLOCK_DOES_NOT_FIT = 2,      /* a block is not inside its parent, may not stand there or is not used up; bytes follow */
-    CIZTARMO_INVALID_NAME = 3,            /* a name or text is above 255 bytes or has a byte outside 0x20 to 0x7E */
+    CIZTARMO_INVALID_NAME = 3,            /* a name or text is above 255 bytes, is not UTF-8, or has a byte below 0x20 or 0x7F */
     CIZTARMO_ABOVE_LIMIT = 4,             /* a count, or the number of open blocks, is above its limit */
     CIZTARMO_INVALID_FLAG_OR_LITERAL = 5, /* a flag is neither 0 nor 1, or a literal is outside its type */
     CIZTARMO_NAMES_OUT_OF_ORDER = 6,      /* names do not ascend, or two types have one name */
@@ -183,13 +183,14 @@ size_t ciztarmo_validate_runs(uint64_t *words, size_t words_len, const uint8_t *
 
 /*
  * In values.c. Writes a block of values (192), as ciztarmo_validate and ciztarmo_length_of take it. The values may stand in any
- * order; they are written in the order of their names, and are neither changed nor kept. Names are texts that end with a zero.
+ * order; they are written in the order of their names, byte by byte, and are neither changed nor kept. Names are UTF-8 texts that
+ * end with a zero.
  *
  * Answers 0, no place, 0 and the block's length in bytes; out then begins with the block, and its bytes behind it stay as they were.
- * Where it refuses, nothing is written. Refuses with 4 (more than 512 values), 3 (a name is NULL, longer than 255 bytes or has a byte
- * outside 0x20 to 0x7E), 6 (a name is given twice), 1 (the block would be longer than 65,536 bytes) and 25 (out does not hold the
- * block), in this order. The place is, for 3 and 6, that of the value, from 0; the value is, for 1 and 25, the length that the block
- * would have. So an out_len of 0, with which out may be NULL, measures.
+ * Where it refuses, nothing is written. Refuses with 4 (more than 512 values), 3 (a name is NULL, longer than 255 bytes, not UTF-8 as
+ * RFC 3629 has it, or has a byte below 0x20 or the byte 0x7F), 6 (a name is given twice), 1 (the block would be longer than 65,536
+ * bytes) and 25 (out does not hold the block), in this order. The place is, for 3 and 6, that of the value, from 0; the value is, for
+ * 1 and 25, the length that the block would have. So an out_len of 0, with which out may be NULL, measures.
  *
  * Nothing is allocated. For names that ascend already the time grows with the count, else with its square.
  */

@@ -230,7 +230,7 @@ int main(int argc, char **argv)
         return 2;
     each(list);
     record_at = list.len;
-    check(records[1] == 2226 && records[2] == 1870 && records[3] == 312 && records[4] == 1829, "the list is whole");
+    check(records[1] == 2254 && records[2] == 2031 && records[3] == 322 && records[4] == 1876, "the list is whole");
     free(words);
     free(out);
     free((void *)(uintptr_t)list.at);

@@ -70,13 +70,23 @@ static size_t write_plainly(size_t count)
     return at;
 }
 
-/* Distinct names: their last bytes are the value's place, the bytes before are by chance. */
+/* Characters that names are made of besides those of one byte: of each length, alike but for one byte, at the edges. */
+static const char *const more_bytes[] = {"\xC3\xA9", "\xC3\xAA", "e\xCC\x81", "\xC2\x80", "\xDF\xBF", "\xE0\xA0\x80", "\xE2\x82\xAC",
+                                         "\xED\x9F\xBF", "\xEF\xBF\xBF", "\xF0\x90\x80\x80", "\xF0\x9F\x9A\x8C", "\xF4\x8F\xBF\xBF"};
+
+/* Distinct names: their last bytes are the value's place, the characters before are by chance, in half of the lists of ASCII alone. */
 static void make(size_t count, size_t longest)
 {
+    const int plain_names = chance(2);
     for (size_t i = 0; i < count; i++) {
-        const size_t before = chance((uint32_t)(longest - 3));
-        for (size_t c = 0; c < before; c++)
-            names[i][c] = (char)(0x20 + chance(chance(2) ? 2 : 0x5F));
+        size_t before = 0;
+        for (size_t room = chance((uint32_t)(longest - 3)); before < room;) {
+            const char *some = more_bytes[chance(sizeof more_bytes / sizeof more_bytes[0])];
+            if (plain_names || chance(3) || before + strlen(some) > room)
+                names[i][before++] = (char)(0x20 + chance(chance(2) ? 2 : 0x5F));
+            else
+                before += (size_t)sprintf(names[i] + before, "%s", some);
+        }
         sprintf(names[i] + before, "%03x", (unsigned)i);
         values[i].name = names[i];
         values[i].number = (uint64_t)chance(1u << 31) << chance(33);
@@ -94,7 +104,8 @@ static size_t spoil(enum fault fault, size_t count)
         names[at][chance((uint32_t)strlen(names[at]))] = (char)(1 + chance(0x1F));
         return at;
     case HIGH_BYTE:
-        names[at][chance((uint32_t)strlen(names[at]))] = (char)(0x7F + chance(0x81));
+        /* Among the three digits, where it is a part of no character. */
+        names[at][strlen(names[at]) - 1 - chance(3)] = (char)(0x7F + chance(0x81));
         return at;
     case LONG_NAME:
         memset(names[at], 'n', 256);
@@ -186,13 +197,68 @@ static void test_lists(void)
     }
 }
 
+/* A layout without types, of which every asked name is unknown. */
+static const uint8_t no_types[] = {4, 0, 0, 0, 160, 0, 0, 0};
+
 /* Every byte in a name; 0 ends it. */
 static void test_bytes(void)
 {
     for (int byte = 1; byte < 256; byte++) {
         make(2, 12);
-        names[1][1] = (char)byte;
+        sprintf(names[1], "a%cc", byte);
         held(__LINE__, 2, byte < 0x20 || byte > 0x7E ? 1 : CIZTARMO_NO_PLACE);
+    }
+}
+
+/* The edges of UTF-8, and what lies behind them. */
+static const char *const good[] = {"\xC2\x80", "\xC2\x9F", "\xC2\xA0", "\xC3\xA9", "\xDF\xBF", "\xE0\xA0\x80", "\xE2\x82\xAC",
+                                   "\xEC\xBF\xBF", "\xED\x9F\xBF", "\xEE\x80\x80", "\xEF\xBB\xBF", "\xEF\xBF\xBE", "\xEF\xBF\xBF",
+                                   "\xF0\x90\x80\x80", "\xF0\x9F\x9A\x8C", "\xF4\x8F\xBF\xBF"};
+static const char *const bad[] = {"\x1F", "\x7F", "\x80", "\xBF", "\xC0\x80", "\xC0\xAF", "\xC1\xBF", "\xC2", "\xC2\x7F", "\xC2\xC0",
+                                  "\xC3\x28", "\xE0\x80\x80", "\xE0\x9F\xBF", "\xE2\x82", "\xE2\x82\x28", "\xE2\x82\xC0",
+                                  "\xED\xA0\x80", "\xED\xAF\xBF", "\xED\xB0\x80", "\xED\xBF\xBF", "\xF0\x80\x80\x80",
+                                  "\xF0\x8F\xBF\xBF", "\xF0\x9F\x9A", "\xF0\x9F\x9A\x28", "\xF4\x90\x80\x80", "\xF5\x80\x80\x80",
+                                  "\xF8\x88\x80\x80\x80", "\xFE", "\xFF", "\xED\xA0\xBD\xED\xBA\x8C", "\xC3\xA9\x80"};
+
+static void test_texts(void)
+{
+    static const char *const around[] = {"", "a", "\xC3\xA9"};
+    for (size_t a = 0; a < 9; a++) {
+        for (size_t i = 0; i < sizeof good / sizeof good[0]; i++) {
+            make(2, 12);
+            sprintf(names[1], "%s%s%s", around[a / 3], good[i], around[a % 3]);
+            held(__LINE__, 2, CIZTARMO_NO_PLACE);
+            CHECK(answer[CIZTARMO_NUMBER] == CIZTARMO_BUFFER_TOO_SMALL);
+        }
+        for (size_t i = 0; i < sizeof bad / sizeof bad[0]; i++) {
+            make(2, 12);
+            sprintf(names[1], "%s%s%s", around[a / 3], bad[i], around[a % 3]);
+            held(__LINE__, 2, 1);
+            CHECK(answer[CIZTARMO_NUMBER] == CIZTARMO_INVALID_NAME);
+        }
+    }
+}
+
+/* Names of up to four bytes, each at the edge of a range. */
+static void test_short_names(void)
+{
+    static const uint8_t edges[] = {'a',  0x7F, 0x80, 0x8F, 0x90, 0x9F, 0xA0, 0xBF, 0xC1, 0xC2, 0xDF, 0xE0,
+                                    0xE1, 0xEC, 0xED, 0xEE, 0xEF, 0xF0, 0xF1, 0xF3, 0xF4, 0xF5, 0xFF};
+    const size_t many = sizeof edges;
+    make(1, 12);
+    for (size_t n = 0; n < many * many * many * many; n++) {
+        char *const name = names[0];
+        name[0] = (char)edges[n / (many * many * many)];
+        name[1] = (char)edges[n / (many * many) % many];
+        name[2] = (char)edges[n / many % many];
+        name[3] = (char)edges[n % many];
+        name[4] = 0;
+        const size_t length = write_plainly(1);
+        ciztarmo_length_of(no_types, sizeof no_types, NULL, 0, plain, length, 0, answer);
+        const uint64_t read = answer[CIZTARMO_NUMBER];
+        ciztarmo_write_values(values, 1, NULL, 0, answer);
+        check(read == (answer[CIZTARMO_NUMBER] == CIZTARMO_INVALID_NAME ? CIZTARMO_INVALID_NAME : CIZTARMO_UNKNOWN_TYPE),
+              "the reader and the writer take the same names", __LINE__);
     }
 }
 
@@ -240,6 +306,8 @@ int main(void)
 {
     test_lists();
     test_bytes();
+    test_texts();
+    test_short_names();
     test_limits();
     test_empty();
     if (failures != 0) {

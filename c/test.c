@@ -546,6 +546,60 @@ static void test_no_buffers(void)
     CHECK(ciztarmo_validate_runs(NULL, 0, NULL, 0, NULL, 0, NULL, 0) == 0);
 }
 
+/* A copy of the example's bytes with two of its names spelt with others of as many bytes. */
+static void spelt(uint8_t *to, const uint8_t *from, size_t len, const char *for_trip, const char *for_legs)
+{
+    memcpy(to, from, len);
+    for (size_t at = 0; at + 4 <= len; at++) {
+        if (memcmp(from + at, "Trip", 4) == 0)
+            memcpy(to + at, for_trip, 4);
+        if (memcmp(from + at, "legs", 4) == 0)
+            memcpy(to + at, for_legs, 4);
+    }
+}
+
+/* The type and the field under names beyond ASCII: built, counted and refused as under their own. */
+static void test_spelt(void)
+{
+    static const char bus[] = "\xF0\x9F\x9A\x8C", accents[] = "\xC3\xA9\xC3\xAA";
+    uint8_t other[sizeof trip], other_layout[LAYOUT_LEN];
+    spelt(other, set, set_len, bus, accents);
+    spelt(other_layout, layout, LAYOUT_LEN, bus, accents);
+    dirty(CIZTARMO_WORDS);
+    ciztarmo_build_set(words, CIZTARMO_WORDS, other, set_len, out, CIZTARMO_MAX_INPUT, answer);
+    ANSWER(CIZTARMO_WORDS, 0, CIZTARMO_NO_PLACE, 0, LAYOUT_LEN);
+    CHECK(memcmp(out, other_layout, LAYOUT_LEN) == 0 && memcmp(out, layout, LAYOUT_LEN) != 0);
+    for (int i = 0; i < RUNS; i++) {
+        spelt(other, runs[i], run_lens[i], bus, accents);
+        dirty(CIZTARMO_WORDS);
+        ciztarmo_validate_run(words, CIZTARMO_WORDS, other_layout, LAYOUT_LEN, other, run_lens[i], answer);
+        check_words(__LINE__, CIZTARMO_WORDS);
+        check_four(__LINE__, answer, run_answers[i]);
+    }
+}
+
+/* The same with names that are not UTF-8: a byte of a character missing, two halves, a surrogate, one above U+10FFFF. */
+static void test_misspelt(void)
+{
+    static const char *const bad[] = {"\xF0\x9F\x9A(", "ab\xC3(", "nop\xC3", "\xA9nop", "n\xED\xA0\x80", "\xF4\x90\x80\x80", "\xC0\x80no"};
+    uint8_t other[sizeof trip];
+    for (size_t i = 0; i < sizeof bad / sizeof bad[0]; i++) {
+        spelt(other, set, set_len, bad[i], "legs");
+        read_with(ciztarmo_read_set, CIZTARMO_WORDS, other, set_len);
+        REFUSED(CIZTARMO_WORDS, CIZTARMO_INVALID_NAME, 8);
+        spelt(other, layout, LAYOUT_LEN, bad[i], "legs");
+        read_with(ciztarmo_read_layout, CIZTARMO_WORDS, other, LAYOUT_LEN);
+        REFUSED(CIZTARMO_WORDS, CIZTARMO_INVALID_NAME, 8);
+        spelt(other, runs[0], run_lens[0], bad[i], "legs");
+        read_with(ciztarmo_read_run, CIZTARMO_WORDS, other, run_lens[0]);
+        REFUSED(CIZTARMO_WORDS, CIZTARMO_INVALID_NAME, 0);
+        /* The values stand behind the type's name and the buffer length. */
+        spelt(other, runs[0], run_lens[0], "Trip", bad[i]);
+        read_with(ciztarmo_read_run, CIZTARMO_WORDS, other, run_lens[0]);
+        REFUSED(CIZTARMO_WORDS, CIZTARMO_INVALID_NAME, 4 + 2 + 2 + sizeof name + 8);
+    }
+}
+
 static int used(uint64_t number)
 {
     return number <= 6 || (number >= 10 && number <= 27);
@@ -597,6 +651,8 @@ int main(int argc, char **argv)
     test_before_reading();
     test_asked_names();
     test_no_buffers();
+    test_spelt();
+    test_misspelt();
     test_texts();
     free(words);
     free(out);

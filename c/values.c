@@ -24,22 +24,51 @@ static size_t name_length(const char *name)
     return n;
 }
 
-static int is_name(const char *name)
+/* Characters of several bytes as RFC 3629, section 4, has them: the first byte lies in one range, the second in another, and all
+ * behind it from 0x80 to 0xBF. */
+static const struct form {
+    uint8_t first, first_to, second, second_to, bytes;
+} FORMS[] = {
+    {0xC2, 0xDF, 0x80, 0xBF, 2}, {0xE0, 0xE0, 0xA0, 0xBF, 3}, {0xE1, 0xEC, 0x80, 0xBF, 3}, {0xED, 0xED, 0x80, 0x9F, 3},
+    {0xEE, 0xEF, 0x80, 0xBF, 3}, {0xF0, 0xF0, 0x90, 0xBF, 4}, {0xF1, 0xF3, 0x80, 0xBF, 4}, {0xF4, 0xF4, 0x80, 0x8F, 4},
+};
+
+/* How many bytes the character has that begins here, or 0 if none does. The zero that ends a name belongs to none, so that nothing
+ * behind it is read. */
+static size_t character(const uint8_t *c)
 {
-    if (name == NULL || name_length(name) > LONGEST_NAME)
-        return 0;
-    for (; *name != 0; name++)
-        if (*name < 0x20 || *name > 0x7E)
-            return 0;
-    return 1;
+    size_t n;
+    if (c[0] < 0x80)
+        return c[0] >= 0x20 && c[0] != 0x7F;
+    for (const struct form *f = FORMS; f < FORMS + sizeof FORMS / sizeof FORMS[0]; f++)
+        if (c[0] >= f->first && c[0] <= f->first_to) {
+            if (c[1] < f->second || c[1] > f->second_to)
+                return 0;
+            for (n = 2; n < f->bytes; n++)
+                if (c[n] < 0x80 || c[n] > 0xBF)
+                    return 0;
+            return n;
+        }
+    return 0;
 }
 
-/* Below 0, 0 or above 0 as a stands before b, is b or stands behind it. Both are names, so that no byte is negative. */
+static int is_name(const char *name)
+{
+    const uint8_t *at = (const uint8_t *)name;
+    size_t n = 1;
+    if (name == NULL || name_length(name) > LONGEST_NAME)
+        return 0;
+    for (; *at != 0 && n != 0; at += n)
+        n = character(at);
+    return n != 0;
+}
+
+/* Below 0, 0 or above 0 as a stands before b, is b or stands behind it: by bytes, which have no sign whatever char has. */
 static int compare(const char *a, const char *b)
 {
     while (*a != 0 && *a == *b)
         a++, b++;
-    return *a - *b;
+    return (uint8_t)*a - (uint8_t)*b;
 }
 
 /* The first value whose name is none (3), or count. */
