@@ -10,7 +10,7 @@ use ciztarmo_text::commands;
 use common::{blocks, cut, read, show};
 use std::cmp::Ordering;
 
-const EXAMPLES: [&str; 4] = ["trip", "zones", "transfers", "fill"];
+const EXAMPLES: [&str; 5] = ["trip", "zones", "transfers", "fill", "stops"];
 
 fn text(example: &str) -> String {
     String::from_utf8(read(&format!("examples/{example}.txt"))).unwrap()
