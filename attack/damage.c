@@ -47,20 +47,41 @@ static void forbid(const struct spot *spot, uint8_t value)
     cut(spot->block, spot->at + 1);
 }
 
-/* Names: a byte below and above what may stand there, and 255 and 256 bytes. */
-static void damage_name(int block, size_t at)
+/* The name at a place gives way to another. */
+static void rename_to(int block, size_t at, const void *text, size_t text_len)
 {
     static uint8_t name[2 + 256];
+    const size_t len = (size_t)attack_get(bytes + at, 2);
+    attack_put(name, text_len, 2);
+    memcpy(name + 2, text, text_len);
+    if (splice(&part, block, at, at + 2 + len, name, 2 + text_len))
+        emit();
+}
+
+/* Texts of UTF-8 at the edges of its forms, and such as are none: too long a form, a surrogate, above U+10FFFF, cut. */
+static const char *const texts[] = {
+    "\xC2\x80", "\xDF\xBF", "\xE0\xA0\x80", "\xED\x9F\xBF", "\xEE\x80\x80", "\xEF\xBF\xBF", "\xF0\x90\x80\x80", "\xF4\x8F\xBF\xBF",
+    "e\xCC\x81", "\x80", "\xC1\xBF", "\xC2", "\xC3(", "\xE0\x9F\xBF", "\xE2\x82", "\xE2\x82(", "\xED\xA0\x80", "\xF0\x8F\xBF\xBF",
+    "\xF0\x9F\x9A", "\xF4\x90\x80\x80", "\xF5\x80\x80\x80", "\xFF", "\xC3\xA9\x80",
+};
+
+/* Names: a byte below and above what may stand there, UTF-8 and what is none, and 255 and 256 bytes. */
+static void damage_name(int block, size_t at)
+{
+    static uint8_t name[256];
     const size_t len = (size_t)attack_get(bytes + at, 2);
     if (len > 0) {
         change(at + 2, 0x1F, 1);
         change(at + 1 + len, 0x7F, 1);
     }
+    for (size_t i = 0; i < sizeof texts / sizeof texts[0]; i++)
+        rename_to(block, at, texts[i], strlen(texts[i]));
     for (size_t long_len = 255; long_len <= 256; long_len++) {
         memset(name, 'x', sizeof name);
-        attack_put(name, long_len, 2);
-        if (splice(&part, block, at, at + 2 + len, name, 2 + long_len))
-            emit();
+        rename_to(block, at, name, long_len);
+        memcpy(name + long_len - 4, "\xF0\x9F\x9A\x8C", 4);
+        rename_to(block, at, name, long_len);
+        rename_to(block, at, name, long_len - 1);
     }
 }
 

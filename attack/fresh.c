@@ -58,7 +58,9 @@ void gather_names(struct names *names, const struct part_view *part)
 
 static size_t word(const struct names *names, uint8_t *out)
 {
-    static const char *const words[] = {"__buffer_size", "a", "b", "n", "T", "L0", "element", "tag", "a.b", "a::b", "", "u8"};
+    static const char *const words[] = {"__buffer_size", "a", "b", "n", "T", "L0", "element", "tag", "a.b", "a::b", "", "u8",
+                                        "\xC3\xA9", "\xC3\xAA", "e\xCC\x81", "\xE2\x82\xAC.n", "\xEF\xBF\xBF", "\xF0\x90\x80\x80",
+                                        "a::\xF0\x9F\x9A\x8C", "element.\xC3\xA9", "\xC3", "\xA9", "\xED\xA0\x80"};
     if (names->many > 0 && draw(5) > 0) {
         const struct attack_bytes name = names->name[draw((uint64_t)names->many)];
         const size_t len = name.len < 300 ? name.len : 300;
@@ -70,11 +72,14 @@ static size_t word(const struct names *names, uint8_t *out)
     return strlen(text);
 }
 
-/* Fills up a name, for limits of names that are put together. */
+/* Fills up a name, for limits of names that are put together, with letters of one byte or of two. */
 static size_t stretch(uint8_t *out, size_t len, size_t to)
 {
+    const int accents = draw(2) == 0;
     if (len < to)
         memset(out + len, 'x', to - len);
+    for (; accents && len + 2 <= to; len += 2)
+        memcpy(out + len, "\xC3\xA9", 2);
     return to;
 }
 

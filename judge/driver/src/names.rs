@@ -47,8 +47,8 @@ fn hold(length: usize) -> String {
 fn with_text(text: &[u8]) -> Vec<Call> {
     let name = hold(text.len());
     let set = vec![union(&name, &name, &[&name])];
-    let layout = |path: &str| write::layout(&vec![tree("L", path)]);
-    let values = |name: &str| write::values(&vec![(name.to_string(), 5)]);
+    let layout = |path: &str| write::layout(&[tree("L", path)]);
+    let values = |name: &str| write::values(&[(name.to_string(), 5)]);
     let run = write::run(&Run {
         name: name.clone(),
         length: 9,
@@ -60,7 +60,7 @@ fn with_text(text: &[u8]) -> Vec<Call> {
         validate(layout("a"), put(values(&name), text)),
         Call::Run {
             words: WORDS,
-            layout: put(write::layout(&vec![tree(&name, "a")]), text),
+            layout: put(write::layout(&[tree(&name, "a")]), text),
             run: put(run, text),
         },
     ]
@@ -87,7 +87,7 @@ fn parts() -> Vec<Call> {
     let count = |path: &str| Expr::Path(path.split('.').map(str::to_string).collect());
     let array = |owner: &str, stored: &str, asked: &str| {
         let kind = Kind::Array(false, Box::new(plain("e")), count(asked));
-        build(write::set(&vec![Type {
+        build(write::set(&[Type {
             refs: vec![owned(owner, &[stored])],
             kind,
             ..union("T", "", &[])
@@ -99,7 +99,7 @@ fn parts() -> Vec<Call> {
         array(E, &format!("{E}.{EURO}"), EURO),
         array(E, &format!("{E}::{E}"), E),
         array("array", &format!("element.{E}"), &format!("element.{E}")),
-        build(write::set(&vec![jagged])),
+        build(write::set(&[jagged])),
     ]
 }
 
@@ -127,12 +127,9 @@ fn cut_in_two() -> Vec<Call> {
     };
     calls.root.body = Body::Call("L".to_string(), vec![argument]);
     vec![
-        build(halves(write::set(&vec![path]))),
-        build(halves(write::set(&vec![two_paths]))),
-        validate(
-            halves(write::layout(&vec![calls])),
-            write::values(&Vec::new()),
-        ),
+        build(halves(write::set(&[path]))),
+        build(halves(write::set(&[two_paths]))),
+        validate(halves(write::layout(&[calls])), write::values(&Vec::new())),
     ]
 }
 
@@ -151,9 +148,9 @@ fn orders() -> Vec<Call> {
     for [low, high] in pairs {
         for names in [[low, high], [high, low], [high, high]] {
             let values = names.map(|n| (n.to_string(), 1)).to_vec();
-            let layout = write::layout(&vec![tree("L", low)]);
+            let layout = write::layout(&[tree("L", low)]);
             out.push(validate(layout, write::values(&values)));
-            out.push(build(write::set(&vec![union("T", "o", &names)])));
+            out.push(build(write::set(&[union("T", "o", &names)])));
             let types = names.map(|n| union(n, "o", &["n"])).to_vec();
             out.push(build(write::set(&types)));
         }
@@ -166,7 +163,7 @@ fn made_names() -> Vec<Call> {
     let owner = E.repeat(100);
     let path = E.repeat(27);
     let longer = format!("{path}x");
-    let of = |path: &str| build(write::set(&vec![union("T", &owner, &[path])]));
+    let of = |path: &str| build(write::set(&[union("T", &owner, &[path])]));
     vec![
         of(&path),
         of(&longer),

@@ -54,6 +54,13 @@
 //! # Ok::<(), ciztarmo::Error>(())
 //! ```
 //!
+//! # Names
+//!
+//! Names of types, fields, variants, owners, paths and values are UTF-8, so a `str` in any script,
+//! of at most 255 bytes and without bytes below 0x20 or 0x7F. They are written as they are and
+//! compared byte by byte, as `str` is: nothing is normalized, and two spellings that look alike are
+//! two names. This crate writes any `str`; what the limits forbid is refused when it is read (3).
+//!
 //! # Bytes
 //!
 //! Who has the bytes of a set, a layout, values or a run already calls the functions

@@ -17,6 +17,7 @@ usage: text blocks FILE [-o OUT] [--unchecked]   text to blocks
        text map FILE TYPE [NAME=NUMBER ..] [--run N] [--length N] [--svg] [-o OUT]
                                                  what lies where in a record
 FILE - is standard input. --unchecked writes also what the proved reader refuses.
+Texts and names are UTF-8. A message has FILE:LINE:COLUMN, and a column counts characters.
 ";
 
 /// A message and the exit status: 1 if the input is wrong, 2 if the call is or a file can't be
