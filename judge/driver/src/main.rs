@@ -49,6 +49,7 @@ const USAGE: &str = "usage: judge/run COMMAND
                                    take long, a file each: NAME.set or NAME.layout
   trip                             M13: bytes and lines of the worked example
   antt [--cases N] [--seed S]      small cases as lines of text
+  antt --names                     the stored list's names beyond ASCII as such lines
   test                             the judge's own tests";
 
 fn main() -> ExitCode {
@@ -111,6 +112,7 @@ fn run() -> Result<(), String> {
         #[cfg(feature = "bench")]
         "bench" => bench::bench(flag("--markdown"), text_option(rest, "--only")?),
         "slow" => slow_files(folder(rest)?),
+        "antt" if flag("--names") => text::antt_names(),
         "antt" => text::antt(option(rest, "--cases", 1000)?, seed),
         _ => Err(format!("unknown command {command}\n{USAGE}")),
     }
@@ -125,7 +127,8 @@ fn program(args: &[String]) -> Result<&str, String> {
 /// An option that is misspelt, or another command's, must not be passed over.
 fn known_options(command: &str, args: &[String]) -> Result<(), String> {
     let known: &[&str] = match command {
-        "compare" | "against" | "fills" | "antt" => &["--cases", "--seed"],
+        "compare" | "against" | "fills" => &["--cases", "--seed"],
+        "antt" => &["--cases", "--seed", "--names"],
         "stream" => &["--cases", "--seed", "--sets"],
         "case" => &["--seed", "--index", "--sets"],
         "inputs" => &["--runs"],

@@ -3,6 +3,7 @@
 use crate::call::{judge, Answer, Call, Verdict};
 use crate::cases::{make, set_call, small_case};
 use crate::data::*;
+use crate::names;
 use crate::rules::{self, read};
 use std::collections::BTreeMap;
 use std::io::Read;
@@ -194,6 +195,21 @@ pub fn antt(cases: u64, seed: u64) -> Result<(), String> {
             }
         }
         index += 1;
+    }
+    Ok(())
+}
+
+/// The names beyond ASCII of the stored list as such lines, as far as they
+/// are small.
+pub fn antt_names() -> Result<(), String> {
+    for call in names::calls() {
+        let v = judge(&call);
+        if let Some(text) = &v.differs {
+            return Err(format!("the rules and the Rust differ: {text}"));
+        }
+        if let Some(line) = small_line(&call, &v.answer) {
+            println!("{line}");
+        }
     }
     Ok(())
 }
