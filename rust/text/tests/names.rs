@@ -159,10 +159,11 @@ fn map(text: &str, ty: &str, svg: bool) -> String {
 fn maps() {
     let rows = map(LINE, "Línea", false);
     assert!(rows.contains("    0     0     1    número\n"), "{rows}");
-    let long = "é".repeat(60);
-    let text = format!("set\n  struct S variable\n    field {long} at 0 primitive p size 1\n    field \"\u{ffff}駅駅駅駅駅\" at 1 primitive p size 1\n\nrun S length 2\n");
+    let (long, whole) = ("é".repeat(60), "ñ".repeat(7));
+    let text = format!("set\n  struct S variable\n    field {long} at 0 primitive p size 1\n    field \"\u{ffff}駅駅駅駅駅\" at 1 primitive p size 1\n    field {whole} at 2 primitive p size 1\n\nrun S length 3\n");
     let drawn = map(&text, "S", true);
     assert!(drawn.contains(">ééééé..<"), "{drawn}");
+    assert!(drawn.contains(&format!(">{whole}<")), "{drawn}");
     assert!(
         drawn.contains(&format!("<title>{long} (bytes 0 to 0)")),
         "{drawn}"
