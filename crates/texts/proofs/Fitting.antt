@@ -87,6 +87,7 @@ leads-so a e = go (ltb a 0xE0) refl (bounds 0xC2 0xEF a e)
 abbrev formOf : ℕ → Form
 formOf a = elim (begun utf8-char a) [ none ↦ [] | some f ↦ f ]
 
+-- of what was left behind q and a: that of a where it begins a character, a tail behind the second of three, else nothing
 abbrev left : ℕ → ℕ → Form
 left q a = cond (leads a) (formOf a) (cond (leads3 q) (utf8-tail ∷ []) [])
 
