@@ -7,7 +7,17 @@ use Rattle.blocks.specs.Tree.{part, entries, view, partOr, partView}
 use Rattle.blocks.specs.Read.{inOrder, nameOf, readText, readKey, readNumber, readFlag, readIf, readOptional, inType, readLiteral, readCount, readEntries, readList, readValue, readPart, readParts, readHeader, readBlock, small, readInput}
 use Rattle.blocks.specs.Write.{write}
 
--- has no value of interest: a proof that unfolds it unfolds what it names
+-- has no value of interest: a proof that unfolds it unfolds what it names; here names and question 3
+unfoldable pub names : Unit {0}
+unfolding utf8-char begun rest-of utf8-octets allowed wellFormed isText same less among
+names = tt
+
+-- parts of a block, read one by one
+unfoldable pub parts : Unit {0}
+unfolding inOrder nameOf readText readKey readNumber readFlag readIf readOptional inType readLiteral readCount readEntries readList readValue readPart readParts
+parts = tt
+
+-- all
 unfoldable pub compute : Unit {0}
-unfolding le bytes utf8-char begun rest-of utf8-octets allowed wellFormed isText same less among grammar nodeTable findRow partsOf part entries view partOr partView inOrder nameOf readText readKey readNumber readFlag readIf readOptional inType readLiteral readCount readEntries readList readValue readPart readParts readHeader readBlock small readInput write
+unfolding le bytes names grammar nodeTable findRow partsOf part entries view partOr partView parts readHeader readBlock small readInput write
 compute = tt

@@ -2,14 +2,14 @@
 use Prim.Native.Nat.{ℕ, suc, _<_, _≤_}
 use native.Mathlib.Omega.{arith}
 use mathlib.Core.Path.{_≡_, refl, _∙_, ap}
-use mathlib.Core.Bool.{Bool, true, false, not, _&&_, cond}
+use mathlib.Core.Bool.{Bool, true, false, _&&_, cond}
 use mathlib.Core.List.{List, [], _∷_, _++_}
 use mathlib.Core.Option.{Option, some, none}
-use lib.Dec.{leb, eqb}
+use lib.Dec.{leb}
 use lib.ListN.{length}
 use borrow.Author.Tests.{le-leb, lt-leb, leb-true}
 use Rattle.blocks.specs.Utf8.{Range, Form, Matches, OneOf, Octets, utf8-char, inRange, begun, rest-of, utf8-octets}
-use Rattle.blocks.specs.Name.{Name, allowed, wellFormed, isText}
+use Rattle.blocks.specs.Name.{Name, mayStand, allowed, wellFormed, isText}
 use Rattle.blocks.proofs.Name.{and-left, and-right, false-true}
 
 -- two tests that hold hold together
@@ -173,7 +173,7 @@ rest-join [] (x ∷ xs) b e g = go (begun utf8-char x) e (λ rs h. rest-join rs 
 allowed-join : (a b : List ℕ) → allowed a ≡ true → allowed b ≡ true → allowed (a ++ b) ≡ true
 unfolding allowed
 allowed-join [] b e g = g
-allowed-join (x ∷ xs) b e g = both (leb 0x20 x && not (eqb x 0x7F)) _ (and-left _ _ e) (allowed-join xs b (and-right (leb 0x20 x && not (eqb x 0x7F)) _ e) g)
+allowed-join (x ∷ xs) b e g = both (mayStand x) _ (and-left _ _ e) (allowed-join xs b (and-right (mayStand x) _ e) g)
 
 -- two well-formed names, one behind the other, are one
 pub well-join : (a b : Name) → wellFormed a ≡ true → wellFormed b ≡ true → wellFormed (a ++ b) ≡ true
@@ -254,10 +254,10 @@ rest-cut [] (y ∷ ys) x b h l e = go (begun utf8-char y) refl e (λ rs t g. res
 -- parts of bytes that are allowed
 allowed-cut : (a : List ℕ) (x : ℕ) (b : List ℕ) → allowed (a ++ (x ∷ b)) ≡ true → (allowed a ≡ true) × (allowed b ≡ true)
 unfolding allowed
-allowed-cut [] x b e = (refl, and-right (leb 0x20 x && not (eqb x 0x7F)) _ e)
+allowed-cut [] x b e = (refl, and-right (mayStand x) _ e)
 allowed-cut (y ∷ ys) x b e =
-    let ih = allowed-cut ys x b (and-right (leb 0x20 y && not (eqb y 0x7F)) _ e) in
-    (both (leb 0x20 y && not (eqb y 0x7F)) _ (and-left _ _ e) (ih .0), ih .1)
+    let ih = allowed-cut ys x b (and-right (mayStand y) _ e) in
+    (both (mayStand y) _ (and-left _ _ e) (ih .0), ih .1)
 
 -- what stands before an ASCII byte of a well-formed name is well-formed
 pub well-before : (a : Name) (x : ℕ) (b : Name) → x < 0x80 → wellFormed (a ++ (x ∷ b)) ≡ true → wellFormed a ≡ true

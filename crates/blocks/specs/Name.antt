@@ -18,9 +18,12 @@ ascii empty = []
 ascii (c then s) = code c ∷ ascii s
 
 -- "without bytes below 0x20 and without 0x7F"
+abbrev pub mayStand : ℕ → Bool
+mayStand b = leb 0x20 b && not (eqb b 0x7F)
+
 unfoldable pub allowed : List ℕ → Bool
 allowed [] = true
-allowed (b ∷ bs) = (leb 0x20 b && not (eqb b 0x7F)) && allowed bs
+allowed (b ∷ bs) = mayStand b && allowed bs
 
 -- "valid UTF-8 (RFC 3629), without bytes below 0x20 and without 0x7F"
 unfoldable pub wellFormed : Name → Bool

@@ -49,7 +49,7 @@ fn clear_8(s: &[u8], at: usize) -> bool
     clear_4(s, at) & clear_4(s, at + 4)
 }
 
-// The same for all bytes of eight or more: where it holds, they are well-formed. The last eight may be asked twice.
+// The same for all bytes of eight or more: where it holds, they are well-formed, and a "no" says nothing. The last eight may be asked twice.
 fn clear_long(s: &[u8]) -> bool
     requires { ⌜ 8 ≤ length (now s) ⌝ }
     ensures { λ r. ⌜ (r ≡ true → wellFormed (now (s .entry)) ≡ true) ⌝ }
@@ -160,7 +160,8 @@ fn triple_long(s: &[u8]) -> bool
     triple_16(s, last)
 }
 
-// Whether all bytes make characters of one to three bytes: where it holds, they are well-formed. Short names are left to `chars`.
+// Whether all bytes make characters of one to three bytes: where it holds, they are well-formed, and a "no" says nothing. Short names are
+// left to `chars`.
 fn triple_all(s: &[u8]) -> bool
     ensures { λ r. ⌜ (r ≡ true → wellFormed (now (s .entry)) ≡ true) ⌝ }
 {
