@@ -1,0 +1,25 @@
+-- What evaluating remembers of the root's values, in the working words behind the sixteen of the open calls: word 16 has how many names were
+-- asked for; once these are more than 8, an index of the values stands from word 17 on.
+use Prim.Native.Nat.{ℕ, _≤_, _<_}
+use mathlib.Core.Path.{_≡_}
+use mathlib.Core.List.{List}
+use lib.ListN.{length, getD, drop}
+
+-- the index, in the words from word 17 on
+pub record Indexed (s : List ℕ) (block : ℕ) (ws : List ℕ) : Type 0 where
+  pub room : 1151 ≤ length ws
+
+-- the words of a context whose values are those of the block: room for the open calls, and what is remembered of the values, where there
+-- is room for that
+pub record Remembered (s : List ℕ) (block : ℕ) (ws : List ℕ) : Type 0 where
+  pub room : 16 ≤ length ws
+  pub index : 1168 ≤ length ws → 8 < getD ws 16 0 → Indexed s block (drop 17 ws)
+
+-- the first m words are the same
+abbrev pub Same : ℕ → List ℕ → List ℕ → Type 0
+Same m ws us = (i : ℕ) → i < m → getD us i 0 ≡ getD ws i 0
+
+-- what a call leaves of the words: the first m are kept, and what is remembered is so still
+pub record Kept (s : List ℕ) (block m : ℕ) (ws us : List ℕ) : Type 0 where
+  pub same : Same m ws us
+  pub remembered : Remembered s block us
