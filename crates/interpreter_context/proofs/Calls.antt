@@ -23,7 +23,8 @@ use Rattle.interpreter_context.specs.declared.Found.the-variants.{At, Mi
 use Rattle.interpreter_context.specs.declared.Held.{Held}
 use Rattle.interpreter_context.specs.declared.Held.the-variants.{Value as HeldValue, Absent}
 use Rattle.interpreter_context.specs.Names.{chosen, lastArgument, lists, callersName, Named, foundIn}
-use Rattle.interpreter_context.specs.Context.{Pair, Open, Context, callAt, treeAt, argumentsOf, parametersOf, Same}
+use Rattle.interpreter_context.specs.Context.{Pair, Open, Context, callAt, treeAt, argumentsOf, parametersOf}
+use Rattle.interpreter_values.specs.Remembered.{Remembered, Kept}
 use Rattle.interpreter.proofs.Lookup.{first-of}
 use Rattle.interpreter_context.proofs.Names.{via, through-call, find-behind}
 
@@ -108,18 +109,18 @@ module _ {values : List ℕ} {n : Name} {γ : ParamMap} {b : InBlock} (len : ℕ
 module _ {s values : List ℕ} {block len : ℕ} {words : List ℕ} where
   -- with no call open the context is the root's
   pub at-bottom : {d : ℕ} {γ : ParamMap} → d ≤ 0 → Context s values block len words d γ → (a : Accepted values 192 192 block) × (γ ≡ with-buffer-size len (valuesOf (tree a)))
-  at-bottom h (Context.root a) = (a, refl)
+  at-bottom h (Context.root a r) = (a, refl)
   at-bottom h (Context.call c i o) = absurd (omega arith)
 
-  -- the block of values was accepted, however many calls are open
-  pub bottom : {d : ℕ} {γ : ParamMap} → Context s values block len words d γ → Accepted values 192 192 block
-  bottom (Context.root a) = a
+  -- the block of values was accepted, however many calls are open, and the words remember it
+  pub bottom : {d : ℕ} {γ : ParamMap} → Context s values block len words d γ → Accepted values 192 192 block × Remembered values block words
+  bottom (Context.root a r) = (a, r)
   bottom (Context.call c i o) = bottom c
 
   -- the innermost open call, its word and its caller's context
   pub innermost : {d : ℕ} {δ : ParamMap} → 0 < d → Context s values block len words d δ →
       (γ : ParamMap) × Context s values block len words (d - 1) γ × ((d - 1) < length words) × Open s (getD words (d - 1) 0) γ δ
-  innermost h (Context.root a) = absurd (omega arith)
+  innermost h (Context.root a r) = absurd (omega arith)
   innermost h (Context.call {d} {γ} {δ} c i o) = subst (λ (k : ℕ). (γ : ParamMap) × Context s values block len words k γ × (k < length words) × Open s (getD words k 0) γ δ) (sym (sub-one (suc d))) (γ, c, i, o)
 
 -- what a name is at `depth` open calls is what `wanted` is at d of them
@@ -174,10 +175,11 @@ module _ {s values : List ℕ} {block len : ℕ} {words : List ℕ} {name depth 
       let b = at-bottom h (x .1) in
       k (b .0) ∙ ap (find (nameAt s wanted)) (sym (b .1)) ∙ sym (x .2)
 
--- ---- words that are the same
+-- ---- words that are kept
 
--- a context stays what it is where the words of its open calls stay
-pub context-same : {s values : List ℕ} {block len : ℕ} {ws us : List ℕ} {d : ℕ} {γ : ParamMap} (m : ℕ) → d ≤ m → length us ≡ length ws → Same m ws us →
+-- a context stays what it is where the words of its open calls are kept
+pub context-kept : {s values : List ℕ} {block len : ℕ} {ws us : List ℕ} {d : ℕ} {γ : ParamMap} (m : ℕ) → d ≤ m → length us ≡ length ws → Kept values block m ws us →
     Context s values block len ws d γ → Context s values block len us d γ
-context-same m h l e (Context.root a) = Context.root a
-context-same {s} m h l e (Context.call {d} {γ} {δ} c i o) = Context.call (context-same m (omega arith) l e c) (omega arith) (subst (λ (w : ℕ). Open s w γ δ) (sym (e d (omega arith))) o)
+context-kept m h l e (Context.root a r) = Context.root a (e .remembered)
+context-kept {s} m h l e (Context.call {d} {γ} {δ} c i o) =
+    Context.call (context-kept m (omega arith) l e c) (omega arith) (subst (λ (w : ℕ). Open s w γ δ) (sym (e .same d (omega arith))) o)

@@ -1,5 +1,5 @@
 -- The context of an open call, in working words: a word for each open call holds the offsets of the call's node and of
--- the called type's tree in the layout. Values stay where they were read.
+-- the called type's tree in the layout. Values stay where they were read; what is remembered of them stands behind these words.
 use Prim.Native.Nat.{ℕ, suc, _+_, _/_, _%_, _<_}
 use mathlib.Core.Path.{_≡_}
 use mathlib.Core.List.{List, [], _++_}
@@ -11,6 +11,7 @@ use Rattle.ir.specs.Ir.{IrArgument, IrParameter}
 use Rattle.ir.specs.Layout.{argumentOf, parameterOf}
 use Rattle.accepted.specs.Accepted.{Accepted, tree}
 use Rattle.lookup.specs.Named.{Placed}
+use Rattle.interpreter_values.specs.Remembered.{Remembered}
 use Rattle.interpreter.specs.Eval.{ParamMap, collect-arguments, inherited}
 use Rattle.interpreter.specs.Validate.{with-buffer-size, valuesOf}
 
@@ -40,15 +41,11 @@ pub record Open (s : List ℕ) (w : ℕ) (γ δ : ParamMap) : Type 0 where
   pub collected : collect-arguments place γ (argumentsOf (tree (pair .call))) [] ≡ done arguments
   pub is : δ ≡ arguments ++ inherited γ (parametersOf (tree (pair .type)))
 
--- the context with so many calls open; at the root, the values of a block 192 and the buffer length
+-- the context with so many calls open; at the root, the values of a block 192, with what the words remember of them, and the buffer length
 pub data Context (s values : List ℕ) (block len : ℕ) (words : List ℕ) : ℕ → ParamMap → Type 0 where
-  root : (a : Accepted values 192 192 block) → Context s values block len words 0 (with-buffer-size len (valuesOf (tree a)))
+  root : (a : Accepted values 192 192 block) → Remembered values block words → Context s values block len words 0 (with-buffer-size len (valuesOf (tree a)))
   call : {d : ℕ} {γ δ : ParamMap} → Context s values block len words d γ → d < length words → Open s (getD words d 0) γ δ → Context s values block len words (suc d) δ
 
 -- the type that the innermost open call calls stands at this place of the layout
 abbrev pub Here : List ℕ → List ℕ → ℕ → ℕ → Type 0
 Here s words depth place = (d : ℕ) → depth ≡ suc d → (d < length words) × Placed s place (treeAt (getD words d 0))
-
--- the first m words are the same
-abbrev pub Same : ℕ → List ℕ → List ℕ → Type 0
-Same m ws us = (i : ℕ) → i < m → getD us i 0 ≡ getD ws i 0

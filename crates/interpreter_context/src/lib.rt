@@ -17,6 +17,7 @@ ghost use Rattle.ir.specs.Layout.{argumentOf};
 ghost use Rattle.interpreter.specs.Eval.{ParamMap, find as finding};
 ghost use Rattle.interpreter.specs.Validate.{with-buffer-size, valuesOf};
 ghost use Rattle.accepted.specs.Accepted.{Accepted, Parts, tree, nameAt};
+ghost use Rattle.interpreter_values.specs.Remembered.{Remembered, Kept};
 ghost use Rattle.interpreter_context.specs.Located.{Simple, Listing, Next, Located};
 ghost use Rattle.interpreter_context.specs.Names.{chosen, lastArgument, lists, callersName, Named, foundIn};
 ghost use Rattle.interpreter_context.specs.Context.{Pair, Context, argumentsOf, parametersOf};
@@ -193,12 +194,13 @@ fn value_at(values: &[u8], at: usize) -> Value
 }
 
 // What the root's context has of a name: a value, or the buffer length where no value has that name.
-fn at_root(s: &[u8], name: usize, values: &[u8], root: Root) -> Held
-    requires { ⌜ (name + 2 + le2 (now s) name ≤ length (now s)) × Accepted (now values) 192 192 (root .block) ⌝ }
+fn at_root(s: &[u8], name: usize, values: &[u8], root: Root, words: &mut [u64]) -> Held
+    requires { ⌜ (name + 2 + le2 (now s) name ≤ length (now s)) × Accepted (now values) 192 192 (root .block) × Remembered (now values) (root .block) (now words) ⌝ }
     ensures { λ r. ⌜ ((a : Accepted (now (values .entry)) 192 192 (root .block)) → foundIn r ≡ finding (nameAt (now (s .entry)) name) (with-buffer-size (root .len) (valuesOf (tree a)))) ⌝ }
+    ensures { λ _. ⌜ Kept (now (values .entry)) (root .block) 16 (now (words .entry)) (now (words .exit)) ⌝ }
 {
     let sought = wire::name_at(s, name);
-    match lookup::value_in(values, root.block, sought) {
+    match interpreter_values::value(values, root.block, words, sought) {
         InBlock::At(o) => Held::Value(value_at(values, o)),
         InBlock::Missing => {
             if wire::same_name(sought, b"__buffer_size") {
@@ -209,10 +211,19 @@ fn at_root(s: &[u8], name: usize, values: &[u8], root: Root) -> Held
     }
 }
 
-// A name's value in the context of the innermost of so many open calls.
-pub fn find(s: &[u8], name: usize, values: &[u8], root: Root, words: &[u64], depth: usize) -> Held
+// A name's value in the context of the innermost of so many open calls. Of the words those of the open calls stay; behind them it may be
+// remembered where the values stand.
+pub fn find(
+    s: &[u8],
+    name: usize,
+    values: &[u8],
+    root: Root,
+    words: &mut [u64],
+    depth: usize,
+) -> Held
     requires { ⌜ (name + 2 + le2 (now s) name ≤ length (now s)) × ((γ : ParamMap) × Context (now s) (now values) (root .block) (root .len) (now words) depth γ) ⌝ }
     ensures { λ r. ⌜ ((γ : ParamMap) → Context (now (s .entry)) (now (values .entry)) (root .block) (root .len) (now (words .entry)) depth γ → foundIn r ≡ finding (nameAt (now (s .entry)) name) γ) ⌝ }
+    ensures { λ _. ⌜ Kept (now (values .entry)) (root .block) 16 (now (words .entry)) (now (words .exit)) ⌝ }
 {
     let mut d = depth;
     let mut wanted = name;
@@ -230,5 +241,5 @@ pub fn find(s: &[u8], name: usize, values: &[u8], root: Root, words: &[u64], dep
             }
         }
     }
-    at_root(s, wanted, values, root)
+    at_root(s, wanted, values, root, words)
 }

@@ -1,6 +1,7 @@
 -- `find` meets its contract. The invariant: what the name is at all open calls is what `wanted` is at d of them. The measure is d.
 use borrow.Author.Needs.{needs}
 use native.Mathlib.Omega.{arith}
+use Rattle.interpreter_values.proofs.Laws.{kept-none}
 use Rattle.interpreter_context.proofs.Calls.{Wanted, asked, the-call, caller-has, caller-lacks, at-the-root, bottom}
 use Rattle.interpreter_context.proofs.find.Statement.{statement}
 use Rattle.interpreter_context.proofs.find.Tie as tie
@@ -13,7 +14,7 @@ abbrev μ-loop : tie.MeasureT-loop
 μ-loop s name values root words depth d₀ wanted₀ d wanted = d
 
 -- The places, each seen from a later one: what was known there.
-abbrev at-start : tie.After-shared-slice-known3 Inv-loop μ-loop → tie.Start Inv-loop μ-loop
+abbrev at-start : tie.After-slice-known Inv-loop μ-loop → tie.Start Inv-loop μ-loop
 at-start r = r .before .before .before
 
 loop-holds : tie.Need-loop-holds Inv-loop μ-loop
@@ -28,8 +29,8 @@ mul-word c = omega (
   the-call (c .loop-test .taken) (c .before .loop .inv) (at-start (c .before .before) .pre .1) .0,
 )
 
-shared-slice-read-word : tie.Need-shared-slice-read-word Inv-loop μ-loop
-shared-slice-read-word c =
+slice-read-word : tie.Need-slice-read-word Inv-loop μ-loop
+slice-read-word c =
     the-call
     (c .before .loop-test .taken)
     (c .before .before .loop .inv)
@@ -70,22 +71,31 @@ returns : tie.Need-returns Inv-loop μ-loop
 returns c =
     let at-callers-name = c .before .before in
     let in-loop = at-callers-name .before .before in
-    let at-loop = in-loop .before in
-    caller-lacks
-    (in-loop .loop-test .taken)
-    (at-loop .loop .inv)
-    (at-callers-name .callers-name .ensures)
-    (c .enum-told .given .1)
+    let at-loop = in-loop .before in (
+      caller-lacks
+          (in-loop .loop-test .taken)
+          (at-loop .loop .inv)
+          (at-callers-name .callers-name .ensures)
+          (c .enum-told .given .1),
+      kept-none (bottom (at-start (at-loop .before) .pre .1 .1) .1),
+    )
 
 at-root-requires : tie.Need-at-root-requires Inv-loop μ-loop
-at-root-requires c κs = (
-  c .before .loop .inv .inside,
-  bottom (at-start (c .before .before) .pre .1 .1),
-)
+at-root-requires c κs =
+    let at-loop = c .before .before in
+    let x = bottom (at-start (at-loop .before) .pre .1 .1) in
+    (at-loop .loop .inv .inside, x .0, x .1)
+
+same-length : tie.Need-same-length Inv-loop μ-loop
+same-length c = search needs
 
 returns-2 : tie.Need-returns-2 Inv-loop μ-loop
 returns-2 c =
-    at-the-root (c .at-root .result) (c .before .loop-test .left) (c .before .before .loop .inv) (c .at-root .ensures)
+    let at-root = c .before .before in
+    let after-loop = at-root .before .before in (
+      at-the-root (at-root .at-root .result) (after-loop .loop-test .left) (after-loop .before .loop .inv) (at-root .at-root .ensures .0),
+      at-root .at-root .ensures .1,
+    )
 
 pub find-spec : {M : Type 1} → statement M
 find-spec =
@@ -96,7 +106,7 @@ find-spec =
     loop-holds
     sub-d
     mul-word
-    shared-slice-read-word
+    slice-read-word
     callers-name-requires
     enum-known-q
     loop-less
@@ -104,4 +114,5 @@ find-spec =
     enum-told
     returns
     at-root-requires
+    same-length
     returns-2)
