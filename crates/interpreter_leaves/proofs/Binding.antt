@@ -4,6 +4,7 @@ use mathlib.Core.List.{List, [], _∷_}
 use mathlib.Core.Option.{Option, some, none}
 use Prim.Native.Nat.{ℕ, _+_, _-_, _≤_, _<_}
 use native.Mathlib.Omega.{arith}
+use lib.ListN.{length}
 use Rattle.errors.specs.Refusal.{refused, _>>=_, MissingIrParameter}
 use Rattle.blocks.specs.Bytes.{le2, le4}
 use Rattle.blocks.specs.Tree.{Tree, entries}
@@ -19,6 +20,8 @@ use Rattle.interpreter_context.proofs.Blocks.{IsArgument, argument}
 use Rattle.interpreter_context.specs.declared.Held.{Held}
 use Rattle.interpreter_context.specs.declared.Held.the-variants.{Value as HeldValue, Absent}
 use Rattle.interpreter_context.specs.Names.{foundIn}
+use Rattle.interpreter_values.specs.Remembered.{Kept}
+use Rattle.interpreter_context.proofs.Calls.{context-kept}
 use Rattle.interpreter_context.specs.Context.{Context, argumentsOf}
 use Rattle.interpreter_leaves.specs.declared.Arguments.{Arguments}
 use Rattle.interpreter_leaves.specs.declared.Arguments.the-variants.{All, Lacking}
@@ -91,6 +94,19 @@ unfolding entries collect-arguments
 no-more h t pl γ c l =
     let x = t .on pl γ c l in
     Bound.all (x .1) (x .2 ∙ ap (λ (z : Tree × ℕ). collect-arguments pl γ (entries argumentOf (z .0)) (x .1)) (none-left (x .0) h))
+
+-- ---- the words, which may change behind those of the open calls
+
+-- the loop goes over the arguments in the context of the words ws, which it was handed; us are the words of now
+pub record Going (s values : List ℕ) (block len : ℕ) (ws us : List ℕ) (depth m from left p : ℕ) : Type 0 where
+  pub collecting : Collecting s values block len ws depth m from left p
+  pub kept : Kept values block 16 ws us
+  pub long : length us ≡ length ws
+
+-- a context of the one is one of the other
+pub still : {s values : List ℕ} {block len : ℕ} {ws us : List ℕ} {depth m from left p : ℕ} → Going s values block len ws us depth m from left p → depth ≤ 16 →
+    {γ : ParamMap} → Context s values block len ws depth γ → Context s values block len us depth γ
+still g h c = context-kept 16 h (g .long) (g .kept) c
 
 -- of the call itself
 pub of-call : {s : List ℕ} {at q : ℕ} {pl : ℕ} {γ : ParamMap} {r : Arguments} (a : Accepted s 128 144 at) (l : ListAt a 164 164 3 q) →

@@ -6,7 +6,7 @@ use interpreter_context::Root;
 use lookup::Place;
 use value::Value;
 ghost use mathlib.Core.Path.{_≡_};
-ghost use Prim.Native.Nat.{ℕ, _+_};
+ghost use Prim.Native.Nat.{ℕ, _+_, _≤_};
 ghost use Rattle.errors.specs.Refusal.{done, refused as stop};
 ghost use Rattle.blocks.specs.Bytes.{le2};
 ghost use Rattle.blocks.specs.Tree.{Tree, text, body, part};
@@ -17,6 +17,7 @@ ghost use Rattle.interpreter.specs.Eval.{Handlers, ParamMap, find, refusalAt, l
 ghost use Rattle.value.specs.Number.{numberOf};
 ghost use Rattle.interpreter_arithmetic.specs.Num.{resultOf};
 ghost use Rattle.lookup.specs.Found.{TreeFound};
+ghost use Rattle.interpreter_values.specs.Remembered.{Kept};
 ghost use Rattle.interpreter_context.specs.Names.{foundIn};
 ghost use Rattle.interpreter_context.specs.Context.{Context, argumentsOf, Here};
 ghost use Rattle.interpreter_leaves.specs.Outcome.{Tells, countIn};
@@ -101,7 +102,7 @@ fn field_name(s: &[u8], at: usize) -> usize
 pub fn field(
     s: &[u8],
     values: &[u8],
-    words: &[u64],
+    words: &mut [u64],
     root: Root,
     f: Frame,
     at: usize,
@@ -109,6 +110,7 @@ pub fn field(
 ) -> bool
     requires { ⌜ Accepted (now s) 128 144 at × (le2 (now s) (at + 4) ≡ 130) × ((γ : ParamMap) × Context (now s) (now values) (root .block) (root .len) (now words) (f .depth) γ) ⌝ }
     ensures { λ r. ⌜ ((handle : Handlers) (γ : ParamMap) → Context (now (s .entry)) (now (values .entry)) (root .block) (root .len) (now (words .entry)) (f .depth) γ → (a : Accepted (now (s .entry)) 128 144 at) → Tells r (now (out .entry)) (now (out .exit)) (eval-node handle (f .place) γ (nodeOf (tree a)))) ⌝ }
+    ensures { λ _. ⌜ Kept (now (values .entry)) (root .block) 16 (now (words .entry)) (now (words .exit)) ⌝ }
 {
     match interpreter_context::find(s, field_name(s, at), values, root, words, f.depth) {
         Held::Value(v) => counted(v, out),
@@ -117,9 +119,17 @@ pub fn field(
 }
 
 // The tag of a Switch node.
-pub fn tag(s: &[u8], values: &[u8], words: &[u64], root: Root, f: Frame, at: usize) -> Held
+pub fn tag(
+    s: &[u8],
+    values: &[u8],
+    words: &mut [u64],
+    root: Root,
+    f: Frame,
+    at: usize,
+) -> Held
     requires { ⌜ Accepted (now s) 128 144 at × (le2 (now s) (at + 4) ≡ 132) × ((γ : ParamMap) × Context (now s) (now values) (root .block) (root .len) (now words) (f .depth) γ) ⌝ }
     ensures { λ r. ⌜ ((γ : ParamMap) → Context (now (s .entry)) (now (values .entry)) (root .block) (root .len) (now (words .entry)) (f .depth) γ → (a : Accepted (now (s .entry)) 128 144 at) → foundIn r ≡ find (text (part 2 (body (tree a)))) γ) ⌝ }
+    ensures { λ _. ⌜ Kept (now (values .entry)) (root .block) 16 (now (words .entry)) (now (words .exit)) ⌝ }
 {
     let p = interpreter_context::first_part(s, at);
     interpreter_context::find(s, p, values, root, words, f.depth)
@@ -153,13 +163,14 @@ pub fn selected(s: &[u8], at: usize, tag: Value) -> Choice
 pub fn collect_arguments(
     s: &[u8],
     values: &[u8],
-    words: &[u64],
+    words: &mut [u64],
     root: Root,
     f: Frame,
     at: usize,
 ) -> Arguments
-    requires { ⌜ Accepted (now s) 128 144 at × (le2 (now s) (at + 4) ≡ 133) × ((γ : ParamMap) × Context (now s) (now values) (root .block) (root .len) (now words) (f .depth) γ) ⌝ }
+    requires { ⌜ Accepted (now s) 128 144 at × (le2 (now s) (at + 4) ≡ 133) × ((γ : ParamMap) × Context (now s) (now values) (root .block) (root .len) (now words) (f .depth) γ) × (f .depth ≤ 16) ⌝ }
     ensures { λ r. ⌜ ((p : ℕ) (γ : ParamMap) → Context (now (s .entry)) (now (values .entry)) (root .block) (root .len) (now (words .entry)) (f .depth) γ → (a : Accepted (now (s .entry)) 128 144 at) → Bound p γ (argumentsOf (tree a)) r) ⌝ }
+    ensures { λ _. ⌜ Kept (now (values .entry)) (root .block) 16 (now (words .entry)) (now (words .exit)) ⌝ }
 {
     let list = interpreter_context::second_part(s, at);
     let mut left = wire::read2(s, list);

@@ -6,19 +6,21 @@ use native.Mathlib.Omega.{arith}
 use Rattle.blocks.specs.Bytes.{le2}
 use Rattle.interpreter_leaves.proofs.Nodes.{enough}
 use Rattle.accepted.specs.Accepted.{Accepted}
+use Rattle.interpreter_values.proofs.Laws.{kept-none, kept-both}
+use Rattle.interpreter_context.proofs.Calls.{bottom}
 use Rattle.interpreter_context.proofs.Shape.{ListAt}
 use Rattle.interpreter_context.proofs.Lists.{arguments-at, ends}
-use Rattle.interpreter_leaves.proofs.Binding.{Collecting, begin, value-at, next-one, found-one, lacking-one, no-more, of-call}
+use Rattle.interpreter_leaves.proofs.Binding.{Going, still, begin, value-at, next-one, found-one, lacking-one, no-more, of-call}
 use borrow.Author.Needs.{needs}
 use Rattle.interpreter_leaves.proofs.collect_arguments.Statement.{statement}
 use Rattle.interpreter_leaves.proofs.collect_arguments.Tie as tie
 
 abbrev Inv-loop : tie.InvT-loop
-Inv-loop s values words root f at list left₀ p₀ left p =
-    Collecting s values (root .block) (root .len) words (f .depth) (le2 s list) (list + 2) left p
+Inv-loop s values words₀ root f at list left₀ p₀ words left p =
+    Going s values (root .block) (root .len) words₀ words (f .depth) (le2 s list) (list + 2) left p
 
 abbrev μ-loop : tie.MeasureT-loop
-μ-loop s values words root f at list left₀ p₀ left p = left
+μ-loop s values words₀ root f at list left₀ p₀ words left p = left
 
 -- The places before the loop, seen from it.
 abbrev at-second-part : tie.At-loop Inv-loop μ-loop → tie.After-second-part Inv-loop μ-loop
@@ -36,7 +38,14 @@ arguments r a = arguments-at (at-second-part r .second-part .ensures) a (at-star
 next : (r : tie.In-loop Inv-loop μ-loop) → Accepted (at-start (r .before) .args .s .now) 164 164 (r .before .loop .p)
 next r =
     let at-loop = r .before in
-    next-one (r .loop-test .taken) (at-loop .loop .inv) (at-start at-loop .pre .2) (arguments at-loop (at-start at-loop .pre .0) .list)
+    next-one (r .loop-test .taken) (at-loop .loop .inv .collecting) (at-start at-loop .pre .2) (arguments at-loop (at-start at-loop .pre .0) .list)
+
+-- the same, seen from behind the lookup
+abbrev at-find : tie.After-known-told Inv-loop μ-loop → tie.After-find Inv-loop μ-loop
+at-find r = r .before .before .before .before .before
+
+abbrev in-loop : tie.After-known-told Inv-loop μ-loop → tie.In-loop Inv-loop μ-loop
+in-loop r = at-find r .before .before .before
 
 second-part-requires : tie.Need-second-part-requires Inv-loop μ-loop
 second-part-requires c κs =
@@ -58,7 +67,9 @@ add-p c =
     )
 
 loop-holds : tie.Need-loop-holds Inv-loop μ-loop
-loop-holds c = begin (c .read2 .ensures .0)
+loop-holds c =
+    let at-start = c .before .before .before .before .before in
+    record { collecting = begin (c .read2 .ensures .0); kept = kept-none (bottom (at-start .pre .2 .1) .1); long = refl }
 
 add-value : tie.Need-add-value Inv-loop μ-loop
 add-value c = omega (arith, value-at refl (next c) .value)
@@ -73,19 +84,25 @@ add-value-2 : tie.Need-add-value-2 Inv-loop μ-loop
 add-value-2 c = omega (arith, value-at (c .read22 .ensures .0) (next (c .before)) .value)
 
 find-requires : tie.Need-find-requires Inv-loop μ-loop
-find-requires c κs = (value-at (c .read22 .ensures .0) (next (c .before)) .value, at-start (c .before .before) .pre .2)
+find-requires c κs =
+    let at-read22 = c .before in
+    let at-loop = at-read22 .before .before in
+    let start = at-start at-loop in (
+      value-at (at-read22 .read22 .ensures .0) (next (at-read22 .before)) .value,
+      (start .pre .2 .0, still (at-loop .loop .inv) (start .pre .3) (start .pre .2 .1)),
+    )
 
 enum-known-v : tie.Need-enum-known-v Inv-loop μ-loop
 enum-known-v c = search needs
 
 add-p-2 : tie.Need-add-p-2 Inv-loop μ-loop
-add-p-2 c = omega (arith, ends (next (c .before .before .before .before .before)) .0)
+add-p-2 c = omega (arith, ends (next (in-loop c)) .0)
 
 read4-requires : tie.Need-read4-requires Inv-loop μ-loop
-read4-requires c κs = omega (arith, ends (next (c .before .before .before .before .before)) .0)
+read4-requires c κs = omega (arith, ends (next (in-loop c)) .0)
 
 add-p-3 : tie.Need-add-p-3 Inv-loop μ-loop
-add-p-3 c = omega (arith, ends (next (c .before .before .before .before .before .before)) .1, c .read4 .ensures .0)
+add-p-3 c = omega (arith, ends (next (in-loop (c .before))) .1, c .read4 .ensures .0)
 
 sub-left : tie.Need-sub-left Inv-loop μ-loop
 sub-left c = omega arith
@@ -96,40 +113,56 @@ loop-less c = omega arith
 loop-again : tie.Need-loop-again Inv-loop μ-loop
 loop-again c =
     let at-v = c .before .before in
-    let at-find = at-v .before .before in
-    let at-read22 = at-find .before in
+    let at-find = at-find (c .before) in
+    let at-read22 = at-find .before .before in
     let in-loop = at-read22 .before in
     let at-loop = in-loop .before in
-    found-one
-    (in-loop .loop-test .taken)
-    (at-loop .loop .inv)
-    (at-read22 .read22 .ensures .0)
-    (at-find .find .ensures)
-    (at-v .v .given .1)
-    (c .read4 .ensures .0)
+    let inv = at-loop .loop .inv in
+    record {
+      collecting =
+          found-one
+          (in-loop .loop-test .taken)
+          (inv .collecting)
+          (at-read22 .read22 .ensures .0)
+          (λ γ x. at-find .find .ensures .0 γ (still inv (at-start at-loop .pre .3) x))
+          (at-v .v .given .1)
+          (c .read4 .ensures .0);
+      kept = kept-both (inv .kept) (at-find .find .ensures .1);
+      long = omega (arith, inv .long);
+    }
 
 enum-told : tie.Need-enum-told Inv-loop μ-loop
 enum-told c = search needs
 
+same-length : tie.Need-same-length Inv-loop μ-loop
+same-length c = search needs
+
+same-length-2 : tie.Need-same-length-2 Inv-loop μ-loop
+same-length-2 c = search needs
+
 returns : tie.Need-returns Inv-loop μ-loop
 returns c =
-    let at-find = c .before .before in
-    let at-read22 = at-find .before in
+    let at-find = c .before .before .before .before in
+    let at-read22 = at-find .before .before in
     let in-loop = at-read22 .before in
     let at-loop = in-loop .before in
-    λ pl γ x a. of-call a (arguments at-loop a)
-    (lacking-one
-    (in-loop .loop-test .taken)
-    (at-loop .loop .inv)
-    (at-read22 .read22 .ensures .0)
-    (at-find .find .ensures)
-    (c .enum-told .given .1) pl γ x
-    (arguments at-loop a .list))
+    let inv = at-loop .loop .inv in (
+      λ pl γ x a. of-call a (arguments at-loop a)
+      (lacking-one
+      (in-loop .loop-test .taken)
+      (inv .collecting)
+      (at-read22 .read22 .ensures .0)
+      (λ γ x. at-find .find .ensures .0 γ (still inv (at-start at-loop .pre .3) x))
+      (c .enum-told .given .1) pl γ x
+      (arguments at-loop a .list)),
+      kept-both (inv .kept) (at-find .find .ensures .1),
+    )
 
 returns-2 : tie.Need-returns-2 Inv-loop μ-loop
 returns-2 c =
     let at-loop = c .before in
-    λ pl γ x a. of-call a (arguments at-loop a) (no-more (c .loop-test .left) (at-loop .loop .inv) pl γ x (arguments at-loop a .list))
+    let inv = at-loop .loop .inv in
+    ((λ pl γ x a. of-call a (arguments at-loop a) (no-more (c .loop-test .left) (inv .collecting) pl γ x (arguments at-loop a .list))), inv .kept)
 
 pub collect-arguments-spec : {M : Type 1} → statement M
 collect-arguments-spec =
@@ -154,5 +187,7 @@ collect-arguments-spec =
     loop-less
     loop-again
     enum-told
+    same-length
     returns
+    same-length-2
     returns-2)
