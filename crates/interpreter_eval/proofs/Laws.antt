@@ -35,8 +35,10 @@ use Rattle.interpreter_context.specs.declared.Root.{Root}
 use Rattle.interpreter_context.specs.declared.Held.{Held}
 use Rattle.interpreter_context.specs.declared.Held.the-variants.{Value as HeldValue, Absent}
 use Rattle.interpreter_context.specs.Names.{foundIn}
-use Rattle.interpreter_context.specs.Context.{Context, Pair, Open, callAt, treeAt, argumentsOf, parametersOf, Same}
-use Rattle.interpreter_context.proofs.Calls.{context-same}
+use Rattle.interpreter_context.specs.Context.{Context, Pair, Open, callAt, treeAt, argumentsOf, parametersOf}
+use Rattle.interpreter_context.proofs.Calls.{context-kept, bottom}
+use Rattle.interpreter_values.specs.Remembered.{Remembered, Kept}
+use Rattle.interpreter_values.proofs.Laws.{kept-none, kept-fewer, kept-back, kept-set}
 use Rattle.interpreter_context.proofs.Lists.{ends}
 use Rattle.interpreter_leaves.specs.declared.Choice.{Choice}
 use Rattle.interpreter_leaves.specs.declared.Choice.the-variants.{Node, Nothing}
@@ -340,18 +342,45 @@ module _ {s : List ℕ} {at : ℕ} (k : le2 s (at + 4) ≡ 133) (left : ℕ) (ty
 
 -- ---- words
 
+-- what the words of a node that is ready remember
+pub remembers : {s values ws : List ℕ} {root : Root} {f : Frame} {at : ℕ} → Ready s values ws root f at → Remembered values (root .block) ws
+remembers r = bottom (r .context .1) .1
+
+-- where no word is written, they are kept
+pub unchanged : {s values ws : List ℕ} {root : Root} {f : Frame} {at : ℕ} → Ready s values ws root f at → Kept values (root .block) (f .depth) ws ws
+unchanged r = kept-none (remembers r)
+
 -- what is ready stays ready where the words of the open calls are kept
 pub still-ready : {s values ws us : List ℕ} {root : Root} {f : Frame} {at q : ℕ} → Ready s values ws root f at → Accepted s 128 144 q →
-    length us ≡ length ws → Same (f .depth) ws us → Ready s values us root f q
+    length us ≡ length ws → Kept values (root .block) (f .depth) ws us → Ready s values us root f q
 still-ready {s} {f = f} r c l e = record {
   node = c;
   layout = r .layout;
-  context = (r .context .0, context-same (f .depth) (omega arith) l e (r .context .1));
-  here = λ d g. let w = r .here d g in (omega (arith, w .0), subst (λ (v : ℕ). Placed s (f .place) (treeAt v)) (sym (e d (omega arith))) (w .1));
+  context = (r .context .0, context-kept (f .depth) (omega arith) l e (r .context .1));
+  here = λ d g. let w = r .here d g in (omega (arith, w .0), subst (λ (v : ℕ). Placed s (f .place) (treeAt v)) (sym (e .same d (omega arith))) (w .1));
   calls = r .calls;
   room = omega (arith, r .room);
   small = r .small;
 }
+
+-- Words that are kept from those of a node that is ready on:
+module _ {s values ws us : List ℕ} {root : Root} {f : Frame} {at : ℕ} (x : Ready s values ws root f at) (l : length us ≡ length ws) (k : Kept values (root .block) 16 ws us) where
+  -- the context is the same
+  pub context-now : {γ : ParamMap} → Context s values (root .block) (root .len) ws (f .depth) γ → Context s values (root .block) (root .len) us (f .depth) γ
+  context-now c = context-kept 16 (x .calls) l k c
+
+  -- what the node comes to over the words of now is what it comes to
+  pub evaluates-now : {b : Bool} {xs ys : List ℕ} → Evaluates s values us root f at b xs ys → Evaluates s values ws root f at b xs ys
+  evaluates-now e γ c = e γ (context-now c)
+
+  -- the arguments that were found are those over the words of now
+  pub bound-now : {r : Arguments} → ((p : ℕ) (γ : ParamMap) → Context s values (root .block) (root .len) ws (f .depth) γ → (a : Accepted s 128 144 at) → Bound p γ (argumentsOf (tree a)) r) →
+      (p : ℕ) (γ : ParamMap) → Context s values (root .block) (root .len) us (f .depth) γ → (a : Accepted s 128 144 at) → Bound p γ (argumentsOf (tree a)) r
+  bound-now b p γ c = b p γ (context-kept 16 (x .calls) (sym l) (kept-back (remembers x) k) c)
+
+  -- the words of the calls that are open are kept
+  pub kept-now : Kept values (root .block) (f .depth) ws us
+  kept-now = kept-fewer (x .calls) k
 
 -- what is ready for a node is ready for another of the same tree
 pub child-ready : {s values ws : List ℕ} {root : Root} {f : Frame} {at q : ℕ} → Ready s values ws root f at → Accepted s 128 144 q → Ready s values ws root f q
@@ -376,16 +405,17 @@ open-word {s} {at} {callee} {γ} {δ} p w f g a k t e = record { pair = z .0; pl
     z = subst (λ (x : ℕ). Held-by x (treeAt w)) (sym f) (subst (λ (y : ℕ). Held-by at y) (sym g) (record { call = a; kind = k; type = t }, e, refl))
 
 -- the context of a call that opens
-pub opened-call : {s values : List ℕ} {block len : ℕ} {ws : List ℕ} {depth at callee w : ℕ} {γ δ : ParamMap} (p : ℕ) → depth < length ws → at < 4294967296 →
+pub opened-call : {s values : List ℕ} {block len : ℕ} {ws : List ℕ} {depth at callee w : ℕ} {γ δ : ParamMap} (p : ℕ) → depth < 16 → depth < length ws → at < 4294967296 →
     w ≡ at + callee * 4294967296 → Context s values block len ws depth γ →
     (a : Accepted s 128 144 at) → le2 s (at + 4) ≡ 133 → (t : Accepted s 161 161 callee) → collect-arguments p γ (argumentsOf (tree a)) [] ≡ done δ →
     Context s values block len (set ws depth w) (depth + 1) (δ ++ inherited γ (parametersOf (tree t)))
-opened-call {s} {values} {block} {len} {ws} {depth} {at} {callee} {w} {γ} {δ} p h l ew c a k t e =
+opened-call {s} {values} {block} {len} {ws} {depth} {at} {callee} {w} {γ} {δ} p few h l ew c a k t e =
     let x = packed at callee l in
     let ε : ParamMap = δ ++ inherited γ (parametersOf (tree t)) in
     let o : Open s w γ ε = open-word p w (ap callAt ew ∙ x .0) (ap treeAt ew ∙ x .1) a k t e in
     let u : Open s (getD (set ws depth w) depth 0) γ ε = subst (λ (v : ℕ). Open s v γ ε) (sym (getD-set-same ws depth w 0 h)) o in
-    let m : Context s values block len (set ws depth w) depth γ = context-same depth (omega arith) (length-set ws depth w) (λ i g. getD-set-other ws depth i w 0 (λ e. absurd (omega arith))) c in
+    let b : Kept values block depth ws (set ws depth w) = kept-set depth w few (bottom c .1) in
+    let m : Context s values block len (set ws depth w) depth γ = context-kept depth (omega arith) (length-set ws depth w) b c in
     let n : depth < length (set ws depth w) = subst (λ (z : ℕ). depth < z) (sym (length-set ws depth w)) h in
     subst (λ (z : ℕ). Context s values block len (set ws depth w) z ε) (sym (add-one depth)) (Context.call m n u)
 
@@ -427,7 +457,7 @@ module _ {s values ws : List ℕ} (root : Root) (f : Frame) {at callee w q : ℕ
       record {
         node = e (t .0) .root;
         layout = x .layout;
-        context = (_, opened-call 0 h l ew (x .context .1) (x .node) k (t .0) (y .1));
+        context = (_, opened-call 0 n h l ew (x .context .1) (x .node) k (t .0) (y .1));
         here = λ d g. here (t .2) d (omega arith);
         calls = omega (arith, n);
         room = subst (λ (z : ℕ). 16 ≤ z) (sym (length-set ws (f .depth) w)) (x .room);
@@ -446,7 +476,7 @@ module _ {s values ws : List ℕ} (root : Root) (f : Frame) {at callee w q : ℕ
       let c = found-at ep (d t rd a) in
       let y = bound-all er (b (f .place) γ x a) in
       let z = e (c .0) in
-      tells-as (ev (y .0 ++ inherited γ (parametersOf (tree (c .0)))) (opened-call (f .place) h l ew x a k (c .0) (y .1)) t rd (z .root))
+      tells-as (ev (y .0 ++ inherited γ (parametersOf (tree (c .0)))) (opened-call (f .place) n h l ew x a k (c .0) (y .1)) t rd (z .root))
       (ap (eval-within (16 - (f .depth + 1)) (layoutOf t) i (y .0 ++ inherited γ (parametersOf (tree (c .0))))) (sym (z .is))
       ∙ ap (λ (l : ℕ). eval-within l (layoutOf t) i (y .0 ++ inherited γ (parametersOf (tree (c .0)))) (typeIrOf (tree (c .0)) .root)) one-less
       ∙ call-goes k (16 - f .depth) (layoutOf t) (f .place) γ a (y .1) (c .1) (λ e. absurd (omega (arith, n))))

@@ -10,11 +10,11 @@ use value::Value;
 ghost use mathlib.Core.Path.{_≡_};
 ghost use Prim.Native.Nat.{_+_, _≤_};
 ghost use Rattle.blocks.specs.Bytes.{le2};
-ghost use Rattle.interpreter_context.specs.Context.{Same};
+ghost use Rattle.interpreter_values.specs.Remembered.{Kept};
 ghost use Rattle.interpreter_eval.specs.Evaluates.{Ready, Evaluates};
 
-// What the node at an offset evaluates to, left in out. Of the words from the frame's depth on nothing is said: there the calls
-// stand that were open.
+// What the node at an offset evaluates to, left in out. Of the words from the frame's depth on, where the calls stand that were open, nothing
+// is said but that those behind the sixteenth still remember the values.
 pub fn eval_node(
     s: &[u8],
     at: usize,
@@ -25,7 +25,7 @@ pub fn eval_node(
     out: &mut [u64; 4],
 ) -> bool
     requires { ⌜ Ready (now s) (now values) (now words) root f at ⌝ }
-    ensures { λ r. ⌜ Same (f .depth) (now (words .entry)) (now (words .exit)) ⌝ }
+    ensures { λ _. ⌜ Kept (now (values .entry)) (root .block) (f .depth) (now (words .entry)) (now (words .exit)) ⌝ }
     ensures { λ r. ⌜ Evaluates (now (s .entry)) (now (values .entry)) (now (words .entry)) root f at r (now (out .entry)) (now (out .exit)) ⌝ }
 {
     let inner = interpreter_leaves::unwrapped(s, at);
@@ -43,7 +43,7 @@ fn eval_kind(
     out: &mut [u64; 4],
 ) -> bool
     requires { ⌜ Ready (now s) (now values) (now words) root f at ⌝ }
-    ensures { λ r. ⌜ Same (f .depth) (now (words .entry)) (now (words .exit)) ⌝ }
+    ensures { λ _. ⌜ Kept (now (values .entry)) (root .block) (f .depth) (now (words .entry)) (now (words .exit)) ⌝ }
     ensures { λ r. ⌜ Evaluates (now (s .entry)) (now (values .entry)) (now (words .entry)) root f at r (now (out .entry)) (now (out .exit)) ⌝ }
 {
     let kind = wire::read2(s, at + 4);
@@ -70,7 +70,7 @@ fn eval_align(
     out: &mut [u64; 4],
 ) -> bool
     requires { ⌜ Ready (now s) (now values) (now words) root f at × (le2 (now s) (at + 4) ≡ 131) ⌝ }
-    ensures { λ r. ⌜ Same (f .depth) (now (words .entry)) (now (words .exit)) ⌝ }
+    ensures { λ _. ⌜ Kept (now (values .entry)) (root .block) (f .depth) (now (words .entry)) (now (words .exit)) ⌝ }
     ensures { λ r. ⌜ Evaluates (now (s .entry)) (now (values .entry)) (now (words .entry)) root f at r (now (out .entry)) (now (out .exit)) ⌝ }
 {
     let p = interpreter_context::first_part(s, at);
@@ -98,7 +98,7 @@ fn eval_operand(
     out: &mut [u64; 4],
 ) -> bool
     requires { ⌜ Ready (now s) (now values) (now words) root f at ⌝ }
-    ensures { λ r. ⌜ Same (f .depth) (now (words .entry)) (now (words .exit)) ⌝ }
+    ensures { λ _. ⌜ Kept (now (values .entry)) (root .block) (f .depth) (now (words .entry)) (now (words .exit)) ⌝ }
     ensures { λ r. ⌜ Evaluates (now (s .entry)) (now (values .entry)) (now (words .entry)) root f at r (now (out .entry)) (now (out .exit)) ⌝ }
 {
     let inner = interpreter_leaves::unwrapped(s, at);
@@ -119,7 +119,7 @@ fn eval_binary(
     out: &mut [u64; 4],
 ) -> bool
     requires { ⌜ Ready (now s) (now values) (now words) root f at × ((134 ≤ le2 (now s) (at + 4)) × (le2 (now s) (at + 4) ≤ 143)) ⌝ }
-    ensures { λ r. ⌜ Same (f .depth) (now (words .entry)) (now (words .exit)) ⌝ }
+    ensures { λ _. ⌜ Kept (now (values .entry)) (root .block) (f .depth) (now (words .entry)) (now (words .exit)) ⌝ }
     ensures { λ r. ⌜ Evaluates (now (s .entry)) (now (values .entry)) (now (words .entry)) root f at r (now (out .entry)) (now (out .exit)) ⌝ }
 {
     let kind = wire::read2(s, at + 4);
@@ -152,7 +152,7 @@ fn eval_switch(
     out: &mut [u64; 4],
 ) -> bool
     requires { ⌜ Ready (now s) (now values) (now words) root f at × (le2 (now s) (at + 4) ≡ 132) ⌝ }
-    ensures { λ r. ⌜ Same (f .depth) (now (words .entry)) (now (words .exit)) ⌝ }
+    ensures { λ _. ⌜ Kept (now (values .entry)) (root .block) (f .depth) (now (words .entry)) (now (words .exit)) ⌝ }
     ensures { λ r. ⌜ Evaluates (now (s .entry)) (now (values .entry)) (now (words .entry)) root f at r (now (out .entry)) (now (out .exit)) ⌝ }
 {
     match interpreter_leaves::tag(s, values, words, root, f, at) {
@@ -175,7 +175,7 @@ fn eval_call(
     out: &mut [u64; 4],
 ) -> bool
     requires { ⌜ Ready (now s) (now values) (now words) root f at × (le2 (now s) (at + 4) ≡ 133) ⌝ }
-    ensures { λ r. ⌜ Same (f .depth) (now (words .entry)) (now (words .exit)) ⌝ }
+    ensures { λ _. ⌜ Kept (now (values .entry)) (root .block) (f .depth) (now (words .entry)) (now (words .exit)) ⌝ }
     ensures { λ r. ⌜ Evaluates (now (s .entry)) (now (values .entry)) (now (words .entry)) root f at r (now (out .entry)) (now (out .exit)) ⌝ }
 {
     match interpreter_leaves::collect_arguments(s, values, words, root, f, at) {

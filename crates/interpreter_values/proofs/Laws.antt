@@ -20,12 +20,20 @@ module _ {s : List ℕ} {block : ℕ} where
   pub kept-both : {m : ℕ} {ws us vs : List ℕ} → Kept s block m ws us → Kept s block m us vs → Kept s block m ws vs
   kept-both a b = record { same = λ i h. b .same i h ∙ a .same i h; remembered = b .remembered }
 
+  -- what was kept may be taken back, where the words before remembered the values too
+  pub kept-back : {m : ℕ} {ws us : List ℕ} → Remembered s block ws → Kept s block m ws us → Kept s block m us ws
+  kept-back r k = record { same = λ i h. sym (k .same i h); remembered = r }
+
   -- the word of an open call says nothing of the values
   pub remembered-set : {ws : List ℕ} (d w : ℕ) → d < 16 → Remembered s block ws → Remembered s block (set ws d w)
   remembered-set {ws} d w h r = record {
     room = subst (λ (z : ℕ). 16 ≤ z) (sym (length-set ws d w)) (r .room);
     index = λ l g. rw (drop-set-lt 17 ws d w (omega arith)) (r .index (omega (arith, length-set ws d w)) (omega (arith, getD-set-other ws d 16 w 0 (λ e. absurd (omega arith)))));
   }
+
+  -- so the words before it are kept
+  pub kept-set : {ws : List ℕ} (d w : ℕ) → d < 16 → Remembered s block ws → Kept s block d ws (set ws d w)
+  kept-set {ws} d w h r = record { same = λ i l. getD-set-other ws d i w 0 (λ e. absurd (omega arith)); remembered = remembered-set d w h r }
 
   -- a count of zero remembers nothing
   pub remembered-none : {ws : List ℕ} → 16 ≤ length ws → getD ws 16 0 ≤ 0 → Remembered s block ws

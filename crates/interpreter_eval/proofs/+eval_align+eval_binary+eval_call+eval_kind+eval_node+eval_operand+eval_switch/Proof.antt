@@ -4,12 +4,19 @@
 -- eval_operand to eval_node, to eval_kind and to the member of its kind.
 use mathlib.Core.Path.{refl, sym, _∙_, ap}
 use lib.ListN.{length-set}
-use lib.Seq.{getD-set-other}
 use Rattle.errors.specs.Refusal.{done}
 use Rattle.blocks.specs.Bytes.{le4}
 use Rattle.ir.specs.Layout.{layoutOf}
+use mathlib.Core.List.{List}
+use Rattle.accepted.specs.Accepted.{Accepted, tree}
+use Rattle.interpreter.specs.Eval.{ParamMap}
+use Rattle.interpreter_values.specs.Remembered.{Kept}
+use Rattle.interpreter_context.specs.Context.{Context, argumentsOf}
+use Rattle.interpreter_leaves.specs.Steps.{Bound}
+use Rattle.interpreter_eval.specs.Evaluates.{Ready}
 use Rattle.interpreter_context.proofs.Lists.{ends}
-use Rattle.interpreter_context.proofs.Calls.{context-same}
+use Rattle.interpreter_context.proofs.Calls.{context-kept}
+use Rattle.interpreter_values.proofs.Laws.{kept-fewer, kept-both, kept-set}
 use Rattle.interpreter_context.proofs.Laws.{kinds, within}
 use Rattle.interpreter_leaves.proofs.Tells.{tells-as}
 use Rattle.interpreter_leaves.proofs.Nodes.{enough, zero-is}
@@ -37,7 +44,13 @@ use Rattle.interpreter_eval.proofs.Laws.{
   call-opens,
   call-ready,
   call-answers,
+  remembers,
+  unchanged,
   still-ready,
+  context-now,
+  evaluates-now,
+  bound-now,
+  kept-now,
   child-ready,
   leaf-answers,
 }
@@ -492,8 +505,7 @@ eval-binary-returns-2 t c =
     let at-second-part = at-eval-operand .before .before .before in
     let at-first-part = at-second-part .before in
     let at-start = at-first-part .before .before .before .before .before in (
-      (λ i h. at-eval-node .eval-node .ensures .0 i h
-          ∙ at-eval-operand .eval-operand .ensures .0 i h),
+      kept-both (at-eval-operand .eval-operand .ensures .0) (at-eval-node .eval-node .ensures .0),
       λ γ x t rd a. right-stops a
           (at-start .pre .1 .1 .0)
           (at-start .pre .1 .1 .1)
@@ -502,7 +514,7 @@ eval-binary-returns-2 t c =
           (layoutOf t) _ γ
           (at-eval-operand .eval-operand .ensures .1 γ x t rd)
           (at-eval-node .eval-node .ensures .1 γ
-          (context-same _ (omega arith) (at-else1 .before .before .words .given) (at-eval-operand .eval-operand .ensures .0) x)
+          (context-kept _ (omega arith) (at-else1 .before .before .words .given) (at-eval-operand .eval-operand .ensures .0) x)
           t rd)
           (at-else1 .if1 .left)
           (c .if2 .taken),
@@ -540,8 +552,7 @@ eval-binary-returns-3 t c =
     let at-first-part = at-second-part .before in
     let at-read2 = at-first-part .before in
     let at-start = at-read2 .before .before .before .before in (
-      (λ i h. at-eval-node .eval-node .ensures .0 i h
-          ∙ at-eval-operand .eval-operand .ensures .0 i h),
+      kept-both (at-eval-operand .eval-operand .ensures .0) (at-eval-node .eval-node .ensures .0),
       λ γ x t rd a. both-go a
           (at-start .pre .1 .1 .0)
           (at-start .pre .1 .1 .1)
@@ -550,7 +561,7 @@ eval-binary-returns-3 t c =
           (layoutOf t) _ γ
           (at-eval-operand .eval-operand .ensures .1 γ x t rd)
           (at-eval-node .eval-node .ensures .1 γ
-          (context-same _ (omega arith) (at-else1 .before .before .words .given) (at-eval-operand .eval-operand .ensures .0) x)
+          (context-kept _ (omega arith) (at-else1 .before .before .words .given) (at-eval-operand .eval-operand .ensures .0) x)
           t rd)
           (at-else1 .if1 .left)
           (at-else2 .if2 .left)
@@ -564,7 +575,25 @@ eval-binary-returns-3 t c =
 eval-call-collect-arguments-requires : (t : ℕ) → eval-call-lts.Need-collect-arguments-requires (eval-call-with t) (eval-call-at t) eval-call.Post
 eval-call-collect-arguments-requires t c κs =
     let at-start = c .before .before .before .before in
-    (at-start .pre .1 .0 .node, (at-start .pre .1 .1), at-start .pre .1 .0 .context)
+    (at-start .pre .1 .0 .node, at-start .pre .1 .1, at-start .pre .1 .0 .context, at-start .pre .1 .0 .calls)
+
+-- eval_call, where its arguments were collected: the places before it, and what is ready over the words of then.
+abbrev Collected : ℕ → Type 0
+Collected t = eval-call-lts.After-slice-known2 (eval-call-with t) (eval-call-at t) eval-call.Post
+
+abbrev collects : (t : ℕ) → Collected t → eval-call-lts.After-collect-arguments (eval-call-with t) (eval-call-at t) eval-call.Post
+collects t r = r .before .before
+
+abbrev at-call : (t : ℕ) → Collected t → eval-call-lts.Start (eval-call-with t) (eval-call-at t) eval-call.Post
+at-call t r = collects t r .before .before .before .before .before
+
+call-kept : (t : ℕ) (r : Collected t) →
+    Kept (at-call t r .args .values .now) (at-call t r .args .root .block) (at-call t r .args .f .depth) (at-call t r .args .words .now) (collects t r .collect-arguments .last .1 .1 .0)
+call-kept t r = kept-now (at-call t r .pre .1 .0) (r .before .words .given) (collects t r .collect-arguments .ensures .1)
+
+call-node : (t : ℕ) (r : Collected t) →
+    Ready (at-call t r .args .s .now) (at-call t r .args .values .now) (collects t r .collect-arguments .last .1 .1 .0) (at-call t r .args .root) (at-call t r .args .f) (at-call t r .args .at)
+call-node t r = still-ready (at-call t r .pre .1 .0) (at-call t r .pre .1 .0 .node) (r .before .words .given) (call-kept t r)
 
 eval-call-enum-known-q : (t : ℕ) → eval-call-lts.Need-enum-known-q (eval-call-with t) (eval-call-at t) eval-call.Post
 eval-call-enum-known-q t c = search needs
@@ -577,12 +606,9 @@ eval-call-enum-told t c = search needs
 
 eval-call-called-requires : (t : ℕ) → eval-call-lts.Need-called-requires (eval-call-with t) (eval-call-at t) eval-call.Post
 eval-call-called-requires t c κs =
-    let at-start = c .before .before .before .before .before .before .before .before in (
-      at-start .pre .1 .0 .node,
-      (at-start .pre .1 .1),
-      at-start .pre .1 .0 .layout,
-      at-start .pre .1 .0 .here,
-    )
+    let r = c .before .before .before in
+    let ready = call-node t r in
+    (ready .node, at-call t r .pre .1 .1, ready .layout, ready .here)
 
 eval-call-enum-told-2 : (t : ℕ) → eval-call-lts.Need-enum-told-2 (eval-call-with t) (eval-call-at t) eval-call.Post
 eval-call-enum-told-2 t c = search needs
@@ -605,18 +631,17 @@ eval-call-returns t c =
     let at-i = at-then1 .before .before in
     let at-called = at-i .before .before in
     let at-enum-told = at-called .before .before in
-    let at-collect-arguments = at-enum-told .before .before in
-    let at-start = at-collect-arguments .before .before .before .before .before in (
-      (λ i h. refl),
-      λ γ x t rd a. tells-as
+    let r = at-enum-told .before .before in (
+      call-kept t r,
+      λ γ x u rd a. tells-as
           (c .refused3 .ensures)
           (call-stops
-          (at-start .pre .1 .1) _
-          (layoutOf t) _ γ a
+          (at-call t r .pre .1 .1) _
+          (layoutOf u) _ γ a
           (bound-all
           (at-enum-told .enum-told .given .1)
-          (at-collect-arguments .collect-arguments .ensures _ γ x a) .1)
-          (found-at (at-i .i .given .1) (at-called .called .ensures t rd a) .1)
+          (collects t r .collect-arguments .ensures .0 _ γ x a) .1)
+          (found-at (at-i .i .given .1) (at-called .called .ensures u rd a) .1)
           (omega (arith, at-then1 .if1 .taken))),
     )
 
@@ -624,13 +649,8 @@ eval-call-root-requires : (t : ℕ) → eval-call-lts.Need-root-requires (eval-c
 eval-call-root-requires t c κs =
     let at-i = c .before .before in
     let at-called = at-i .before .before in
-    let at-start = at-called .before .before .before .before .before .before .before .before .before in
-    found-at
-    (at-i .i .given .1)
-    (at-called .called .ensures
-    (at-start .pre .1 .0 .layout .0)
-    (at-start .pre .1 .0 .layout .1)
-    (at-start .pre .1 .0 .node)) .0
+    let ready = call-node t (at-called .before .before .before .before) in
+    found-at (at-i .i .given .1) (at-called .called .ensures (ready .layout .0) (ready .layout .1) (ready .node)) .0
 
 -- eval_call, where the root of the called type was found: the places before it.
 abbrev AtRoot : ℕ → Type 0
@@ -648,16 +668,27 @@ at-called t r = at-i t r .before .before
 abbrev at-enum-told : (t : ℕ) → AtRoot t → eval-call-lts.After-enum-told (eval-call-with t) (eval-call-at t) eval-call.Post
 at-enum-told t r = at-called t r .before .before
 
-abbrev at-collect-arguments : (t : ℕ) → AtRoot t → eval-call-lts.After-collect-arguments (eval-call-with t) (eval-call-at t) eval-call.Post
-at-collect-arguments t r = at-enum-told t r .before .before
+abbrev collected : (t : ℕ) → AtRoot t → Collected t
+collected t r = at-enum-told t r .before .before
 
 abbrev at-start : (t : ℕ) → AtRoot t → eval-call-lts.Start (eval-call-with t) (eval-call-at t) eval-call.Post
-at-start t r = at-collect-arguments t r .before .before .before .before .before
+at-start t r = at-call t (collected t r)
+
+-- the words of then
+abbrev words-then : (t : ℕ) → AtRoot t → List ℕ
+words-then t r = collects t (collected t r) .collect-arguments .last .1 .1 .0
 
 -- the call may open
 opening : (t : ℕ) (r : AtRoot t) →
-    Opening (at-start t r .args .s .now) (at-start t r .args .words .now) (at-start t r .args .f) (at-start t r .args .at) (at-i t r .i .given .0 .1 .0)
-opening t r = call-opens (at-start t r .pre .1 .0) (at-i t r .i .given .1) (at-called t r .called .ensures) (at-else1 t r .if1 .left)
+    Opening (at-start t r .args .s .now) (words-then t r) (at-start t r .args .f) (at-start t r .args .at) (at-i t r .i .given .0 .1 .0)
+opening t r = call-opens (call-node t (collected t r)) (at-i t r .i .given .1) (at-called t r .called .ensures) (at-else1 t r .if1 .left)
+
+-- the arguments, over the words of then
+arguments : (t : ℕ) (r : AtRoot t) (p : ℕ) (γ : ParamMap) →
+    Context (at-start t r .args .s .now) (at-start t r .args .values .now) (at-start t r .args .root .block) (at-start t r .args .root .len) (words-then t r) (at-start t r .args .f .depth) γ →
+    (a : Accepted (at-start t r .args .s .now) 128 144 (at-start t r .args .at)) → Bound p γ (argumentsOf (tree a)) (collects t (collected t r) .collect-arguments .result)
+arguments t r =
+    bound-now (at-start t r .pre .1 .0) (collected t r .before .words .given) (collects t (collected t r) .collect-arguments .ensures .1) (collects t (collected t r) .collect-arguments .ensures .0)
 
 eval-call-mul-words : (t : ℕ) → eval-call-lts.Need-mul-words (eval-call-with t) (eval-call-at t) eval-call.Post
 eval-call-mul-words t c = let o = opening t c in omega arith
@@ -678,7 +709,7 @@ eval-call-eval-node-requires : (t : ℕ) → eval-call-lts.Need-eval-node-requir
 eval-call-eval-node-requires t c κs =
     let r = c .before .before in
     let o = opening t r in
-    let ready = at-start t r .pre .1 .0 in
+    let ready = call-node t (collected t r) in
     let type = found-at (at-i t r .i .given .1) (at-called t r .called .ensures (ready .layout .0) (ready .layout .1) (ready .node)) .0 in (
       omega (arith, at-start t r .pre .0, ready .small, ends (r .root .ensures type .root) .1),
       call-ready _ _
@@ -687,7 +718,7 @@ eval-call-eval-node-requires t c κs =
           (at-start t r .pre .1 .1)
           (at-enum-told t r .enum-told .given .1)
           (at-i t r .i .given .1)
-          (at-collect-arguments t r .collect-arguments .ensures)
+          (arguments t r)
           (at-called t r .called .ensures)
           (r .root .ensures)
           (o .more) ready,
@@ -699,16 +730,15 @@ eval-call-same-length-2 t c = search needs
 eval-call-returns-2 : (t : ℕ) → eval-call-lts.Need-returns-2 (eval-call-with t) (eval-call-at t) eval-call.Post
 eval-call-returns-2 t c =
     let at-q = c .before .before .before in
-    let at-collect-arguments = at-q .before .before in
-    let at-start = at-collect-arguments .before .before .before .before .before in (
-      (λ i h. refl),
-      λ γ x t rd a. tells-as
+    let r = at-q .before .before in (
+      call-kept t r,
+      λ γ x u rd a. tells-as
           (c .refused .ensures)
           (call-lacks
-          (at-start .pre .1 .1) _
-          (layoutOf t) _ γ a
+          (at-call t r .pre .1 .1) _
+          (layoutOf u) _ γ a
           (at-q .q .given .1)
-          (at-collect-arguments .collect-arguments .ensures _ γ x a)),
+          (collects t r .collect-arguments .ensures .0 _ γ x a)),
     )
 
 eval-call-same-length-3 : (t : ℕ) → eval-call-lts.Need-same-length-3 (eval-call-with t) (eval-call-at t) eval-call.Post
@@ -719,44 +749,47 @@ eval-call-returns-3 t c =
     let at-enum-told2 = c .before .before in
     let at-called = at-enum-told2 .before .before in
     let at-enum-told = at-called .before .before in
-    let at-collect-arguments = at-enum-told .before .before in
-    let at-start = at-collect-arguments .before .before .before .before .before in (
-      (λ i h. refl),
-      λ γ x t rd a. tells-as
+    let r = at-enum-told .before .before in (
+      call-kept t r,
+      λ γ x u rd a. tells-as
           (c .refused2 .ensures)
           (call-unknown
-          (at-start .pre .1 .1) _
-          (layoutOf t) _ γ a
+          (at-call t r .pre .1 .1) _
+          (layoutOf u) _ γ a
           (bound-all
           (at-enum-told .enum-told .given .1)
-          (at-collect-arguments .collect-arguments .ensures _ γ x a) .1)
+          (collects t r .collect-arguments .ensures .0 _ γ x a) .1)
           (at-enum-told2 .enum-told2 .given .1)
-          (at-called .called .ensures t rd a)),
+          (at-called .called .ensures u rd a)),
     )
 
 eval-call-same-length-4 : (t : ℕ) → eval-call-lts.Need-same-length-4 (eval-call-with t) (eval-call-at t) eval-call.Post
 eval-call-same-length-4 t c =
     let r = c .before .before .before .before .before in
-    c .before .words .given ∙ length-set (at-start t r .args .words .now) (at-start t r .args .f .depth) _
+    c .before .words2 .given ∙ length-set (words-then t r) (at-start t r .args .f .depth) _ ∙ collected t r .before .words .given
 
 eval-call-returns-4 : (t : ℕ) → eval-call-lts.Need-returns-4 (eval-call-with t) (eval-call-at t) eval-call.Post
 eval-call-returns-4 t c =
     let at-eval-node = c .before .before in
     let r = at-eval-node .before .before .before in
     let o = opening t r in (
-      λ i h. at-eval-node .eval-node .ensures .0 i (omega arith)
-          ∙ getD-set-other (at-start t r .args .words .now) (at-start t r .args .f .depth) i _ 0 (λ f. absurd (omega arith)),
-      call-answers _ _
+      kept-both
+          (call-kept t (collected t r))
+          (kept-both
+          (kept-set _ _ (o .more) (remembers (call-node t (collected t r))))
+          (kept-fewer (omega arith) (at-eval-node .eval-node .ensures .0))),
+      evaluates-now (at-start t r .pre .1 .0) (collected t r .before .words .given) (collects t (collected t r) .collect-arguments .ensures .1)
+          (call-answers _ _
           (o .word)
           (omega arith) refl
           (at-start t r .pre .1 .1)
           (at-enum-told t r .enum-told .given .1)
           (at-i t r .i .given .1)
-          (at-collect-arguments t r .collect-arguments .ensures)
+          (arguments t r)
           (at-called t r .called .ensures)
           (r .root .ensures)
           (o .more)
-          (at-eval-node .eval-node .ensures .1),
+          (at-eval-node .eval-node .ensures .1)),
     )
 
 eval-kind-add-read2 : (t : ℕ) → eval-kind-lts.Need-add-read2 (eval-kind-with t) (eval-kind-at t) eval-kind.Post
@@ -855,8 +888,9 @@ eval-kind-returns : (t : ℕ) → eval-kind-lts.Need-returns (eval-kind-with t) 
 eval-kind-returns t c =
     let at-of = c .before .before in
     let at-match-keys1 = at-of .before in
-    let at-read2 = at-match-keys1 .before in (
-      (λ i h. refl),
+    let at-read2 = at-match-keys1 .before in
+    let at-start = at-read2 .before .before .before .before in (
+      unchanged (at-start .pre .1),
       λ γ x t rd a. leaf-answers _
           (layoutOf t) _ γ a
           (λ k. tells-as
@@ -865,19 +899,23 @@ eval-kind-returns t c =
     )
 
 eval-kind-returns-2 : (t : ℕ) → eval-kind-lts.Need-returns-2 (eval-kind-with t) (eval-kind-at t) eval-kind.Post
-eval-kind-returns-2 t c = (
-  (λ i h. refl),
-  λ γ x t rd a. leaf-answers _ (layoutOf t) _ γ a (λ k. c .constant .ensures k _ γ a),
-)
+eval-kind-returns-2 t c =
+    let at-read2 = c .before .before .before in
+    let at-start = at-read2 .before .before .before .before in (
+      unchanged (at-start .pre .1),
+      λ γ x t rd a. leaf-answers _ (layoutOf t) _ γ a (λ k. c .constant .ensures k _ γ a),
+    )
 
 eval-kind-same-length : (t : ℕ) → eval-kind-lts.Need-same-length (eval-kind-with t) (eval-kind-at t) eval-kind.Post
 eval-kind-same-length t c = search needs
 
 eval-kind-returns-3 : (t : ℕ) → eval-kind-lts.Need-returns-3 (eval-kind-with t) (eval-kind-at t) eval-kind.Post
-eval-kind-returns-3 t c = (
-  (λ i h. refl),
-  λ γ x t rd a. leaf-answers _ (layoutOf t) _ γ a (λ k. c .field .ensures k γ x a),
-)
+eval-kind-returns-3 t c =
+    let at-field = c .before .before in
+    let at-start = at-field .before .before .before .before .before .before .before .before in (
+      kept-fewer (at-start .pre .1 .calls) (at-field .field .ensures .1),
+      λ γ x t rd a. leaf-answers _ (layoutOf t) _ γ a (λ k. at-field .field .ensures .0 k γ x a),
+    )
 
 eval-kind-same-length-2 : (t : ℕ) → eval-kind-lts.Need-same-length-2 (eval-kind-with t) (eval-kind-at t) eval-kind.Post
 eval-kind-same-length-2 t c = search needs
@@ -906,8 +944,9 @@ eval-kind-returns-6 t c =
 eval-kind-returns-7 : (t : ℕ) → eval-kind-lts.Need-returns-7 (eval-kind-with t) (eval-kind-at t) eval-kind.Post
 eval-kind-returns-7 t c =
     let at-match-keys7 = c .before .before in
-    let at-read2 = at-match-keys7 .before in (
-      (λ i h. refl),
+    let at-read2 = at-match-keys7 .before in
+    let at-start = at-read2 .before .before .before .before in (
+      unchanged (at-start .pre .1),
       λ γ x t rd a. tells-as
           (c .refused .ensures)
           (sum-is
@@ -976,8 +1015,9 @@ eval-operand-constant-requires t c κs =
 
 eval-operand-returns : (t : ℕ) → eval-operand-lts.Need-returns (eval-operand-with t) (eval-operand-at t) eval-operand.Post
 eval-operand-returns t c =
-    let at-unwrapped = c .before .before .before .before in (
-      (λ i h. refl),
+    let at-unwrapped = c .before .before .before .before in
+    let at-start = at-unwrapped .before .before .before .before in (
+      unchanged (at-start .pre .1),
       λ γ x t rd a. unwrapped-is
           (at-unwrapped .unwrapped .ensures) _
           (layoutOf t) _ γ
@@ -1010,6 +1050,24 @@ eval-switch-tag-requires t c κs =
     let at-start = c .before .before .before .before in
     (at-start .pre .1 .0 .node, (at-start .pre .1 .1), at-start .pre .1 .0 .context)
 
+-- eval_switch, where its tag was looked for: the places before it, and what is ready over the words of then.
+abbrev Tagged : ℕ → Type 0
+Tagged t = eval-switch-lts.After-slice-known2 (eval-switch-with t) (eval-switch-at t) eval-switch.Post
+
+abbrev tags : (t : ℕ) → Tagged t → eval-switch-lts.After-tag (eval-switch-with t) (eval-switch-at t) eval-switch.Post
+tags t r = r .before .before
+
+abbrev at-switch : (t : ℕ) → Tagged t → eval-switch-lts.Start (eval-switch-with t) (eval-switch-at t) eval-switch.Post
+at-switch t r = tags t r .before .before .before .before .before
+
+switch-kept : (t : ℕ) (r : Tagged t) →
+    Kept (at-switch t r .args .values .now) (at-switch t r .args .root .block) (at-switch t r .args .f .depth) (at-switch t r .args .words .now) (tags t r .tag .last .1 .1 .0)
+switch-kept t r = kept-now (at-switch t r .pre .1 .0) (r .before .words .given) (tags t r .tag .ensures .1)
+
+switch-node : (t : ℕ) (r : Tagged t) →
+    Ready (at-switch t r .args .s .now) (at-switch t r .args .values .now) (tags t r .tag .last .1 .1 .0) (at-switch t r .args .root) (at-switch t r .args .f) (at-switch t r .args .at)
+switch-node t r = still-ready (at-switch t r .pre .1 .0) (at-switch t r .pre .1 .0 .node) (r .before .words .given) (switch-kept t r)
+
 eval-switch-enum-told : (t : ℕ) → eval-switch-lts.Need-enum-told (eval-switch-with t) (eval-switch-at t) eval-switch.Post
 eval-switch-enum-told t c = search needs
 
@@ -1021,8 +1079,8 @@ eval-switch-enum-known-v t c = search needs
 
 eval-switch-selected-requires : (t : ℕ) → eval-switch-lts.Need-selected-requires (eval-switch-with t) (eval-switch-at t) eval-switch.Post
 eval-switch-selected-requires t c κs =
-    let at-start = c .before .before .before .before .before .before .before .before in
-    (at-start .pre .1 .0 .node, (at-start .pre .1 .1))
+    let at-start = at-switch t (c .before .before .before) in
+    (at-start .pre .1 .0 .node, at-start .pre .1 .1)
 
 eval-switch-enum-known-q : (t : ℕ) → eval-switch-lts.Need-enum-known-q (eval-switch-with t) (eval-switch-at t) eval-switch.Post
 eval-switch-enum-known-q t c = search needs
@@ -1031,20 +1089,10 @@ eval-switch-eval-node-requires : (t : ℕ) → eval-switch-lts.Need-eval-node-re
 eval-switch-eval-node-requires t c κs =
     let at-q = c .before .before .before in
     let at-selected = at-q .before .before in
-    let at-start = at-selected .before .before .before .before .before .before .before .before .before in (
-      omega (
-        arith,
-        at-start .pre .0,
-        picked-node
-            (at-q .q .given .1)
-            (at-selected .selected .ensures (at-start .pre .1 .0 .node)) .1,
-      ),
-      child-ready
-          (at-start .pre .1 .0)
-          (picked-node
-          (at-q .q .given .1)
-          (at-selected .selected .ensures (at-start .pre .1 .0 .node)) .0),
-    )
+    let r = at-selected .before .before .before .before in
+    let ready = switch-node t r in
+    let picked = picked-node (at-q .q .given .1) (at-selected .selected .ensures (ready .node)) in
+    (omega (arith, at-switch t r .pre .0, picked .1), child-ready ready (picked .0))
 
 eval-switch-enum-told-2 : (t : ℕ) → eval-switch-lts.Need-enum-told-2 (eval-switch-with t) (eval-switch-at t) eval-switch.Post
 eval-switch-enum-told-2 t c = search needs
@@ -1061,15 +1109,14 @@ eval-switch-same-length t c = search needs
 eval-switch-returns : (t : ℕ) → eval-switch-lts.Need-returns (eval-switch-with t) (eval-switch-at t) eval-switch.Post
 eval-switch-returns t c =
     let at-enum-told = c .before .before in
-    let at-tag = at-enum-told .before .before in
-    let at-start = at-tag .before .before .before .before .before in (
-      (λ i h. refl),
-      λ γ x t rd a. tells-as
+    let r = at-enum-told .before .before in (
+      switch-kept t r,
+      λ γ x u rd a. tells-as
           (c .refused .ensures)
           (switch-misses
-          (at-start .pre .1 .1) _
-          (layoutOf t) _ γ a
-          (at-tag .tag .ensures γ x a)
+          (at-switch t r .pre .1 .1) _
+          (layoutOf u) _ γ a
+          (tags t r .tag .ensures .0 γ x a)
           (at-enum-told .enum-told .given .1)),
     )
 
@@ -1082,17 +1129,16 @@ eval-switch-returns-2 t c =
     let at-q = at-eval-node .before .before .before .before in
     let at-selected = at-q .before .before in
     let at-v = at-selected .before .before in
-    let at-tag = at-v .before .before in
-    let at-start = at-tag .before .before .before .before .before in (
-      at-eval-node .eval-node .ensures .0,
-      λ γ x t rd a. switch-goes
-          (at-start .pre .1 .1) _
-          (layoutOf t) _ γ a
-          (at-tag .tag .ensures γ x a)
+    let r = at-v .before .before in (
+      kept-both (switch-kept t r) (at-eval-node .eval-node .ensures .0),
+      λ γ x u rd a. switch-goes
+          (at-switch t r .pre .1 .1) _
+          (layoutOf u) _ γ a
+          (tags t r .tag .ensures .0 γ x a)
           (at-v .v .given .1)
           (at-q .q .given .1)
           (at-selected .selected .ensures a)
-          (at-eval-node .eval-node .ensures .1 γ x t rd),
+          (at-eval-node .eval-node .ensures .1 γ (context-now (at-switch t r .pre .1 .0) (r .before .words .given) (tags t r .tag .ensures .1) x) u rd),
     )
 
 eval-switch-same-length-3 : (t : ℕ) → eval-switch-lts.Need-same-length-3 (eval-switch-with t) (eval-switch-at t) eval-switch.Post
@@ -1104,15 +1150,14 @@ eval-switch-returns-3 t c =
     let at-enum-told2 = at-low .before in
     let at-selected = at-enum-told2 .before .before in
     let at-v = at-selected .before .before in
-    let at-tag = at-v .before .before in
-    let at-start = at-tag .before .before .before .before .before in (
-      (λ i h. refl),
-      λ γ x t rd a. tells-as
+    let r = at-v .before .before in (
+      switch-kept t r,
+      λ γ x u rd a. tells-as
           (c .refused2 .ensures)
           (switch-ends
-          (at-start .pre .1 .1) _
-          (layoutOf t) _ γ a
-          (at-tag .tag .ensures γ x a)
+          (at-switch t r .pre .1 .1) _
+          (layoutOf u) _ γ a
+          (tags t r .tag .ensures .0 γ x a)
           (at-v .v .given .1)
           (at-enum-told2 .enum-told2 .given .1)
           (at-selected .selected .ensures a)
