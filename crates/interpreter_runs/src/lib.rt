@@ -27,6 +27,27 @@ pub fn answer(n: usize, layout: &[u8], first: Read, run: &[u8], calls: &mut [u64
     }
 }
 
+// The same with words of its own, as many as where values are remembered.
+fn answer_long(layout: &[u8], first: Read, run: &[u8]) -> Answer
+    requires { ⌜ Holds 8192 (now layout) first ⌝ }
+    ensures { λ r. ⌜ outcomeOf r ≡ validate-run 8192 (now (layout .entry)) (now (run .entry)) ⌝ }
+{
+    let mut words = [0u64; 1168];
+    answer(8192, layout, first, run, &mut words)
+}
+
+// The same with words of its own, one for each call that may be open, and more where the run is long.
+pub fn answer_alone(layout: &[u8], first: Read, run: &[u8]) -> Answer
+    requires { ⌜ Holds 8192 (now layout) first ⌝ }
+    ensures { λ r. ⌜ outcomeOf r ≡ validate-run 8192 (now (layout .entry)) (now (run .entry)) ⌝ }
+{
+    if interpreter_validate::LONG <= run.len() {
+        return answer_long(layout, first, run);
+    }
+    let mut calls = [0u64; 16];
+    answer(8192, layout, first, run, &mut calls)
+}
+
 // Where the run at i ends.
 fn run_end(s: &[u8], i: usize) -> usize
     requires { ⌜ i < length (now s) ⌝ }
@@ -110,7 +131,7 @@ pub fn validate_runs(words: &mut [u64], layout: &[u8], runs: &[u8], answers: &mu
     ensures { λ _. ⌜ now (words .exit) ≡ words-after (now (words .entry)) ⌝ }
 {
     let n = words.len();
-    let most = interpreter_validate::lend(words);
+    let most = interpreter_validate::lend(words, runs.len());
     let first = reader_calls::one_read(n, layout, 256, 160);
     let calls = &mut words[..most];
     let end = answer_all(n, layout, first, runs, calls, answers);

@@ -1,9 +1,11 @@
 -- What a call answers where its questions are answered, with values or with a run; then what a type of an accepted layout comes to, and
 -- where a run has its name, its buffer length and its values.
 use mathlib.Core.Path.{_≡_, refl, sym, subst, _∙_, ap}
-use mathlib.Core.Bool.{Bool}
+use mathlib.Core.Bool.{Bool, true, false, cond}
+use lib.Dec.{ltb}
+use borrow.Author.Tests.{lt-ltb, le-ltb}
 use mathlib.Core.List.{List, [], _∷_, _++_}
-use Prim.Native.Nat.{ℕ, _+_, _-_, _≤_}
+use Prim.Native.Nat.{ℕ, _+_, _-_, _≤_, _<_}
 use native.Mathlib.Omega.{arith}
 use lib.ListN.{length, take, drop, replicate}
 use Rattle.errors.specs.Refusal.{Outcome, done, refused, _>>=_, enough, plain, unread, words-after}
@@ -30,6 +32,7 @@ use Rattle.lookup.specs.declared.Place.the-variants.{At as PlaceAt, Missing as 
 use Rattle.lookup.specs.Found.{TreeFound}
 use Rattle.interpreter.specs.Eval.{ParamMap, eval-within}
 use Rattle.interpreter.specs.Validate.{with-buffer-size, valuesOf, validate-type, validate, validate-run, runOf}
+use Rattle.interpreter_values.specs.Remembered.{Remembered}
 use Rattle.interpreter_context.specs.Context.{Context}
 use Rattle.lookup.proofs.Slices.{slice-is}
 use Rattle.interpreter_leaves.specs.Outcome.{Tells}
@@ -40,7 +43,7 @@ use Rattle.interpreter_eval.specs.Evaluates.{Ready, Evaluates}
 use Rattle.interpreter_eval.proofs.Laws.{found-at, found-none}
 use Rattle.interpreter_validate.specs.declared.Ask.{Ask}
 use Rattle.interpreter_validate.specs.declared.Ask.the-variants as ask
-use Rattle.interpreter_validate.specs.Validator.{kindOf, runFor, runIn, callOf, Asked, outcomeIn, fitted, Located, Given, TypeAnswers, Answers, Called, Lent}
+use Rattle.interpreter_validate.specs.Validator.{kindOf, runFor, runIn, callOf, Asked, outcomeIn, fitted, Located, Given, TypeAnswers, Answers, Called, wordsFor, Lent}
 
 -- ---- a call: values or a run
 
@@ -106,22 +109,43 @@ module _ {a b : Ask} (e : a ≡ b) where
 
 -- ---- the words that are lent for the open calls
 
-module _ {ws us : List ℕ} {k : ℕ} (l : Lent ws us k) where
+-- they are 16 or more, and no more than a call is lent
+words-for : (bytes : ℕ) → (16 ≤ wordsFor bytes) × (wordsFor bytes ≤ 8192)
+unfolding wordsFor
+words-for bytes = go (ltb bytes 4096)
+  where
+    go : (b : Bool) → (16 ≤ cond b 16 1168) × (cond b 16 1168 ≤ 8192)
+    go true = (omega arith, omega arith)
+    go false = (omega arith, omega arith)
+
+-- what the code tests
+pub words-few : (bytes : ℕ) → bytes < 4096 → 16 ≡ wordsFor bytes
+unfolding wordsFor
+words-few bytes h = rw (lt-ltb bytes 4096 h)
+
+pub words-many : (bytes : ℕ) → 4096 ≤ bytes → 1168 ≡ wordsFor bytes
+unfolding wordsFor
+words-many bytes h = rw (le-ltb bytes 4096 h)
+
+module _ {ws : List ℕ} {bytes : ℕ} {us : List ℕ} {k : ℕ} (l : Lent ws bytes us k) where
   -- they are there
   pub lent-within : k ≤ length us
-  lent-within = part-within (length ws) 16 k us (l .zero) (l .least)
+  lent-within = part-within (length ws) (wordsFor bytes) k us (l .zero) (l .least)
 
   -- the first k are k
   pub lent-length : k ≡ length (take k us)
-  lent-length = part-length (length ws) 16 k us (l .zero) (l .least)
+  lent-length = part-length (length ws) (wordsFor bytes) k us (l .zero) (l .least)
 
-  -- where there are enough words, sixteen
+  -- where there are enough words, sixteen or more
   pub lent-room : 8192 ≤ length ws → 16 ≤ length (take k us)
-  lent-room h = part-enough (length ws) 16 k us (l .zero) (l .least) (omega arith)
+  lent-room h =
+      let w = words-for bytes in
+      let e = part-enough (length ws) (wordsFor bytes) k us (l .zero) (l .least) (omega (arith, w .1)) in
+      omega (arith, w .0)
 
   -- as many zeros in their place leave all words zero
   pub lent-clean : {m : ℕ} {zs : List ℕ} → m ≡ length (take k us) → zs ≡ replicate m 0 → zs ++ drop k us ≡ words-after ws
-  lent-clean e c = part-clean (length ws) 16 k us (l .zero) (l .least) (c ∙ ap (λ (n : ℕ). replicate n 0) e)
+  lent-clean e c = part-clean (length ws) (wordsFor bytes) k us (l .zero) (l .least) (c ∙ ap (λ (n : ℕ). replicate n 0) e)
 
 -- ---- a type of an accepted layout
 
@@ -151,28 +175,28 @@ module _ {s : List ℕ} {name : Name} {r : Place} (f : (t : Tree) → readLayout
     type-tree g = found-at e (f (g .layout .0) (g .layout .1)) .0
 
     module _ {q : ℕ} (rooted : (c : Accepted s 161 161 o) → Rooted c q) where
-      -- the root is ready to be evaluated
-      pub root-ready : {v ws : List ℕ} {block : ℕ} (len : ℕ) → Located s v block ws → Ready s v ws (rooted-at block len) (first-frame i) q
-      root-ready len g = record {
+      -- the root is ready to be evaluated, over words that remember nothing
+      pub root-ready : {v ws us : List ℕ} {block : ℕ} (len : ℕ) → Located s v block ws → Remembered v block us → Ready s v us (rooted-at block len) (first-frame i) q
+      root-ready len g m = record {
         node = rooted (type-tree g) .root;
         layout = g .layout;
-        context = (_, Context.root (g .values-read));
+        context = (_, Context.root (g .values-read) m);
         here = λ d e. absurd (omega arith);
         calls = omega arith;
-        room = g .room;
+        room = m .room;
         small = g .small;
       }
 
       -- what it comes to, held against the buffer length, is the answer
-      pub type-goes : {v ws : List ℕ} {block len : ℕ} {ok : Bool} {before out : List ℕ} (z : Answer) →
+      pub type-goes : {v ws : List ℕ} {block len : ℕ} {ok : Bool} {before out : List ℕ} (z : Answer) → Remembered v block ws →
           Evaluates s v ws (rooted-at block len) (first-frame i) q ok before out → outcomeOf z ≡ fitted i len (outcomeIn ok out) → TypeAnswers s name v block len z
       unfolding validate-type fitted
-      type-goes {len} z ev fit t rd a =
+      type-goes {len} z m ev fit t rd a =
           let c = found-at e (f t rd) in
           let k = rooted (c .0) in
           let γ : ParamMap = with-buffer-size len (valuesOf (tree a)) in
           fit
-          ∙ ap (fitted i len) (tells-one _ (ev γ (Context.root a) t rd (k .root)) ∙ ap (eval-within 16 (layoutOf t) i γ) (sym (k .is)))
+          ∙ ap (fitted i len) (tells-one _ (ev γ (Context.root a m) t rd (k .root)) ∙ ap (eval-within 16 (layoutOf t) i γ) (sym (k .is)))
           ∙ sym (bound-done _ (c .1))
 
 -- ---- values, which are the whole of their input

@@ -1,7 +1,8 @@
 -- What is asked of a layout: a type with values or a run, told once for both. What evaluating asks for; 25, at the end.
 use Prim.Native.Nat.{ℕ, _≤_}
 use mathlib.Core.Path.{_≡_}
-use mathlib.Core.Bool.{Bool, true, false}
+use mathlib.Core.Bool.{Bool, true, false, cond}
+use lib.Dec.{ltb}
 use mathlib.Core.List.{List}
 use lib.ListN.{length, getD}
 use Rattle.errors.specs.Refusal.{Outcome, done, refused, _>>=_, words-after}
@@ -79,7 +80,19 @@ Answers a s name other r = (t : Tree) → readLayout s ≡ done t → (u : Tree)
 abbrev pub Called : Ask → List ℕ → Name → List ℕ → Read → List ℕ → Answer → Type 0
 Called a s name other judged words r = (n : ℕ) → Asked a s other judged words n → outcomeOf r ≡ callOf a n s name other
 
--- all words are zero, and the first k of them, of which there are 16 if there are so many, are lent for the open calls
-pub record Lent (ws us : List ℕ) (k : ℕ) : Type 0 where
+-- the questions of a call with so many words are answered
+abbrev pub Judged : Ask → List ℕ → List ℕ → Read → ℕ → Type 0
+Judged a s other judged n = passedOf judged ≡ passed (judge n s other (kindOf a))
+
+-- what the code then answers, with words of its own, is what the call does
+abbrev pub CalledAlone : Ask → List ℕ → Name → List ℕ → Read → Answer → Type 0
+CalledAlone a s name other judged r = (n : ℕ) → Judged a s other judged n → outcomeOf r ≡ callOf a n s name other
+
+-- how many words evaluating may use with so many bytes of values
+unfoldable pub wordsFor : ℕ → ℕ
+wordsFor bytes = cond (ltb bytes 4096) 16 1168
+
+-- all words are zero, and the first k of them, which are as many as evaluating may use if there are so many, are lent for it
+pub record Lent (ws : List ℕ) (bytes : ℕ) (us : List ℕ) (k : ℕ) : Type 0 where
   pub zero : us ≡ words-after ws
-  pub least : Least (length ws) 16 k
+  pub least : Least (length ws) (wordsFor bytes) k

@@ -15,7 +15,10 @@ ghost use Rattle.errors.specs.Meaning.{outcomeOf};
 ghost use Rattle.value.specs.Number.{numberOf};
 ghost use Rattle.interpreter.specs.Validate.{fits-buffer, validate, validate-run};
 ghost use Rattle.interpreter_validate.specs.declared.Ask.the-variants.{Values, Run};
-ghost use Rattle.interpreter_validate.specs.Validator.{kindOf, callOf, Asked, outcomeIn, fitted, Located, Given, TypeAnswers, Answers, Called, Lent};
+ghost use Rattle.interpreter_validate.specs.Validator.{kindOf, callOf, Asked, outcomeIn, fitted, Located, Given, TypeAnswers, Answers, Called, Judged, CalledAlone, wordsFor, Lent};
+
+// From how many bytes on values or a run are long, so that it may pay to remember where values stand.
+pub const LONG: usize = 4096;
 
 // What is asked of a layout: the count of a type whose name is handed over, with values and a buffer length; or that of a run, which
 // has all three.
@@ -81,6 +84,7 @@ fn evaluated_type(
         Place::Missing => Answer::Refused(Refusal::plain(20)),
         Place::At(i, at) => {
             let root = interpreter_leaves::root(layout, at);
+            interpreter_values::forget(words);
             let mut out = [0, 0, 0, 0];
             let context = Root { block, len };
             let f = Frame { depth: 0, place: i };
@@ -153,13 +157,24 @@ fn counted_for(
     }
 }
 
-// Clears the words. How many of them, from the first on, are lent for the open calls: one for each that may be open.
-pub fn lend(words: &mut [u64]) -> usize
-    ensures { λ r. ⌜ Lent (now (words .entry)) (now (words .exit)) r ⌝ }
+// How many words evaluating may use where values or a run have so many bytes: one for each call that may be open, and where there are many
+// bytes, those in which it remembers values.
+fn needed(bytes: usize) -> usize
+    ensures { λ r. ⌜ r ≡ wordsFor bytes ⌝ }
+{
+    if bytes < LONG {
+        return 16;
+    }
+    interpreter_values::WORDS
+}
+
+// Clears the words. How many of them, from the first on, are lent for evaluating, with so many bytes of values.
+pub fn lend(words: &mut [u64], bytes: usize) -> usize
+    ensures { λ r. ⌜ Lent (now (words .entry)) bytes (now (words .exit)) r ⌝ }
 {
     let n = words.len();
     wire::clear_words(words);
-    reader_calls::used(n, 16)
+    reader_calls::used(n, needed(bytes))
 }
 
 // The answer to a call with the caller's words.
@@ -168,7 +183,7 @@ fn answer_with(words: &mut [u64], layout: &[u8], name: &[u8], other: &[u8], ask:
     ensures { λ _. ⌜ now (words .exit) ≡ words-after (now (words .entry)) ⌝ }
 {
     let n = words.len();
-    let most = lend(words);
+    let most = lend(words, other.len());
     let judged = reader_calls::both_read(n, layout, other, kind(ask));
     let calls = &mut words[..most];
     let a = counted_for(ask, judged, layout, name, other, calls);
@@ -190,12 +205,32 @@ pub fn validate_run(words: &mut [u64], layout: &[u8], run: &[u8]) -> Answer
     answer_with(words, layout, run, run, Ask::Run)
 }
 
-// The same with working words of its own, of which it needs one for each call that may be open: the caller gives none, so that 19 is
-// never answered and no word has to be cleared.
+// The same as `counted` and `counted_run` with words of their own, as many as where values are remembered.
+fn counted_long(judged: Read, layout: &[u8], name: &[u8], values: &[u8], len: u64) -> Answer
+    requires { ⌜ ((n : ℕ) × Judged (Values len) (now layout) (now values) judged n) ⌝ }
+    ensures { λ r. ⌜ CalledAlone (Values len) (now (layout .entry)) (now (name .entry)) (now (values .entry)) judged r ⌝ }
+{
+    let mut words = [0u64; 1168];
+    counted(judged, layout, name, values, len, &mut words)
+}
+
+fn counted_run_long(judged: Read, layout: &[u8], run: &[u8]) -> Answer
+    requires { ⌜ ((n : ℕ) × Judged Run (now layout) (now run) judged n) ⌝ }
+    ensures { λ r. ⌜ CalledAlone Run (now (layout .entry)) (now (run .entry)) (now (run .entry)) judged r ⌝ }
+{
+    let mut words = [0u64; 1168];
+    counted_run(judged, layout, run, &mut words)
+}
+
+// The same as `validate` and `validate_run` with working words of their own, of which they need one for each call that may be open, and more
+// where values are remembered: the caller gives none, so that 19 is never answered and no word has to be cleared.
 pub fn length_of(layout: &[u8], name: &[u8], values: &[u8], len: u64) -> Answer
     ensures { λ r. ⌜ outcomeOf r ≡ validate 8192 (now (layout .entry)) (now (name .entry)) (now (values .entry)) len ⌝ }
 {
     let judged = reader_calls::both_read(8192, layout, values, 192);
+    if LONG <= values.len() {
+        return counted_long(judged, layout, name, values, len);
+    }
     let mut calls = [0u64; 16];
     counted(judged, layout, name, values, len, &mut calls)
 }
@@ -204,6 +239,9 @@ pub fn length_of_run(layout: &[u8], run: &[u8]) -> Answer
     ensures { λ r. ⌜ outcomeOf r ≡ validate-run 8192 (now (layout .entry)) (now (run .entry)) ⌝ }
 {
     let judged = reader_calls::both_read(8192, layout, run, 193);
+    if LONG <= run.len() {
+        return counted_run_long(judged, layout, run);
+    }
     let mut calls = [0u64; 16];
     counted_run(judged, layout, run, &mut calls)
 }

@@ -142,8 +142,7 @@ pub fn answer_at(run: u64, layout: &[u8], block: &[u8], out: &mut [u8], at: usiz
     ensures { λ r. ⌜ Answered (answer-lines run (run-length (now (block .entry))) (validate-run words (now (layout .entry)) (now (block .entry)))) (now (out .entry)) at (now (out .exit)) r ⌝ }
     ensures { λ r. ⌜ bytesOf r ≤ at + 84 ⌝ }
 {
-    let mut calls = [0u64; 16];
-    match interpreter_runs::answer(8192, layout, Read::Ok(0), block, &mut calls) {
+    match interpreter_runs::answer_alone(layout, Read::Ok(0), block) {
         Answer::Count(count) => {
             let n = count.low();
             let len = run_length(block);

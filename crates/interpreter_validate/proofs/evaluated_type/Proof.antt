@@ -1,4 +1,4 @@
--- `evaluated_type` meets its contract: the type is looked up, its root evaluated with all calls left, and its count held against the buffer
+-- `evaluated_type` meets its contract: the type is looked up, its root evaluated with all calls left and no value remembered, and its count held against the buffer
 -- length.
 use Rattle.interpreter_validate.proofs.Laws.{type-unknown, type-tree, root-ready, type-goes}
 use native.Mathlib.Omega.{arith}
@@ -26,7 +26,8 @@ root-requires c κs =
 
 eval-node-requires : tie.Need-eval-node-requires
 eval-node-requires c κs =
-    let at-root = c .before .before in
+    let at-forget = c .before .before .before .before in
+    let at-root = at-forget .before .before in
     let at-i = at-root .before .before in
     let at-lookup-type = at-i .before .before in
     let at-start = at-lookup-type .before .before .before .before .before in
@@ -35,6 +36,12 @@ eval-node-requires c κs =
     (at-i .i .given .1)
     (at-root .root .ensures) _
     (at-start .pre)
+    (at-forget .forget .ensures _ _)
+
+forget-requires : tie.Need-forget-requires
+forget-requires c κs =
+    let at-start = c .before .before .before .before .before .before .before .before .before .before in
+    at-start .pre .room
 
 outcome-requires : tie.Need-outcome-requires
 outcome-requires c κs = search needs
@@ -54,7 +61,8 @@ same-length c = search needs
 returns-2 : tie.Need-returns-2
 returns-2 c =
     let at-eval-node = c .before .before .before .before in
-    let at-root = at-eval-node .before .before .before in
+    let at-forget = at-eval-node .before .before .before .before .before in
+    let at-root = at-forget .before .before in
     let at-i = at-root .before .before in
     let at-lookup-type = at-i .before .before in (
       omega arith,
@@ -63,6 +71,7 @@ returns-2 c =
           (at-i .i .given .1)
           (at-root .root .ensures)
           (c .outcome .result)
+          (at-forget .forget .ensures _ _)
           (at-eval-node .eval-node .ensures .1)
           (c .outcome .ensures),
     )
@@ -76,6 +85,7 @@ evaluated-type-spec =
     plain-requires
     enum-known-i
     root-requires
+    forget-requires
     eval-node-requires
     outcome-requires
     returns
