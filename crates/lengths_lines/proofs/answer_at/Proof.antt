@@ -5,11 +5,8 @@ use borrow.Author.Needs.{needs}
 use Rattle.lengths_lines.proofs.answer_at.Statement.{statement}
 use Rattle.lengths_lines.proofs.answer_at.Tie as tie
 
-slice-aggregate-answer : tie.Need-slice-aggregate-answer
-slice-aggregate-answer c = search needs
-
-answer-requires : tie.Need-answer-requires
-answer-requires c κs = (layout-passed (c .before .before .before .before .pre .0), λ h. omega arith)
+answer-alone-requires : tie.Need-answer-alone-requires
+answer-alone-requires c κs = layout-passed (c .before .before .before .pre .0)
 
 enum-known-count : tie.Need-enum-known-count
 enum-known-count c = search needs
@@ -21,18 +18,18 @@ low-requires c κs = search needs
 abbrev at-count : tie.After-low → tie.After-count
 at-count r = r .before .before
 
-abbrev at-answer : tie.After-low → tie.After-answer
-at-answer r = at-count r .before .before .before
+abbrev at-answer : tie.After-low → tie.After-answer-alone
+at-answer r = at-count r .before .before
 
 run-length-requires : tie.Need-run-length-requires
 run-length-requires c κs =
-    run-accepted _ _ _ (at-answer c .answer .ensures .1) (at-count c .count .given .1) (c .low .ensures)
+    run-accepted _ _ _ (at-answer c .answer-alone .ensures) (at-count c .count .given .1) (c .low .ensures)
 
 fill-requires : tie.Need-fill-requires
 fill-requires c κs =
     let at-low = c .before in
     run-within _ _ _
-    (at-answer at-low .answer .ensures .1)
+    (at-answer at-low .answer-alone .ensures)
     (at-count at-low .count .given .1)
     (at-low .low .ensures)
     (c .run-length .ensures)
@@ -54,9 +51,9 @@ returns c =
     let at-put-stopped = c .before .before in
     let at-then1 = at-put-stopped .before .before in
     let at-r = at-then1 .before .before .before in
-    let at-answer = at-r .before .before .before in (
+    let at-answer = at-r .before .before in (
       answers-stop _ _ _
-          (at-answer .answer .ensures .1)
+          (at-answer .answer-alone .ensures)
           (at-r .r .given .1) _
           (at-then1 .if1 .taken)
           (at-put-stopped .put-stopped .ensures .0),
@@ -79,7 +76,7 @@ returns-2 c =
     let at-run-length = at-fill .before in
     let at-low = at-run-length .before in (
       answers-count _ _ _
-          (at-answer at-low .answer .ensures .1)
+          (at-answer at-low .answer-alone .ensures)
           (at-count at-low .count .given .1)
           (at-low .low .ensures) _
           (at-run-length .run-length .ensures)
@@ -97,9 +94,9 @@ returns-3 c =
     let at-low2 = at-put-line2 .before in
     let at-else1 = at-low2 .before .before in
     let at-r = at-else1 .before .before .before in
-    let at-answer = at-r .before .before .before in (
+    let at-answer = at-r .before .before in (
       answers-refused _ _ _
-          (at-answer .answer .ensures .1)
+          (at-answer .answer-alone .ensures)
           (at-r .r .given .1) _
           (at-else1 .if1 .left)
           (at-low2 .low2 .ensures)
@@ -111,8 +108,7 @@ pub answer-at-spec : {M : Type 1} → statement M
 answer-at-spec =
     tie.close
     (tie.spec
-    slice-aggregate-answer
-    answer-requires
+    answer-alone-requires
     enum-known-count
     low-requires
     run-length-requires
