@@ -73,6 +73,9 @@ static void close_block(struct bytes *b, size_t at)
 /* Types that add nothing but their number: a reader may keep more of many names than of a few. */
 #define OTHERS 40
 
+/* As many values as a block may have beside t; they are longer than 4,096 bytes. */
+#define MANY_VALUES 511
+
 /* How the nodes of a layout are nested. */
 enum nesting { ALIGNED, ADDED_LEFT, ADDED_RIGHT, IN_DEFAULT, IN_CASE, NESTINGS };
 
@@ -169,8 +172,8 @@ static void make_layout(struct bytes *b, enum nesting how, int blocks)
     close_block(b, layout);
 }
 
-/* Values, or a run of A with them: t is 0. */
-static void make_values(struct bytes *b, int in_run)
+/* Values, or a run of A with them: t is 0, and so many others stand behind it. With many, a call may remember where they stand. */
+static void make_values(struct bytes *b, int in_run, int others)
 {
     b->len = 0;
     const size_t at = in_run ? open_block(b, 193) : 0;
@@ -179,9 +182,15 @@ static void make_values(struct bytes *b, int in_run)
         put(b, 100, 8);
     }
     const size_t block = open_block(b, 192);
-    put(b, 1, 2);
+    put(b, 1 + (uint64_t)others, 2);
     put_name(b, "t");
     put(b, 0, 8);
+    for (int i = 0; i < others; i++) {
+        char other[16];
+        snprintf(other, sizeof other, "u%03d", i);
+        put_name(b, other);
+        put(b, 0, 8);
+    }
     close_block(b, block);
     if (in_run)
         close_block(b, at);
@@ -525,9 +534,11 @@ int main(int argc, char **argv)
         fprintf(stderr, "usage: stack EXAMPLE [--tell]\n");
         return 2;
     }
-    make_values(&values, 0);
-    make_values(&run, 1);
-    nested_layouts();
+    for (int others = 0; others <= MANY_VALUES; others += MANY_VALUES) {
+        make_values(&values, 0, others);
+        make_values(&run, 1, others);
+        nested_layouts();
+    }
     nested_sets();
     example(argv[1]);
     for (int which = 0; which < CALLS && tell; which++)

@@ -119,14 +119,7 @@ pub fn field(
 }
 
 // The tag of a Switch node.
-pub fn tag(
-    s: &[u8],
-    values: &[u8],
-    words: &mut [u64],
-    root: Root,
-    f: Frame,
-    at: usize,
-) -> Held
+pub fn tag(s: &[u8], values: &[u8], words: &mut [u64], root: Root, f: Frame, at: usize) -> Held
     requires { ⌜ Accepted (now s) 128 144 at × (le2 (now s) (at + 4) ≡ 132) × ((γ : ParamMap) × Context (now s) (now values) (root .block) (root .len) (now words) (f .depth) γ) ⌝ }
     ensures { λ r. ⌜ ((γ : ParamMap) → Context (now (s .entry)) (now (values .entry)) (root .block) (root .len) (now (words .entry)) (f .depth) γ → (a : Accepted (now (s .entry)) 128 144 at) → foundIn r ≡ find (text (part 2 (body (tree a)))) γ) ⌝ }
     ensures { λ _. ⌜ Kept (now (values .entry)) (root .block) 16 (now (words .entry)) (now (words .exit)) ⌝ }

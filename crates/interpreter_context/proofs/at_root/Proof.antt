@@ -65,12 +65,12 @@ returns c =
     let at-enum-told = at-then1 .before .before .before in
     let at-value = at-enum-told .before .before .before .before in (
       λ a. held-length (at-start at-value .args .root .len)
-      (at-value .value .ensures .1 .0 a) _
-      (at-enum-told .enum-told .given .1)
-      (at-then1 .before .same-name .ensures)
-      (at-then1 .if1 .taken)
-      (c .of .ensures)
-      ∙ same-name-found at-value (valuesOf (tree a)),
+          (at-value .value .ensures .1 .0 a) _
+          (at-enum-told .enum-told .given .1)
+          (at-then1 .before .same-name .ensures)
+          (at-then1 .if1 .taken)
+          (c .of .ensures)
+          ∙ same-name-found at-value (valuesOf (tree a)),
       at-value .value .ensures .1 .1,
     )
 
@@ -79,7 +79,7 @@ returns-2 c =
     let at-o = c .before .before in
     let at-value = at-o .before .before .before .before in (
       λ a. held-value (at-start at-value .args .root .len) (at-value .value .ensures .1 .0 a) _ (at-o .o .given .1) (c .value-at .ensures)
-      ∙ same-name-found at-value (valuesOf (tree a)),
+          ∙ same-name-found at-value (valuesOf (tree a)),
       at-value .value .ensures .1 .1,
     )
 
@@ -88,11 +88,11 @@ returns-3 c =
     let at-enum-told = c .before .before .before in
     let at-value = at-enum-told .before .before .before .before in (
       λ a. held-absent (at-start at-value .args .root .len)
-      (at-value .value .ensures .1 .0 a)
-      (at-enum-told .enum-told .given .1)
-      (c .before .same-name .ensures)
-      (c .if1 .left)
-      ∙ same-name-found at-value (valuesOf (tree a)),
+          (at-value .value .ensures .1 .0 a)
+          (at-enum-told .enum-told .given .1)
+          (c .before .same-name .ensures)
+          (c .if1 .left)
+          ∙ same-name-found at-value (valuesOf (tree a)),
       at-value .value .ensures .1 .1,
     )
 

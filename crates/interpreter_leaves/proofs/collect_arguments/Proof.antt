@@ -148,13 +148,13 @@ returns c =
     let at-loop = in-loop .before in
     let inv = at-loop .loop .inv in (
       λ pl γ x a. of-call a (arguments at-loop a)
-      (lacking-one
-      (in-loop .loop-test .taken)
-      (inv .collecting)
-      (at-read22 .read22 .ensures .0)
-      (λ γ x. at-find .find .ensures .0 γ (still inv (at-start at-loop .pre .3) x))
-      (c .enum-told .given .1) pl γ x
-      (arguments at-loop a .list)),
+          (lacking-one
+          (in-loop .loop-test .taken)
+          (inv .collecting)
+          (at-read22 .read22 .ensures .0)
+          (λ γ x. at-find .find .ensures .0 γ (still inv (at-start at-loop .pre .3) x))
+          (c .enum-told .given .1) pl γ x
+          (arguments at-loop a .list)),
       kept-both (inv .kept) (at-find .find .ensures .1),
     )
 

@@ -39,12 +39,12 @@ returns c =
     let at-find = at-v .before .before .before .before in
     let at-name = at-field-name at-find in (
       λ k γ x a. tells-as
-      (c .counted .ensures)
-      (ref-found _
-      (at-name .field-name .ensures)
-      (at-start (at-name .before) .pre .1)
-      (at-find .find .ensures .0) k γ x a
-      (at-v .v .given .1)),
+          (c .counted .ensures)
+          (ref-found _
+          (at-name .field-name .ensures)
+          (at-start (at-name .before) .pre .1)
+          (at-find .find .ensures .0) k γ x a
+          (at-v .v .given .1)),
       at-find .find .ensures .1,
     )
 
@@ -57,12 +57,12 @@ returns-2 c =
     let at-find = at-enum-told .before .before .before .before in
     let at-name = at-field-name at-find in (
       λ k γ x a. tells-as
-      (c .refused .ensures)
-      (ref-absent _
-      (at-name .field-name .ensures)
-      (at-start (at-name .before) .pre .1)
-      (at-find .find .ensures .0) k γ x a
-      (at-enum-told .enum-told .given .1)),
+          (c .refused .ensures)
+          (ref-absent _
+          (at-name .field-name .ensures)
+          (at-start (at-name .before) .pre .1)
+          (at-find .find .ensures .0) k γ x a
+          (at-enum-told .enum-told .given .1)),
       at-find .find .ensures .1,
     )
 
