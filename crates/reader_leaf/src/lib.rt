@@ -14,7 +14,7 @@ ghost use Rattle.blocks.specs.Read.{Earlier, inOrder, inType, readText, readKey
 ghost use Rattle.reader_leaf.specs.Answer.{forget, headOf, countOf, announced, readEntry, Inside, TextIn, EntryIn, WideIn, HeadIn, CountIn};
 ghost use Rattle.marks.specs.Table.{Linked};
 ghost use Rattle.reader_leaf.specs.declared.Read.the-variants.{Ok, Refused};
-ghost use Rattle.reader_leaf.specs.Mark.{shortOf, step, markOf, markIn};
+ghost use Rattle.reader_leaf.specs.Mark.{markIn};
 ghost use Rattle.reader_leaf.specs.Seen.{nameAt, NameIn, LastIn, lastName, behind, namesBefore, Fresh, Stand, Valid, Here, earlierOf, seenPaths, Plain, grownOf, Grows};
 
 // The offset behind what was read, or number and offset of a refusal.
@@ -261,55 +261,6 @@ fn fresh_compared(s: &[u8], first: usize, n: usize, end: usize) -> usize
     count
 }
 
-// A name of less than eight bytes as a number: its first bytes and its last.
-fn short(name: &[u8]) -> usize
-    requires { ⌜ length (now name) < 8 ⌝ }
-    ensures { λ r. ⌜ r ≡ shortOf (now (name .entry)) ⌝ }
-{
-    let n = name.len();
-    if 4 <= n {
-        return wire::read4(name, 0) + 4294967296 * wire::read4(name, n - 4);
-    }
-    if 2 <= n {
-        return wire::read2(name, 0) + 4294967296 * wire::read2(name, n - 2);
-    }
-    if n == 1 {
-        return wire::wide(name[0]);
-    }
-    0
-}
-
-// A mark with eight bytes more.
-fn step(h: usize, x: usize) -> usize
-    ensures { λ r. ⌜ r ≡ step h x ⌝ }
-{
-    let a = 4294967296 + h % 4294967296;
-    let b = x % 2147483648;
-    a * b + h / 4294967296 + x / 4294967296
-}
-
-// The mark of a name: eight bytes at each step, the steps so far apart; its last eight, which may be taken twice, and its length. The steps go
-// by turns from two marks, so that a step need not wait for the one before it.
-fn mark(name: &[u8], apart: usize) -> u64
-    requires { ⌜ (0 < apart) × (apart ≤ 32) ⌝ }
-    ensures { λ r. ⌜ r ≡ markOf apart (now (name .entry)) ⌝ }
-{
-    let n = name.len();
-    let mut h = 0;
-    let mut g = 1640531527 + n;
-    if n < 8 {
-        return step(step(h, short(name)), g) as u64;
-    }
-    let mut i = 0;
-    while i + 8 < n {
-        let next = step(h, wire::read8(name, i));
-        h = g;
-        g = next;
-        i += apart;
-    }
-    step(step(h, wire::read8(name, n - 8)), g) as u64
-}
-
 // Whether none of these blocks, all of whose marks are in the table, begins with the name at `at`. Its mark is entered behind them. Where one
 // of them may have its mark, it is compared only if all bytes are in the marks.
 fn is_new(s: &[u8], table: &mut [u64], apart: usize, first: usize, count: usize, at: usize) -> bool
@@ -317,7 +268,7 @@ fn is_new(s: &[u8], table: &mut [u64], apart: usize, first: usize, count: usize,
     ensures { λ r. ⌜ (r ≡ true → among (nameAt (now (s .entry)) at) (namesBefore (now (s .entry)) first count) ≡ false) ⌝ }
     ensures { λ _. ⌜ (at ≡ behind (now (s .entry)) first count + 6 → Linked (now (table .exit)) (markIn (now (s .entry)) apart first) (count + 1)) ⌝ }
 {
-    let m = mark(wire::name_at(s, at), apart);
+    let m = name_marks::mark(wire::name_at(s, at), apart);
     let found = marks::last(table, m);
     marks::link(table, count, m);
     if found == 0 {

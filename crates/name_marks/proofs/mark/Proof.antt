@@ -1,12 +1,12 @@
--- `reader_leaf::mark` meets its contract. The loop's invariant: the steps before i have made h and g. Assumes nothing.
+-- `name_marks::mark` meets its contract. The loop's invariant: the steps before i have made h and g. Assumes nothing.
 use Prim.Native.Nat.{_-_, _+_, _≤_, _<_}
 use mathlib.Core.Path.{_≡_}
 use native.Mathlib.Omega.{arith}
 use borrow.Author.Needs.{needs}
 use lib.ListN.{length}
-use Rattle.reader_leaf.proofs.Distinct.{mark-short, Marked, marked-none, marked-more, mark-long}
-use Rattle.reader_leaf.proofs.mark.Statement.{statement}
-use Rattle.reader_leaf.proofs.mark.Tie as tie
+use Rattle.name_marks.proofs.Marks.{mark-short, Marked, marked-none, marked-more, mark-long}
+use Rattle.name_marks.proofs.mark.Statement.{statement}
+use Rattle.name_marks.proofs.mark.Tie as tie
 
 abbrev Inv-loop : tie.InvT-loop
 Inv-loop name apart n h₀ g₀ i₀ h g i = Marked name apart i h g × (i < n + 32) × (n ≡ length name) × (8 ≤ n)

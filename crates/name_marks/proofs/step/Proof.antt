@@ -1,10 +1,10 @@
--- `reader_leaf::step` meets its contract: the product is bounded by its factors, so that no sum passes 2 ^ 64. Assumes nothing.
+-- `name_marks::step` meets its contract: the product is bounded by its factors, so that no sum passes 2 ^ 64. Assumes nothing.
 use mathlib.Core.Path.{refl}
 use native.Mathlib.Omega.{arith}
-use Rattle.reader_leaf.specs.Mark.{step}
-use Rattle.reader_leaf.proofs.Distinct.{step-product}
-use Rattle.reader_leaf.proofs.step.Statement.{statement}
-use Rattle.reader_leaf.proofs.step.Tie as tie
+use Rattle.name_marks.specs.Mark.{step}
+use Rattle.name_marks.proofs.Marks.{step-product}
+use Rattle.name_marks.proofs.step.Statement.{statement}
+use Rattle.name_marks.proofs.step.Tie as tie
 
 add-a : tie.Need-add-a
 add-a c = omega arith

@@ -1,10 +1,10 @@
--- `reader_leaf::short` meets its contract, by the name's length. Assumes nothing.
+-- `name_marks::short` meets its contract, by the name's length. Assumes nothing.
 use mathlib.Core.Path.{_∙_}
 use native.Mathlib.Omega.{arith}
 use borrow.Author.Needs.{needs}
-use Rattle.reader_leaf.proofs.Distinct.{short-four, short-two, short-one, short-none}
-use Rattle.reader_leaf.proofs.short.Statement.{statement}
-use Rattle.reader_leaf.proofs.short.Tie as tie
+use Rattle.name_marks.proofs.Marks.{short-four, short-two, short-one, short-none}
+use Rattle.name_marks.proofs.short.Statement.{statement}
+use Rattle.name_marks.proofs.short.Tie as tie
 
 read4-requires : tie.Need-read4-requires
 read4-requires c κs = omega arith
