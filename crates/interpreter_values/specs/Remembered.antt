@@ -1,13 +1,18 @@
 -- What evaluating remembers of the root's values, in the working words behind the sixteen of the open calls: word 16 has how many names were
 -- asked for; once these are more than 8, an index of the values stands from word 17 on.
-use Prim.Native.Nat.{ℕ, _≤_, _<_}
+use Prim.Native.Nat.{ℕ, _+_, _≤_, _<_}
 use mathlib.Core.Path.{_≡_}
 use mathlib.Core.List.{List}
-use lib.ListN.{length, getD, drop}
+use lib.ListN.{length, getD, take, drop}
+use Rattle.blocks.specs.Bytes.{le2}
+use Rattle.marks.specs.Table.{Linked}
+use Rattle.interpreter_values.specs.Entries.{entryMark, Offsets}
 
--- the index, in the words from word 17 on
+-- the index, in the words from word 17 on: a table of the marks of the names, and behind it the offsets of the entries
 pub record Indexed (s : List ℕ) (block : ℕ) (ws : List ℕ) : Type 0 where
   pub room : 1151 ≤ length ws
+  pub linked : Linked (take 639 ws) (entryMark s (block + 6 + 2)) (le2 s (block + 6))
+  pub offsets : Offsets s (block + 6 + 2) (le2 s (block + 6)) (drop 639 ws)
 
 -- the words of a context whose values are those of the block: room for the open calls, and what is remembered of the values, where there
 -- is room for that

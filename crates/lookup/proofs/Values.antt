@@ -35,7 +35,7 @@ unfolding find entries
 tested n s at u h = ap (λ (t : Bool). elim t [ true ↦ some (le8 s (at + 2 + le2 s at)) | false ↦ find n (entries bindingOf u) ]) h
 
 -- the block at b is a list of values
-listed : {s : List ℕ} {b : ℕ} (a : Accepted s 192 192 b) → Sole a Item.values 512
+pub listed : {s : List ℕ} {b : ℕ} (a : Accepted s 192 192 b) → Sole a Item.values 512
 unfolding partsOf findRow grammar nodeTable
 listed a = sole a refl Counted.values
 
@@ -113,3 +113,24 @@ module _ {s : List ℕ} (b : ℕ) {left at : ℕ} {n : Name} (h : 0 < left) wher
 pub no-more : {s : List ℕ} (b : ℕ) {left at : ℕ} {n : Name} → left ≤ 0 → Search s b n left at → Answers s b n Missing
 unfolding find entries
 no-more b {left} {n} h c = (sym (c .first ∙ value-nowhere _ _ _ left h), λ a. ValueFound.missing (ap (find n) (values-are a) ∙ ended h (c .on) (listed a .list) .0 .is))
+
+-- ---- the value at that offset
+
+module _ {s : List ℕ} (b : ℕ) (n : Name) (a : Accepted s 192 192 b) where
+  -- the number of the first entry of the name is the one that the context has
+  abbrev Has : Found → Type 0
+  Has = ValueFound s n (valuesOf (tree a))
+
+  -- wherever the loop stands
+  search-found : (left at : ℕ) → Search s b n left at → Has (firstValue s n (le2 s (b + 6)) (b + 6 + 2))
+  search-found zero at c = let r = no-more b (omega arith) c in subst Has (r .0) (r .1 a)
+  search-found (suc k) at c = go (same n (nameAt s at)) refl (λ d. search-found k (at + 2 + le2 s at + 8) d)
+    where
+      go : (t : Bool) → same n (nameAt s at) ≡ t → (Search s b n k (at + 2 + le2 s at + 8) → Has (firstValue s n (le2 s (b + 6)) (b + 6 + 2))) →
+          Has (firstValue s n (le2 s (b + 6)) (b + 6 + 2))
+      go true e more = let r = hit b (omega arith) refl refl e c in subst Has (r .0) (r .1 a)
+      go false e more = more (rw sub-one at (go-on b (omega arith) refl refl e c))
+
+  -- of an accepted block
+  pub first-found : Has (firstValue s n (le2 s (b + 6)) (b + 6 + 2))
+  first-found = search-found (le2 s (b + 6)) (b + 6 + 2) (begin a refl)

@@ -1,0 +1,84 @@
+-- The entries of an accepted block of values: they lie in the bytes, and the first of a name is the first value of it.
+use Prim.Native.Nat.{ℕ, zero, suc, _+_, _-_, _≤_, _<_}
+use native.Mathlib.Numerals.{add-one, sub-one}
+use native.Mathlib.Omega.{arith}
+use mathlib.Core.Path.{_≡_, refl, sym, _∙_, ap, subst}
+use mathlib.Core.Bool.{Bool, true, false}
+use mathlib.Core.List.{List}
+use lib.ListN.{length}
+use Rattle.blocks.specs.Bytes.{le2, nameAt}
+use Rattle.blocks.specs.Name.{Name, same}
+use Rattle.accepted.specs.Accepted.{Accepted, Item, Entries}
+use Rattle.accepted.proofs.Laws.{value-entry}
+use Rattle.lookup.specs.Found.{firstValue}
+use Rattle.lookup.specs.declared.Found.the-variants.{At, Missing}
+use Rattle.lookup.proofs.Values.{listed}
+use Rattle.interpreter_values.specs.Entries.{entryAt, First}
+
+-- ---- where they stand
+
+module _ (s : List ℕ) (first : ℕ) where
+  -- the first one
+  pub entry-first : first ≡ entryAt s first 0
+  unfolding entryAt
+  entry-first = refl
+
+  -- the one behind entry k
+  pub entry-next : (k : ℕ) {at next : ℕ} → at ≡ entryAt s first k → next ≡ at + 2 + le2 s at → next + 8 ≡ entryAt s first (k + 1)
+  unfolding entryAt
+  entry-next k e f = rw (f, add-one k, ← e)
+
+  -- those behind the first are counted from where the second begins
+  entry-behind : (k : ℕ) → entryAt s first (suc k) ≡ entryAt s (first + 2 + le2 s first + 8) k
+  unfolding entryAt
+  entry-behind zero = refl
+  entry-behind (suc k) = ap (λ (o : ℕ). o + 2 + le2 s o + 8) (entry-behind k)
+
+-- name and number of an entry lie in the bytes
+abbrev EntryIn : List ℕ → ℕ → Type 0
+EntryIn s at = at + 2 + le2 s at + 8 ≤ length s
+
+-- those of every entry of an accepted list do
+entries-in : (s : List ℕ) (k : ℕ) {n first : ℕ} → Entries s Item.values n first → k < n → EntryIn s (entryAt s first k)
+unfolding entryAt
+entries-in s zero l h = let a = value-entry l (omega arith) .2 in omega (arith, a .inside, l .fits)
+entries-in s (suc k) {n} {first} l h =
+    let a = value-entry l (omega arith) .2 in
+    subst (EntryIn s) (sym (entry-behind s first k)) (entries-in s k (a .rest) (omega arith))
+
+module _ {s : List ℕ} {block : ℕ} (a : Accepted s 192 192 block) where
+  -- an accepted block has at most 512 entries
+  pub few : le2 s (block + 6) ≤ 512
+  few = listed a .few
+
+  -- and each lies in the bytes
+  pub entry-in : (k : ℕ) → k < le2 s (block + 6) → EntryIn s (entryAt s (block + 6 + 2) k)
+  entry-in k h = entries-in s k (listed a .list) h
+
+-- ---- the first entry of a name
+
+module _ (s : List ℕ) (m : Name) where
+  -- behind an entry of another name it is the first of those that are left
+  first-behind : {first n k : ℕ} → First s m first (suc n) (suc k) → First s m (first + 2 + le2 s first + 8) n k
+  first-behind {first} {n} {k} f = record {
+    within = omega (arith, f .within);
+    named = λ h. subst (λ (o : ℕ). same m (nameAt s o) ≡ true) (entry-behind s first k) (f .named (omega arith));
+    before = λ i h. subst (λ (o : ℕ). same m (nameAt s o) ≡ false) (entry-behind s first i) (f .before (suc i) (omega arith));
+  }
+
+  -- the number behind it is the first value of the name
+  pub first-there : (n : ℕ) {first : ℕ} (k : ℕ) → First s m first n k → k < n →
+      At (entryAt s first k + 2 + le2 s (entryAt s first k)) ≡ firstValue s m n first
+  unfolding entryAt firstValue
+  first-there zero k f h = absurd (omega arith)
+  first-there (suc n) zero f h = rw (f .named (omega arith))
+  first-there (suc n) {first} (suc k) f h =
+      rw (f .before 0 (omega arith))
+      (ap (λ (o : ℕ). At (o + 2 + le2 s o)) (entry-behind s first k) ∙ first-there n k (first-behind f) (omega arith))
+
+  -- where none has the name, there is no value of it
+  pub first-nowhere : (n : ℕ) {first k : ℕ} → First s m first n k → n ≤ k → Missing ≡ firstValue s m n first
+  unfolding entryAt firstValue
+  first-nowhere zero f h = refl
+  first-nowhere (suc n) {first} {k = zero} f h = absurd (omega arith)
+  first-nowhere (suc n) {first} {k = suc k} f h = rw (f .before 0 (omega arith)) (first-nowhere n (first-behind f) (omega arith))

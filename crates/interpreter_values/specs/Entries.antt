@@ -1,0 +1,28 @@
+-- The entries of a block of values, by their bytes: each is a name and the 8 bytes of its number.
+use Prim.Native.Nat.{ℕ, zero, suc, _+_, _≤_, _<_}
+use mathlib.Core.Path.{_≡_}
+use mathlib.Core.Bool.{true, false}
+use mathlib.Core.List.{List}
+use lib.ListN.{getD}
+use Rattle.blocks.specs.Bytes.{le2, nameAt}
+use Rattle.blocks.specs.Name.{Name, same}
+use Rattle.name_marks.specs.Mark.{markOf}
+
+-- the offset of entry k of those from an offset on
+unfoldable pub entryAt : List ℕ → ℕ → ℕ → ℕ
+entryAt s first zero = first
+entryAt s first (suc k) = entryAt s first k + 2 + le2 s (entryAt s first k) + 8
+
+-- the mark of its name, with all bytes
+unfoldable pub entryMark : List ℕ → ℕ → ℕ → ℕ
+entryMark s first k = markOf 8 (nameAt s (entryAt s first k))
+
+-- the first n words are the offsets of the entries
+abbrev pub Offsets : List ℕ → ℕ → ℕ → List ℕ → Type 0
+Offsets s first n ws = (k : ℕ) → k < n → getD ws k 0 ≡ entryAt s first k
+
+-- of n entries the one at place k is the first that has the name m; k is n where none has it
+pub record First (s : List ℕ) (m : Name) (first n k : ℕ) : Type 0 where
+  pub within : k ≤ n
+  pub named : k < n → same m (nameAt s (entryAt s first k)) ≡ true
+  pub before : (i : ℕ) → i < k → same m (nameAt s (entryAt s first i)) ≡ false
