@@ -13,7 +13,8 @@ use Rattle.accepted.proofs.Laws.{value-entry}
 use Rattle.lookup.specs.Found.{firstValue}
 use Rattle.lookup.specs.declared.Found.the-variants.{At, Missing}
 use Rattle.lookup.proofs.Values.{listed}
-use Rattle.interpreter_values.specs.Entries.{entryAt, First}
+use Rattle.name_marks.specs.Mark.{markOf}
+use Rattle.interpreter_values.specs.Entries.{entryAt, entryMark, First}
 
 -- ---- where they stand
 
@@ -54,6 +55,37 @@ module _ {s : List ℕ} {block : ℕ} (a : Accepted s 192 192 block) where
   -- and each lies in the bytes
   pub entry-in : (k : ℕ) → k < le2 s (block + 6) → EntryIn s (entryAt s (block + 6 + 2) k)
   entry-in k h = entries-in s k (listed a .list) h
+
+-- ---- a loop over them
+
+-- it stands at the entry at place i of the n entries of the block
+pub record Standing (s : List ℕ) (block n i at : ℕ) : Type 0 where
+  pub count : n ≡ le2 s (block + 6)
+  pub within : i ≤ n
+  pub here : at ≡ entryAt s (block + 6 + 2) i
+
+module _ {s : List ℕ} {block n : ℕ} where
+  -- it begins at the first
+  pub standing-first : n ≡ le2 s (block + 6) → Standing s block n 0 (block + 6 + 2)
+  standing-first e = record { count = e; within = omega arith; here = entry-first s (block + 6 + 2) }
+
+  module _ {i at : ℕ} (w : Standing s block n i at) (h : i < n) where
+    -- the entry lies in the bytes
+    pub standing-in : Accepted s 192 192 block → EntryIn s at
+    standing-in a = subst (EntryIn s) (sym (w .here)) (entry-in a i (omega (arith, w .count)))
+
+    -- it goes on behind it
+    pub standing-next : {u : ℕ} → u ≡ at + 2 + le2 s at → Standing s block n (i + 1) (u + 8)
+    standing-next e = record { count = w .count; within = omega arith; here = entry-next s (block + 6 + 2) i (w .here) e }
+
+  -- at its end it has passed all of them
+  pub standing-end : {i at : ℕ} → Standing s block n i at → n ≤ i → i ≡ le2 s (block + 6)
+  standing-end w h = omega (arith, w .count, w .within)
+
+  -- the mark of its name
+  pub standing-mark : {i at mark : ℕ} {m : Name} → Standing s block n i at → m ≡ nameAt s at → mark ≡ markOf 8 m → entryMark s (block + 6 + 2) i ≡ mark
+  unfolding entryMark
+  standing-mark w e f = rw (← w .here, f, e)
 
 -- ---- the first entry of a name
 

@@ -4,8 +4,10 @@ use native.Mathlib.Omega.{arith}
 use mathlib.Core.Path.{_≡_, refl, sym, _∙_, ap}
 use mathlib.Core.Bool.{Bool, true, false}
 use mathlib.Core.List.{List, _++_}
+use lib.Dec.{eqb}
 use lib.ListN.{length, getD, set, take, drop, length-set, length-drop, List·getD-append}
 use lib.Seq.{getD-take, getD-drop, getD-set-same, getD-set-other, take-take, drop-drop, length-take-le, take-at, drop-at}
+use borrow.Author.Tests.{eqb-true, eqb-false}
 use borrow.Rule.Slice.PartMut.{putMid, same-len-mid, mid-len, take-put}
 use Rattle.blocks.specs.Bytes.{le2, nameAt}
 use Rattle.blocks.specs.Name.{Name, same}
@@ -73,6 +75,16 @@ module _ (ws zs ys : List ℕ) (room : 1168 ≤ length ws) (lz : length zs ≡ l
           (List·getD-append zs (drop 512 (drop 656 ws)) 0 k (omega (arith, zs-length)) ∙ o k h);
     }
 
+-- ---- the offsets, one by one
+
+-- one word more
+pub offsets-more : (s : List ℕ) (first i at : ℕ) (ws : List ℕ) → Offsets s first i ws → at ≡ entryAt s first i → i < length ws → Offsets s first (i + 1) (set ws i at)
+offsets-more s first i at ws o e h k l = go (eqb k i) refl
+  where
+    go : (b : Bool) → eqb k i ≡ b → getD (set ws i at) k 0 ≡ entryAt s first k
+    go true g = rw (eqb-true k i g) (getD-set-same ws i at 0 h ∙ e)
+    go false g = getD-set-other ws i k at 0 (eqb-false k i g) ∙ o k (omega (arith, eqb-false k i g))
+
 -- ---- what is kept of the words
 
 module _ {s : List ℕ} {block : ℕ} (ws : List ℕ) (room : 1168 ≤ length ws) where
@@ -118,8 +130,8 @@ pub record Searching (s : List ℕ) (first n : ℕ) (m : Name) (mark found j : �
 
 module _ {s : List ℕ} {first n : ℕ} {m : Name} {mark : ℕ} where
   -- it begins with none
-  pub searching-first : {r : ℕ} → Prior (entryMark s first) mark n r → Searching s first n m mark n r
-  searching-first q = record { within = omega arith; named = λ l. absurd (let z : ⊥ = omega arith in z); walk = walk-last q }
+  pub searching-first : {found r : ℕ} → found ≡ n → Prior (entryMark s first) mark n r → Searching s first n m mark found r
+  searching-first e q = record { within = omega arith; named = λ l. absurd (let z : ⊥ = omega arith in z); walk = walk-last q }
 
   module _ {found j r : ℕ} (w : Searching s first n m mark found j) (z : 0 < j) (q : Prior (entryMark s first) mark (j - 1) r)
       {b : Bool} (f : b ≡ same m (nameAt s (entryAt s first (j - 1)))) where

@@ -1,83 +1,112 @@
+-- `link_names` meets its contract. The loop's invariant: it stands at an entry of the block, and the names of those before are in the table.
+use Prim.Native.Nat.{_+_, _-_}
+use native.Mathlib.Omega.{arith}
+use mathlib.Core.Path.{_≡_, refl, _∙_, subst}
+use lib.ListN.{length}
+use Rattle.marks.specs.Table.{Linked}
+use Rattle.lookup.proofs.Values.{inside}
+use Rattle.interpreter_values.specs.Entries.{entryMark}
+use Rattle.interpreter_values.proofs.Entries.{Standing, few, standing-first, standing-in, standing-next, standing-end, standing-mark}
 use Rattle.interpreter_values.proofs.link_names.Statement.{statement}
 use Rattle.interpreter_values.proofs.link_names.Tie as tie
-use Rattle.interpreter_values.proofs.link_names.Reads as reads
-use Rattle.interpreter_values.proofs.link_names.Lts as lts
-use Rattle.marks.proofs.clear.Reads as clear-reads
-use Rattle.marks.proofs.link.Reads as link-reads
-use Rattle.name_marks.proofs.mark.Reads as mark-reads
-use Rattle.wire.proofs.behind_name.Reads as behind-name-reads
-use Rattle.wire.proofs.name_at.Reads as name-at-reads
-use Rattle.wire.proofs.read2.Reads as read2-reads
 
 abbrev Inv-loop : tie.InvT-loop
-Inv-loop values block table₀ n at₀ i₀ table at i = ?
+Inv-loop values block table₀ n at₀ i₀ table at i =
+    Standing values block n i at × Linked table (entryMark values (block + 6 + 2)) i × (length table ≡ length table₀)
 
 abbrev μ-loop : tie.MeasureT-loop
-μ-loop values block table₀ n at₀ i₀ table at i = ?
+μ-loop values block table₀ n at₀ i₀ table at i = n - i
 
--- src/lib.rt:58:5
+-- The places, each seen from a later one: what was known there.
+abbrev at-clear : tie.At-loop Inv-loop μ-loop → tie.After-clear Inv-loop μ-loop
+at-clear r = r .before .before .before .before
+
+abbrev from-clear : tie.After-slice-known2 Inv-loop μ-loop → tie.Start Inv-loop μ-loop
+from-clear r = r .before .before .before .before .before .before
+
+abbrev from-loop : tie.At-loop Inv-loop μ-loop → tie.Start Inv-loop μ-loop
+from-loop r = from-clear (r .before .before)
+
+abbrev from-linked : tie.After-slice-known3 Inv-loop μ-loop → tie.In-loop Inv-loop μ-loop
+from-linked r = r .before .before .before .before .before .before
+
 clear-requires : tie.Need-clear-requires Inv-loop μ-loop
-clear-requires c κs = ?
+clear-requires c κs = omega arith
 
--- src/lib.rt:59:33
 add-read2 : tie.Need-add-read2 Inv-loop μ-loop
-add-read2 c = ?
+add-read2 c = omega (arith, inside (from-clear c .pre .0))
 
--- src/lib.rt:59:9
 read2-requires : tie.Need-read2-requires Inv-loop μ-loop
-read2-requires c κs = ?
+read2-requires c κs = inside (from-clear c .pre .0)
 
--- src/lib.rt:60:18
 add-at : tie.Need-add-at Inv-loop μ-loop
-add-at c = ?
+add-at c = omega (arith, inside (from-clear (c .before) .pre .0))
 
--- src/lib.rt:60:18
 add-at-2 : tie.Need-add-at-2 Inv-loop μ-loop
-add-at-2 c = ?
+add-at-2 c = omega (arith, inside (from-clear (c .before) .pre .0))
 
--- src/lib.rt:62:5
 loop-holds : tie.Need-loop-holds Inv-loop μ-loop
-loop-holds c = ?
+loop-holds c =
+    let clearing = c .before .before .before in
+    (standing-first (c .read2 .ensures .0), clearing .clear .ensures _, refl)
 
--- src/lib.rt:63:48
 name-at-requires : tie.Need-name-at-requires Inv-loop μ-loop
-name-at-requires c κs = ?
+name-at-requires c κs =
+    let in-loop = c .before in
+    let at-loop = in-loop .before in
+    omega (arith, standing-in (at-loop .loop .inv .0) (in-loop .loop-test .taken) (from-loop at-loop .pre .0))
 
--- src/lib.rt:63:31
 mark-requires : tie.Need-mark-requires Inv-loop μ-loop
-mark-requires c κs = ?
+mark-requires c κs = (omega arith, omega arith)
 
--- src/lib.rt:63:9
 link-requires : tie.Need-link-requires Inv-loop μ-loop
-link-requires c κs = ?
+link-requires c κs =
+    let in-loop = c .before .before .before in
+    let at-loop = in-loop .before in
+    let at-start = from-loop at-loop in
+    let most = few (at-start .pre .0) in
+    let count = at-loop .loop .inv .0 .count in
+    (omega (arith, most, count, in-loop .loop-test .taken), omega (arith, most, count, in-loop .loop-test .taken, at-loop .loop .inv .2, at-clear at-loop .clear .kept .0, at-start .pre .1))
 
--- src/lib.rt:64:14
 behind-name-requires : tie.Need-behind-name-requires Inv-loop μ-loop
-behind-name-requires c κs = ?
+behind-name-requires c κs =
+    let in-loop = from-linked c in
+    let at-loop = in-loop .before in
+    omega (arith, standing-in (at-loop .loop .inv .0) (in-loop .loop-test .taken) (from-loop at-loop .pre .0))
 
--- src/lib.rt:64:14
 add-at-3 : tie.Need-add-at-3 Inv-loop μ-loop
-add-at-3 c = ?
+add-at-3 c =
+    let in-loop = from-linked (c .before) in
+    let at-loop = in-loop .before in
+    omega (arith, c .behind-name .ensures, standing-in (at-loop .loop .inv .0) (in-loop .loop-test .taken) (from-loop at-loop .pre .0))
 
--- src/lib.rt:65:9
 add-i : tie.Need-add-i Inv-loop μ-loop
-add-i c = ?
+add-i c = omega arith
 
--- src/lib.rt:62:5
 loop-less : tie.Need-loop-less Inv-loop μ-loop
-loop-less c = ?
+loop-less c = omega arith
 
--- src/lib.rt:62:5
 loop-again : tie.Need-loop-again Inv-loop μ-loop
-loop-again c = ?
+loop-again c =
+    let at-link = c .before .before .before in
+    let at-mark = at-link .before in
+    let in-loop = from-linked (c .before) in
+    let at-loop = in-loop .before in
+    let here = at-loop .loop .inv .0 in (
+      standing-next here (in-loop .loop-test .taken) (c .behind-name .ensures),
+      at-link .link .ensures _ (at-loop .loop .inv .1) (standing-mark here (at-mark .before .name-at .ensures) (at-mark .mark .ensures)),
+      at-link .link .kept .0 ∙ at-loop .loop .inv .2,
+    )
 
--- src/lib.rt:54:1
 same-length : tie.Need-same-length Inv-loop μ-loop
-same-length c = ?
+same-length c = c .before .loop .inv .2 ∙ at-clear (c .before) .clear .kept .0
 
--- src/lib.rt:54:1
 returns : tie.Need-returns Inv-loop μ-loop
-returns c = ?
+returns c =
+    let at-loop = c .before in
+    subst (Linked (at-loop .loop .table) (entryMark (from-loop at-loop .args .values .now) (from-loop at-loop .args .block + 6 + 2)))
+    (standing-end (at-loop .loop .inv .0) (c .loop-test .left))
+    (at-loop .loop .inv .1)
 
 pub link-names-spec : {M : Type 1} → statement M
 link-names-spec =

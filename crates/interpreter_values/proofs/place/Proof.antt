@@ -1,90 +1,132 @@
+-- `place` meets its contract. The loop's invariant (`Searching`): the entry that was kept has the name, if it is one, and each entry that may
+-- have the mark was asked from the last one down to `j`.
+use native.Mathlib.Omega.{arith}
+use borrow.Author.Needs.{needs}
+use mathlib.Core.Path.{_≡_, _∙_, ap}
+use mathlib.Core.Logic.{⊎-elim}
+use Prim.Native.Nat.{_+_, _-_, _≤_, _<_}
+use lib.ListN.{length, getD, length-drop}
+use Rattle.blocks.specs.Bytes.{le2, nameAt}
+use Rattle.blocks.specs.Name.{same}
+use Rattle.marks.proofs.Walks.{walk-chain}
+use Rattle.lookup.proofs.Values.{inside}
+use Rattle.interpreter_values.specs.Entries.{entryAt}
+use Rattle.interpreter_values.proofs.Entries.{few, entry-in}
+use Rattle.interpreter_values.proofs.Index.{table-of, offset-at, Searching, searching-first, searching-hit, searching-miss, searching-end}
 use Rattle.interpreter_values.proofs.place.Statement.{statement}
 use Rattle.interpreter_values.proofs.place.Tie as tie
-use Rattle.interpreter_values.proofs.place.Reads as reads
-use Rattle.interpreter_values.proofs.place.Lts as lts
-use Rattle.lookup.proofs.is_named.Reads as is-named-reads
-use Rattle.marks.proofs.before.Reads as before-reads
-use Rattle.marks.proofs.last.Reads as last-reads
-use Rattle.name_marks.proofs.mark.Reads as mark-reads
-use Rattle.wire.proofs.read2.Reads as read2-reads
 
 abbrev Inv-loop : tie.InvT-loop
-Inv-loop values block words name mark table found₀ j₀ found j = ?
+Inv-loop values block words name mark table found₀ j₀ found j =
+    Searching values (block + 6 + 2) (le2 values (block + 6)) name mark found j
 
 abbrev μ-loop : tie.MeasureT-loop
-μ-loop values block words name mark table found₀ j₀ found j = ?
+μ-loop values block words name mark table found₀ j₀ found j = j
 
--- src/lib.rt:109:9
+-- The places, each seen from a later one: what was known there.
+abbrev from-mark : tie.After-mark Inv-loop μ-loop → tie.Start Inv-loop μ-loop
+from-mark r = r .before .before .before .before
+
+abbrev from-last : tie.After-last Inv-loop μ-loop → tie.Start Inv-loop μ-loop
+from-last r = from-mark (r .before .before .before)
+
+abbrev from-loop : tie.At-loop Inv-loop μ-loop → tie.Start Inv-loop μ-loop
+from-loop r = from-last (r .before)
+
 mark-requires : tie.Need-mark-requires Inv-loop μ-loop
-mark-requires c κs = ?
+mark-requires c κs = (omega arith, omega arith)
 
--- src/lib.rt:110:17
 sub-table : tie.Need-sub-table Inv-loop μ-loop
-sub-table c = ?
+sub-table c = omega arith
 
--- src/lib.rt:110:17
 part-table-start : tie.Need-part-table-start Inv-loop μ-loop
-part-table-start c = ?
+part-table-start c = search needs
 
--- src/lib.rt:110:17
 part-table-end : tie.Need-part-table-end Inv-loop μ-loop
-part-table-end c = ?
+part-table-end c = omega (arith, length-drop 17 (from-mark c .args .words .now), from-mark c .pre .1 .room)
 
--- src/lib.rt:111:41
 add-read2 : tie.Need-add-read2 Inv-loop μ-loop
-add-read2 c = ?
+add-read2 c = omega (arith, inside (from-mark (c .before) .pre .0))
 
--- src/lib.rt:111:9
 read2-requires : tie.Need-read2-requires Inv-loop μ-loop
-read2-requires c κs = ?
+read2-requires c κs = inside (from-mark (c .before) .pre .0)
 
--- src/lib.rt:112:9
 last-requires : tie.Need-last-requires Inv-loop μ-loop
-last-requires c κs = ?
+last-requires c κs = table-of (from-mark (c .before .before) .pre .1)
 
--- src/lib.rt:113:5
 loop-holds : tie.Need-loop-holds Inv-loop μ-loop
-loop-holds c = ?
+loop-holds c = searching-first (c .before .read2 .ensures .0) (c .last .ensures (table-of (from-last c .pre .1)))
 
--- src/lib.rt:114:17
+-- an entry that is asked is one of the block's, and the words go on behind its word
+entry-within : (r : tie.In-loop Inv-loop μ-loop) → (r .before .loop .j - 1 < le2 (from-loop (r .before) .args .values .now) (from-loop (r .before) .args .block + 6))
+    × (r .before .loop .j + 656 ≤ length (from-loop (r .before) .args .words .now))
+entry-within r =
+    let at-loop = r .before in
+    let at-start = from-loop at-loop in
+    let low = at-loop .loop .inv .walk .within in
+    (omega (arith, low, r .loop-test .taken), omega (arith, low, few (at-start .pre .0), at-start .pre .1 .room, length-drop 17 (at-start .args .words .now)))
+
+-- its word is its offset
+asked-at : (r : tie.In-loop Inv-loop μ-loop) →
+    getD (from-loop (r .before) .args .words .now) (656 + r .before .loop .j - 1) 0 ≡ entryAt (from-loop (r .before) .args .values .now) (from-loop (r .before) .args .block + 6 + 2) (r .before .loop .j - 1)
+asked-at r =
+    let at-loop = r .before in
+    let at-start = from-loop at-loop in
+    let e : 656 + at-loop .loop .j - 1 ≡ 656 + (at-loop .loop .j - 1) = omega (arith, r .loop-test .taken) in
+    rw e (offset-at (at-start .args .words .now) (at-loop .loop .j - 1) (at-start .pre .1) (entry-within r .0))
+
 add-k : tie.Need-add-k Inv-loop μ-loop
-add-k c = ?
+add-k c = omega (arith, entry-within c .1)
 
--- src/lib.rt:114:17
 sub-k : tie.Need-sub-k Inv-loop μ-loop
-sub-k c = ?
+sub-k c = omega arith
 
--- src/lib.rt:115:37
 mul-is-named : tie.Need-mul-is-named Inv-loop μ-loop
-mul-is-named c = ?
+mul-is-named c = omega (arith, entry-within c .1)
 
--- src/lib.rt:115:37
 shared-slice-read-is-named : tie.Need-shared-slice-read-is-named Inv-loop μ-loop
-shared-slice-read-is-named c = ?
+shared-slice-read-is-named c = omega (arith, entry-within (c .before) .1, c .before .loop-test .taken)
 
--- src/lib.rt:115:12
 is-named-requires : tie.Need-is-named-requires Inv-loop μ-loop
-is-named-requires c κs = ?
+is-named-requires c κs =
+    let in-loop = c .before in
+    rw (asked-at in-loop) (omega (arith, entry-in (from-loop (in-loop .before) .pre .0) _ (entry-within in-loop .0)))
 
--- src/lib.rt:116:21
 sub-found : tie.Need-sub-found Inv-loop μ-loop
-sub-found c = ?
+sub-found c = omega arith
 
--- src/lib.rt:118:9
 before-requires : tie.Need-before-requires Inv-loop μ-loop
-before-requires c κs = ?
+before-requires c κs =
+    let in-loop = c .before .before .before in
+    let at-loop = in-loop .before in
+    (in-loop .loop-test .taken, walk-chain (at-loop .loop .inv .walk) (from-loop at-loop .pre .1 .linked))
 
--- src/lib.rt:113:5
 loop-less : tie.Need-loop-less Inv-loop μ-loop
-loop-less c = ?
+loop-less c =
+    let in-loop = c .before .before .before .before in
+    let at-loop = in-loop .before in
+    let prior = c .before2 .ensures (walk-chain (at-loop .loop .inv .walk) (from-loop at-loop .pre .1 .linked)) in
+    omega (arith, prior .within, in-loop .loop-test .taken)
 
--- src/lib.rt:113:5
 loop-again : tie.Need-loop-again Inv-loop μ-loop
-loop-again c = ?
+loop-again c =
+    let joined = c .before in
+    let at-is-named = joined .before in
+    let in-loop = at-is-named .before .before in
+    let at-loop = in-loop .before in
+    let at-start = from-loop at-loop in
+    let prior = c .before2 .ensures (walk-chain (at-loop .loop .inv .walk) (at-start .pre .1 .linked)) in
+    let named = at-is-named .is-named .ensures ∙ ap (λ o. same (at-start .args .name .now) (nameAt (at-start .args .values .now) o)) (asked-at in-loop) in
+    ⊎-elim
+    (λ t. rw (t .1) (searching-hit (at-loop .loop .inv) (in-loop .loop-test .taken) prior named (t .0 .taken)))
+    (λ t. rw (t .1) (searching-miss (at-loop .loop .inv) (in-loop .loop-test .taken) prior named (t .0 .left)))
+    (joined .if1 .came)
 
--- src/lib.rt:105:1
 returns : tie.Need-returns Inv-loop μ-loop
-returns c = ?
+returns c =
+    let at-loop = c .before in
+    let at-mark = at-loop .before .before .before .before in
+    searching-end (at-mark .mark .ensures) (at-loop .loop .inv) (c .loop-test .left)
 
 pub place-spec : {M : Type 1} → statement M
 place-spec =
