@@ -99,14 +99,18 @@ module _ (s : List ℕ) (m : Name) where
   }
 
   -- the number behind it is the first value of the name
-  pub first-there : (n : ℕ) {first : ℕ} (k : ℕ) → First s m first n k → k < n →
+  first-number : (n : ℕ) {first : ℕ} (k : ℕ) → First s m first n k → k < n →
       At (entryAt s first k + 2 + le2 s (entryAt s first k)) ≡ firstValue s m n first
   unfolding entryAt firstValue
-  first-there zero k f h = absurd (omega arith)
-  first-there (suc n) zero f h = rw (f .named (omega arith))
-  first-there (suc n) {first} (suc k) f h =
+  first-number zero k f h = absurd (omega arith)
+  first-number (suc n) zero f h = rw (f .named (omega arith))
+  first-number (suc n) {first} (suc k) f h =
       rw (f .before 0 (omega arith))
-      (ap (λ (o : ℕ). At (o + 2 + le2 s o)) (entry-behind s first k) ∙ first-there n k (first-behind f) (omega arith))
+      (ap (λ (o : ℕ). At (o + 2 + le2 s o)) (entry-behind s first k) ∙ first-number n k (first-behind f) (omega arith))
+
+  -- as it is found: o is the offset of the entry, u of the number
+  pub first-there : (n : ℕ) {first k o u : ℕ} → First s m first n k → k < n → o ≡ entryAt s first k → u ≡ o + 2 + le2 s o → At u ≡ firstValue s m n first
+  first-there n {first} {k} f h e g = ap At (g ∙ ap (λ (i : ℕ). i + 2 + le2 s i) e) ∙ first-number n k f h
 
   -- where none has the name, there is no value of it
   pub first-nowhere : (n : ℕ) {first k : ℕ} → First s m first n k → n ≤ k → Missing ≡ firstValue s m n first

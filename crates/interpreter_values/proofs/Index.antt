@@ -15,8 +15,10 @@ use Rattle.blocks.proofs.Name.{false-true, same-eq}
 use Rattle.marks.specs.Table.{Linked, Table, Prior}
 use Rattle.marks.proofs.Walks.{Walk, walk-last, walk-before, walk-end, walk-more}
 use Rattle.name_marks.specs.Mark.{markOf}
+use Rattle.accepted.specs.Accepted.{Accepted}
 use Rattle.interpreter_values.specs.Entries.{entryAt, entryMark, Offsets, First}
 use Rattle.interpreter_values.specs.Remembered.{Indexed, Remembered, Same, Kept}
+use Rattle.interpreter_values.proofs.Entries.{few, entry-in}
 
 -- ---- the words
 
@@ -111,11 +113,21 @@ module _ {s : List ℕ} {block : ℕ} (ws : List ℕ) (room : 1168 ≤ length ws
 abbrev pub table-of : {s : List ℕ} {block : ℕ} {ws : List ℕ} → Indexed s block ws → Table (take 639 ws)
 table-of {s} {block} x = record { marks = entryMark s (block + 6 + 2); count = le2 s (block + 6); linked = x .linked }
 
--- the word of an entry is its offset
-pub offset-at : {s : List ℕ} {block : ℕ} (ws : List ℕ) (k : ℕ) → Indexed s block (drop 17 ws) → k < le2 s (block + 6) → getD ws (656 + k) 0 ≡ entryAt s (block + 6 + 2) k
-offset-at ws k x h =
-    let e : 656 + k ≡ 17 + (639 + k) = omega arith in
-    rw e (sym (getD-drop 17 ws (639 + k) 0) ∙ (sym (getD-drop 639 (drop 17 ws) k 0) ∙ x .offsets k h))
+-- the word of the entry at place k
+module _ {s : List ℕ} {block : ℕ} (a : Accepted s 192 192 block) (ws : List ℕ) (x : Indexed s block (drop 17 ws)) {k : ℕ} (h : k < le2 s (block + 6)) where
+  -- it is one of the words
+  pub word-in : 656 + k < length ws
+  word-in = omega (arith, few a, x .room, length-drop 17 ws)
+
+  -- it is the entry's offset
+  pub offset-at : getD ws (656 + k) 0 ≡ entryAt s (block + 6 + 2) k
+  offset-at =
+      let e : 656 + k ≡ 17 + (639 + k) = omega arith in
+      rw e (sym (getD-drop 17 ws (639 + k) 0) ∙ (sym (getD-drop 639 (drop 17 ws) k 0) ∙ x .offsets k h))
+
+  -- a name stands there, in the bytes
+  pub name-in : getD ws (656 + k) 0 + 2 + le2 s (getD ws (656 + k) 0) ≤ length s
+  name-in = rw offset-at (omega (arith, entry-in a k h))
 
 -- the entry at place k has the name
 abbrev pub Has : List ℕ → ℕ → Name → ℕ → Type 0
@@ -134,12 +146,16 @@ module _ {s : List ℕ} {first n : ℕ} {m : Name} {mark : ℕ} where
   searching-first e q = record { within = omega arith; named = λ l. absurd (let z : ⊥ = omega arith in z); walk = walk-last q }
 
   module _ {found j r : ℕ} (w : Searching s first n m mark found j) (z : 0 < j) (q : Prior (entryMark s first) mark (j - 1) r)
-      {b : Bool} (f : b ≡ same m (nameAt s (entryAt s first (j - 1)))) where
+      {b : Bool} {o : ℕ} (f : b ≡ same m (nameAt s o)) (here : o ≡ entryAt s first (j - 1)) where
+    -- what was asked of the entry before j
+    asked : b ≡ same m (nameAt s (entryAt s first (j - 1)))
+    asked = f ∙ ap (λ (i : ℕ). same m (nameAt s i)) here
+
     -- the entry before j has the name: it is kept, since it stands before those that were asked
     pub searching-hit : b ≡ true → Searching s first n m mark (j - 1) r
     searching-hit e = record {
       within = omega (arith, w .walk .within);
-      named = λ l. sym f ∙ e;
+      named = λ l. sym asked ∙ e;
       walk = walk-before {P = λ k. Has s first m k → j - 1 ≤ k} (walk-more (λ k h p g. omega arith) (w .walk)) z (λ g. omega arith) q .0;
     }
 
@@ -148,7 +164,7 @@ module _ {s : List ℕ} {first n : ℕ} {m : Name} {mark : ℕ} where
     searching-miss e = record {
       within = w .within;
       named = w .named;
-      walk = walk-before (w .walk) z (λ g. false-true (sym e ∙ (f ∙ g))) q .0;
+      walk = walk-before (w .walk) z (λ g. false-true (sym e ∙ (asked ∙ g))) q .0;
     }
 
   -- the entry that was kept at its end is the first of the name: an entry of the name has its mark

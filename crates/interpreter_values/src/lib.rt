@@ -18,11 +18,14 @@ pub const WORDS: usize = 1168;
 
 // The word that counts the names asked for; behind it stands the index: a table of marks, and the offsets of the entries.
 const ASKED: usize = 16;
+
 const TABLE: usize = 17;
+
 const OFFSETS: usize = 656;
 
-// With fewer values no index is built, nor before more names than these were asked for.
+// With fewer values no index is built, and the first names asked for are found without it.
 const MANY: usize = 32;
+
 const SELDOM: u64 = 8;
 
 // Nothing is remembered of any values.
@@ -76,7 +79,7 @@ fn build(values: &[u8], block: usize, words: &mut [u64])
     link_names(values, block, &mut words[TABLE..OFFSETS]);
 }
 
-// Whether an index of the values stands. A name that is asked for is counted; with the last that is answered without an index, it is built.
+// Whether an index of the values stands. As long as none does, the names asked for are counted; the one behind the first few builds it.
 fn is_indexed(values: &[u8], block: usize, words: &mut [u64]) -> bool
     requires { ⌜ Accepted (now values) 192 192 block × Remembered (now values) block (now words) ⌝ }
     ensures { λ r. ⌜ (r ≡ true → Indexed (now (values .entry)) block (drop 17 (now (words .exit)))) ⌝ }
@@ -111,9 +114,10 @@ fn place(values: &[u8], block: usize, words: &[u64], name: &[u8]) -> usize
     let mut found = wire::read2(values, block + 6);
     let mut j = marks::last(table, mark);
     while 0 < j {
-        let k = OFFSETS + j - 1;
-        if lookup::is_named(values, words[k] as usize, name) {
-            found = j - 1;
+        let k = j - 1;
+        let word = OFFSETS + k;
+        if lookup::is_named(values, words[word] as usize, name) {
+            found = k;
         }
         j = marks::before(table, mark, j);
     }
@@ -127,8 +131,8 @@ fn indexed(values: &[u8], block: usize, words: &[u64], name: &[u8]) -> Found
 {
     let found = place(values, block, words, name);
     if found < wire::read2(values, block + 6) {
-        let k = OFFSETS + found;
-        return Found::At(wire::behind_name(values, words[k] as usize));
+        let word = OFFSETS + found;
+        return Found::At(wire::behind_name(values, words[word] as usize));
     }
     Found::Missing
 }

@@ -117,11 +117,11 @@ no-more b {left} {n} h c = (sym (c .first ∙ value-nowhere _ _ _ left h), λ a.
 -- ---- the value at that offset
 
 module _ {s : List ℕ} (b : ℕ) (n : Name) (a : Accepted s 192 192 b) where
-  -- the number of the first entry of the name is the one that the context has
+  -- the number that was found is the one that the context has
   abbrev Has : Found → Type 0
   Has = ValueFound s n (valuesOf (tree a))
 
-  -- wherever the loop stands
+  -- so it is with the first of the name, wherever the loop stands
   search-found : (left at : ℕ) → Search s b n left at → Has (firstValue s n (le2 s (b + 6)) (b + 6 + 2))
   search-found zero at c = let r = no-more b (omega arith) c in subst Has (r .0) (r .1 a)
   search-found (suc k) at c = go (same n (nameAt s at)) refl (λ d. search-found k (at + 2 + le2 s at + 8) d)
@@ -131,6 +131,6 @@ module _ {s : List ℕ} (b : ℕ) (n : Name) (a : Accepted s 192 192 b) where
       go true e more = let r = hit b (omega arith) refl refl e c in subst Has (r .0) (r .1 a)
       go false e more = more (rw sub-one at (go-on b (omega arith) refl refl e c))
 
-  -- of an accepted block
-  pub first-found : Has (firstValue s n (le2 s (b + 6)) (b + 6 + 2))
-  first-found = search-found (le2 s (b + 6)) (b + 6 + 2) (begin a refl)
+  -- for whoever finds the block's first of the name in another way
+  pub first-found : {r : Found} → r ≡ firstValue s n (le2 s (b + 6)) (b + 6 + 2) → Has r
+  first-found e = subst Has (sym e) (search-found (le2 s (b + 6)) (b + 6 + 2) (begin a refl))

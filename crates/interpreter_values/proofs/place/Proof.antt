@@ -2,17 +2,13 @@
 -- have the mark was asked from the last one down to `j`.
 use native.Mathlib.Omega.{arith}
 use borrow.Author.Needs.{needs}
-use mathlib.Core.Path.{_≡_, _∙_, ap}
 use mathlib.Core.Logic.{⊎-elim}
-use Prim.Native.Nat.{_+_, _-_, _≤_, _<_}
-use lib.ListN.{length, getD, length-drop}
-use Rattle.blocks.specs.Bytes.{le2, nameAt}
-use Rattle.blocks.specs.Name.{same}
+use Prim.Native.Nat.{_+_, _-_, _<_}
+use lib.ListN.{length, length-drop}
+use Rattle.blocks.specs.Bytes.{le2}
 use Rattle.marks.proofs.Walks.{walk-chain}
 use Rattle.lookup.proofs.Values.{inside}
-use Rattle.interpreter_values.specs.Entries.{entryAt}
-use Rattle.interpreter_values.proofs.Entries.{few, entry-in}
-use Rattle.interpreter_values.proofs.Index.{table-of, offset-at, Searching, searching-first, searching-hit, searching-miss, searching-end}
+use Rattle.interpreter_values.proofs.Index.{table-of, word-in, offset-at, name-in, Searching, searching-first, searching-hit, searching-miss, searching-end}
 use Rattle.interpreter_values.proofs.place.Statement.{statement}
 use Rattle.interpreter_values.proofs.place.Tie as tie
 
@@ -57,43 +53,30 @@ last-requires c κs = table-of (from-mark (c .before .before) .pre .1)
 loop-holds : tie.Need-loop-holds Inv-loop μ-loop
 loop-holds c = searching-first (c .before .read2 .ensures .0) (c .last .ensures (table-of (from-last c .pre .1)))
 
--- an entry that is asked is one of the block's, and the words go on behind its word
-entry-within : (r : tie.In-loop Inv-loop μ-loop) → (r .before .loop .j - 1 < le2 (from-loop (r .before) .args .values .now) (from-loop (r .before) .args .block + 6))
-    × (r .before .loop .j + 656 ≤ length (from-loop (r .before) .args .words .now))
-entry-within r =
-    let at-loop = r .before in
-    let at-start = from-loop at-loop in
-    let low = at-loop .loop .inv .walk .within in
-    (omega (arith, low, r .loop-test .taken), omega (arith, low, few (at-start .pre .0), at-start .pre .1 .room, length-drop 17 (at-start .args .words .now)))
-
--- its word is its offset
-asked-at : (r : tie.In-loop Inv-loop μ-loop) →
-    getD (from-loop (r .before) .args .words .now) (656 + r .before .loop .j - 1) 0 ≡ entryAt (from-loop (r .before) .args .values .now) (from-loop (r .before) .args .block + 6 + 2) (r .before .loop .j - 1)
-asked-at r =
-    let at-loop = r .before in
-    let at-start = from-loop at-loop in
-    let e : 656 + at-loop .loop .j - 1 ≡ 656 + (at-loop .loop .j - 1) = omega (arith, r .loop-test .taken) in
-    rw e (offset-at (at-start .args .words .now) (at-loop .loop .j - 1) (at-start .pre .1) (entry-within r .0))
-
-add-k : tie.Need-add-k Inv-loop μ-loop
-add-k c = omega (arith, entry-within c .1)
+-- an entry that is asked is one of the block's
+asked : (r : tie.In-loop Inv-loop μ-loop) → r .before .loop .j - 1 < le2 (from-loop (r .before) .args .values .now) (from-loop (r .before) .args .block + 6)
+asked r = omega (arith, r .before .loop .inv .walk .within, r .loop-test .taken)
 
 sub-k : tie.Need-sub-k Inv-loop μ-loop
 sub-k c = omega arith
 
+-- its word is one of the words
+asked-word : (r : tie.In-loop Inv-loop μ-loop) → 656 + (r .before .loop .j - 1) < length (from-loop (r .before) .args .words .now)
+asked-word r = let at-start = from-loop (r .before) in word-in (at-start .pre .0) (at-start .args .words .now) (at-start .pre .1) (asked r)
+
+add-word : tie.Need-add-word Inv-loop μ-loop
+add-word c = omega (arith, asked-word c)
+
 mul-is-named : tie.Need-mul-is-named Inv-loop μ-loop
-mul-is-named c = omega (arith, entry-within c .1)
+mul-is-named c = omega (arith, asked-word c)
 
 shared-slice-read-is-named : tie.Need-shared-slice-read-is-named Inv-loop μ-loop
-shared-slice-read-is-named c = omega (arith, entry-within (c .before) .1, c .before .loop-test .taken)
+shared-slice-read-is-named c = asked-word (c .before)
 
 is-named-requires : tie.Need-is-named-requires Inv-loop μ-loop
 is-named-requires c κs =
-    let in-loop = c .before in
-    rw (asked-at in-loop) (omega (arith, entry-in (from-loop (in-loop .before) .pre .0) _ (entry-within in-loop .0)))
-
-sub-found : tie.Need-sub-found Inv-loop μ-loop
-sub-found c = omega arith
+    let at-start = from-loop (c .before .before) in
+    name-in (at-start .pre .0) (at-start .args .words .now) (at-start .pre .1) (asked (c .before))
 
 before-requires : tie.Need-before-requires Inv-loop μ-loop
 before-requires c κs =
@@ -116,10 +99,11 @@ loop-again c =
     let at-loop = in-loop .before in
     let at-start = from-loop at-loop in
     let prior = c .before2 .ensures (walk-chain (at-loop .loop .inv .walk) (at-start .pre .1 .linked)) in
-    let named = at-is-named .is-named .ensures ∙ ap (λ o. same (at-start .args .name .now) (nameAt (at-start .args .values .now) o)) (asked-at in-loop) in
+    let named = at-is-named .is-named .ensures in
+    let here = offset-at (at-start .pre .0) (at-start .args .words .now) (at-start .pre .1) (asked in-loop) in
     ⊎-elim
-    (λ t. rw (t .1) (searching-hit (at-loop .loop .inv) (in-loop .loop-test .taken) prior named (t .0 .taken)))
-    (λ t. rw (t .1) (searching-miss (at-loop .loop .inv) (in-loop .loop-test .taken) prior named (t .0 .left)))
+    (λ t. rw (t .1) (searching-hit (at-loop .loop .inv) (in-loop .loop-test .taken) prior named here (t .0 .taken)))
+    (λ t. rw (t .1) (searching-miss (at-loop .loop .inv) (in-loop .loop-test .taken) prior named here (t .0 .left)))
     (joined .if1 .came)
 
 returns : tie.Need-returns Inv-loop μ-loop
@@ -142,12 +126,11 @@ place-spec =
     read2-requires
     last-requires
     loop-holds
-    add-k
     sub-k
+    add-word
     mul-is-named
     shared-slice-read-is-named
     is-named-requires
-    sub-found
     before-requires
     loop-less
     loop-again

@@ -1,9 +1,5 @@
 -- `value` meets its contract: the first value of the name, by the index or one by one.
 use borrow.Author.Needs.{needs}
-use mathlib.Core.Path.{sym, subst}
-use Rattle.interpreter.specs.Validate.{valuesOf}
-use Rattle.accepted.specs.Accepted.{tree}
-use Rattle.lookup.specs.Found.{ValueFound}
 use Rattle.lookup.proofs.Values.{first-found}
 use Rattle.interpreter_values.proofs.value.Statement.{statement}
 use Rattle.interpreter_values.proofs.value.Tie as tie
@@ -25,14 +21,8 @@ returns : tie.Need-returns
 returns c =
     let at-is-indexed = c .before .before .before .before .before in
     let at-start = at-is-indexed .before .before .before .before .before in
-    let values = at-start .args .values .now in
-    let name = at-start .args .name .now in (
-      c .indexed .ensures,
-      (
-        λ a. subst (ValueFound values name (valuesOf (tree a))) (sym (c .indexed .ensures)) (first-found (at-start .args .block) name a),
-        at-is-indexed .is-indexed .ensures .1,
-      ),
-    )
+    let found = c .indexed .ensures in
+    (found, (λ a. first-found (at-start .args .block) (at-start .args .name .now) a found, at-is-indexed .is-indexed .ensures .1))
 
 value-in-requires : tie.Need-value-in-requires
 value-in-requires c κs = search needs
