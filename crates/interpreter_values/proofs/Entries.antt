@@ -1,9 +1,9 @@
 -- The entries of an accepted block of values: they lie in the bytes, and the first of a name is the first value of it.
 use Prim.Native.Nat.{ℕ, zero, suc, _+_, _-_, _≤_, _<_}
-use native.Mathlib.Numerals.{add-one, sub-one}
+use native.Mathlib.Numerals.{add-one}
 use native.Mathlib.Omega.{arith}
 use mathlib.Core.Path.{_≡_, refl, sym, _∙_, ap, subst}
-use mathlib.Core.Bool.{Bool, true, false}
+use mathlib.Core.Bool.{true, false}
 use mathlib.Core.List.{List}
 use lib.ListN.{length}
 use Rattle.blocks.specs.Bytes.{le2, nameAt}
@@ -25,7 +25,7 @@ module _ (s : List ℕ) (first : ℕ) where
   entry-first = refl
 
   -- the one behind entry k
-  pub entry-next : (k : ℕ) {at next : ℕ} → at ≡ entryAt s first k → next ≡ at + 2 + le2 s at → next + 8 ≡ entryAt s first (k + 1)
+  pub entry-next : (k : ℕ) {at next : ℕ} → at ≡ entryAt s first k → next ≡ at + 2 + le2 s at + 8 → next ≡ entryAt s first (k + 1)
   unfolding entryAt
   entry-next k e f = rw (f, add-one k, ← e)
 
@@ -75,7 +75,7 @@ module _ {s : List ℕ} {block n : ℕ} where
     standing-in a = subst (EntryIn s) (sym (w .here)) (entry-in a i (omega (arith, w .count)))
 
     -- it goes on behind it
-    pub standing-next : {u : ℕ} → u ≡ at + 2 + le2 s at → Standing s block n (i + 1) (u + 8)
+    pub standing-next : {next : ℕ} → next ≡ at + 2 + le2 s at + 8 → Standing s block n (i + 1) next
     standing-next e = record { count = w .count; within = omega arith; here = entry-next s (block + 6 + 2) i (w .here) e }
 
   -- at its end it has passed all of them

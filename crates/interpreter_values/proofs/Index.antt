@@ -17,7 +17,7 @@ use Rattle.marks.proofs.Walks.{Walk, walk-last, walk-before, walk-end, walk-mor
 use Rattle.name_marks.specs.Mark.{markOf}
 use Rattle.accepted.specs.Accepted.{Accepted}
 use Rattle.interpreter_values.specs.Entries.{entryAt, entryMark, Offsets, First}
-use Rattle.interpreter_values.specs.Remembered.{Indexed, Remembered, Same, Kept}
+use Rattle.interpreter_values.specs.Remembered.{Indexed, Same, Kept}
 use Rattle.interpreter_values.proofs.Entries.{few, entry-in}
 
 -- ---- the words

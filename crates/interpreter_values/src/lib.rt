@@ -38,6 +38,14 @@ pub fn forget(words: &mut [u64])
     }
 }
 
+// The offset behind an entry: a name and a number.
+fn behind_entry(values: &[u8], at: usize) -> usize
+    requires { ⌜ at + 2 + le2 (now values) at + 8 ≤ length (now values) ⌝ }
+    ensures { λ r. ⌜ r ≡ at + 2 + le2 (now (values .entry)) at + 8 ⌝ }
+{
+    wire::behind_name(values, at) + 8
+}
+
 // The offsets of the entries of a block of values, one a word.
 fn note_offsets(values: &[u8], block: usize, offsets: &mut [u64])
     requires { ⌜ Accepted (now values) 192 192 block × (512 ≤ length (now offsets)) ⌝ }
@@ -48,7 +56,7 @@ fn note_offsets(values: &[u8], block: usize, offsets: &mut [u64])
     let mut i = 0;
     while i < n {
         offsets[i] = at as u64;
-        at = wire::behind_name(values, at) + 8;
+        at = behind_entry(values, at);
         i += 1;
     }
 }
@@ -59,12 +67,12 @@ fn link_names(values: &[u8], block: usize, table: &mut [u64])
     ensures { λ _. ⌜ Linked (now (table .exit)) (entryMark (now (values .entry)) (block + 6 + 2)) (le2 (now (values .entry)) (block + 6)) ⌝ }
 {
     marks::clear(table);
-    let n = wire::read2(values, block + 6);
+    let count = wire::read2(values, block + 6);
     let mut at = block + 6 + 2;
     let mut i = 0;
-    while i < n {
+    while i < count {
         marks::link(table, i, name_marks::mark(wire::name_at(values, at), 8));
-        at = wire::behind_name(values, at) + 8;
+        at = behind_entry(values, at);
         i += 1;
     }
 }

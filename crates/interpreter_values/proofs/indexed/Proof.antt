@@ -41,7 +41,7 @@ mul-behind-name : tie.Need-mul-behind-name
 mul-behind-name c = omega (arith, found-word c)
 
 shared-slice-read-behind-name : tie.Need-shared-slice-read-behind-name
-shared-slice-read-behind-name c = found-word (c .before)
+shared-slice-read-behind-name c = omega (arith, found-word (c .before))
 
 behind-name-requires : tie.Need-behind-name-requires
 behind-name-requires c κs =

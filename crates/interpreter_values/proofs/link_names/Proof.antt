@@ -1,9 +1,10 @@
 -- `link_names` meets its contract. The loop's invariant: it stands at an entry of the block, and the names of those before are in the table.
-use Prim.Native.Nat.{_+_, _-_}
+use Prim.Native.Nat.{_+_, _-_, _≤_}
 use native.Mathlib.Omega.{arith}
 use mathlib.Core.Path.{_≡_, refl, _∙_, subst}
 use lib.ListN.{length}
 use Rattle.marks.specs.Table.{Linked}
+use Rattle.blocks.specs.Bytes.{le2}
 use Rattle.lookup.proofs.Values.{inside}
 use Rattle.interpreter_values.specs.Entries.{entryMark}
 use Rattle.interpreter_values.proofs.Entries.{Standing, few, standing-first, standing-in, standing-next, standing-end, standing-mark}
@@ -11,11 +12,11 @@ use Rattle.interpreter_values.proofs.link_names.Statement.{statement}
 use Rattle.interpreter_values.proofs.link_names.Tie as tie
 
 abbrev Inv-loop : tie.InvT-loop
-Inv-loop values block table₀ n at₀ i₀ table at i =
-    Standing values block n i at × Linked table (entryMark values (block + 6 + 2)) i × (length table ≡ length table₀)
+Inv-loop values block table₀ count at₀ i₀ table at i =
+    Standing values block count i at × Linked table (entryMark values (block + 6 + 2)) i × (length table ≡ length table₀)
 
 abbrev μ-loop : tie.MeasureT-loop
-μ-loop values block table₀ n at₀ i₀ table at i = n - i
+μ-loop values block table₀ count at₀ i₀ table at i = count - i
 
 -- The places, each seen from a later one: what was known there.
 abbrev at-clear : tie.At-loop Inv-loop μ-loop → tie.After-clear Inv-loop μ-loop
@@ -50,11 +51,12 @@ loop-holds c =
     let clearing = c .before .before .before in
     (standing-first (c .read2 .ensures .0), clearing .clear .ensures _, refl)
 
+-- the entry lies in the bytes
+entry-here : (r : tie.In-loop Inv-loop μ-loop) → r .before .loop .at + 2 + le2 (from-loop (r .before) .args .values .now) (r .before .loop .at) + 8 ≤ length (from-loop (r .before) .args .values .now)
+entry-here r = let at-loop = r .before in standing-in (at-loop .loop .inv .0) (omega (arith, r .loop-test .taken)) (from-loop at-loop .pre .0)
+
 name-at-requires : tie.Need-name-at-requires Inv-loop μ-loop
-name-at-requires c κs =
-    let in-loop = c .before in
-    let at-loop = in-loop .before in
-    omega (arith, standing-in (at-loop .loop .inv .0) (in-loop .loop-test .taken) (from-loop at-loop .pre .0))
+name-at-requires c κs = omega (arith, entry-here (c .before))
 
 mark-requires : tie.Need-mark-requires Inv-loop μ-loop
 mark-requires c κs = (omega arith, omega arith)
@@ -68,17 +70,8 @@ link-requires c κs =
     let count = at-loop .loop .inv .0 .count in
     (omega (arith, most, count, in-loop .loop-test .taken), omega (arith, most, count, in-loop .loop-test .taken, at-loop .loop .inv .2, at-clear at-loop .clear .kept .0, at-start .pre .1))
 
-behind-name-requires : tie.Need-behind-name-requires Inv-loop μ-loop
-behind-name-requires c κs =
-    let in-loop = from-linked c in
-    let at-loop = in-loop .before in
-    omega (arith, standing-in (at-loop .loop .inv .0) (in-loop .loop-test .taken) (from-loop at-loop .pre .0))
-
-add-at-3 : tie.Need-add-at-3 Inv-loop μ-loop
-add-at-3 c =
-    let in-loop = from-linked (c .before) in
-    let at-loop = in-loop .before in
-    omega (arith, c .behind-name .ensures, standing-in (at-loop .loop .inv .0) (in-loop .loop-test .taken) (from-loop at-loop .pre .0))
+behind-entry-requires : tie.Need-behind-entry-requires Inv-loop μ-loop
+behind-entry-requires c κs = entry-here (from-linked c)
 
 add-i : tie.Need-add-i Inv-loop μ-loop
 add-i c = omega arith
@@ -93,7 +86,7 @@ loop-again c =
     let in-loop = from-linked (c .before) in
     let at-loop = in-loop .before in
     let here = at-loop .loop .inv .0 in (
-      standing-next here (in-loop .loop-test .taken) (c .behind-name .ensures),
+      standing-next here (omega (arith, in-loop .loop-test .taken)) (c .behind-entry .ensures),
       at-link .link .ensures _ (at-loop .loop .inv .1) (standing-mark here (at-mark .before .name-at .ensures) (at-mark .mark .ensures)),
       at-link .link .kept .0 ∙ at-loop .loop .inv .2,
     )
@@ -123,8 +116,7 @@ link-names-spec =
     name-at-requires
     mark-requires
     link-requires
-    behind-name-requires
-    add-at-3
+    behind-entry-requires
     add-i
     loop-less
     loop-again

@@ -1,9 +1,10 @@
 -- `note_offsets` meets its contract. The loop's invariant: it stands at an entry of the block, and the words before are the offsets of those
 -- before it.
-use Prim.Native.Nat.{_+_, _-_}
+use Prim.Native.Nat.{_+_, _-_, _≤_}
 use native.Mathlib.Omega.{arith}
 use mathlib.Core.Path.{_≡_, refl, _∙_}
 use lib.ListN.{length, length-set}
+use Rattle.blocks.specs.Bytes.{le2}
 use Rattle.lookup.proofs.Values.{inside}
 use Rattle.interpreter_values.specs.Entries.{Offsets}
 use Rattle.interpreter_values.proofs.Entries.{Standing, few, standing-first, standing-in, standing-next}
@@ -40,6 +41,10 @@ add-at-2 c = omega (arith, inside (from-read2 c .pre .0))
 loop-holds : tie.Need-loop-holds Inv-loop μ-loop
 loop-holds c = (standing-first (c .read2 .ensures .0), λ k h. absurd (let z : ⊥ = omega arith in z), refl)
 
+-- the entry lies in the bytes
+entry-here : (r : tie.In-loop Inv-loop μ-loop) → r .before .loop .at + 2 + le2 (from-loop (r .before) .args .values .now) (r .before .loop .at) + 8 ≤ length (from-loop (r .before) .args .values .now)
+entry-here r = let at-loop = r .before in standing-in (at-loop .loop .inv .0) (r .loop-test .taken) (from-loop at-loop .pre .0)
+
 mul-offsets : tie.Need-mul-offsets Inv-loop μ-loop
 mul-offsets c =
     let at-loop = c .before in
@@ -51,16 +56,8 @@ slice-write-offsets c =
     let at-start = from-loop at-loop in
     omega (arith, few (at-start .pre .0), at-loop .loop .inv .0 .count, c .loop-test .taken, at-loop .loop .inv .2, at-start .pre .1)
 
-behind-name-requires : tie.Need-behind-name-requires Inv-loop μ-loop
-behind-name-requires c κs =
-    let at-loop = c .before in
-    omega (arith, standing-in (at-loop .loop .inv .0) (c .loop-test .taken) (from-loop at-loop .pre .0))
-
-add-at-3 : tie.Need-add-at-3 Inv-loop μ-loop
-add-at-3 c =
-    let in-loop = c .before in
-    let at-loop = in-loop .before in
-    omega (arith, c .behind-name .ensures, standing-in (at-loop .loop .inv .0) (in-loop .loop-test .taken) (from-loop at-loop .pre .0))
+behind-entry-requires : tie.Need-behind-entry-requires Inv-loop μ-loop
+behind-entry-requires c κs = entry-here c
 
 add-i : tie.Need-add-i Inv-loop μ-loop
 add-i c = omega arith
@@ -73,7 +70,7 @@ loop-again c =
     let in-loop = c .before in
     let at-loop = in-loop .before in
     let here = at-loop .loop .inv .0 in (
-      standing-next here (in-loop .loop-test .taken) (c .behind-name .ensures),
+      standing-next here (in-loop .loop-test .taken) (c .behind-entry .ensures),
       offsets-more _ _ _ _ (at-loop .loop .offsets) (at-loop .loop .inv .1) (here .here) (slice-write-offsets in-loop),
       length-set (at-loop .loop .offsets) (at-loop .loop .i) (at-loop .loop .at) ∙ at-loop .loop .inv .2,
     )
@@ -99,8 +96,7 @@ note-offsets-spec =
     loop-holds
     mul-offsets
     slice-write-offsets
-    behind-name-requires
-    add-at-3
+    behind-entry-requires
     add-i
     loop-less
     loop-again

@@ -71,7 +71,7 @@ mul-is-named : tie.Need-mul-is-named Inv-loop μ-loop
 mul-is-named c = omega (arith, asked-word c)
 
 shared-slice-read-is-named : tie.Need-shared-slice-read-is-named Inv-loop μ-loop
-shared-slice-read-is-named c = asked-word (c .before)
+shared-slice-read-is-named c = omega (arith, asked-word (c .before))
 
 is-named-requires : tie.Need-is-named-requires Inv-loop μ-loop
 is-named-requires c κs =
