@@ -16,16 +16,19 @@ ghost use Rattle.interpreter_values.specs.Remembered.{Indexed, Remembere
 // How many working words evaluating uses where it may remember values.
 pub const WORDS: usize = 1168;
 
-// The word that counts the names asked for; behind it stands the index: a table of marks, and the offsets of the entries.
+// The word that counts the names asked for.
 const ASKED: usize = 16;
 
+// Where the index begins, with a table of the marks of the names.
 const TABLE: usize = 17;
 
+// Where the offsets of the entries begin, behind the table.
 const OFFSETS: usize = 656;
 
-// With fewer values no index is built, and the first names asked for are found without it.
+// With fewer values no index is built.
 const MANY: usize = 32;
 
+// So many names are found one by one before an index is built.
 const SELDOM: u64 = 8;
 
 // Nothing is remembered of any values.

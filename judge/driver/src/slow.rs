@@ -413,7 +413,7 @@ fn eight(bytes: &[u8]) -> u64 {
     bytes[..8].iter().rev().fold(0, more)
 }
 
-/// A mark of a type's name with eight bytes more, as crates/reader_leaf has it.
+/// A mark of a type's name with eight bytes more, as crates/name_marks has it.
 fn step(h: u64, x: u64) -> u64 {
     ((1 << 32) + h % (1 << 32)) * (x % (1 << 31)) + h / (1 << 32) + x / (1 << 32)
 }

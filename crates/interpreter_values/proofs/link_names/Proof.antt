@@ -48,8 +48,12 @@ add-at-2 c = omega (arith, inside (from-clear (c .before) .pre .0))
 
 loop-holds : tie.Need-loop-holds Inv-loop μ-loop
 loop-holds c =
-    let clearing = c .before .before .before in
-    (standing-first (c .read2 .ensures .0), clearing .clear .ensures _, refl)
+    let cleared = c .before .before .before in
+    (standing-first (c .read2 .ensures .0), cleared .clear .ensures _, refl)
+
+-- the table keeps its length
+same-length-here : (r : tie.At-loop Inv-loop μ-loop) → length (r .loop .table) ≡ length (from-loop r .args .table .now)
+same-length-here r = r .loop .inv .2 ∙ at-clear r .clear .kept .0
 
 -- the entry lies in the bytes
 entry-here : (r : tie.In-loop Inv-loop μ-loop) → r .before .loop .at + 2 + le2 (from-loop (r .before) .args .values .now) (r .before .loop .at) + 8 ≤ length (from-loop (r .before) .args .values .now)
@@ -68,7 +72,10 @@ link-requires c κs =
     let at-start = from-loop at-loop in
     let most = few (at-start .pre .0) in
     let count = at-loop .loop .inv .0 .count in
-    (omega (arith, most, count, in-loop .loop-test .taken), omega (arith, most, count, in-loop .loop-test .taken, at-loop .loop .inv .2, at-clear at-loop .clear .kept .0, at-start .pre .1))
+    let room = same-length-here at-loop in (
+      omega (arith, most, count, in-loop .loop-test .taken),
+      omega (arith, most, count, in-loop .loop-test .taken, room, at-start .pre .1),
+    )
 
 behind-entry-requires : tie.Need-behind-entry-requires Inv-loop μ-loop
 behind-entry-requires c κs = entry-here (from-linked c)
@@ -92,7 +99,7 @@ loop-again c =
     )
 
 same-length : tie.Need-same-length Inv-loop μ-loop
-same-length c = c .before .loop .inv .2 ∙ at-clear (c .before) .clear .kept .0
+same-length c = same-length-here (c .before)
 
 returns : tie.Need-returns Inv-loop μ-loop
 returns c =
