@@ -56,7 +56,8 @@ same-length-here : (r : tie.At-loop Inv-loop μ-loop) → length (r .loop .table
 same-length-here r = r .loop .inv .2 ∙ at-clear r .clear .kept .0
 
 -- the entry lies in the bytes
-entry-here : (r : tie.In-loop Inv-loop μ-loop) → r .before .loop .at + 2 + le2 (from-loop (r .before) .args .values .now) (r .before .loop .at) + 8 ≤ length (from-loop (r .before) .args .values .now)
+entry-here : (r : tie.In-loop Inv-loop μ-loop) →
+    r .before .loop .at + 2 + le2 (from-loop (r .before) .args .values .now) (r .before .loop .at) + 8 ≤ length (from-loop (r .before) .args .values .now)
 entry-here r = let at-loop = r .before in standing-in (at-loop .loop .inv .0) (omega (arith, r .loop-test .taken)) (from-loop at-loop .pre .0)
 
 name-at-requires : tie.Need-name-at-requires Inv-loop μ-loop

@@ -42,7 +42,8 @@ loop-holds : tie.Need-loop-holds Inv-loop μ-loop
 loop-holds c = (standing-first (c .read2 .ensures .0), λ k h. absurd (let z : ⊥ = omega arith in z), refl)
 
 -- the entry lies in the bytes
-entry-here : (r : tie.In-loop Inv-loop μ-loop) → r .before .loop .at + 2 + le2 (from-loop (r .before) .args .values .now) (r .before .loop .at) + 8 ≤ length (from-loop (r .before) .args .values .now)
+entry-here : (r : tie.In-loop Inv-loop μ-loop) →
+    r .before .loop .at + 2 + le2 (from-loop (r .before) .args .values .now) (r .before .loop .at) + 8 ≤ length (from-loop (r .before) .args .values .now)
 entry-here r = let at-loop = r .before in standing-in (at-loop .loop .inv .0) (r .loop-test .taken) (from-loop at-loop .pre .0)
 
 mul-offsets : tie.Need-mul-offsets Inv-loop μ-loop
