@@ -36,16 +36,20 @@ module _ (ws zs ys : List ℕ) (room : 1168 ≤ length ws) (lz : length zs ≡ l
   abbrev linked : List ℕ
   linked = putMid 17 639 noted ys
 
+  -- they are as many
   noted-length : length noted ≡ length ws
   noted-length = same-len-mid 656 512 ws zs lz
 
+  -- the offsets fill their part
   zs-length : length zs ≡ 512
   zs-length = lz ∙ mid-len 656 1168 ws room
 
   module _ (ly : length ys ≡ length (take 639 (drop 17 noted))) where
+    -- the table fills its part
     ys-length : length ys ≡ 639
     ys-length = ly ∙ mid-len 17 656 noted (omega (arith, noted-length))
 
+    -- there are as many words as before
     linked-length : length linked ≡ length ws
     linked-length = same-len-mid 17 639 noted ys ly ∙ noted-length
 
@@ -70,7 +74,7 @@ module _ (ws zs ys : List ℕ) (room : 1168 ≤ length ws) (lz : length zs ≡ l
     -- both together are the index
     pub built : (s : List ℕ) (block : ℕ) → le2 s (block + 6) ≤ 512 → Offsets s (block + 6 + 2) (le2 s (block + 6)) zs →
         Linked ys (entryMark s (block + 6 + 2)) (le2 s (block + 6)) → Indexed s block (drop 17 linked)
-    built s block few o l = record {
+    built s block most o l = record {
       room = omega (arith, length-drop 17 linked, linked-length);
       linked = rw (behind, take-at ys (drop 639 (drop 17 noted)) 639 ys-length) l;
       offsets = λ k h. ap (λ (us : List ℕ). getD us k 0) offsets-there ∙
