@@ -43,8 +43,9 @@ const USAGE: &str = "usage: judge/run COMMAND
                                    hold a program `lengths` against the rules
   fills PROGRAM [--cases N] [--seed S]
                                    hold the fill that it prints against exact arithmetic
-  bench [--markdown] [--only TEXT] time, ours beside the Rust: all tables, or those with TEXT
-                                   in their title
+  bench [--markdown] [--only TEXT] [--before FOLDER]
+                                   time, ours beside the Rust: all tables, or those with TEXT
+                                   in their title; beside FOLDER's older libciztarmo.a too
   slow FOLDER                      write the bench's larger sets and layouts, and the inputs that
                                    take long, a file each: NAME.set or NAME.layout
   trip                             M13: bytes and lines of the worked example

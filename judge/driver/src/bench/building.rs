@@ -1,9 +1,9 @@
 //! Building: from a set's bytes to a layout's.
 
-use super::measure::{medians, work};
-use super::ours::Words;
+use super::measure::{medians, medians_beside, work};
+use super::ours::{archives, Words, NOW};
 use super::table::{Group, Parts, Row};
-use super::{accepted, ours, Head};
+use super::{accepted, Head};
 use crate::data::*;
 use crate::gen::grown;
 use crate::rules::read;
@@ -51,7 +51,7 @@ pub fn by_parameters() -> Vec<Source> {
     [64, 128, 256, 512].map(source).into()
 }
 
-pub fn building(words: &mut Words, head: Head, sets: &[Source]) -> Result<Group, String> {
+pub fn building(words: Words, head: Head, sets: &[Source]) -> Result<Group, String> {
     let mut rows = Vec::new();
     for source in sets {
         rows.push(building_row(words, source)?);
@@ -66,12 +66,15 @@ pub fn rust_builds(set: &[u8]) -> Option<Vec<u8>> {
     Some(write::layout(&trees))
 }
 
-/// Both must give the layout, byte for byte.
-fn same_layouts(words: &mut Words, out: &mut [u8], source: &Source) -> Result<(), String> {
+/// All must give the layout, byte for byte.
+fn same_layouts(words: Words, source: &Source) -> Result<(), String> {
     let n = source.layout.len();
-    let answer = ours::build(words, &source.bytes, out);
-    if answer != accepted(n as u64) || out[..n] != source.layout {
-        return Err(format!("{}: ours {answer:?}", source.what));
+    for (whose, archive) in archives() {
+        let out = &mut vec![0; LIMIT];
+        let answer = archive.build(words, &source.bytes, out);
+        if answer != accepted(n as u64) || out[..n] != source.layout {
+            return Err(format!("{}: {whose} {answer:?}", source.what));
+        }
     }
     match rust_builds(&source.bytes) == Some(source.layout.clone()) {
         true => Ok(()),
@@ -79,19 +82,24 @@ fn same_layouts(words: &mut Words, out: &mut [u8], source: &Source) -> Result<()
     }
 }
 
-fn building_row(words: &mut Words, source: &Source) -> Result<Row, String> {
-    let out = &mut vec![0; LIMIT];
-    same_layouts(words, out, source)?;
+fn building_row(words: Words, source: &Source) -> Result<Row, String> {
+    same_layouts(words, source)?;
     let types = rust::Types::new(&source.set);
-    let [ours, whole, alone] = medians([
-        work(|| ours::build(words, black_box(&source.bytes), out)),
-        work(|| rust_builds(black_box(&source.bytes))),
-        work(|| black_box(&types).build(usize::MAX)),
-    ]);
+    let (ours, before, [whole, alone]) = medians_beside(
+        |archive| {
+            let mut out = vec![0; LIMIT];
+            work(move || archive.build(words, black_box(&source.bytes), &mut out))
+        },
+        [
+            work(|| rust_builds(black_box(&source.bytes))),
+            work(|| black_box(&types).build(usize::MAX)),
+        ],
+    );
     Ok(Row {
         what: source.what.clone(),
         size: source.size,
         ours,
+        before,
         whole,
         lean: None,
         checks: None,
@@ -99,15 +107,15 @@ fn building_row(words: &mut Words, source: &Source) -> Result<Row, String> {
     })
 }
 
-pub fn build_parts(words: &mut Words, name: &str, source: &Source) -> Result<Parts, String> {
+pub fn build_parts(words: Words, name: &str, source: &Source) -> Result<Parts, String> {
     let out = &mut vec![0; LIMIT];
-    same_layouts(words, out, source)?;
+    same_layouts(words, source)?;
     let types = rust::Types::new(&source.set);
     let built = types.build(usize::MAX);
     let built = built.map_err(|e| format!("{}: {e:?}", source.what))?;
     let trees = rust::trees(&built);
     let [ours, decode, convert, call, convert_back, encode] = medians([
-        work(|| ours::build(words, black_box(&source.bytes), out)),
+        work(|| NOW.build(words, black_box(&source.bytes), out)),
         work(|| read::set(black_box(&source.bytes))),
         work(|| rust::Types::new(black_box(&source.set))),
         work(|| black_box(&types).build(usize::MAX)),

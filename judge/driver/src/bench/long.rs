@@ -1,10 +1,10 @@
 //! Inputs on which a call takes long for their bytes (`slow.rs`).
 
 use super::building::rust_builds;
-use super::measure::{medians, work};
-use super::ours::{Answer, Words};
+use super::measure::{medians_beside, work};
+use super::ours::{archives, Answer, Archive, Lent, Words};
 use super::table::{Group, Row};
-use super::{lean, lean_sets, ours, Head};
+use super::{lean, lean_sets, Head};
 use crate::data::*;
 use crate::rules::read;
 use crate::rust;
@@ -33,11 +33,17 @@ fn rows(
     Ok(Group { head, rows: rows? })
 }
 
-fn same_number(slow: &Slow, ours: Answer, theirs: Option<u8>) -> Result<(), String> {
+fn same_number(
+    slow: &Slow,
+    (whose, answer): (&str, Answer),
+    theirs: Option<u8>,
+) -> Result<(), String> {
     let number = u64::from(slow.number);
-    match ours[0] == number && theirs == Some(slow.number) {
+    match answer[0] == number && theirs == Some(slow.number) {
         true => Ok(()),
-        false => Err(format!("{number} expected: ours {ours:?}, {theirs:?}")),
+        false => Err(format!(
+            "{number} expected: {whose} {answer:?}, Rust {theirs:?}"
+        )),
     }
 }
 
@@ -47,29 +53,36 @@ pub fn building(head: Head) -> Result<Group, String> {
 
 /// Where ours refuses with 18, the Rust builds more than fits.
 fn building_row(slow: &Slow) -> Result<Row, String> {
-    let words = &mut Words::Own;
-    let out = &mut vec![0; LIMIT];
-    let answer = ours::build(words, &slow.bytes, out);
     let theirs = rust_builds(&slow.bytes);
     let number = theirs.as_ref().map(|t| match t.len() > LIMIT {
         true => 18,
         false => 0,
     });
-    same_number(slow, answer, number)?;
-    if slow.number == 0 && theirs.as_deref() != Some(&out[..answer[3] as usize]) {
-        return Err("the Rust builds another layout".to_string());
+    for (whose, archive) in archives() {
+        let out = &mut vec![0; LIMIT];
+        let answer = archive.build(Words::Own, &slow.bytes, out);
+        same_number(slow, (whose, answer), number)?;
+        if slow.number == 0 && theirs.as_deref() != Some(&out[..answer[3] as usize]) {
+            return Err(format!("the Rust builds another layout than {whose}"));
+        }
     }
     let set = read::set(&slow.bytes).map_err(|no| format!("{no:?}"))?;
     let types = rust::Types::new(&set);
-    let [ours, whole, alone] = medians([
-        work(|| ours::build(words, black_box(&slow.bytes), out)),
-        work(|| rust_builds(black_box(&slow.bytes))),
-        work(|| black_box(&types).build(usize::MAX)),
-    ]);
+    let (ours, before, [whole, alone]) = medians_beside(
+        |archive| {
+            let mut out = vec![0; LIMIT];
+            work(move || archive.build(Words::Own, black_box(&slow.bytes), &mut out))
+        },
+        [
+            work(|| rust_builds(black_box(&slow.bytes))),
+            work(|| black_box(&types).build(usize::MAX)),
+        ],
+    );
     Ok(Row {
         what: what(slow),
         size: None,
         ours,
+        before,
         whole,
         lean: None,
         checks: None,
@@ -79,15 +92,15 @@ fn building_row(slow: &Slow) -> Result<Row, String> {
 
 /// A Rust reader beside ours gives its number, or whether it accepts.
 struct Readers<T, U> {
-    ours: fn(&mut [u64], &[u8]) -> Answer,
+    ours: fn(&Archive, Lent, &[u8]) -> Answer,
     judge: fn(&[u8]) -> Result<T, No>,
     lean: fn(&[u8]) -> Option<U>,
     checks: fn(&[u8]) -> bool,
 }
 
-pub fn reading_sets(words: &mut [u64], head: Head) -> Result<Group, String> {
+pub fn reading_sets(words: Lent, head: Head) -> Result<Group, String> {
     let readers = Readers {
-        ours: ours::read_set,
+        ours: Archive::read_set,
         judge: read::set,
         lean: lean_sets::set,
         checks: lean_sets::is_set,
@@ -95,9 +108,9 @@ pub fn reading_sets(words: &mut [u64], head: Head) -> Result<Group, String> {
     rows(head, Call::ReadSet, |slow| readers.row(words, slow))
 }
 
-pub fn reading_layouts(words: &mut [u64], head: Head) -> Result<Group, String> {
+pub fn reading_layouts(words: Lent, head: Head) -> Result<Group, String> {
     let readers = Readers {
-        ours: ours::read_layout,
+        ours: Archive::read_layout,
         judge: read::layout,
         lean: lean::layout,
         checks: lean::is_layout,
@@ -106,24 +119,30 @@ pub fn reading_layouts(words: &mut [u64], head: Head) -> Result<Group, String> {
 }
 
 impl<T, U> Readers<T, U> {
-    fn row(&self, words: &mut [u64], slow: &Slow) -> Result<Row, String> {
+    fn row(&self, words: Lent, slow: &Slow) -> Result<Row, String> {
         let bytes = &slow.bytes;
         let number = (self.judge)(bytes).map_or_else(|no| no.number, |_| 0);
-        same_number(slow, (self.ours)(words, bytes), Some(number))?;
+        for (whose, archive) in archives() {
+            let answer = (self.ours)(archive, words, bytes);
+            same_number(slow, (whose, answer), Some(number))?;
+        }
         let good = slow.number == 0;
         if (self.lean)(bytes).is_some() != good || (self.checks)(bytes) != good {
             return Err("the lean readers say otherwise".to_string());
         }
-        let [ours, whole, lean, checks] = medians([
-            work(|| (self.ours)(words, black_box(bytes))),
-            work(|| (self.judge)(black_box(bytes))),
-            work(|| (self.lean)(black_box(bytes))),
-            work(|| (self.checks)(black_box(bytes))),
-        ]);
+        let (ours, before, [whole, lean, checks]) = medians_beside(
+            |archive| work(|| (self.ours)(archive, words, black_box(bytes))),
+            [
+                work(|| (self.judge)(black_box(bytes))),
+                work(|| (self.lean)(black_box(bytes))),
+                work(|| (self.checks)(black_box(bytes))),
+            ],
+        );
         Ok(Row {
             what: what(slow),
             size: None,
             ours,
+            before,
             whole,
             lean: Some(lean),
             checks: Some(checks),

@@ -1,5 +1,6 @@
 //! Time: rounds of several things in turn, in one process.
 
+use super::ours::{archives, Archive};
 use std::hint::black_box;
 
 const ROUNDS: usize = 15;
@@ -42,24 +43,40 @@ pub fn work<'a, A>(mut call: impl FnMut() -> A + 'a) -> Work<'a> {
     Box::new(move |many| (0..many).for_each(|_| drop(black_box(call()))))
 }
 
-/// Nanoseconds of one call of each: the medians of rounds taken in turn.
+/// Nanoseconds of one call: ours, the older archive's where there is one, and
+/// each of the things beside them.
+pub fn medians_beside<'a, const N: usize>(
+    ours: impl Fn(&'static Archive) -> Work<'a>,
+    beside: [Work<'a>; N],
+) -> (f64, Option<f64>, [f64; N]) {
+    let mut works: Vec<Work> = archives().map(|(_, archive)| ours(archive)).collect();
+    let many = works.len();
+    works.extend(beside);
+    let times = all_medians(&mut works);
+    let before = times[1..many].first().copied();
+    (times[0], before, std::array::from_fn(|i| times[many + i]))
+}
+
+/// Nanoseconds of one call of each.
 pub fn medians<const N: usize>(mut works: [Work; N]) -> [f64; N] {
+    let times = all_medians(&mut works);
+    std::array::from_fn(|i| times[i])
+}
+
+/// The medians of rounds taken in turn.
+fn all_medians(works: &mut [Work]) -> Vec<f64> {
     let filled: Vec<(u32, f64)> = works.iter_mut().map(filling).collect();
     let rounds = match filled.iter().any(|(_, ns)| *ns > LONG) {
         true => FEW_ROUNDS,
         false => ROUNDS,
     };
-    let mut times = vec![Vec::new(); N];
+    let mut times = vec![Vec::new(); works.len()];
     for _ in 0..rounds {
-        for i in 0..N {
-            times[i].push(round(&mut works[i], filled[i].0));
+        for (i, work) in works.iter_mut().enumerate() {
+            times[i].push(round(work, filled[i].0));
         }
     }
-    let mut out = [0.0; N];
-    for (ns, times) in out.iter_mut().zip(times) {
-        *ns = median(times);
-    }
-    out
+    times.into_iter().map(median).collect()
 }
 
 /// How many calls fill a round, and the nanoseconds of one.

@@ -16,8 +16,9 @@ use crate::data::*;
 use crate::gen::grown;
 use crate::rules::read;
 use building::{build_parts, building, by_bytes, by_parameters};
-use measure::{medians, work};
-use ours::Words;
+use measure::{medians_beside, work};
+use ours::{archives, Lent, Words};
+use std::cell::Cell;
 use std::hint::black_box;
 use table::{Aim, Group, Parts, Row};
 use validating::{looking, spellings, validate_parts, validating, validating_runs};
@@ -27,10 +28,20 @@ fn accepted(value: u64) -> ours::Answer {
     [0, u64::from(NO_PLACE), 0, value]
 }
 
+/// What ours answers where it refuses.
+fn refused(no: No) -> ours::Answer {
+    [
+        u64::from(no.number),
+        u64::from(no.place),
+        u64::from(no.offset),
+        no.value,
+    ]
+}
+
 /// All tables, or those whose title contains a text; aims and parts are told
 /// only with all of them.
 pub fn bench(markdown: bool, only: Option<&str>) -> Result<(), String> {
-    let lent = &mut vec![0; WORDS as usize];
+    let lent = &vec![Cell::new(0); WORDS as usize];
     let Some(only) = only else {
         let (groups, parts) = (tables(lent, "")?, all_parts(lent)?);
         let aims = aims(&groups, &parts);
@@ -46,7 +57,7 @@ pub fn bench(markdown: bool, only: Option<&str>) -> Result<(), String> {
 }
 
 /// The tables whose title contains a text, in order.
-fn tables(lent: &mut [u64], text: &str) -> Result<Vec<Group>, String> {
+fn tables(lent: Lent, text: &str) -> Result<Vec<Group>, String> {
     let mut groups = Vec::new();
     for (place, head) in heads().into_iter().enumerate() {
         if head.0.contains(text) {
@@ -76,15 +87,15 @@ fn titles() -> String {
 }
 
 /// The table at a place among the heads.
-fn table_at(lent: &mut [u64], place: usize, head: Head) -> Result<Group, String> {
+fn table_at(lent: Lent, place: usize, head: Head) -> Result<Group, String> {
     let (trip, nested) = (inputs::trip, || inputs::nested(15));
     match place {
         0 => reading(lent),
-        1..=5 => table_of(&mut Words::Own, place - 1, head),
-        6..=10 => table_of(&mut Words::Lent(lent), place - 6, head),
+        1..=5 => table_of(Words::Own, place - 1, head),
+        6..=10 => table_of(Words::Lent(lent), place - 6, head),
         11 => validating_runs(lent, head, &[1, 16, 256, 1024], &trip()),
         12 => validating_runs(lent, head, &[1, 16, 256], &nested()),
-        13 => looking(lent, head, &trip()),
+        13 => looking(head, &trip()),
         14 => long::building(head),
         15 => long::reading_sets(lent, head),
         16 => long::reading_layouts(lent, head),
@@ -94,7 +105,7 @@ fn table_at(lent: &mut [u64], place: usize, head: Head) -> Result<Group, String>
 }
 
 /// One of the five tables that both ways to have working words have.
-fn table_of(words: &mut Words, place: usize, head: Head) -> Result<Group, String> {
+fn table_of(words: Words, place: usize, head: Head) -> Result<Group, String> {
     match place {
         0 => building(words, head, &by_bytes()),
         1 => building(words, head, &by_parameters()),
@@ -104,14 +115,14 @@ fn table_of(words: &mut Words, place: usize, head: Head) -> Result<Group, String
     }
 }
 
-fn all_parts(lent: &mut [u64]) -> Result<Vec<Parts>, String> {
+fn all_parts(lent: Lent) -> Result<Vec<Parts>, String> {
     let sets = by_bytes();
     let (trip, nested) = (inputs::trip(), inputs::nested(15));
     let mut parts = Vec::new();
     for own in [true, false] {
         let (words, build, count) = match own {
-            true => (&mut Words::Own, "layout_of", "length_of"),
-            false => (&mut Words::Lent(lent), "build_set", "validate"),
+            true => (Words::Own, "layout_of", "length_of"),
+            false => (Words::Lent(lent), "build_set", "validate"),
         };
         parts.push(build_parts(words, build, &sets[0])?);
         parts.push(build_parts(words, build, &sets[4])?);
@@ -222,7 +233,7 @@ fn aims(groups: &[Group], parts: &[Parts]) -> Vec<Aim> {
     out
 }
 
-fn reading(words: &mut [u64]) -> Result<Group, String> {
+fn reading(words: Lent) -> Result<Group, String> {
     let sizes = [6, 12, 24, 48].map(grown::layout);
     let mut rows = Vec::new();
     for layout in sizes {
@@ -236,11 +247,14 @@ fn reading(words: &mut [u64]) -> Result<Group, String> {
     Ok(Group { head: READ, rows })
 }
 
-fn reading_row(words: &mut [u64], note: &str, layout: &[u8]) -> Result<Row, String> {
+fn reading_row(words: Lent, note: &str, layout: &[u8]) -> Result<Row, String> {
     let types = read::layout(layout).map_err(|no| format!("reading: {no:?}"))?;
-    let answer = ours::read_layout(words, layout);
-    if answer != accepted(0) {
-        return Err(format!("reading {} bytes: ours {answer:?}", layout.len()));
+    for (whose, archive) in archives() {
+        let answer = archive.read_layout(words, layout);
+        if answer != accepted(0) {
+            let bytes = layout.len();
+            return Err(format!("reading {bytes} bytes: {whose} {answer:?}"));
+        }
     }
     if lean::layout(layout).is_none() || !lean::is_layout(layout) {
         return Err(format!(
@@ -248,16 +262,19 @@ fn reading_row(words: &mut [u64], note: &str, layout: &[u8]) -> Result<Row, Stri
             layout.len()
         ));
     }
-    let [ours, whole, lean, checks] = medians([
-        work(|| ours::read_layout(words, black_box(layout))),
-        work(|| read::layout(black_box(layout))),
-        work(|| lean::layout(black_box(layout))),
-        work(|| lean::is_layout(black_box(layout))),
-    ]);
+    let (ours, before, [whole, lean, checks]) = medians_beside(
+        |archive| work(|| archive.read_layout(words, black_box(layout))),
+        [
+            work(|| read::layout(black_box(layout))),
+            work(|| lean::layout(black_box(layout))),
+            work(|| lean::is_layout(black_box(layout))),
+        ],
+    );
     Ok(Row {
         what: format!("{} bytes, {} types{note}", layout.len(), types.len()),
         size: Some(layout.len()),
         ours,
+        before,
         whole,
         lean: Some(lean),
         checks: Some(checks),

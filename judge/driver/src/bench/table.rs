@@ -2,8 +2,8 @@
 
 use super::Head;
 
-/// Nanoseconds of a call. `whole` is the Rust from bytes to the answer with
-/// the judge's decoder, `lean` with one that decodes straight into the Rust's
+/// Nanoseconds of a call. `before` is the older archive's, `whole` the Rust
+/// from bytes to the answer with the judge's decoder, `lean` with one that decodes straight into the Rust's
 /// values, `checks` a Rust reader that keeps nothing, `alone` the Rust's own
 /// call on values that it has.
 pub struct Row {
@@ -12,6 +12,7 @@ pub struct Row {
     /// row of another sort, or with times for each run, has none.
     pub size: Option<usize>,
     pub ours: f64,
+    pub before: Option<f64>,
     pub whole: f64,
     pub lean: Option<f64>,
     pub checks: Option<f64>,
@@ -103,8 +104,9 @@ fn slope(rows: &[Row], i: usize) -> String {
 }
 
 /// The columns beside ours that a group has, each with its ratio.
-fn beside(row: &Row) -> [(&'static str, Option<f64>); 4] {
+fn beside(row: &Row) -> [(&'static str, Option<f64>); 5] {
     [
+        ("before, µs", row.before),
         ("Rust from bytes, µs", Some(row.whole)),
         ("lean Rust from bytes, µs", row.lean),
         ("Rust that only checks, µs", row.checks),
@@ -116,7 +118,7 @@ fn group_lines(group: &Group) -> Vec<Vec<String>> {
     let mut head = vec![group.head.0.to_string(), "ours, µs".to_string()];
     // A column that no row of the group has is left out.
     let had = |i: usize| group.rows.iter().any(|row| beside(row)[i].1.is_some());
-    let columns: Vec<usize> = (0..4).filter(|i| had(*i)).collect();
+    let columns: Vec<usize> = (0..5).filter(|i| had(*i)).collect();
     for i in &columns {
         head.push(beside(&group.rows[0])[*i].0.to_string());
         head.push("ratio".to_string());

@@ -1,19 +1,20 @@
 //! Validating: from the bytes of a layout and of values to a count.
 
 use super::inputs::Asked;
-use super::measure::{medians, work};
-use super::ours::Words;
+use super::measure::{medians, medians_beside, work};
+use super::ours::{archives, Answer, Archive, Lent, Words, NOW};
 use super::table::{Group, Parts, Row};
 use super::words::widest;
-use super::{accepted, inputs, lean, ours, Head};
+use super::{accepted, inputs, lean, refused, Head};
 use crate::data::*;
+use crate::rules::eval::{self, Ask};
 use crate::rules::read;
 use crate::{rust, write};
 use abi_reflect::ir::interpreter::ParamMap;
 use std::hint::black_box;
 
 pub fn validating(
-    words: &mut Words,
+    words: Words,
     head: Head,
     sizes: [usize; 4],
     asked: fn(usize) -> Asked,
@@ -32,7 +33,7 @@ pub fn spellings(head: Head, spellings: &[(&str, &str)]) -> Result<Group, String
     let mut rows = Vec::new();
     for (what, text) in spellings {
         let asked = inputs::with_long_names(text);
-        let row = validating_row(&mut Words::Own, what.to_string(), 512, &asked)?;
+        let row = validating_row(Words::Own, what.to_string(), 512, &asked)?;
         rows.push(Row { size: None, ..row });
     }
     Ok(Group { head, rows })
@@ -43,14 +44,16 @@ fn label(size: usize, head: Head, asked: &Asked) -> String {
     format!("{size} {}{many}, {} bytes", head.1, asked.layout.len())
 }
 
-/// What a validation is asked on each side, with the count of the Rust.
+/// What a validation is asked on each side, with the answer and the count that
+/// the Rust gives where it accepts.
 struct Question<'a> {
     asked: &'a Asked,
     values: Vec<u8>,
     judge: rust::Judge,
     place: usize,
     params: ParamMap,
-    count: u64,
+    answer: Answer,
+    count: Option<u128>,
 }
 
 impl<'a> Question<'a> {
@@ -66,23 +69,45 @@ impl<'a> Question<'a> {
                 .position(named)
                 .ok_or("the type is not there")?,
             params: params(&asked.values),
-            count: 0,
+            answer: accepted(0),
+            count: None,
         };
-        let (alone, whole, lean) = (question.alone(), question.whole(), question.lean());
-        match (alone, whole, lean) {
-            (Some(a), Some(b), Some(c)) if a == b && b == c => question.count = a as u64,
-            _ => {
-                let name = &asked.name;
-                return Err(format!("{name}: Rust {alone:?}, {whole:?} and {lean:?}"));
-            }
+        (question.answer, question.count) = question.answers()?;
+        let counts = [question.alone(), question.whole(), question.lean()];
+        match counts.iter().all(|count| *count == question.count) {
+            true => Ok(question),
+            false => Err(format!("{}: Rust {counts:?}", asked.name)),
         }
-        Ok(question)
     }
 
-    fn ours(&self, words: &mut Words) -> ours::Answer {
+    /// The rules' answer, whose number, place and count must be the Rust's.
+    fn answers(&self) -> Result<(Answer, Option<u128>), String> {
+        let ask = Ask {
+            words: WORDS,
+            layout: &self.asked.layout,
+            name: self.asked.name.as_bytes(),
+            length: self.asked.length,
+            values: &self.values,
+        };
+        let judge = &self.judge;
+        let theirs = judge.validate_wide(ask.name, ask.length, &self.params);
+        match (eval::validate(&ask), theirs) {
+            (Ok(count), Some(Ok(wide))) if u128::from(count) == wide => {
+                Ok((accepted(count), Some(wide)))
+            }
+            (Err(no), Some(Err(their)))
+                if no.number == their.number && their.place == Some(no.place) =>
+            {
+                Ok((refused(no), None))
+            }
+            (rules, theirs) => Err(format!("rules {rules:?}, Rust {theirs:?}")),
+        }
+    }
+
+    fn ours(&self, archive: &Archive, words: Words) -> Answer {
         let Asked { layout, name, .. } = self.asked;
         let (layout, values) = (black_box(layout), black_box(&self.values));
-        ours::count(words, layout, name.as_bytes(), values, self.asked.length)
+        archive.count(words, layout, name.as_bytes(), values, self.asked.length)
     }
 
     /// The Rust, from bytes: decoding layout and values, then `validate`.
@@ -106,12 +131,14 @@ impl<'a> Question<'a> {
         judge.count(self.place, self.asked.length, black_box(&self.params))
     }
 
-    fn same(&self, words: &mut Words) -> Result<(), String> {
-        let answer = self.ours(words);
-        match answer == accepted(self.count) {
-            true => Ok(()),
-            false => Err(format!("ours {answer:?}, Rust {}", self.count)),
+    fn same(&self, words: Words) -> Result<(), String> {
+        for (whose, archive) in archives() {
+            let answer = self.ours(archive, words);
+            if answer != self.answer {
+                return Err(format!("{whose} {answer:?}, Rust {:?}", self.answer));
+            }
         }
+        Ok(())
     }
 }
 
@@ -120,24 +147,28 @@ fn params(values: &Values) -> ParamMap {
     wide.collect()
 }
 
-fn validating_row(
-    words: &mut Words,
+pub fn validating_row(
+    words: Words,
     what: String,
     size: usize,
     asked: &Asked,
 ) -> Result<Row, String> {
     let question = Question::new(asked).map_err(|e| format!("{what}: {e}"))?;
     question.same(words).map_err(|e| format!("{what}: {e}"))?;
-    let [ours, whole, lean, alone] = medians([
-        work(|| question.ours(words)),
-        work(|| question.whole()),
-        work(|| question.lean()),
-        work(|| question.alone()),
-    ]);
+    let question = &question;
+    let (ours, before, [whole, lean, alone]) = medians_beside(
+        |archive| work(move || question.ours(archive, words)),
+        [
+            work(|| question.whole()),
+            work(|| question.lean()),
+            work(|| question.alone()),
+        ],
+    );
     Ok(Row {
         what,
         size: Some(size),
         ours,
+        before,
         whole,
         lean: Some(lean),
         checks: None,
@@ -147,9 +178,9 @@ fn validating_row(
 
 /// Only to look at the working words, or to write zeros into them, beside the
 /// Rust on one question: a call that is lent them has no better ratio.
-pub fn looking(words: &mut [u64], head: Head, asked: &Asked) -> Result<Group, String> {
+pub fn looking(head: Head, asked: &Asked) -> Result<Group, String> {
     let question = Question::new(asked)?;
-    words.fill(0);
+    let words = &vec![0; WORDS as usize];
     let (wide, any) = widest();
     let mut written = words.to_vec();
     let [read, write, whole, lean, alone] = medians([
@@ -163,6 +194,7 @@ pub fn looking(words: &mut [u64], head: Head, asked: &Asked) -> Result<Group, St
         what,
         size: None,
         ours,
+        before: None,
         whole,
         lean: Some(lean),
         checks: None,
@@ -200,9 +232,9 @@ impl<'a> Runs<'a> {
         })
     }
 
-    fn ours(&self, words: &mut [u64], answers: &mut [ours::Answer]) -> usize {
+    fn ours(&self, archive: &Archive, words: Lent, answers: &mut [Answer]) -> usize {
         let layout = black_box(&self.question.asked.layout);
-        ours::validate_runs(words, layout, black_box(&self.bytes), answers)
+        archive.validate_runs(words, layout, black_box(&self.bytes), answers)
     }
 
     /// The Rust, from bytes: decoding the layout once, then each run, and
@@ -237,30 +269,32 @@ impl<'a> Runs<'a> {
         }
     }
 
-    /// Every run has the question's count on each side.
-    fn same(&self, words: &mut [u64]) -> Result<(), String> {
-        let count = self.question.count;
-        let mut answers = vec![[0; 4]; self.many];
-        let given = self.ours(words, &mut answers);
-        let other = answers.iter().find(|a| **a != accepted(count));
-        if given != self.many || other.is_some() {
-            return Err(format!("ours {given} runs, {other:?}, Rust {count}"));
+    /// Every run has the question's answer on each side.
+    fn same(&self, words: Lent) -> Result<(), String> {
+        let Question { answer, count, .. } = self.question;
+        for (whose, archive) in archives() {
+            let mut answers = vec![[0; 4]; self.many];
+            let given = self.ours(archive, words, &mut answers);
+            let other = answers.iter().find(|a| **a != answer);
+            if given != self.many || other.is_some() {
+                return Err(format!("{whose} {given} runs, {other:?}, Rust {answer:?}"));
+            }
         }
         let [mut whole, mut lean, mut alone] = [(); 3].map(|_| vec![None; self.many]);
         self.whole(&mut whole);
         self.lean(&mut lean);
         self.alone(&mut alone);
         let counts = &mut whole.iter().chain(&lean).chain(&alone);
-        match counts.find(|c| **c != Some(u128::from(count))) {
+        match counts.find(|c| **c != count) {
             None => Ok(()),
-            Some(other) => Err(format!("Rust {count} and {other:?}")),
+            Some(other) => Err(format!("Rust {count:?} and {other:?}")),
         }
     }
 }
 
 /// One question as several runs: times for each run.
 pub fn validating_runs(
-    words: &mut [u64],
+    words: Lent,
     head: Head,
     sizes: &[usize],
     asked: &Asked,
@@ -273,22 +307,29 @@ pub fn validating_runs(
     Ok(Group { head, rows })
 }
 
-fn runs_row(words: &mut [u64], what: String, many: usize, asked: &Asked) -> Result<Row, String> {
+pub fn runs_row(words: Lent, what: String, many: usize, asked: &Asked) -> Result<Row, String> {
     let runs = Runs::new(asked, many).map_err(|e| format!("{what}: {e}"))?;
     runs.same(words).map_err(|e| format!("{what}: {e}"))?;
-    let mut answers = vec![[0; 4]; many];
+    let runs = &runs;
     let [mut whole, mut lean, mut alone] = [(); 3].map(|_| vec![None; many]);
-    let times = medians([
-        work(|| runs.ours(words, black_box(&mut answers))),
-        work(|| runs.whole(black_box(&mut whole))),
-        work(|| runs.lean(black_box(&mut lean))),
-        work(|| runs.alone(black_box(&mut alone))),
-    ]);
-    let [ours, whole, lean, alone] = times.map(|ns| ns / many as f64);
+    let (ours, before, beside) = medians_beside(
+        |archive| {
+            let mut answers = vec![[0; 4]; many];
+            work(move || runs.ours(archive, words, black_box(&mut answers)))
+        },
+        [
+            work(|| runs.whole(black_box(&mut whole))),
+            work(|| runs.lean(black_box(&mut lean))),
+            work(|| runs.alone(black_box(&mut alone))),
+        ],
+    );
+    let each = |ns: f64| ns / many as f64;
+    let [whole, lean, alone] = beside.map(each);
     Ok(Row {
         what,
         size: None,
-        ours,
+        ours: each(ours),
+        before: before.map(each),
         whole,
         lean: Some(lean),
         checks: None,
@@ -296,12 +337,12 @@ fn runs_row(words: &mut [u64], what: String, many: usize, asked: &Asked) -> Resu
     })
 }
 
-pub fn validate_parts(words: &mut Words, what: &str, asked: &Asked) -> Result<Parts, String> {
+pub fn validate_parts(words: Words, what: &str, asked: &Asked) -> Result<Parts, String> {
     let question = Question::new(asked).map_err(|e| format!("{what}: {e}"))?;
     question.same(words).map_err(|e| format!("{what}: {e}"))?;
     let trees = read::layout(&asked.layout).map_err(|no| format!("{no:?}"))?;
     let [ours, decode, convert, alone] = medians([
-        work(|| question.ours(words)),
+        work(|| question.ours(&NOW, words)),
         work(|| {
             let layout = read::layout(black_box(&asked.layout));
             (layout, read::values(black_box(&question.values)))
