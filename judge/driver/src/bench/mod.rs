@@ -5,7 +5,9 @@ mod building;
 mod inputs;
 mod lean;
 mod lean_sets;
+mod lists;
 mod long;
+mod looking_up;
 mod measure;
 mod ours;
 mod table;
@@ -78,7 +80,8 @@ fn heads() -> Vec<Head> {
         LONG_NAMES,
         ACCENTED_NAMES,
     ];
-    [&[READ], &OWN[..], &LENT[..], &rest[..]].concat()
+    let lookups = &looking_up::HEADS[..];
+    [&[READ], &OWN[..], &LENT[..], &rest[..], lookups].concat()
 }
 
 fn titles() -> String {
@@ -100,7 +103,8 @@ fn table_at(lent: Lent, place: usize, head: Head) -> Result<Group, String> {
         15 => long::reading_sets(lent, head),
         16 => long::reading_layouts(lent, head),
         17 => spellings(head, &inputs::SPELLINGS[..1]),
-        _ => spellings(head, &inputs::SPELLINGS[1..]),
+        18 => spellings(head, &inputs::SPELLINGS[1..]),
+        _ => looking_up::table(lent, place - 19, head),
     }
 }
 
