@@ -43,9 +43,10 @@ const USAGE: &str = "usage: judge/run COMMAND
                                    hold a program `lengths` against the rules
   fills PROGRAM [--cases N] [--seed S]
                                    hold the fill that it prints against exact arithmetic
-  bench [--markdown] [--only TEXT] [--before FOLDER]
+  bench [--markdown] [--only TEXT] [--before FOLDER [--shift N]]
                                    time, ours beside the Rust: all tables, or those with TEXT
-                                   in their title; beside FOLDER's older libciztarmo.a too
+                                   in their title; beside FOLDER's older libciztarmo.a too, the
+                                   code of both put N bytes further (0, 16, 32 or 48)
   slow FOLDER                      write the bench's larger sets and layouts, and the inputs that
                                    take long, a file each: NAME.set or NAME.layout
   trip                             M13: bytes and lines of the worked example
