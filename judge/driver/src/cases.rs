@@ -2,7 +2,7 @@
 
 use crate::call::Call;
 use crate::data::*;
-use crate::gen::{damage, layouts, limits, pairs, runs, sets};
+use crate::gen::{damage, layouts, limits, lists, pairs, runs, sets};
 use crate::prng::Rng;
 use crate::rules::eval::STOPPED;
 use crate::rules::{build, eval, read};
@@ -40,7 +40,11 @@ impl Case {
 
 pub fn make(seed: u64, index: u64) -> Case {
     let r = &mut Rng::new(seed, index);
+    // By the index, so that the other cases do not depend on it.
+    let lists = index / 10 % 15 == 14;
     let case = match index % 10 {
+        0..=3 if lists => list_set_case(r),
+        4..=5 if lists => list_layout_case(r),
         0..=3 => set_case(r),
         4..=5 => layout_case(r),
         6..=8 => damaged_case(r),
@@ -160,6 +164,69 @@ fn layout_case(r: &mut Rng) -> Case {
     let layout = write::layout(&layouts::layout(r));
     let many = r.between(3, 6);
     Case::new(What::Layouts, run_calls(r, &layout, many))
+}
+
+/// A set whose records ask for many values of long lists; mostly runs of it as
+/// standard input of `lengths` too.
+fn list_set_case(r: &mut Rng) -> Case {
+    let (set, pool) = lists::set(r);
+    let set = write::set(&set);
+    let mut calls = vec![Call::Build {
+        room: LIMIT as u64,
+        words: WORDS,
+        set: set.clone(),
+    }];
+    if let Ok(layout) = build::build(&set, WORDS, LIMIT as u64) {
+        let asked = list_calls(r, &layout, &pool);
+        if r.chance(60) {
+            calls.push(lengths_of(r, &set, &asked));
+        }
+        calls.extend(asked);
+    }
+    Case::new(What::Sets, calls)
+}
+
+fn list_layout_case(r: &mut Rng) -> Case {
+    let (trees, pool) = lists::layout(r);
+    let layout = write::layout(&trees);
+    Case::new(What::Layouts, list_calls(r, &layout, &pool))
+}
+
+/// Some validations of a layout's first type, each with a list of its own.
+fn list_calls(r: &mut Rng, layout: &[u8], pool: &[String]) -> Vec<Call> {
+    let Ok(trees) = read::layout(layout) else {
+        return Vec::new();
+    };
+    let mut out = Vec::new();
+    for _ in 0..r.between(2, 4) {
+        let name = trees[0].name.as_bytes();
+        let values = lists::values(r, &trees, pool);
+        let first = eval::required(&trees, name, u64::MAX / 3, &values);
+        let length = runs::length(r, first.ok());
+        out.push(validation(r, layout, name, length, &values));
+    }
+    out
+}
+
+/// The set and the validations as runs, one of them now and then damaged.
+fn lengths_of(r: &mut Rng, set: &[u8], asked: &[Call]) -> Call {
+    let mut input = set.to_vec();
+    for call in asked {
+        if let Call::Validate {
+            length,
+            name,
+            values,
+            ..
+        } = call
+        {
+            let run = write::run_around(name, *length, values);
+            input.extend(match r.chance(10) {
+                true => damage::damage(r, &run),
+                false => run,
+            });
+        }
+    }
+    Call::Lengths(input)
 }
 
 fn asked_name(r: &mut Rng, trees: &Layout) -> Vec<u8> {

@@ -3,8 +3,8 @@
 use crate::call::{judge, Answer, Call, Verdict};
 use crate::cases::{make, What};
 use crate::data::*;
-use crate::gen::spelling;
-use crate::rules::{lengths, read};
+use crate::gen::{lists, spelling};
+use crate::rules::{build, eval, lengths, read};
 use std::collections::BTreeMap;
 use std::panic::{catch_unwind, AssertUnwindSafe};
 
@@ -18,19 +18,50 @@ pub struct Tally {
     panics: u64,
     pair_answers: usize,
     pair_added: usize,
-    beyond: Beyond,
+    beyond: Met,
+    indexed: Met,
     differences: Vec<String>,
 }
 
-/// How much of it had a name beyond ASCII that was read: cases, those in which
-/// the Rust confirmed such a call, such calls, and those that it confirmed.
-#[derive(Default)]
-struct Beyond {
+/// How much of it had something, as a name beyond ASCII that was read: cases,
+/// those in which the Rust confirmed such a call, such calls, and those that it
+/// confirmed.
+#[derive(Default, Clone, Copy)]
+pub struct Met {
     cases: u64,
     cases_confirmed: u64,
     calls: u64,
     calls_confirmed: u64,
 }
+
+impl Met {
+    pub fn call(&mut self, confirmed: bool) {
+        self.calls += 1;
+        self.calls_confirmed += u64::from(confirmed);
+    }
+
+    /// A case ends, before which so much was met.
+    pub fn case(&mut self, before: Met) {
+        self.cases += u64::from(self.calls > before.calls);
+        self.cases_confirmed += u64::from(self.calls_confirmed > before.calls_confirmed);
+    }
+
+    pub fn lines(&self, what: &str) -> String {
+        let Met {
+            cases,
+            cases_confirmed,
+            calls,
+            calls_confirmed,
+        } = self;
+        format!("{what}; confirmed by the Rust\n")
+            + &format!("  cases           {cases:>9}{cases_confirmed:>10}\n")
+            + &format!("  calls           {calls:>9}{calls_confirmed:>10}")
+    }
+}
+
+/// What `asks_index` counts, in words.
+pub const INDEXED: &str =
+    "with more than 8 names asked at the root of 32 values or more in 4,096 bytes or more";
 
 pub fn call_name(call: &Call) -> &'static str {
     match call {
@@ -63,7 +94,7 @@ impl Tally {
             self.differences
                 .push(format!("{place}: old and new: {text}"));
         }
-        let before = (self.beyond.calls, self.beyond.calls_confirmed);
+        let before = (self.beyond, self.indexed);
         for (i, call) in case.calls.iter().enumerate() {
             let place = format!("{place} call {i}");
             match catch_unwind(AssertUnwindSafe(|| judge(call))) {
@@ -71,8 +102,8 @@ impl Tally {
                 Err(_) => self.panicked(&place, "in the call"),
             }
         }
-        self.beyond.cases += u64::from(self.beyond.calls > before.0);
-        self.beyond.cases_confirmed += u64::from(self.beyond.calls_confirmed > before.1);
+        self.beyond.case(before.0);
+        self.indexed.case(before.1);
     }
 
     fn panicked(&mut self, place: &str, when: &str) {
@@ -94,8 +125,10 @@ impl Tally {
             *self.kinds.entry(kind).or_default() += 1;
         }
         if beyond_ascii(call) {
-            self.beyond.calls += 1;
-            self.beyond.calls_confirmed += u64::from(v.confirmed);
+            self.beyond.call(v.confirmed);
+        }
+        if asks_index(call) {
+            self.indexed.call(v.confirmed);
         }
         if let Some(text) = v.differs {
             self.differences.push(format!("{place}: {text}"));
@@ -124,15 +157,9 @@ impl Tally {
             "old and new layout: {} pairs of answers, {} of them an old 22 with an added case",
             self.pair_answers, self.pair_added
         );
-        let Beyond {
-            cases,
-            cases_confirmed,
-            calls,
-            calls_confirmed,
-        } = self.beyond;
-        println!("with a name beyond ASCII that was read; confirmed by the Rust");
-        println!("  cases           {cases:>9}{cases_confirmed:>10}");
-        println!("  calls           {calls:>9}{calls_confirmed:>10}");
+        let beyond = "with a name beyond ASCII that was read";
+        println!("{}", self.beyond.lines(beyond));
+        println!("{}", self.indexed.lines(INDEXED));
         println!("not compared, evaluation too long: {}", self.stopped);
         println!("panics: {}", self.panics);
         println!("differences: {}", self.differences.len());
@@ -175,6 +202,45 @@ pub fn beyond_ascii(call: &Call) -> bool {
         }
         Call::Lengths(input) => lengths::blocks(input).is_some_and(|(set, _)| in_set(set)),
     }
+}
+
+/// Whether so many names are asked of so long a list that they are found by an
+/// index of it (gen/lists.rs).
+pub fn asks_index(call: &Call) -> bool {
+    match call {
+        Call::Build { .. } => false,
+        Call::Validate {
+            words,
+            length,
+            layout,
+            name,
+            values,
+        } => {
+            *words >= WORDS
+                && values.len() >= lists::BYTES
+                && read::values(values).is_ok_and(|v| asks_many(layout, name, *length, &v))
+        }
+        Call::Run { words, layout, run } => *words >= WORDS && run_asks_index(layout, run),
+        Call::Lengths(input) => lengths::blocks(input).is_some_and(|(set, runs)| {
+            let mut long = runs
+                .iter()
+                .filter(|run| run.len() >= lists::BYTES)
+                .peekable();
+            long.peek().is_some()
+                && build::build(set, WORDS, LIMIT as u64)
+                    .is_ok_and(|layout| long.any(|run| run_asks_index(&layout, run)))
+        }),
+    }
+}
+
+fn run_asks_index(layout: &[u8], run: &[u8]) -> bool {
+    let asks = |r: Run| asks_many(layout, r.name.as_bytes(), r.length, &r.values);
+    run.len() >= lists::BYTES && read::run(run).is_ok_and(asks)
+}
+
+fn asks_many(layout: &[u8], name: &[u8], length: u64, values: &Values) -> bool {
+    let asked = |trees| eval::asked_at_root(&trees, name, length, values);
+    values.len() >= lists::VALUES && read::layout(layout).is_ok_and(|l| asked(l) > lists::ASKED)
 }
 
 /// The kinds of types and expressions in a good set, of nodes in a layout.

@@ -4,6 +4,7 @@
 
 use crate::call::{judge, Answer, Call};
 use crate::cases::{make, set_call};
+use crate::compare::{asks_index, Met, INDEXED};
 use crate::vectors::record;
 use std::collections::hash_map::DefaultHasher;
 use std::collections::{BTreeMap, HashSet};
@@ -35,21 +36,31 @@ impl Records {
     }
 }
 
-/// Every call of the cases.
+/// Every call of the cases; on standard error how many ask so much of a list
+/// that it gets an index.
 pub fn all(cases: u64, seed: u64) -> Result<(), String> {
     let mut out = Records::open()?;
+    let mut indexed = Met::default();
     for index in 0..cases {
+        let before = indexed;
         for call in &make(seed, index).calls {
             let v = judge(call);
             if let Some(text) = &v.differs {
                 return Err(format!("seed {seed} index {index}: {text}"));
             }
-            if !v.stopped() {
-                out.put(&record(call, &v.answer, v.confirmed))?;
+            if v.stopped() {
+                continue;
+            }
+            out.put(&record(call, &v.answer, v.confirmed))?;
+            if asks_index(call) {
+                indexed.call(v.confirmed);
             }
         }
+        indexed.case(before);
     }
-    out.close()
+    out.close()?;
+    eprintln!("{}", indexed.lines(INDEXED));
+    Ok(())
 }
 
 /// Builds of sets only, and what was streamed on standard error.

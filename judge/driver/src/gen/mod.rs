@@ -4,6 +4,7 @@ pub mod damage;
 pub mod grown;
 pub mod layouts;
 pub mod limits;
+pub mod lists;
 pub mod names;
 pub mod pairs;
 pub mod runs;

@@ -41,13 +41,34 @@ pub fn validate_run(words: u64, layout: &[u8], run: &[u8]) -> Result<u64, No> {
 
 /// After reading: 20 for the asked name, the evaluation, 25.
 pub fn required(layout: &Layout, name: &[u8], length: u64, values: &Values) -> Result<u64, No> {
-    let asked = |t: &Tree| t.name.as_bytes() == name;
-    let place = layout.iter().position(asked).ok_or(No::plain(20))?;
+    counting(&mut 0, layout, name, length, values)
+}
+
+/// How many names are looked for at the root: values of the list, or absent.
+pub fn asked_at_root(layout: &Layout, name: &[u8], length: u64, values: &Values) -> usize {
+    let mut asked = 0;
+    let _ = counting(&mut asked, layout, name, length, values);
+    asked
+}
+
+fn counting(
+    asked: &mut usize,
+    layout: &Layout,
+    name: &[u8],
+    length: u64,
+    values: &Values,
+) -> Result<u64, No> {
+    let named = |t: &Tree| t.name.as_bytes() == name;
+    let place = layout.iter().position(named).ok_or(No::plain(20))?;
     let mut held = values.clone();
     if get(&held, "__buffer_size").is_none() {
         held.push(("__buffer_size".to_string(), length));
     }
-    let mut m = Machine { layout, steps: 0 };
+    let mut m = Machine {
+        layout,
+        steps: 0,
+        asked,
+    };
     let frame = Frame {
         place,
         open: 0,
@@ -63,9 +84,11 @@ pub fn required(layout: &Layout, name: &[u8], length: u64, values: &Values) -> R
     }
 }
 
-struct Machine<'a> {
+struct Machine<'a, 'c> {
     layout: &'a Layout,
     steps: u64,
+    /// Names looked for at the root.
+    asked: &'c mut usize,
 }
 
 /// The type whose tree is evaluated, the calls open, the values held there.
@@ -82,10 +105,6 @@ impl Frame<'_> {
             ..No::in_type(number, self.place)
         }
     }
-
-    fn value(&self, name: &str, at: usize) -> Result<u64, No> {
-        get(self.held, name).ok_or(self.no(21, at))
-    }
 }
 
 fn get(held: &Values, name: &str) -> Option<u64> {
@@ -93,7 +112,17 @@ fn get(held: &Values, name: &str) -> Option<u64> {
     Some(*n)
 }
 
-impl<'a> Machine<'a> {
+impl<'a> Machine<'a, '_> {
+    /// The value of a name that a frame holds.
+    fn held(&mut self, f: &Frame, name: &str) -> Option<u64> {
+        *self.asked += usize::from(f.open == 0);
+        get(f.held, name)
+    }
+
+    fn value(&mut self, f: &Frame, name: &str, at: usize) -> Result<u64, No> {
+        self.held(f, name).ok_or(f.no(21, at))
+    }
+
     fn node(&mut self, n: &'a Node, f: &Frame) -> Result<u64, No> {
         self.steps += 1;
         if self.steps > MOST_STEPS {
@@ -102,7 +131,7 @@ impl<'a> Machine<'a> {
         match &n.body {
             Body::Zero => Ok(0),
             Body::Const(value) => Ok(*value),
-            Body::Ref(path, parameter) => f.value(parameter.as_ref().unwrap_or(path), n.at),
+            Body::Ref(path, parameter) => self.value(f, parameter.as_ref().unwrap_or(path), n.at),
             Body::Align(to, inner) => {
                 let value = self.node(inner, f)?;
                 align_up(value, *to).map_err(|number| f.no(number, n.at))
@@ -126,7 +155,7 @@ impl<'a> Machine<'a> {
         default: &'a Option<Box<Node>>,
         f: &Frame,
     ) -> Result<u64, No> {
-        let value = f.value(tag, at)?;
+        let value = self.value(f, tag, at)?;
         if let Some(case) = cases.iter().find(|c| c.tag == value) {
             return self.node(&case.node, f);
         }
@@ -148,7 +177,7 @@ impl<'a> Machine<'a> {
     ) -> Result<u64, No> {
         let mut held = Values::new();
         for a in arguments {
-            let value = f.value(&a.value, a.at)?;
+            let value = self.value(f, &a.value, a.at)?;
             held.retain(|(k, _)| *k != a.name);
             held.push((a.name.clone(), value));
         }
@@ -160,7 +189,7 @@ impl<'a> Machine<'a> {
         }
         for p in &layout[place].params {
             if get(&held, &p.name).is_none() {
-                if let Some(value) = get(f.held, &p.name) {
+                if let Some(value) = self.held(f, &p.name) {
                     held.push((p.name.clone(), value));
                 }
             }
