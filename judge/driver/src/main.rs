@@ -48,7 +48,8 @@ const USAGE: &str = "usage: judge/run COMMAND
                                    in their title; beside FOLDER's older libciztarmo.a too, the
                                    code of both put N bytes further (0, 16, 32 or 48)
   slow FOLDER                      write the bench's larger sets and layouts, and the inputs that
-                                   take long, a file each: NAME.set or NAME.layout
+                                   take long, a file each: NAME.set, NAME.layout, or NAME.run, which
+                                   is a layout and behind it a run
   trip                             M13: bytes and lines of the worked example
   antt [--cases N] [--seed S]      small cases as lines of text
   antt --names                     the stored list's names beyond ASCII as such lines
@@ -165,7 +166,8 @@ fn slow_files(folder: &str) -> Result<(), String> {
         for slow in slow::all(scale) {
             let ending = match slow.call {
                 slow::Call::ReadLayout => "layout",
-                _ => "set",
+                slow::Call::Run => "run",
+                slow::Call::ReadSet | slow::Call::Build => "set",
             };
             files.push((format!("{kind}-{}.{ending}", slow.name), slow.bytes));
         }

@@ -1,7 +1,7 @@
-//! Inputs of at most 65,536 bytes on which a reader or a builder takes long
-//! for their bytes if it compares names one by one: many entries under a long
-//! owner, found again and again; names that are alike, or that were made to
-//! share a place in a table. One list for the bench, for the seeds of the
+//! Inputs of at most 65,536 bytes on which a reader, a builder or a validation
+//! takes long for their bytes if it compares names one by one: many entries
+//! under a long owner, found again and again; names that are alike, or that were
+//! made to share a place in a table. One list for the bench, for the seeds of the
 //! attack, and for the test of time in rust/ciztarmo, which compiles this file
 //! too and therefore needs no more than `data` and `write`.
 
@@ -14,6 +14,8 @@ pub enum Call {
     ReadSet,
     ReadLayout,
     Build,
+    /// A layout, and behind it a run.
+    Run,
 }
 
 pub struct Slow {
@@ -25,14 +27,25 @@ pub struct Slow {
     pub number: u8,
 }
 
+impl Slow {
+    /// The layout and the run of a validation.
+    #[allow(dead_code)] // the test of time asks for it
+    pub fn layout_and_run(&self) -> (&[u8], &[u8]) {
+        let length = u32::from_le_bytes(self.bytes[..4].try_into().unwrap());
+        self.bytes.split_at(4 + length as usize)
+    }
+}
+
 /// How large the inputs are: paths of a type that is called, fields of a struct
-/// that calls, types whose names are alike, and structs; with `fills` the set
-/// has as many bytes as it may.
+/// that calls, types whose names are alike, values of a list, and structs, or
+/// calls in a layout; with `fills` the set or the layout has as many bytes as it
+/// may.
 #[derive(Clone, Copy)]
 pub struct Scale {
     pub paths: usize,
     pub fields: usize,
     pub names: usize,
+    pub values: usize,
     pub structs: usize,
     pub fills: bool,
 }
@@ -41,12 +54,14 @@ pub const FULL: Scale = Scale {
     paths: 64,
     fields: 64,
     names: 256,
+    values: 500,
     structs: 200,
     fills: true,
 };
-/// Full registries, one struct each.
+/// Full registries, one struct each; lists of some 4,200 bytes.
 pub const ONE: Scale = Scale {
     names: 32,
+    values: 40,
     structs: 1,
     fills: false,
     ..FULL
@@ -56,12 +71,14 @@ pub const SMALL: Scale = Scale {
     paths: 3,
     fields: 12,
     names: 8,
+    values: 8,
     ..ONE
 };
 
 pub fn all(scale: Scale) -> Vec<Slow> {
     let mut out = scale.building();
     out.extend(scale.reading());
+    out.extend(scale.validating());
     out
 }
 
@@ -118,6 +135,26 @@ impl Scale {
             layout("trees-of-one-place-refused", 2, last_damaged(placed)),
             layout("trees-of-one-mark", 0, marked.clone()),
             layout("trees-of-one-mark-refused", 2, last_damaged(marked)),
+        ]
+    }
+
+    fn validating(self) -> Vec<Slow> {
+        let run = |name, number, asked: Asked| Slow {
+            name,
+            call: Call::Run,
+            bytes: [write::layout(&asked.layout), write::run(&asked.run)].concat(),
+            number,
+        };
+        let placed = values_of_one_place(self.values, VALUE);
+        let more = names_of_one_mark(self.values + 1, VALUE);
+        let marked = more[..self.values].to_vec();
+        vec![
+            run("values-alike", 0, all_asked(self.values_alike())),
+            run("values-of-one-place", 0, all_asked(placed)),
+            run("values-of-one-mark", 0, all_asked(marked)),
+            run("values-of-one-mark-absent", 21, last_absent(more)),
+            run("values-handed-of-one-place", 0, self.handed_one_place()),
+            run("values-handed-of-one-mark", 0, self.handed_one_mark()),
         ]
     }
 }
@@ -421,12 +458,21 @@ fn step(h: u64, x: u64) -> u64 {
 /// The mark that is asked for first of more than 32 types: eight bytes of every
 /// 32, and the last eight. The steps go by turns from two marks.
 fn type_mark(name: &str) -> u64 {
+    mark_of(name, 32)
+}
+
+fn mark_of(name: &str, apart: usize) -> u64 {
     let bytes = name.as_bytes();
     let (mut h, mut g) = (0, 1_640_531_527 + bytes.len() as u64);
-    for i in (0..bytes.len() - 8).step_by(32) {
+    for i in (0..bytes.len() - 8).step_by(apart) {
         (h, g) = (g, step(h, eight(&bytes[i..])));
     }
     step(step(h, eight(&bytes[bytes.len() - 8..])), g)
+}
+
+/// The mark of all bytes of a name of eight bytes or more.
+fn value_mark(name: &str) -> u64 {
+    mark_of(name, 8)
 }
 
 /// The eight bytes of a text, if there are some, that take one mark to another.
@@ -441,6 +487,30 @@ fn between(h: u64, mark: u64) -> Option<[u8; 8]> {
         (small && text).then_some(bytes)
     };
     solve(rest / factor).or_else(|| solve((rest / factor).checked_sub(1)?))
+}
+
+/// So many names of one length that have one mark of all their bytes, and are
+/// alike in those of which the first mark is made. The bytes from 8 on are tried
+/// one behind the other, those from 24 on solved for. They ascend.
+fn names_of_one_mark(many: usize, length: usize) -> Vec<String> {
+    let start = 1_640_531_527 + length as u64;
+    let begun = |i: u64| step(start, eight(format!("{i:08}").as_bytes()));
+    let mark = step(begun(0), eight(b"AAAAAAAA"));
+    let name = |i: u64| {
+        let solved = between(begun(i), mark)?;
+        let solved = std::str::from_utf8(&solved).ok()?;
+        let n = "n".repeat(8);
+        Some(format!("{n}{i:08}{n}{solved}") + &"n".repeat(length - 32))
+    };
+    (0..).filter_map(name).take(many).collect()
+}
+
+/// Names of one length whose marks of all bytes share a place in a table. They
+/// ascend.
+fn values_of_one_place(many: usize, length: usize) -> Vec<String> {
+    let name = |i: usize| format!("{i:06}") + &"n".repeat(length - 6);
+    let good = (0..).map(name).filter(|name| value_mark(name) % 127 == 0);
+    good.take(many).collect()
 }
 
 /// Whether a name stands at the first place of the registry's table.
@@ -473,20 +543,8 @@ impl Scale {
         good.take(self.names).collect()
     }
 
-    /// Names of one length that have one mark of all their bytes, and are alike
-    /// in those of which the first mark is made. The bytes from 8 on are tried
-    /// one behind the other, those from 24 on solved for.
     fn of_one_mark(self) -> Vec<String> {
-        let start = 1_640_531_527 + NAME as u64;
-        let begun = |i: u64| step(start, eight(format!("{i:08}").as_bytes()));
-        let mark = step(begun(0), eight(b"AAAAAAAA"));
-        let name = |i: u64| {
-            let solved = between(begun(i), mark)?;
-            let solved = std::str::from_utf8(&solved).ok()?;
-            let n = "n".repeat(8);
-            Some(format!("{n}{i:08}{n}{solved}") + &"n".repeat(NAME - 32))
-        };
-        (0..).filter_map(name).take(self.names).collect()
+        names_of_one_mark(self.names, NAME)
     }
 
     /// Paths under one owner of which each and its alias share a place, called
@@ -524,5 +582,133 @@ impl Scale {
         }
         let calls = || (0..self.fields).map(|_| call("0")).collect();
         self.with_structs(vec![ty], calls)
+    }
+}
+
+// Values of which many are asked.
+
+/// 500 values with names of this length fill a list, and as many nodes that ask
+/// for them a layout.
+const VALUE: usize = 96;
+
+/// A layout, and a run of its first type.
+struct Asked {
+    layout: Layout,
+    run: Run,
+}
+
+impl Asked {
+    /// A type `L` of this root, others, and a list with these names.
+    fn new(root: Node, others: Layout, names: &[String]) -> Asked {
+        let mut layout = trees(vec!["L".to_string()]);
+        layout[0].root = root;
+        layout.extend(others);
+        let value = |(i, name): (usize, &String)| (name.clone(), i as u64);
+        Asked {
+            layout,
+            run: Run {
+                name: "L".to_string(),
+                length: u64::MAX,
+                values: names.iter().enumerate().map(value).collect(),
+            },
+        }
+    }
+}
+
+/// The sum of nodes, the first first, with few blocks open.
+fn sum(mut nodes: Vec<Node>) -> Node {
+    while nodes.len() > 1 {
+        let two = |two: &[Node]| match two {
+            [one, two] => {
+                let (one, two) = (Box::new(one.clone()), Box::new(two.clone()));
+                Node::new(1, Body::Two(134, one, two))
+            }
+            _ => two[0].clone(),
+        };
+        nodes = nodes.chunks(2).map(two).collect();
+    }
+    nodes.remove(0)
+}
+
+fn asked(name: &String) -> Node {
+    Node::new(1, Body::Ref(name.clone(), None))
+}
+
+/// A record that asks for every value of a list, the last one first.
+fn all_asked(names: Vec<String>) -> Asked {
+    let nodes = names.iter().rev().map(asked).collect();
+    Asked::new(sum(nodes), Layout::new(), &names)
+}
+
+/// A record that asks for every name, the last of which is not in the list.
+fn last_absent(names: Vec<String>) -> Asked {
+    let nodes = names.iter().map(asked).collect();
+    Asked::new(sum(nodes), Layout::new(), &names[..names.len() - 1])
+}
+
+impl Scale {
+    /// Names that differ in three digits in their middle.
+    fn values_alike(self) -> Vec<String> {
+        let half = "n".repeat(VALUE / 2);
+        let name = |i| format!("{half}{i:03}{}", &half[3..]);
+        (0..self.values).map(name).collect()
+    }
+
+    /// A type that lists names of values as parameters and asks for them, and a
+    /// record that calls it again and again: each call asks for each name. More
+    /// calls would take more steps than the judge follows.
+    fn handed(self, names: Vec<String>) -> Asked {
+        let mut called = trees(vec![String::new()]);
+        let param = |name: &String| Param {
+            name: name.clone(),
+            text: None,
+            derived: false,
+        };
+        called[0].params = names.iter().map(param).collect();
+        called[0].root = sum(names.iter().map(asked).collect());
+        let many = if self.fills { 190 } else { self.fields };
+        let call = || Node::new(1, Body::Call(String::new(), Vec::new()));
+        let calls = (0..many).map(|_| call()).collect();
+        Asked::new(sum(calls), called, &names)
+    }
+
+    /// Short names leave room in the layout; few values need longer ones for as
+    /// many bytes as an index asks for.
+    fn short(self, length: usize) -> usize {
+        if self.fills {
+            length
+        } else {
+            VALUE
+        }
+    }
+
+    fn handed_one_place(self) -> Asked {
+        self.handed(values_of_one_place(self.values, self.short(8)))
+    }
+
+    fn handed_one_mark(self) -> Asked {
+        self.handed(names_of_one_mark(self.values, self.short(32)))
+    }
+}
+
+#[cfg(test)]
+mod tests {
+    use super::*;
+
+    /// Names of values ascend, and their marks are as they are made to be.
+    #[test]
+    fn marks_of_values() {
+        for length in [32, VALUE] {
+            let one = names_of_one_mark(50, length);
+            let place = values_of_one_place(50, length);
+            for names in [&one, &place] {
+                assert!(names.windows(2).all(|two| two[0] < two[1]));
+                assert!(names.iter().all(|name| name.len() == length));
+            }
+            assert!(one
+                .iter()
+                .all(|name| value_mark(name) == value_mark(&one[0])));
+            assert!(place.iter().all(|name| value_mark(name) % 127 == 0));
+        }
     }
 }

@@ -1,4 +1,4 @@
-//! No input takes long. The inputs are those of judge/driver/src/slow.rs: sets and layouts of
+//! No input takes long. The inputs are those of judge/driver/src/slow.rs: sets, layouts and runs of
 //! 65,000 bytes from somebody who knows where names are compared. Before entries and names were
 //! found by marks, one of them took 5 seconds.
 
@@ -19,8 +19,10 @@ use ciztarmo::{Refusal, Work, LIMIT};
 use slow::{Call, Slow};
 
 /// Milliseconds of processor time that a call may take on each input: ten times what it took on a
-/// virtual machine with an Intel Xeon; for readings, which took 0.01 to 0.4, more.
-const MOST: [(&str, f64); 21] = [
+/// virtual machine with an Intel Xeon; for readings, which took 0.01 to 0.4, more. Of the values,
+/// ten times what two runs of them took in one call, before lists had an index: 0.84, 1.3, 1.1,
+/// 1.1, 230 and 240.
+const MOST: [(&str, f64); 27] = [
     ("calls", 80.0),
     ("references", 6.0),
     ("parameters-64", 0.25),
@@ -42,7 +44,16 @@ const MOST: [(&str, f64); 21] = [
     ("trees-of-one-place-refused", 1.0),
     ("trees-of-one-mark", 5.0),
     ("trees-of-one-mark-refused", 5.0),
+    ("values-alike", 8.4),
+    ("values-of-one-place", 13.0),
+    ("values-of-one-mark", 11.0),
+    ("values-of-one-mark-absent", 11.0),
+    ("values-handed-of-one-place", 2300.0),
+    ("values-handed-of-one-mark", 2400.0),
 ];
+
+/// What a run of the type `L` has before its values: length, kind, name and buffer length.
+const RUN_HEAD: usize = 4 + 2 + (2 + 1) + 8;
 
 /// Milliseconds of the first of three tries that is quick enough, else of the quickest. The
 /// thread's own time stands still while another program has the processor.
@@ -79,7 +90,24 @@ fn calls(slow: &Slow) -> Vec<Box<dyn FnMut() -> u8 + '_>> {
             Box::new(move || number(ciztarmo::build_set_into(bytes, &mut out))),
             Box::new(move || number(work.build_set_into(bytes, &mut room))),
         ],
+        Call::Run => run_calls(slow),
     }
+}
+
+/// A validation: by a call that has its own words and by one that is lent some, as values, as a
+/// run, and as one of two runs.
+fn run_calls(slow: &Slow) -> Vec<Box<dyn FnMut() -> u8 + '_>> {
+    let (layout, run) = slow.layout_and_run();
+    let values = &run[RUN_HEAD..];
+    let runs = [run, run].concat();
+    let (mut one, mut two, mut three) = (Work::new(), Work::new(), Work::new());
+    vec![
+        Box::new(move || number(ciztarmo::validate(layout, "L", values, u64::MAX))),
+        Box::new(move || number(one.validate(layout, "L", values, u64::MAX))),
+        Box::new(move || number(ciztarmo::validate_run(layout, run))),
+        Box::new(move || number(two.validate_run(layout, run))),
+        Box::new(move || number(three.validate_runs(layout, &runs)[1])),
+    ]
 }
 
 #[test]
