@@ -395,6 +395,47 @@ void limit_values(struct limit_bytes *b, int values)
     put_values(b, values, 0, 0);
 }
 
+/* A list of so many values that has so many bytes: 8, and for each value 16 and by how much its name is stretched. */
+struct limit_list limit_list_of(int values, size_t bytes)
+{
+    const size_t stretched = bytes - 8 - 16 * (size_t)values;
+    const struct limit_list list = {values, stretched / (size_t)values, (int)(stretched % (size_t)values)};
+    return list;
+}
+
+void limit_listed(struct limit_bytes *b, struct limit_list list)
+{
+    b->len = 0;
+    put_values(b, list.values, list.more, list.longer);
+}
+
+static void put_asked(struct limit_bytes *b, struct limit_list list, int value)
+{
+    const size_t at = open_node(b, 130);
+    put_name(b, "v", value, list.more + (value < list.longer));
+    put(b, 0, 1);
+    close_block(b, at);
+}
+
+/* One type that asks for so many values of the list, the last first: a sum of at most 64 fields. */
+void limit_asked(struct limit_bytes *b, struct limit_list list, int fields)
+{
+    size_t sums[64];
+    b->len = 0;
+    const size_t layout = open_block(b, 160);
+    put(b, 1, 2);
+    const size_t tree = open_tree(b, 0);
+    for (int i = 1; i < fields; i++)
+        sums[i] = open_node(b, 134);
+    put_asked(b, list, list.values - 1);
+    for (int i = 1; i < fields; i++) {
+        put_asked(b, list, list.values - 1 - i);
+        close_block(b, sums[fields - i]);
+    }
+    close_tree(b, tree, 0);
+    close_block(b, layout);
+}
+
 /* A run behind what is there. It has 30 bytes, and for each value 16 and by how much its name is stretched. */
 void limit_add_run(struct limit_bytes *b, int values, size_t more, int longer)
 {

@@ -359,6 +359,51 @@ static void sort(struct part_view *part, const struct names *names)
     splice(part, part->spot[list].block, part->spot[list].at, part->spot[list].end, scratch, len);
 }
 
+/* A name with a number before it or behind it, and x up to a length; with its own length before it, for which there is room. */
+static size_t numbered(const uint8_t *name, size_t len, int before, uint64_t number, size_t least, uint8_t *out)
+{
+    size_t end = 2;
+    if (!before) {
+        memcpy(out + end, name, len);
+        end += len;
+    }
+    for (uint64_t by = 100; by > 0; by /= 10)
+        out[end++] = (uint8_t)('0' + number / by % 10);
+    if (before) {
+        memcpy(out + end, name, len);
+        end += len;
+    }
+    while (end < 2 + least)
+        out[end++] = 'x';
+    attack_put(out, end - 2, 2);
+    return end;
+}
+
+/* More values, mostly so many and with names so long that the list gets an index, and all of them in order. */
+static void many_values(struct part_view *part, const struct names *names)
+{
+    static uint8_t name[FRESH];
+    const int i = pick(part, "V", 0, 0);
+    if (i == NO_SPOT)
+        return;
+    const struct spot list = part->spot[i];
+    const uint64_t many = draw(4) == 0 ? 1 + draw(500) : 28 + draw(20);
+    const size_t bytes = 4096 / many + draw(20), least = bytes < 240 ? bytes : 240;
+    const size_t named = fresh_name(names, name) - 2, short_enough = named < 200 ? named : 0;
+    const int before = draw(2) == 0;
+    size_t len = 0;
+    for (uint64_t k = 0; k < many; k++) {
+        len += numbered(name + 2, short_enough, before, k, least, scratch + len);
+        attack_put(scratch + len, draw(1000), 8);
+        len += 8;
+    }
+    if (!splice(part, list.block, list.end, list.end, scratch, len))
+        return;
+    change_count(part, i, (int)many);
+    find_spots(part);
+    sort(part, names);
+}
+
 /* A length, a count or a kind that is wrong, or a part that is cut or too long. */
 static void damage(struct part_view *part, const struct names *names)
 {
@@ -448,7 +493,7 @@ static mutation *const mutations[] = {change_number, change_number, change_numbe
                                       toggle,        toggle,        change_code,   duplicate,   take_away,   swap,
                                       add_entry,     add_entry,     replace,       replace,     wrap,        wrap,
                                       unwrap,        change_kind,   change_kind,   sort,        sort,        damage,
-                                      cut};
+                                      cut,           many_values};
 
 static void load(struct part_view *view, struct attack_bytes bytes)
 {

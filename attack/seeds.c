@@ -1,7 +1,7 @@
 /*
  * seeds FOLDER ANSWERS EXAMPLE BLOCK...: writes the inputs from which the fuzzer starts, one file each: the calls of the stored list
  * (form: judge/vectors/README.md), some of them damaged at every part, the example of document 01, inputs at the limits, and the
- * sets (*.set) and layouts (*.layout) that are named. Of the stored answers only the number is used, to tell good inputs from others;
+ * sets (*.set), layouts (*.layout) and layouts with a run behind them (*.run) that are named. Of the stored answers only the number is used, to tell good inputs from others;
  * the driver answers anew. seeds --blocks FOLDER BLOCK...: the named ones alone. In FOLDER they lie in `short` and `long`, which are
  * there.
  */
@@ -454,10 +454,58 @@ static void many_runs(void)
     }
 }
 
+/*
+ * Lists on both sides of the limits from which on names are found by an index of the list: 32 values, 4,096 bytes, more than 8 names
+ * asked. As values; and as runs, of which the second has a value less than is asked for, and the third is the first again.
+ */
+static void lists(void)
+{
+    for (int many = 31; many < 34; many++)
+        for (size_t bytes = 4095; bytes < 4098; bytes++)
+            for (int fields = 7; fields < 11; fields++) {
+                struct limit_list list = limit_list_of(many, bytes);
+                limit_asked(&limit, list, fields);
+                limit_listed(&values, list);
+                limit_seed(ATTACK_VALIDATE);
+                limit_seed(ATTACK_LENGTH_OF);
+                /* A run has 22 bytes more than its values. */
+                list = limit_list_of(many, bytes - 22);
+                limit_asked(&limit, list, fields);
+                runs.len = 0;
+                for (int i = 0; i < 3; i++)
+                    limit_add_run(&runs, many - (i == 1), list.more, list.longer);
+                runs_seed(0, 0, 0);
+            }
+}
+
 static int ends_with(const char *text, const char *end)
 {
     const size_t len = strlen(text), more = strlen(end);
     return len >= more && strcmp(text + len - more, end) == 0;
+}
+
+/* A layout and behind it a run of the type `L`: as a run, as one of three, and as values, with words that are lent and without. */
+static void layout_and_run(const char *path, struct attack_bytes bytes)
+{
+    static const uint8_t calls[] = {ATTACK_VALIDATE_RUN, ATTACK_LENGTH_OF_RUN, ATTACK_VALIDATE, ATTACK_LENGTH_OF};
+    static const size_t head = 4 + 2 + (2 + 1) + 8;
+    static struct runs three;
+    struct rest rest = {path, bytes.at, bytes};
+    const struct attack_bytes layout = take(&rest, 4 + attack_get(bytes.at, 4)), run = rest.bytes;
+    struct attack_input in = {0, 0, 0, 0x5A, 0, UINT64_MAX, layout, {(const uint8_t *)"L", 1}, run};
+    if (run.len < head)
+        stop(path, "no run", (size_t)(run.at - bytes.at));
+    for (int i = 0; i < 4; i++) {
+        in.what = calls[i];
+        in.second = attack_takes_run(calls[i]) ? run : (struct attack_bytes){run.at + head, run.len - head};
+        write_seed(&in);
+    }
+    three.len = 0;
+    for (int i = 0; i < 3; i++)
+        add_run(&three, run);
+    in.what = ATTACK_VALIDATE_RUNS;
+    in.second = (struct attack_bytes){three.at, three.len};
+    write_seed(&in);
 }
 
 /* A set is read and built; a layout is read, with words that are lent and by a call that has its own. */
@@ -468,8 +516,13 @@ static void block(const char *path)
     static const uint8_t asked[] = "T00000";
     limit_values(&values, 0);
     struct attack_input in = {ATTACK_READ_SET, 0, 0, 0x5A, 0, 0, bytes, {asked, 6}, {values.at, values.len}};
+    if (ends_with(path, ".run")) {
+        layout_and_run(path, bytes);
+        free((void *)bytes.at);
+        return;
+    }
     if (!layout && !ends_with(path, ".set"))
-        stop(path, "neither .set nor .layout", 0);
+        stop(path, "neither .set, .layout nor .run", 0);
     in.what = layout ? ATTACK_READ_LAYOUT : ATTACK_READ_SET;
     write_seed(&in);
     in.what = layout ? ATTACK_LENGTH_OF : ATTACK_BUILD_SET;
@@ -486,6 +539,7 @@ static void all(const char *answers, const char *example)
     long_names();
     operations();
     many_runs();
+    lists();
 }
 
 int main(int argc, char **argv)

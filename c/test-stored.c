@@ -230,7 +230,7 @@ int main(int argc, char **argv)
         return 2;
     each(list);
     record_at = list.len;
-    check(records[1] == 2254 && records[2] == 2031 && records[3] == 322 && records[4] == 1876, "the list is whole");
+    check(records[1] == 2250 && records[2] == 2027 && records[3] == 321 && records[4] == 1877, "the list is whole");
     free(words);
     free(out);
     free((void *)(uintptr_t)list.at);

@@ -11,6 +11,7 @@ mod data;
 mod fills;
 mod findings;
 mod gen;
+mod long_lists;
 mod names;
 mod plain;
 mod prng;

@@ -2,10 +2,10 @@
 
 use crate::call::{judge, Answer, Call};
 use crate::cases::{make, small_case};
-use crate::compare::{beyond_ascii, call_name, kinds_met};
+use crate::compare::{asks_index, beyond_ascii, call_name, kinds_met};
 use crate::data::*;
 use crate::rules::build;
-use crate::{fills, findings, names, trip, write};
+use crate::{fills, findings, long_lists, names, trip, write};
 use std::collections::BTreeMap;
 use std::path::Path;
 
@@ -54,6 +54,10 @@ fn features(call: &Call, answer: &Answer, confirmed: bool) -> Vec<(String, u64)>
             format!("beyond ASCII {name} answer {:>3}", answer.number()),
             PER_SPELLING,
         ));
+    }
+    // Told, but not looked for: those that are picked are enough.
+    if asks_index(call) {
+        out.push((format!("long list {name} answer {:>3}", answer.number()), 0));
     }
     if let Answer::Lines(lines) = answer {
         let refused = lines.lines().find(|l| l.starts_with('S'));
@@ -215,7 +219,7 @@ fn counts(list: &List) -> String {
 }
 
 /// The worked example, the inputs of docs/DIFFERENCES.md, names beyond ASCII,
-/// and limits that a random case seldom meets.
+/// long lists, and limits that a random case seldom meets.
 fn picked() -> Vec<Call> {
     let set = write::set(&trip::set());
     let mut out = vec![build_call(WORDS, LIMIT as u64, &set)];
@@ -226,6 +230,7 @@ fn picked() -> Vec<Call> {
         out.extend(f.calls());
     }
     out.extend(names::calls());
+    out.extend(long_lists::calls());
     for (words, room) in [
         (8191, 65_536),
         (0, 0),
