@@ -655,8 +655,8 @@ impl Scale {
     }
 
     /// A type that lists names of values as parameters and asks for them, and a
-    /// record that calls it again and again: each call asks for each name. More
-    /// calls would take more steps than the judge follows.
+    /// record that calls it again and again: each call asks for each name. There
+    /// is room for 190 calls, with which the attack would take minutes.
     fn handed(self, names: Vec<String>) -> Asked {
         let mut called = trees(vec![String::new()]);
         let param = |name: &String| Param {
@@ -666,7 +666,7 @@ impl Scale {
         };
         called[0].params = names.iter().map(param).collect();
         called[0].root = sum(names.iter().map(asked).collect());
-        let many = if self.fills { 190 } else { self.fields };
+        let many = if self.fills { 40 } else { self.fields };
         let call = || Node::new(1, Body::Call(String::new(), Vec::new()));
         let calls = (0..many).map(|_| call()).collect();
         Asked::new(sum(calls), called, &names)

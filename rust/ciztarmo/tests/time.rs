@@ -21,7 +21,7 @@ use slow::{Call, Slow};
 /// Milliseconds of processor time that a call may take on each input: ten times what it took on a
 /// virtual machine with an Intel Xeon; for readings, which took 0.01 to 0.4, more. Of the values,
 /// ten times what two runs of them took in one call, before lists had an index: 0.84, 1.3, 1.1,
-/// 1.1, 230 and 240.
+/// 1.1, 48 and 50.
 const MOST: [(&str, f64); 27] = [
     ("calls", 80.0),
     ("references", 6.0),
@@ -48,8 +48,8 @@ const MOST: [(&str, f64); 27] = [
     ("values-of-one-place", 13.0),
     ("values-of-one-mark", 11.0),
     ("values-of-one-mark-absent", 11.0),
-    ("values-handed-of-one-place", 2300.0),
-    ("values-handed-of-one-mark", 2400.0),
+    ("values-handed-of-one-place", 480.0),
+    ("values-handed-of-one-mark", 500.0),
 ];
 
 /// What a run of the type `L` has before its values: length, kind, name and buffer length.
