@@ -1,6 +1,7 @@
 -- The entries of an accepted block of values: they lie in the bytes, and the first of a name is the first value of it.
 use Prim.Native.Nat.{ℕ, zero, suc, _+_, _-_, _≤_, _<_}
 use native.Mathlib.Numerals.{add-one}
+use native.Mathlib.Nat.{sub-zero}
 use native.Mathlib.Omega.{arith}
 use mathlib.Core.Path.{_≡_, refl, sym, _∙_, ap, subst}
 use mathlib.Core.Bool.{true, false}
@@ -11,10 +12,11 @@ use Rattle.blocks.specs.Name.{Name, same}
 use Rattle.accepted.specs.Accepted.{Accepted, Item, Entries}
 use Rattle.accepted.proofs.Laws.{value-entry}
 use Rattle.lookup.specs.Found.{firstValue}
-use Rattle.lookup.specs.declared.Found.the-variants.{At, Missing}
+use Rattle.lookup.specs.declared.Found.the-variants.{At}
 use Rattle.lookup.proofs.Values.{listed}
 use Rattle.name_marks.specs.Mark.{markOf}
-use Rattle.interpreter_values.specs.Entries.{entryAt, entryMark, First}
+use Rattle.interpreter_values.specs.Entries.{entryAt, entryMark, First, Spans}
+use Rattle.interpreter_values.specs.declared.Span.{Span}
 
 -- ---- where they stand
 
@@ -47,6 +49,16 @@ entries-in s (suc k) {n} {first} l h =
     let a = value-entry l (omega arith) .2 in
     subst (EntryIn s) (sym (entry-behind s first k)) (entries-in s k (a .rest) (omega arith))
 
+-- those behind the first k were accepted too
+entries-behind : (s : List ℕ) (k : ℕ) {n first : ℕ} → Entries s Item.values n first → k ≤ n → Entries s Item.values (n - k) (entryAt s first k)
+unfolding entryAt
+entries-behind s zero {n} {first} l h = subst (λ (z : ℕ). Entries s Item.values z first) (sym (sub-zero n)) l
+entries-behind s (suc k) {n} {first} l h =
+    let a = value-entry l (omega arith) .2 in
+    let e : n - 1 - k ≡ n - suc k = omega arith in
+    subst (λ (o : ℕ). Entries s Item.values (n - suc k) o) (sym (entry-behind s first k))
+    (subst (λ (z : ℕ). Entries s Item.values z (entryAt s (first + 2 + le2 s first + 8) k)) e (entries-behind s k (a .rest) (omega arith)))
+
 module _ {s : List ℕ} {block : ℕ} (a : Accepted s 192 192 block) where
   -- an accepted block has at most 512 entries
   pub few : le2 s (block + 6) ≤ 512
@@ -56,34 +68,38 @@ module _ {s : List ℕ} {block : ℕ} (a : Accepted s 192 192 block) where
   pub entry-in : (k : ℕ) → k < le2 s (block + 6) → EntryIn s (entryAt s (block + 6 + 2) k)
   entry-in k h = entries-in s k (listed a .list) h
 
+  -- those from place m on were accepted too
+  pub entries-from : (m : ℕ) → m ≤ le2 s (block + 6) → Entries s Item.values (le2 s (block + 6) - m) (entryAt s (block + 6 + 2) m)
+  entries-from m h = entries-behind s m (listed a .list) h
+
 -- ---- a loop over them
 
--- it stands at the entry at place i of the n entries of the block
-pub record Standing (s : List ℕ) (block n i at : ℕ) : Type 0 where
-  pub count : n ≡ le2 s (block + 6)
-  pub within : i ≤ n
+-- it stands at the entry at place i, before place `to`
+pub record Standing (s : List ℕ) (block to i at : ℕ) : Type 0 where
+  pub most : to ≤ le2 s (block + 6)
+  pub within : i ≤ to
   pub here : at ≡ entryAt s (block + 6 + 2) i
 
-module _ {s : List ℕ} {block n : ℕ} where
-  -- it begins at the first
-  pub standing-first : n ≡ le2 s (block + 6) → Standing s block n 0 (block + 6 + 2)
-  standing-first e = record { count = e; within = omega arith; here = entry-first s (block + 6 + 2) }
+module _ {s : List ℕ} {block : ℕ} where
+  -- it begins at the first of a span
+  pub standing-first : {p : Span} → Spans s block p → Standing s block (p .to) (p .from) (p .at)
+  standing-first h = record { most = h .most; within = h .within; here = h .here }
 
-  module _ {i at : ℕ} (w : Standing s block n i at) (h : i < n) where
+  module _ {to i at : ℕ} (w : Standing s block to i at) (h : i < to) where
     -- the entry lies in the bytes
     pub standing-in : Accepted s 192 192 block → EntryIn s at
-    standing-in a = subst (EntryIn s) (sym (w .here)) (entry-in a i (omega (arith, w .count)))
+    standing-in a = subst (EntryIn s) (sym (w .here)) (entry-in a i (omega (arith, w .most)))
 
     -- it goes on behind it
-    pub standing-next : {next : ℕ} → next ≡ at + 2 + le2 s at + 8 → Standing s block n (i + 1) next
-    standing-next e = record { count = w .count; within = omega arith; here = entry-next s (block + 6 + 2) i (w .here) e }
+    pub standing-next : {next : ℕ} → next ≡ at + 2 + le2 s at + 8 → Standing s block to (i + 1) next
+    standing-next e = record { most = w .most; within = omega arith; here = entry-next s (block + 6 + 2) i (w .here) e }
 
-  -- at its end it has passed all of them
-  pub standing-end : {i at : ℕ} → Standing s block n i at → n ≤ i → i ≡ le2 s (block + 6)
-  standing-end w h = omega (arith, w .count, w .within)
+  -- at its end it has passed all of the span
+  pub standing-end : {to i at : ℕ} → Standing s block to i at → to ≤ i → i ≡ to
+  standing-end w h = omega (arith, w .within)
 
   -- the mark of its name
-  pub standing-mark : {i at mark : ℕ} {m : Name} → Standing s block n i at → m ≡ nameAt s at → mark ≡ markOf 8 m → entryMark s (block + 6 + 2) i ≡ mark
+  pub standing-mark : {to i at mark : ℕ} {m : Name} → Standing s block to i at → m ≡ nameAt s at → mark ≡ markOf 8 m → entryMark s (block + 6 + 2) i ≡ mark
   unfolding entryMark
   standing-mark w e f = rw (← w .here, f, e)
 
@@ -108,13 +124,21 @@ module _ (s : List ℕ) (m : Name) where
       rw (f .before 0 (omega arith))
       (ap (λ (o : ℕ). At (o + 2 + le2 s o)) (entry-behind s first k) ∙ first-number n k (first-behind f) (omega arith))
 
+  -- the first among some is the first among more
+  pub first-more : {first k n j : ℕ} → First s m first k j → j < k → k ≤ n → First s m first n j
+  first-more f h l = record { within = omega arith; named = λ z. f .named h; before = f .before }
+
   -- as it is found: o is the offset of the entry, u of the number
   pub first-there : (n : ℕ) {first k o u : ℕ} → First s m first n k → k < n → o ≡ entryAt s first k → u ≡ o + 2 + le2 s o → At u ≡ firstValue s m n first
   first-there n {first} {k} f h e g = ap At (g ∙ ap (λ (i : ℕ). i + 2 + le2 s i) e) ∙ first-number n k f h
 
-  -- where none has the name, there is no value of it
-  pub first-nowhere : (n : ℕ) {first k : ℕ} → First s m first n k → n ≤ k → Missing ≡ firstValue s m n first
+  -- where none of the first k has it, it is the first value of the others
+  pub first-rest : (n k : ℕ) {first j : ℕ} → k ≤ n → First s m first k j → k ≤ j → firstValue s m n first ≡ firstValue s m (n - k) (entryAt s first k)
   unfolding entryAt firstValue
-  first-nowhere zero f h = refl
-  first-nowhere (suc n) {first} {k = zero} f h = absurd (omega arith)
-  first-nowhere (suc n) {first} {k = suc k} f h = rw (f .before 0 (omega arith)) (first-nowhere n (first-behind f) (omega arith))
+  first-rest n zero {first} l f h = ap (λ (z : ℕ). firstValue s m z first) (sym (sub-zero n))
+  first-rest zero (suc k) l f h = absurd (omega arith)
+  first-rest (suc n) (suc k) {first} {j = zero} l f h = absurd (omega arith)
+  first-rest (suc n) (suc k) {first} {j = suc j} l f h =
+      let e : suc n - suc k ≡ n - k = omega arith in
+      rw (f .before 0 (omega arith), e)
+      (first-rest n k (omega arith) (first-behind f) (omega arith) ∙ ap (λ (o : ℕ). firstValue s m (n - k) o) (sym (entry-behind s first k)))

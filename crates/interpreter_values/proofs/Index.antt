@@ -6,7 +6,7 @@ use mathlib.Core.Bool.{Bool, true, false}
 use mathlib.Core.List.{List, _++_}
 use lib.Dec.{eqb}
 use lib.ListN.{length, getD, set, take, drop, length-set, length-drop, List·getD-append}
-use lib.Seq.{getD-take, getD-drop, getD-set-same, getD-set-other, take-take, drop-drop, length-take-le, take-at, drop-at}
+use lib.Seq.{take-add, getD-take, getD-drop, getD-set-same, getD-set-other, take-take, drop-drop, length-take-le, take-at, drop-at}
 use borrow.Author.Tests.{eqb-true, eqb-false}
 use borrow.Rule.Slice.PartMut.{putMid, same-len-mid, mid-len, take-put}
 use Rattle.blocks.specs.Bytes.{le2, nameAt}
@@ -50,7 +50,7 @@ module _ (ws zs ys : List ℕ) (room : 1168 ≤ length ws) (lz : length zs ≡ l
     ys-length = ly ∙ mid-len 17 656 noted (omega (arith, noted-length))
 
     -- there are as many words as before
-    linked-length : length linked ≡ length ws
+    pub linked-length : length linked ≡ length ws
     linked-length = same-len-mid 17 639 noted ys ly ∙ noted-length
 
     -- the first 17 words stay
@@ -71,15 +71,36 @@ module _ (ws zs ys : List ℕ) (room : 1168 ≤ length ws) (lz : length zs ≡ l
         (drop-at ys (drop 639 (drop 17 noted)) 639 ys-length ∙
         (drop-drop 639 17 noted ∙ drop-at (take 656 ws) (zs ++ drop 512 (drop 656 ws)) 656 (length-take-le 656 ws (omega arith))))
 
-    -- both together are the index
-    pub built : (s : List ℕ) (block : ℕ) → le2 s (block + 6) ≤ 512 → Offsets s (block + 6 + 2) (le2 s (block + 6)) zs →
-        Linked ys (entryMark s (block + 6 + 2)) (le2 s (block + 6)) → Indexed s block (drop 17 linked)
-    built s block most o l = record {
+    -- both together are the index of m entries
+    pub built : (s : List ℕ) (block m : ℕ) → m ≤ le2 s (block + 6) → le2 s (block + 6) ≤ 512 → Offsets s (block + 6 + 2) m zs →
+        Linked ys (entryMark s (block + 6 + 2)) m → Indexed s block m (drop 17 linked)
+    built s block m within most o l = record {
       room = omega (arith, length-drop 17 linked, linked-length);
+      within = within;
       linked = rw (behind, take-at ys (drop 639 (drop 17 noted)) 639 ys-length) l;
       offsets = λ k h. ap (λ (us : List ℕ). getD us k 0) offsets-there ∙
           (List·getD-append zs (drop 512 (drop 656 ws)) 0 k (omega (arith, zs-length)) ∙ o k h);
     }
+
+-- ---- the parts, before more entries are put into them
+
+-- the table is a part of the first 656 words
+table-begin : (ws : List ℕ) → 17 ≤ length ws → drop 17 (take 656 ws) ≡ take 639 (drop 17 ws)
+table-begin ws h = ap (drop 17) (take-add 17 639 ws) ∙ drop-at (take 17 ws) (take 639 (drop 17 ws)) 17 (length-take-le 17 ws h)
+
+module _ {s : List ℕ} {block m : ℕ} (ws : List ℕ) (room : 1168 ≤ length ws) (x : Indexed s block m (drop 17 ws)) where
+  -- the offsets stand in theirs
+  pub offsets-part : m ≤ 512 → Offsets s (block + 6 + 2) m (take 512 (drop 656 ws))
+  offsets-part most k h =
+      getD-take 512 (drop 656 ws) k 0 (omega arith) ∙ (ap (λ (us : List ℕ). getD us k 0) (sym (drop-drop 639 17 ws)) ∙ x .offsets k h)
+
+  -- offsets zs that were put behind it leave the table as it was
+  pub table-part : (zs : List ℕ) → length zs ≡ length (take 512 (drop 656 ws)) → Linked (take 639 (drop 17 (putMid 656 512 ws zs))) (entryMark s (block + 6 + 2)) m
+  table-part zs lz =
+      let long : length (putMid 656 512 ws zs) ≡ length ws = same-len-mid 656 512 ws zs lz in
+      let e : take 639 (drop 17 (putMid 656 512 ws zs)) ≡ take 639 (drop 17 ws) =
+      sym (table-begin (putMid 656 512 ws zs) (omega arith)) ∙ (ap (drop 17) (take-put 656 512 ws zs (omega arith)) ∙ table-begin ws (omega arith)) in
+      rw e (x .linked)
 
 -- ---- the offsets, one by one
 
@@ -93,35 +114,46 @@ offsets-more s first i at ws o e h k l = go (eqb k i) refl
 
 -- ---- what is kept of the words
 
-module _ {s : List ℕ} {block : ℕ} (ws : List ℕ) (room : 1168 ≤ length ws) where
-  -- a count of up to 8 remembers nothing
-  pub kept-count : (c : ℕ) → c ≤ 8 → Kept s block 16 ws (set ws 16 c)
-  kept-count c h = record {
-    same = λ i l. getD-set-other ws 16 i c 0 (λ e. absurd (omega arith));
-    remembered = record {
-      room = rw length-set (omega arith);
-      index = λ l g. absurd (omega (arith, getD-set-same ws 16 c 0 (omega arith)));
-    };
-  }
+module _ {s : List ℕ} {block : ℕ} where
+  -- words whose first 17 stay, with the index behind them of as many entries as word 16 says
+  pub kept-index : {ws us : List ℕ} {m : ℕ} → 16 ≤ length us → Same 17 ws us → getD ws 16 0 ≡ m → Indexed s block m (drop 17 us) → Kept s block 16 ws us
+  kept-index {us} {m} h f e x =
+      let c : getD us 16 0 ≡ m = f 16 (omega arith) ∙ e in
+      record { same = λ i l. f i (omega arith); remembered = record { room = h; index = λ l g. rw c x } }
 
-  -- a count, and behind it the index
-  pub kept-index : {us : List ℕ} (c : ℕ) → length us ≡ length (set ws 16 c) → Same 17 (set ws 16 c) us → Indexed s block (drop 17 us) → Kept s block 16 ws us
-  kept-index c e f x = record {
-    same = λ i l. f i (omega arith) ∙ getD-set-other ws 16 i c 0 (λ q. absurd (omega arith));
-    remembered = record { room = omega (arith, e, length-set ws 16 c); index = λ l g. x };
-  }
+  -- the same where word 16 was written first
+  pub kept-more : {ws us : List ℕ} (m : ℕ) → 1168 ≤ length ws → length us ≡ length ws → Same 17 (set ws 16 m) us → Indexed s block m (drop 17 us) → Kept s block 16 ws us
+  kept-more {ws} {us} m room e f x =
+      let k = kept-index {ws = set ws 16 m} {us = us} (omega (arith, e)) f (getD-set-same ws 16 m 0 (omega arith)) x in
+      record { same = λ i l. k .same i l ∙ getD-set-other ws 16 i m 0 (λ q. absurd (omega arith)); remembered = k .remembered }
+
+  -- a table without a slot, put into the words, is the index of no entry
+  pub index-none : (ws ys : List ℕ) → 1168 ≤ length ws → length ys ≡ length (take 639 (drop 17 ws)) → ((f : ℕ → ℕ) → Linked ys f 0) → Indexed s block 0 (drop 17 (putMid 17 639 ws ys))
+  index-none ws ys room e l =
+      let long : length ys ≡ 639 = e ∙ mid-len 17 656 ws (omega arith) in
+      let there : drop 17 (putMid 17 639 ws ys) ≡ ys ++ drop 639 (drop 17 ws) = drop-at (take 17 ws) (ys ++ drop 639 (drop 17 ws)) 17 (length-take-le 17 ws (omega arith)) in
+      record {
+        room = omega (arith, length-drop 17 (putMid 17 639 ws ys), same-len-mid 17 639 ws ys e);
+        within = omega arith;
+        linked = rw (there, take-at ys (drop 639 (drop 17 ws)) 639 long) (l (entryMark s (block + 6 + 2)));
+        offsets = λ k h. absurd (let z : ⊥ = omega arith in z);
+      }
+
+-- the first 17 words stay where a table is put behind them
+pub same-table : (ws ys : List ℕ) → 1168 ≤ length ws → Same 17 ws (putMid 17 639 ws ys)
+same-table ws ys room = same-begin 17 ws (putMid 17 639 ws ys) (take-put 17 639 ws ys (omega arith))
 
 -- ---- the search
 
 -- the table that is searched
-abbrev pub table-of : {s : List ℕ} {block : ℕ} {ws : List ℕ} → Indexed s block ws → Table (take 639 ws)
-table-of {s} {block} x = record { marks = entryMark s (block + 6 + 2); count = le2 s (block + 6); linked = x .linked }
+abbrev pub table-of : {s : List ℕ} {block m : ℕ} {ws : List ℕ} → Indexed s block m ws → Table (take 639 ws)
+table-of {s} {block} {m} x = record { marks = entryMark s (block + 6 + 2); count = m; linked = x .linked }
 
 -- the word of the entry at place k
-module _ {s : List ℕ} {block : ℕ} (a : Accepted s 192 192 block) (ws : List ℕ) (x : Indexed s block (drop 17 ws)) {k : ℕ} (h : k < le2 s (block + 6)) where
+module _ {s : List ℕ} {block m : ℕ} (a : Accepted s 192 192 block) (ws : List ℕ) (x : Indexed s block m (drop 17 ws)) {k : ℕ} (h : k < m) where
   -- it is one of the words
   pub word-in : 656 + k < length ws
-  word-in = omega (arith, few a, x .room, length-drop 17 ws)
+  word-in = omega (arith, few a, x .within, x .room, length-drop 17 ws)
 
   -- it is the entry's offset
   pub offset-at : getD ws (656 + k) 0 ≡ entryAt s (block + 6 + 2) k
@@ -131,7 +163,11 @@ module _ {s : List ℕ} {block : ℕ} (a : Accepted s 192 192 block) (ws : List 
 
   -- a name stands there, in the bytes
   pub name-in : getD ws (656 + k) 0 + 2 + le2 s (getD ws (656 + k) 0) ≤ length s
-  name-in = rw offset-at (omega (arith, entry-in a k h))
+  name-in = rw offset-at (omega (arith, entry-in a k (omega (arith, x .within))))
+
+  -- and a number behind it
+  pub number-in : getD ws (656 + k) 0 + 2 + le2 s (getD ws (656 + k) 0) + 8 ≤ length s
+  number-in = rw offset-at (entry-in a k (omega (arith, x .within)))
 
 -- the entry at place k has the name
 abbrev pub Has : List ℕ → ℕ → Name → ℕ → Type 0

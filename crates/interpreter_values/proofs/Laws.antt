@@ -26,10 +26,12 @@ module _ {s : List ℕ} {block : ℕ} where
 
   -- the word of an open call says nothing of the values
   pub remembered-set : {ws : List ℕ} (d w : ℕ) → d < 16 → Remembered s block ws → Remembered s block (set ws d w)
-  remembered-set {ws} d w h r = record {
-    room = subst (λ (z : ℕ). 16 ≤ z) (sym (length-set ws d w)) (r .room);
-    index = λ l g. rw (drop-set-lt 17 ws d w (omega arith)) (r .index (omega (arith, length-set ws d w)) (omega (arith, getD-set-other ws d 16 w 0 (λ e. absurd (omega arith)))));
-  }
+  remembered-set {ws} d w h r =
+      let e : getD (set ws d w) 16 0 ≡ getD ws 16 0 = getD-set-other ws d 16 w 0 (λ e. absurd (omega arith)) in
+      record {
+        room = subst (λ (z : ℕ). 16 ≤ z) (sym (length-set ws d w)) (r .room);
+        index = λ l g. rw (drop-set-lt 17 ws d w (omega arith), e) (r .index (omega (arith, length-set ws d w)) (omega arith));
+      }
 
   -- so the words before it are kept
   pub kept-set : {ws : List ℕ} (d w : ℕ) → d < 16 → Remembered s block ws → Kept s block d ws (set ws d w)

@@ -7,6 +7,7 @@ use lib.ListN.{getD}
 use Rattle.blocks.specs.Bytes.{le2, nameAt}
 use Rattle.blocks.specs.Name.{Name, same}
 use Rattle.name_marks.specs.Mark.{markOf}
+use Rattle.interpreter_values.specs.declared.Span.{Span}
 
 -- the offset of entry k of those from an offset on
 unfoldable pub entryAt : List ℕ → ℕ → ℕ → ℕ
@@ -26,3 +27,9 @@ pub record First (s : List ℕ) (m : Name) (first n k : ℕ) : Type 0 where
   pub within : k ≤ n
   pub named : k < n → same m (nameAt s (entryAt s first k)) ≡ true
   pub before : (i : ℕ) → i < k → same m (nameAt s (entryAt s first i)) ≡ false
+
+-- the entries of the block at these places, the first of which stands at the offset
+pub record Spans (s : List ℕ) (block : ℕ) (p : Span) : Type 0 where
+  pub within : p .from ≤ p .to
+  pub most : p .to ≤ le2 s (block + 6)
+  pub here : p .at ≡ entryAt s (block + 6 + 2) (p .from)

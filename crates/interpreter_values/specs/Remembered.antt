@@ -1,5 +1,5 @@
--- What evaluating remembers of the root's values, in the working words behind the sixteen of the open calls: word 16 has how many names were
--- asked for; once these are more than 8, an index of the values stands from word 17 on.
+-- What evaluating remembers of the root's values, in the working words behind the sixteen of the open calls: word 16 has how many entries are
+-- in the index that stands from word 17 on.
 use Prim.Native.Nat.{ℕ, _+_, _≤_, _<_}
 use mathlib.Core.Path.{_≡_}
 use mathlib.Core.List.{List}
@@ -8,17 +8,18 @@ use Rattle.blocks.specs.Bytes.{le2}
 use Rattle.marks.specs.Table.{Linked}
 use Rattle.interpreter_values.specs.Entries.{entryMark, Offsets}
 
--- the index, in the words from word 17 on: a table of the marks of the names, and behind it the offsets of the entries
-pub record Indexed (s : List ℕ) (block : ℕ) (ws : List ℕ) : Type 0 where
+-- the index of the first m entries, in the words from word 17 on: a table of the marks of their names, and behind it their offsets
+pub record Indexed (s : List ℕ) (block m : ℕ) (ws : List ℕ) : Type 0 where
   pub room : 1151 ≤ length ws
-  pub linked : Linked (take 639 ws) (entryMark s (block + 6 + 2)) (le2 s (block + 6))
-  pub offsets : Offsets s (block + 6 + 2) (le2 s (block + 6)) (drop 639 ws)
+  pub within : m ≤ le2 s (block + 6)
+  pub linked : Linked (take 639 ws) (entryMark s (block + 6 + 2)) m
+  pub offsets : Offsets s (block + 6 + 2) m (drop 639 ws)
 
--- the words of a context whose values are those of the block: room for the open calls, and what is remembered of the values, where there
--- is room for that
+-- the words of a context whose values are those of the block: room for the open calls, and the index, where there is room for it and an
+-- entry is in it
 pub record Remembered (s : List ℕ) (block : ℕ) (ws : List ℕ) : Type 0 where
   pub room : 16 ≤ length ws
-  pub index : 1168 ≤ length ws → 8 < getD ws 16 0 → Indexed s block (drop 17 ws)
+  pub index : 1168 ≤ length ws → 0 < getD ws 16 0 → Indexed s block (getD ws 16 0) (drop 17 ws)
 
 -- the first m words are the same
 abbrev pub Same : ℕ → List ℕ → List ℕ → Type 0

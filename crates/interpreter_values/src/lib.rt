@@ -1,7 +1,6 @@
-// The values of a record by name: one by one, and by an index once many were asked for.
+// The values of a record by name. Where there are many, each search that does not find a name in the index puts some more entries into it.
 use lookup::Found;
 ghost use mathlib.Core.Path.{_≡_};
-ghost use mathlib.Core.Bool.{true};
 ghost use mathlib.Core.List.{List};
 ghost use Prim.Native.Nat.{ℕ, _+_, _≤_};
 ghost use lib.ListN.{length, drop};
@@ -10,14 +9,14 @@ ghost use Rattle.marks.specs.Table.{Linked};
 ghost use Rattle.interpreter.specs.Validate.{valuesOf};
 ghost use Rattle.accepted.specs.Accepted.{Accepted, tree};
 ghost use Rattle.lookup.specs.Found.{ValueFound, firstValue};
-ghost use Rattle.interpreter_values.specs.Entries.{entryMark, Offsets, First};
-ghost use Rattle.interpreter_values.specs.Remembered.{Indexed, Remembered, Same, Kept};
+ghost use Rattle.interpreter_values.specs.Entries.{entryAt, entryMark, Offsets, First, Spans};
+ghost use Rattle.interpreter_values.specs.Remembered.{Indexed, Remembered, Kept};
 
 // How many working words evaluating uses where it may remember values.
 pub const WORDS: usize = 1168;
 
-// The word that counts the names asked for.
-const ASKED: usize = 16;
+// The word that has how many entries are in the index.
+const KNOWN: usize = 16;
 
 // Where the index begins, with a table of the marks of the names.
 const TABLE: usize = 17;
@@ -25,19 +24,26 @@ const TABLE: usize = 17;
 // Where the offsets of the entries begin, behind the table.
 const OFFSETS: usize = 656;
 
-// With fewer values no index is built.
+// With fewer values they are asked one by one.
 const MANY: usize = 32;
 
-// So many names are found one by one before an index is built.
-const SELDOM: u64 = 8;
+// How many entries a search puts into the index.
+const STEP: usize = 16;
+
+// Entries of a block: from which place on, up to which, and the offset of the first of them.
+struct Span {
+    from: usize,
+    to: usize,
+    at: usize,
+}
 
 // Nothing is remembered of any values.
 pub fn forget(words: &mut [u64])
     requires { ⌜ 16 ≤ length (now words) ⌝ }
     ensures { λ _. ⌜ ((s : List ℕ) (block : ℕ) → Remembered s block (now (words .exit))) ⌝ }
 {
-    if 16 < words.len() {
-        words[16] = 0;
+    if KNOWN < words.len() {
+        words[KNOWN] = 0;
     }
 }
 
@@ -49,80 +55,96 @@ fn behind_entry(values: &[u8], at: usize) -> usize
     wire::behind_name(values, at) + 8
 }
 
-// The offsets of the entries of a block of values, one a word.
-fn note_offsets(values: &[u8], block: usize, offsets: &mut [u64])
-    requires { ⌜ Accepted (now values) 192 192 block × (512 ≤ length (now offsets)) ⌝ }
-    ensures { λ _. ⌜ Offsets (now (values .entry)) (block + 6 + 2) (le2 (now (values .entry)) (block + 6)) (now (offsets .exit)) ⌝ }
+// The offsets of these entries, each in its word.
+fn note_offsets(values: &[u8], block: usize, span: Span, offsets: &mut [u64])
+    requires { ⌜ Accepted (now values) 192 192 block × Spans (now values) block span × (512 ≤ length (now offsets)) ⌝ }
+    ensures { λ _. ⌜ (Offsets (now (values .entry)) (block + 6 + 2) (span .from) (now (offsets .entry)) → Offsets (now (values .entry)) (block + 6 + 2) (span .to) (now (offsets .exit))) ⌝ }
 {
-    let n = wire::read2(values, block + 6);
-    let mut at = block + 6 + 2;
-    let mut i = 0;
-    while i < n {
+    let to = span.to;
+    let mut at = span.at;
+    let mut i = span.from;
+    while i < to {
         offsets[i] = at as u64;
         at = behind_entry(values, at);
         i += 1;
     }
 }
 
-// A table of the marks of their names.
-fn link_names(values: &[u8], block: usize, table: &mut [u64])
-    requires { ⌜ Accepted (now values) 192 192 block × (639 ≤ length (now table)) ⌝ }
-    ensures { λ _. ⌜ Linked (now (table .exit)) (entryMark (now (values .entry)) (block + 6 + 2)) (le2 (now (values .entry)) (block + 6)) ⌝ }
+// The marks of their names, each in its slot of the table.
+fn link_names(values: &[u8], block: usize, span: Span, table: &mut [u64])
+    requires { ⌜ Accepted (now values) 192 192 block × Spans (now values) block span × (639 ≤ length (now table)) ⌝ }
+    ensures { λ _. ⌜ (Linked (now (table .entry)) (entryMark (now (values .entry)) (block + 6 + 2)) (span .from) → Linked (now (table .exit)) (entryMark (now (values .entry)) (block + 6 + 2)) (span .to)) ⌝ }
 {
-    marks::clear(table);
-    let count = wire::read2(values, block + 6);
-    let mut at = block + 6 + 2;
-    let mut i = 0;
-    while i < count {
+    let to = span.to;
+    let mut at = span.at;
+    let mut i = span.from;
+    while i < to {
         marks::link(table, i, name_marks::mark(wire::name_at(values, at), 8));
         at = behind_entry(values, at);
         i += 1;
     }
 }
 
-// The index of the values of a block.
-fn build(values: &[u8], block: usize, words: &mut [u64])
-    requires { ⌜ Accepted (now values) 192 192 block × (1168 ≤ length (now words)) ⌝ }
-    ensures { λ _. ⌜ Indexed (now (values .entry)) block (drop 17 (now (words .exit))) ⌝ }
-    ensures { λ _. ⌜ Same 17 (now (words .entry)) (now (words .exit)) ⌝ }
+// How many entries are in the index, which is made ready for the first.
+fn begin(words: &mut [u64]) -> usize
+    requires { ⌜ 1168 ≤ length (now words) ⌝ }
+    ensures { λ r. ⌜ ((s : List ℕ) (block : ℕ) → Remembered s block (now (words .entry)) → Indexed s block r (drop 17 (now (words .exit)))) ⌝ }
+    ensures { λ _. ⌜ ((s : List ℕ) (block : ℕ) → Remembered s block (now (words .entry)) → Kept s block 16 (now (words .entry)) (now (words .exit))) ⌝ }
 {
-    note_offsets(values, block, &mut words[OFFSETS..WORDS]);
-    link_names(values, block, &mut words[TABLE..OFFSETS]);
+    let m = words[KNOWN] as usize;
+    if m == 0 {
+        marks::clear(&mut words[TABLE..OFFSETS]);
+    }
+    m
 }
 
-// Whether an index of the values stands. As long as none does, the names asked for are counted; the one behind the first few builds it.
-fn is_indexed(values: &[u8], block: usize, words: &mut [u64]) -> bool
-    requires { ⌜ Accepted (now values) 192 192 block × Remembered (now values) block (now words) ⌝ }
-    ensures { λ r. ⌜ (r ≡ true → Indexed (now (values .entry)) block (drop 17 (now (words .exit)))) ⌝ }
+// The offset of the entry at a place, where those before it are in the index.
+fn entry_offset(values: &[u8], block: usize, words: &[u64], m: usize) -> usize
+    requires { ⌜ Accepted (now values) 192 192 block × Indexed (now values) block m (drop 17 (now words)) ⌝ }
+    ensures { λ r. ⌜ r ≡ entryAt (now (values .entry)) (block + 6 + 2) m ⌝ }
+{
+    if m == 0 {
+        return block + 6 + 2;
+    }
+    let word = OFFSETS + (m - 1);
+    behind_entry(values, words[word] as usize)
+}
+
+// Behind how many of n entries the index ends after one more search.
+fn after_step(m: usize, n: usize) -> usize
+    requires { ⌜ m ≤ n ⌝ }
+    ensures { λ r. ⌜ (m ≤ r) × (r ≤ n) ⌝ }
+{
+    if n - m < STEP {
+        return n;
+    }
+    m + STEP
+}
+
+// Puts the next entries into the index. The offset of the first of them.
+fn extend(values: &[u8], block: usize, words: &mut [u64], m: usize) -> usize
+    requires { ⌜ Accepted (now values) 192 192 block × Indexed (now values) block m (drop 17 (now words)) × (1168 ≤ length (now words)) ⌝ }
+    ensures { λ r. ⌜ r ≡ entryAt (now (values .entry)) (block + 6 + 2) m ⌝ }
     ensures { λ _. ⌜ Kept (now (values .entry)) block 16 (now (words .entry)) (now (words .exit)) ⌝ }
 {
-    if words.len() < WORDS {
-        return false;
-    }
-    if wire::read2(values, block + 6) < MANY {
-        return false;
-    }
-    let asked = words[ASKED];
-    if SELDOM < asked {
-        return true;
-    }
-    words[ASKED] = asked + 1;
-    if asked < SELDOM {
-        return false;
-    }
-    build(values, block, words);
-    true
+    let at = entry_offset(values, block, words, m);
+    let to = after_step(m, wire::read2(values, block + 6));
+    let span = Span { from: m, to, at };
+    words[KNOWN] = to as u64;
+    note_offsets(values, block, span, &mut words[OFFSETS..WORDS]);
+    link_names(values, block, span, &mut words[TABLE..OFFSETS]);
+    at
 }
 
-// The place of the first entry of a name, or how many entries there are. Of the entries that may have the name by their mark, from the last to
+// The place of the first entry of a name among the m of the index, or m. Of the entries that may have the name by their mark, from the last to
 // the first, the earliest that has it is kept.
-fn place(values: &[u8], block: usize, words: &[u64], name: &[u8]) -> usize
-    requires { ⌜ Accepted (now values) 192 192 block × Indexed (now values) block (drop 17 (now words)) ⌝ }
-    ensures { λ r. ⌜ First (now (values .entry)) (now (name .entry)) (block + 6 + 2) (le2 (now (values .entry)) (block + 6)) r ⌝ }
+fn place(values: &[u8], block: usize, words: &[u64], m: usize, name: &[u8]) -> usize
+    requires { ⌜ Accepted (now values) 192 192 block × Indexed (now values) block m (drop 17 (now words)) ⌝ }
+    ensures { λ r. ⌜ First (now (values .entry)) (now (name .entry)) (block + 6 + 2) m r ⌝ }
 {
     let mark = name_marks::mark(name, 8);
     let table = &words[TABLE..OFFSETS];
-    let mut found = wire::read2(values, block + 6);
+    let mut found = m;
     let mut j = marks::last(table, mark);
     while 0 < j {
         let k = j - 1;
@@ -135,17 +157,21 @@ fn place(values: &[u8], block: usize, words: &[u64], name: &[u8]) -> usize
     found
 }
 
-// The first value of a name, by the index.
-fn indexed(values: &[u8], block: usize, words: &[u64], name: &[u8]) -> Found
-    requires { ⌜ Accepted (now values) 192 192 block × Indexed (now values) block (drop 17 (now words)) ⌝ }
+// The first value of a name: by the index, or else one by one behind the entries that are in it, which become more.
+fn indexed(values: &[u8], block: usize, words: &mut [u64], name: &[u8]) -> Found
+    requires { ⌜ Accepted (now values) 192 192 block × Remembered (now values) block (now words) × (1168 ≤ length (now words)) ⌝ }
     ensures { λ r. ⌜ r ≡ firstValue (now (values .entry)) (now (name .entry)) (le2 (now (values .entry)) (block + 6)) (block + 6 + 2) ⌝ }
+    ensures { λ _. ⌜ Kept (now (values .entry)) block 16 (now (words .entry)) (now (words .exit)) ⌝ }
 {
-    let found = place(values, block, words, name);
-    if found < wire::read2(values, block + 6) {
+    let m = begin(words);
+    let found = place(values, block, words, m, name);
+    if found < m {
         let word = OFFSETS + found;
         return Found::At(wire::behind_name(values, words[word] as usize));
     }
-    Found::Missing
+    let at = extend(values, block, words, m);
+    let n = wire::read2(values, block + 6);
+    lookup::value_from(values, at, n - m, name)
 }
 
 // The first value of a name in an accepted block of values at an offset.
@@ -155,8 +181,11 @@ pub fn value(values: &[u8], block: usize, words: &mut [u64], name: &[u8]) -> Fou
     ensures { λ r. ⌜ ((a : Accepted (now (values .entry)) 192 192 block) → ValueFound (now (values .entry)) (now (name .entry)) (valuesOf (tree a)) r) ⌝ }
     ensures { λ _. ⌜ Kept (now (values .entry)) block 16 (now (words .entry)) (now (words .exit)) ⌝ }
 {
-    if is_indexed(values, block, words) {
-        return indexed(values, block, words, name);
+    if words.len() < WORDS {
+        return lookup::value_in(values, block, name);
     }
-    lookup::value_in(values, block, name)
+    if wire::read2(values, block + 6) < MANY {
+        return lookup::value_in(values, block, name);
+    }
+    indexed(values, block, words, name)
 }

@@ -1,4 +1,4 @@
--- The first value of a name in an accepted block of values.
+-- The first value of a name, among entries that were accepted.
 use mathlib.Core.Path.{_≡_, refl, sym, _∙_, ap, subst}
 use mathlib.Core.Bool.{Bool, true, false}
 use mathlib.Core.List.{List}
@@ -6,33 +6,22 @@ use mathlib.Core.Option.{some}
 use Prim.Native.Nat.{ℕ, zero, suc, _+_, _-_, _≤_, _<_}
 use native.Mathlib.Numerals.{sub-one}
 use native.Mathlib.Omega.{arith}
+use lib.Dec.{leb}
 use lib.ListN.{length}
+use borrow.Author.Tests.{leb-true, leb-false}
 use Rattle.blocks.specs.Bytes.{le2, le8}
 use Rattle.blocks.specs.Name.{Name, same}
 use Rattle.blocks.specs.Grammar.{partsOf, findRow, grammar, nodeTable}
 use Rattle.blocks.specs.Tree.{Tree, name, num, cons, entries}
-use Rattle.accepted.specs.Accepted.{Accepted, tree, Item, nameAt, Counted}
-use Rattle.accepted.proofs.Laws.{Sole, sole, value-entry}
-use Rattle.accepted.proofs.Lists.{Left, starts, steps, ended}
-use Rattle.interpreter.specs.Eval.{find}
+use Rattle.accepted.specs.Accepted.{Accepted, tree, Item, Entries, nameAt, Counted}
+use Rattle.accepted.proofs.Laws.{Sole, sole, After, value-entry, none-left}
+use Rattle.interpreter.specs.Eval.{ParamMap, find}
 use Rattle.interpreter.specs.Validate.{bindingOf, valuesOf}
 use Rattle.lookup.specs.declared.Found.{Found}
 use Rattle.lookup.specs.declared.Found.the-variants.{At, Missing}
 use Rattle.lookup.specs.Found.{ValueFound, firstValue}
 
--- the first of a name is the first of it among those that are left
-pub record Unmet (n : Name) (w u : Tree) : Type 0 where
-  pub is : find n (entries bindingOf w) ≡ find n (entries bindingOf u)
-
--- the entry at an offset
-abbrev entryAt : List ℕ → ℕ → Tree
-entryAt s at = cons (name (nameAt s at)) (num 8 (le8 s (at + 2 + le2 s at)))
-
--- the test of its name decides
-tested : (n : Name) (s : List ℕ) (at : ℕ) (u : Tree) {t : Bool} → same n (nameAt s at) ≡ t →
-    find n (entries bindingOf (cons (entryAt s at) u)) ≡ elim t [ true ↦ some (le8 s (at + 2 + le2 s at)) | false ↦ find n (entries bindingOf u) ]
-unfolding find entries
-tested n s at u h = ap (λ (t : Bool). elim t [ true ↦ some (le8 s (at + 2 + le2 s at)) | false ↦ find n (entries bindingOf u) ]) h
+-- ---- the block
 
 -- the block at b is a list of values
 pub listed : {s : List ℕ} {b : ℕ} (a : Accepted s 192 192 b) → Sole a Item.values 512
@@ -71,66 +60,101 @@ module _ (s : List ℕ) (n : Name) (at : ℕ) where
 
 -- ---- the loop
 
--- Of the values of the block at b, `left` are left, from `at` on, and none of those before has the name.
-pub record Search (s : List ℕ) (b : ℕ) (n : Name) (left at : ℕ) : Type 0 where
-  pub on : Left (Unmet n) s Item.values (le2 s (b + 6)) (b + 6 + 2) left at
-  pub first : firstValue s n (le2 s (b + 6)) (b + 6 + 2) ≡ firstValue s n left at
+-- Of m entries from an offset on, `left` are left, from `at` on, and none of those before has the name.
+pub record Passed (s : List ℕ) (n : Name) (m from left at : ℕ) : Type 0 where
+  pub here : Entries s Item.values left at
+  pub first : firstValue s n m from ≡ firstValue s n left at
 
--- the loop begins with all of them
-pub begin : {s : List ℕ} {b left : ℕ} {n : Name} → Accepted s 192 192 b → left ≡ le2 s (b + 6) → Search s b n left (b + 6 + 2)
-begin {s} {b} {n} a e = subst (λ (k : ℕ). Search s b n k (b + 6 + 2)) (sym e) (record { on = starts (λ t. record { is = refl }) (listed a .list); first = refl })
+module _ {s : List ℕ} {n : Name} {m from : ℕ} where
+  -- the loop begins with all of them
+  pub passed-none : Entries s Item.values m from → Passed s n m from m from
+  passed-none l = record { here = l; first = refl }
 
--- the value that the loop answers with is the block's first of the name, and the one that the context has
-abbrev Answers : List ℕ → ℕ → Name → Found → Type 0
-Answers s b n r = (r ≡ firstValue s n (le2 s (b + 6)) (b + 6 + 2)) × ((a : Accepted s 192 192 b) → ValueFound s n (valuesOf (tree a)) r)
+  -- where it ends, none has the name
+  pub passed-all : {left at : ℕ} → left ≤ 0 → Passed s n m from left at → Missing ≡ firstValue s n m from
+  passed-all {left} {at} h c = sym (c .first ∙ value-nowhere s n at left h)
 
-module _ {s : List ℕ} (b : ℕ) {left at : ℕ} {n : Name} (h : 0 < left) where
-  -- the next value lies in the bytes
-  pub next-one : Search s b n left at → at + 2 + le2 s at + 8 ≤ length s
-  next-one c = let a = value-entry (c .on .here) h .2 in omega (arith, a .inside, c .on .here .fits)
+  module _ {left at : ℕ} (h : 0 < left) (c : Passed s n m from left at) where
+    -- the next entry lies in the bytes
+    pub next-one : at + 2 + le2 s at + 8 ≤ length s
+    next-one = let a = value-entry (c .here) h .2 in omega (arith, a .inside, c .here .fits)
 
-  module _ {r : Bool} {u : ℕ} (e : r ≡ same n (nameAt s at)) (g : u ≡ at + 2 + le2 s at) where
-    -- it has another name: the loop goes on behind it
-    pub go-on : r ≡ false → Search s b n left at → Search s b n (left - 1) (u + 8)
-    go-on f c =
-        subst (λ (k : ℕ). Search s b n (left - 1) (k + 8)) (sym g) (record {
-          on = steps (λ l. entryAt s at) (λ l. value-entry l h .2) (λ l w t q. record { is = q .is ∙ tested n s at t (sym e ∙ f) }) (c .on);
-          first = c .first ∙ value-behind s n at left h (sym e ∙ f);
-        })
+    module _ {r : Bool} {u : ℕ} (e : r ≡ same n (nameAt s at)) (g : u ≡ at + 2 + le2 s at) where
+      -- it has another name: the loop goes on behind it
+      pub passed-one : r ≡ false → Passed s n m from (left - 1) (u + 8)
+      passed-one f =
+          subst (λ (k : ℕ). Passed s n m from (left - 1) (k + 8)) (sym g)
+          (record { here = value-entry (c .here) h .2 .rest; first = c .first ∙ value-behind s n at left h (sym e ∙ f) })
 
-    -- it has the name: it is the answer
-    pub hit : r ≡ true → Search s b n left at → Answers s b n (At u)
-    hit f c = subst (λ (k : ℕ). Answers s b n (At k)) (sym g) (sym (c .first ∙ value-here s n at left h (sym e ∙ f)), is)
-      where
-        is : (a : Accepted s 192 192 b) → ValueFound s n (valuesOf (tree a)) (At (at + 2 + le2 s at))
-        is a =
-            let w = c .on .whole (listed a .list) in
-            let k = value-entry (w .0) h .2 in
-            ValueFound.at {o = at + 2 + le2 s at} (omega (arith, k .inside, w .0 .fits))
-            (ap (find n) (values-are a) ∙ w .1 .is ∙ ap (λ (z : Tree). find n (entries bindingOf z)) (k .tree) ∙ tested n s at (k .rest .got .0) (sym e ∙ f))
-
--- none is left, and none has the name
-pub no-more : {s : List ℕ} (b : ℕ) {left at : ℕ} {n : Name} → left ≤ 0 → Search s b n left at → Answers s b n Missing
-unfolding find entries
-no-more b {left} {n} h c = (sym (c .first ∙ value-nowhere _ _ _ left h), λ a. ValueFound.missing (ap (find n) (values-are a) ∙ ended h (c .on) (listed a .list) .0 .is))
+      -- it has the name: it is the answer
+      pub passed-hit : r ≡ true → At u ≡ firstValue s n m from
+      passed-hit f = ap At g ∙ sym (c .first ∙ value-here s n at left h (sym e ∙ f))
 
 -- ---- the value at that offset
 
+-- the entry at an offset
+abbrev entryAt : List ℕ → ℕ → Tree
+entryAt s at = cons (name (nameAt s at)) (num 8 (le8 s (at + 2 + le2 s at)))
+
+-- the test of its name decides
+tested : (n : Name) (s : List ℕ) (at : ℕ) (u : Tree) {t : Bool} → same n (nameAt s at) ≡ t →
+    find n (entries bindingOf (cons (entryAt s at) u)) ≡ elim t [ true ↦ some (le8 s (at + 2 + le2 s at)) | false ↦ find n (entries bindingOf u) ]
+unfolding find entries
+tested n s at u h = ap (λ (t : Bool). elim t [ true ↦ some (le8 s (at + 2 + le2 s at)) | false ↦ find n (entries bindingOf u) ]) h
+
+-- a value that one context has is that of another which has the same under the name
+found-as : {s : List ℕ} {n : Name} {γ δ : ParamMap} {r : Found} → find n γ ≡ find n δ → ValueFound s n δ r → ValueFound s n γ r
+found-as e (ValueFound.at h g) = ValueFound.at h (e ∙ g)
+found-as e (ValueFound.missing g) = ValueFound.missing (e ∙ g)
+
+module _ (s : List ℕ) (n : Name) {left at : ℕ} (l : Entries s Item.values left at) where
+  -- the number behind the first entry of the name is the one that the entries have
+  Finds : Type 0
+  Finds = ValueFound s n (entries bindingOf (l .got .0)) (firstValue s n left at)
+
+  -- there is none where no entry is left
+  found-none : left ≤ 0 → Finds
+  unfolding Finds find entries
+  found-none h =
+      subst (ValueFound s n (entries bindingOf (l .got .0))) (sym (value-nowhere s n at left h))
+      (ValueFound.missing (ap (λ (x : Tree × ℕ). find n (entries bindingOf (x .0))) (none-left l h)))
+
+  module _ (h : 0 < left) where
+    -- the first entry, and those behind it
+    behind : After l (entryAt s at) (at + 2 + le2 s at + 8)
+    behind = value-entry l h .2
+
+    -- what the entries have of the name, by the first of them
+    tells : {t : Bool} → same n (nameAt s at) ≡ t →
+        find n (entries bindingOf (l .got .0)) ≡ elim t [ true ↦ some (le8 s (at + 2 + le2 s at)) | false ↦ find n (entries bindingOf (behind .rest .got .0)) ]
+    tells e = ap (λ (x : Tree). find n (entries bindingOf x)) (behind .tree) ∙ tested n s at (behind .rest .got .0) e
+
+    -- it has the name, or the rest decides
+    found-here : same n (nameAt s at) ≡ true → Finds
+    unfolding Finds
+    found-here e =
+        subst (ValueFound s n (entries bindingOf (l .got .0))) (sym (value-here s n at left h e))
+        (ValueFound.at (omega (arith, behind .inside, l .fits)) (tells e))
+
+    found-behind : same n (nameAt s at) ≡ false → ValueFound s n (entries bindingOf (behind .rest .got .0)) (firstValue s n (left - 1) (at + 2 + le2 s at + 8)) → Finds
+    unfolding Finds
+    found-behind e r = subst (ValueFound s n (entries bindingOf (l .got .0))) (sym (value-behind s n at left h e)) (found-as (tells e) r)
+
+-- so of all entries, of which there are at most k
+found-in : (s : List ℕ) (n : Name) (k : ℕ) {left at : ℕ} (l : Entries s Item.values left at) → left ≤ k → Finds s n l
+unfolding Finds
+found-in s n zero l h = found-none s n l h
+found-in s n (suc k) {left} {at} l h = go (leb left 0) refl (same n (nameAt s at)) refl (λ z. found-in s n k (behind s n l z .rest) (omega arith))
+  where
+    go : (b : Bool) → leb left 0 ≡ b → (t : Bool) → same n (nameAt s at) ≡ t → ((z : 0 < left) → Finds s n (behind s n l z .rest)) → Finds s n l
+    go true f t e more = found-none s n l (leb-true left 0 f)
+    go false f true e more = found-here s n l (leb-false left 0 f) e
+    go false f false e more = let z = leb-false left 0 f in found-behind s n l z e (more z)
+
 module _ {s : List ℕ} (b : ℕ) (n : Name) (a : Accepted s 192 192 b) where
-  -- the number that was found is the one that the context has
-  abbrev Has : Found → Type 0
-  Has = ValueFound s n (valuesOf (tree a))
-
-  -- so it is with the first of the name, wherever the loop stands
-  search-found : (left at : ℕ) → Search s b n left at → Has (firstValue s n (le2 s (b + 6)) (b + 6 + 2))
-  search-found zero at c = let r = no-more b (omega arith) c in subst Has (r .0) (r .1 a)
-  search-found (suc k) at c = go (same n (nameAt s at)) refl (λ d. search-found k (at + 2 + le2 s at + 8) d)
-    where
-      go : (t : Bool) → same n (nameAt s at) ≡ t → (Search s b n k (at + 2 + le2 s at + 8) → Has (firstValue s n (le2 s (b + 6)) (b + 6 + 2))) →
-          Has (firstValue s n (le2 s (b + 6)) (b + 6 + 2))
-      go true e more = let r = hit b (omega arith) refl refl e c in subst Has (r .0) (r .1 a)
-      go false e more = more (rw sub-one at (go-on b (omega arith) refl refl e c))
-
-  -- for whoever finds the block's first of the name in another way
-  pub first-found : {r : Found} → r ≡ firstValue s n (le2 s (b + 6)) (b + 6 + 2) → Has r
-  first-found e = subst Has (sym e) (search-found (le2 s (b + 6)) (b + 6 + 2) (begin a refl))
+  -- so it is with the block's, for whoever finds the first of the name
+  pub first-found : {r : Found} → r ≡ firstValue s n (le2 s (b + 6)) (b + 6 + 2) → ValueFound s n (valuesOf (tree a)) r
+  unfolding Finds
+  first-found e =
+      subst (ValueFound s n (valuesOf (tree a))) (sym e)
+      (found-as (ap (find n) (values-are a)) (found-in s n (le2 s (b + 6)) (listed a .list) (omega arith)))

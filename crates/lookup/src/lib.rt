@@ -11,7 +11,7 @@ ghost use Rattle.blocks.specs.Read.{readSet, readLayout};
 ghost use Rattle.resolved.specs.Set.{typesOf};
 ghost use Rattle.ir.specs.Layout.{layoutOf};
 ghost use Rattle.interpreter.specs.Validate.{valuesOf};
-ghost use Rattle.accepted.specs.Accepted.{Accepted, tree, nameAt};
+ghost use Rattle.accepted.specs.Accepted.{Accepted, Entries, Item, tree, nameAt};
 ghost use Rattle.lookup.specs.Named.{Placed, placeOf};
 ghost use Rattle.lookup.specs.Found.{TypeFound, TreeFound, ValueFound, firstValue};
 
@@ -76,14 +76,13 @@ pub fn lookup_near(layout: &[u8], name: &[u8], place: usize, at: usize) -> Place
     }
 }
 
-// The first value of a name in an accepted block of values at an offset, as in a run.
-pub fn value_in(s: &[u8], block: usize, name: &[u8]) -> Found
-    requires { ⌜ Accepted (now s) 192 192 block ⌝ }
-    ensures { λ r. ⌜ r ≡ firstValue (now (s .entry)) (now (name .entry)) (le2 (now (s .entry)) (block + 6)) (block + 6 + 2) ⌝ }
-    ensures { λ r. ⌜ ((a : Accepted (now (s .entry)) 192 192 block) → ValueFound (now (s .entry)) (now (name .entry)) (valuesOf (tree a)) r) ⌝ }
+// Of so many entries from an offset on, each a name and its number, the first value of a name.
+pub fn value_from(s: &[u8], from: usize, count: usize, name: &[u8]) -> Found
+    requires { ⌜ Entries (now s) Item.values count from ⌝ }
+    ensures { λ r. ⌜ r ≡ firstValue (now (s .entry)) (now (name .entry)) count from ⌝ }
 {
-    let mut left = wire::read2(s, block + 6);
-    let mut at = block + 6 + 2;
+    let mut left = count;
+    let mut at = from;
     while 0 < left {
         let next = wire::behind_name(s, at);
         if is_named(s, at, name) {
@@ -93,4 +92,13 @@ pub fn value_in(s: &[u8], block: usize, name: &[u8]) -> Found
         left -= 1;
     }
     Found::Missing
+}
+
+// The first value of a name in an accepted block of values at an offset, as in a run.
+pub fn value_in(s: &[u8], block: usize, name: &[u8]) -> Found
+    requires { ⌜ Accepted (now s) 192 192 block ⌝ }
+    ensures { λ r. ⌜ r ≡ firstValue (now (s .entry)) (now (name .entry)) (le2 (now (s .entry)) (block + 6)) (block + 6 + 2) ⌝ }
+    ensures { λ r. ⌜ ((a : Accepted (now (s .entry)) 192 192 block) → ValueFound (now (s .entry)) (now (name .entry)) (valuesOf (tree a)) r) ⌝ }
+{
+    value_from(s, block + 6 + 2, wire::read2(s, block + 6), name)
 }

@@ -1,38 +1,44 @@
--- `indexed` meets its contract: the number stands behind the name of the first entry that has it.
-use Prim.Native.Nat.{_+_, _<_}
+-- `indexed` meets its contract: an entry that the index has is the first of the name; where it has none, the first behind its entries is.
+use Prim.Native.Nat.{ℕ, _+_, _-_, _≤_, _<_}
 use native.Mathlib.Omega.{arith}
 use borrow.Author.Needs.{needs}
-use lib.ListN.{length}
+use mathlib.Core.Path.{_≡_, refl, sym, _∙_, ap, subst}
+use lib.ListN.{length, drop}
 use Rattle.blocks.specs.Bytes.{le2}
+use Rattle.accepted.specs.Accepted.{Entries, Item}
+use Rattle.lookup.specs.Found.{firstValue}
 use Rattle.lookup.proofs.Values.{inside}
-use Rattle.interpreter_values.proofs.Entries.{first-there, first-nowhere}
+use Rattle.interpreter_values.specs.Remembered.{Indexed}
+use Rattle.interpreter_values.specs.Entries.{entryAt}
+use Rattle.interpreter_values.proofs.Laws.{kept-both}
+use Rattle.interpreter_values.proofs.Entries.{entries-from, first-more, first-there, first-rest}
 use Rattle.interpreter_values.proofs.Index.{word-in, offset-at, name-in}
 use Rattle.interpreter_values.proofs.indexed.Statement.{statement}
 use Rattle.interpreter_values.proofs.indexed.Tie as tie
 
 -- The places, each seen from a later one: what was known there.
+abbrev from-begin : tie.After-begin → tie.Start
+from-begin r = r .before .before .before .before .before
+
+abbrev at-begin : tie.After-place → tie.After-begin
+at-begin r = r .before .before .before .before
+
 abbrev from-place : tie.After-place → tie.Start
-from-place r = r .before .before .before .before
+from-place r = from-begin (at-begin r)
 
-abbrev from-then : tie.Then1 → tie.Start
-from-then r = from-place (r .before .before)
+-- the index that stands when the search begins
+index : (r : tie.After-begin) → Indexed (from-begin r .args .values .now) (from-begin r .args .block) (r .begin .result) (drop 17 (r .begin .last .0))
+index r = r .begin .ensures .0 _ _ (from-begin r .pre .1)
 
--- the entry is one of the block's
-found-low : (r : tie.Then1) → r .before .before .place .result < le2 (from-then r .args .values .now) (from-then r .args .block + 6)
-found-low r = omega (arith, r .before .read2 .ensures .0, r .if1 .taken)
+-- the word of the entry that was found is one of the words
+found-word : (r : tie.Then1) → 656 + r .before .place .result < length (at-begin (r .before) .begin .last .0)
+found-word r = let b = at-begin (r .before) in word-in (from-begin b .pre .0) (b .begin .last .0) (index b) (r .if1 .taken)
 
--- its word is one of the words
-found-word : (r : tie.Then1) → 656 + r .before .before .place .result < length (from-then r .args .words .now)
-found-word r = let at-start = from-then r in word-in (at-start .pre .0) (at-start .args .words .now) (at-start .pre .1) (found-low r)
+begin-requires : tie.Need-begin-requires
+begin-requires c κs = search needs
 
 place-requires : tie.Need-place-requires
-place-requires c κs = search needs
-
-add-read2 : tie.Need-add-read2
-add-read2 c = omega (arith, inside (from-place c .pre .0))
-
-read2-requires : tie.Need-read2-requires
-read2-requires c κs = inside (from-place c .pre .0)
+place-requires c κs = let b = c .before .before .before in (from-begin b .pre .0, index b)
 
 add-word : tie.Need-add-word
 add-word c = omega (arith, found-word c)
@@ -40,34 +46,96 @@ add-word c = omega (arith, found-word c)
 mul-behind-name : tie.Need-mul-behind-name
 mul-behind-name c = omega (arith, found-word c)
 
-shared-slice-read-behind-name : tie.Need-shared-slice-read-behind-name
-shared-slice-read-behind-name c = omega (arith, found-word (c .before))
+slice-read-behind-name : tie.Need-slice-read-behind-name
+slice-read-behind-name c = omega (arith, found-word (c .before))
 
 behind-name-requires : tie.Need-behind-name-requires
 behind-name-requires c κs =
-    let at-start = from-then (c .before) in
-    name-in (at-start .pre .0) (at-start .args .words .now) (at-start .pre .1) (found-low (c .before))
+    let there = c .before in
+    let b = at-begin (there .before) in
+    name-in (from-begin b .pre .0) (b .begin .last .0) (index b) (there .if1 .taken)
+
+same-length : tie.Need-same-length
+same-length c = search needs
 
 returns : tie.Need-returns
 returns c =
     let there = c .before .before in
-    let at-start = from-then there in
-    let here = offset-at (at-start .pre .0) (at-start .args .words .now) (at-start .pre .1) (found-low there) in
-    first-there _ _ _ (there .before .before .place .ensures) (found-low there) here (c .behind-name .ensures)
+    let at-place = there .before in
+    let b = at-begin at-place in
+    let at-start = from-begin b in
+    let here = offset-at (at-start .pre .0) (b .begin .last .0) (index b) (there .if1 .taken) in
+    let low = index b .within in (
+      first-there _ _ _ (first-more _ _ (at-place .place .ensures) (there .if1 .taken) low) (omega (arith, there .if1 .taken, low)) here (c .behind-name .ensures),
+      b .begin .ensures .1 _ _ (at-start .pre .1),
+    )
+
+extend-requires : tie.Need-extend-requires
+extend-requires c κs =
+    let b = at-begin (c .before .before) in
+    let at-start = from-begin b in
+    (at-start .pre .0, index b, omega (arith, at-start .pre .2, c .before .before .before .before .before .words .given))
+
+-- The place where no entry of the index had the name, seen from behind the index's growth.
+abbrev at-place : tie.After-slice-known4 → tie.After-place
+at-place r = r .before .before .before .before .before
+
+add-read2 : tie.Need-add-read2
+add-read2 c = omega (arith, inside (from-place (at-place c) .pre .0))
+
+read2-requires : tie.Need-read2-requires
+read2-requires c κs = inside (from-place (at-place c) .pre .0)
+
+sub-value-from : tie.Need-sub-value-from
+sub-value-from c = omega (arith, c .read2 .ensures .0, index (at-begin (at-place (c .before))) .within)
+
+value-from-requires : tie.Need-value-from-requires
+value-from-requires c κs =
+    let r = at-place (c .before) in
+    let at-start = from-place r in
+    let s = at-start .args .values .now in
+    let m = at-begin r .begin .result in
+    let at-extend = c .before .before .before in
+    subst (λ (o : ℕ). Entries s Item.values (c .read2 .result - m) o) (sym (at-extend .extend .ensures .0))
+    (subst (λ (n : ℕ). Entries s Item.values (n - m) (entryAt s (at-start .args .block + 6 + 2) m)) (sym (c .read2 .ensures .0)) (entries-from (at-start .pre .0) m (index (at-begin r) .within)))
+
+same-length-2 : tie.Need-same-length-2
+same-length-2 c = search needs
 
 returns-2 : tie.Need-returns-2
-returns-2 c = first-nowhere _ _ _ (c .before .before .place .ensures) (omega (arith, c .before .read2 .ensures .0, c .if1 .left))
+returns-2 c =
+    let at-read2 = c .before in
+    let at-extend = at-read2 .before .before .before in
+    let missed = at-extend .before .before in
+    let r = missed .before in
+    let b = at-begin r in
+    let at-start = from-begin b in
+    let s = at-start .args .values .now in
+    let m = b .begin .result in
+    let name = at-start .args .name .now in (
+      c .value-from .ensures
+          ∙ ap (λ (o : ℕ). firstValue s name (at-read2 .read2 .result - m) o) (at-extend .extend .ensures .0)
+          ∙ ap (λ (n : ℕ). firstValue s name (n - m) (entryAt s (at-start .args .block + 6 + 2) m)) (at-read2 .read2 .ensures .0)
+          ∙ sym (first-rest s name (le2 s (at-start .args .block + 6)) m (index b .within) (r .place .ensures) (missed .if1 .left)),
+      kept-both (b .begin .ensures .1 _ _ (at-start .pre .1)) (at-extend .extend .ensures .1),
+    )
 
 pub indexed-spec : {M : Type 1} → statement M
 indexed-spec =
     tie.close
     (tie.spec
+    begin-requires
     place-requires
-    add-read2
-    read2-requires
     add-word
     mul-behind-name
-    shared-slice-read-behind-name
+    slice-read-behind-name
     behind-name-requires
+    same-length
     returns
+    extend-requires
+    add-read2
+    read2-requires
+    sub-value-from
+    value-from-requires
+    same-length-2
     returns-2)

@@ -5,26 +5,25 @@ use borrow.Author.Needs.{needs}
 use mathlib.Core.Logic.{⊎-elim}
 use Prim.Native.Nat.{_+_, _-_, _<_}
 use lib.ListN.{length, length-drop}
-use Rattle.blocks.specs.Bytes.{le2}
+use mathlib.Core.Path.{refl}
 use Rattle.marks.proofs.Walks.{walk-chain}
-use Rattle.lookup.proofs.Values.{inside}
 use Rattle.interpreter_values.proofs.Index.{table-of, word-in, offset-at, name-in, Searching, searching-first, searching-hit, searching-miss, searching-end}
 use Rattle.interpreter_values.proofs.place.Statement.{statement}
 use Rattle.interpreter_values.proofs.place.Tie as tie
 
 abbrev Inv-loop : tie.InvT-loop
-Inv-loop values block words name mark table found₀ j₀ found j =
-    Searching values (block + 6 + 2) (le2 values (block + 6)) name mark found j
+Inv-loop values block words m name mark table found₀ j₀ found j =
+    Searching values (block + 6 + 2) m name mark found j
 
 abbrev μ-loop : tie.MeasureT-loop
-μ-loop values block words name mark table found₀ j₀ found j = j
+μ-loop values block words m name mark table found₀ j₀ found j = j
 
 -- The places, each seen from a later one: what was known there.
 abbrev from-mark : tie.After-mark Inv-loop μ-loop → tie.Start Inv-loop μ-loop
 from-mark r = r .before .before .before .before
 
 abbrev from-last : tie.After-last Inv-loop μ-loop → tie.Start Inv-loop μ-loop
-from-last r = from-mark (r .before .before .before)
+from-last r = from-mark (r .before .before)
 
 abbrev from-loop : tie.At-loop Inv-loop μ-loop → tie.Start Inv-loop μ-loop
 from-loop r = from-last (r .before)
@@ -41,20 +40,14 @@ part-table-start c = search needs
 part-table-end : tie.Need-part-table-end Inv-loop μ-loop
 part-table-end c = omega (arith, length-drop 17 (from-mark c .args .words .now), from-mark c .pre .1 .room)
 
-add-read2 : tie.Need-add-read2 Inv-loop μ-loop
-add-read2 c = omega (arith, inside (from-mark (c .before) .pre .0))
-
-read2-requires : tie.Need-read2-requires Inv-loop μ-loop
-read2-requires c κs = inside (from-mark (c .before) .pre .0)
-
 last-requires : tie.Need-last-requires Inv-loop μ-loop
-last-requires c κs = table-of (from-mark (c .before .before) .pre .1)
+last-requires c κs = table-of (from-mark (c .before) .pre .1)
 
 loop-holds : tie.Need-loop-holds Inv-loop μ-loop
-loop-holds c = searching-first (c .before .read2 .ensures .0) (c .last .ensures (table-of (from-last c .pre .1)))
+loop-holds c = searching-first refl (c .last .ensures (table-of (from-last c .pre .1)))
 
--- an entry that is asked is one of the block's
-asked : (r : tie.In-loop Inv-loop μ-loop) → r .before .loop .j - 1 < le2 (from-loop (r .before) .args .values .now) (from-loop (r .before) .args .block + 6)
+-- an entry that is asked is one of the index's
+asked : (r : tie.In-loop Inv-loop μ-loop) → r .before .loop .j - 1 < from-loop (r .before) .args .m
 asked r = omega (arith, r .before .loop .inv .walk .within, r .loop-test .taken)
 
 sub-k : tie.Need-sub-k Inv-loop μ-loop
@@ -109,7 +102,7 @@ loop-again c =
 returns : tie.Need-returns Inv-loop μ-loop
 returns c =
     let at-loop = c .before in
-    let at-mark = at-loop .before .before .before .before in
+    let at-mark = at-loop .before .before .before in
     searching-end (at-mark .mark .ensures) (at-loop .loop .inv) (c .loop-test .left)
 
 pub place-spec : {M : Type 1} → statement M
@@ -122,8 +115,6 @@ place-spec =
     sub-table
     part-table-start
     part-table-end
-    add-read2
-    read2-requires
     last-requires
     loop-holds
     sub-k

@@ -1,48 +1,60 @@
--- `value` meets its contract: the first value of the name, by the index or one by one.
+-- `value` meets its contract: the first value of the name, one by one or by the index.
+use native.Mathlib.Omega.{arith}
 use borrow.Author.Needs.{needs}
-use Rattle.lookup.proofs.Values.{first-found}
+use Rattle.lookup.proofs.Values.{inside, first-found}
+use Rattle.interpreter_values.proofs.Laws.{kept-none}
 use Rattle.interpreter_values.proofs.value.Statement.{statement}
 use Rattle.interpreter_values.proofs.value.Tie as tie
 
-is-indexed-requires : tie.Need-is-indexed-requires
-is-indexed-requires c κs = search needs
-
-indexed-requires : tie.Need-indexed-requires
-indexed-requires c κs =
-    let at-then = c .before in
-    let at-is-indexed = at-then .before .before .before in
-    let at-start = at-is-indexed .before .before .before .before .before in
-    (at-start .pre .0, at-is-indexed .is-indexed .ensures .0 (at-then .if1 .taken))
-
-same-length : tie.Need-same-length
-same-length c = search needs
-
-returns : tie.Need-returns
-returns c =
-    let at-is-indexed = c .before .before .before .before .before in
-    let at-start = at-is-indexed .before .before .before .before .before in
-    let found = c .indexed .ensures in
-    (found, (λ a. first-found (at-start .args .block) (at-start .args .name .now) a found, at-is-indexed .is-indexed .ensures .1))
+-- The place where the function begins, seen from a later one.
+abbrev from-else : tie.Else1 → tie.Start
+from-else r = r .before .before .before .before
 
 value-in-requires : tie.Need-value-in-requires
 value-in-requires c κs = search needs
 
-same-length-2 : tie.Need-same-length-2
-same-length-2 c = search needs
+returns : tie.Need-returns
+returns c =
+    let at-start = c .before .before .before .before .before in
+    (c .value-in .ensures .0, (c .value-in .ensures .1, kept-none (at-start .pre .1)))
+
+add-read2 : tie.Need-add-read2
+add-read2 c = omega (arith, inside (from-else c .pre .0))
+
+read2-requires : tie.Need-read2-requires
+read2-requires c κs = inside (from-else c .pre .0)
+
+value-in-requires-2 : tie.Need-value-in-requires-2
+value-in-requires-2 c κs = search needs
 
 returns-2 : tie.Need-returns-2
 returns-2 c =
-    let at-is-indexed = c .before .before .before .before in
-    (c .value-in .ensures .0, (c .value-in .ensures .1, at-is-indexed .is-indexed .ensures .1))
+    let at-start = from-else (c .before .before .before) in
+    (c .value-in2 .ensures .0, (c .value-in2 .ensures .1, kept-none (at-start .pre .1)))
+
+indexed-requires : tie.Need-indexed-requires
+indexed-requires c κs = search needs
+
+same-length : tie.Need-same-length
+same-length c = search needs
+
+returns-3 : tie.Need-returns-3
+returns-3 c =
+    let at-indexed = c .before .before in
+    let at-start = from-else (at-indexed .before .before .before .before) in
+    let found = at-indexed .indexed .ensures .0 in
+    (found, (λ a. first-found (at-start .args .block) (at-start .args .name .now) a found, at-indexed .indexed .ensures .1))
 
 pub value-spec : {M : Type 1} → statement M
 value-spec =
     tie.close
     (tie.spec
-    is-indexed-requires
+    value-in-requires
+    returns
+    add-read2
+    read2-requires
+    value-in-requires-2
+    returns-2
     indexed-requires
     same-length
-    returns
-    value-in-requires
-    same-length-2
-    returns-2)
+    returns-3)

@@ -1,107 +1,39 @@
--- `value_in` meets its contract. The invariant: none of the values that were passed has the name. The measure is the values
--- that are left.
+-- `value_in` meets its contract: the block's entries are asked from the first on, and the number behind the first of the name is the value.
 use native.Mathlib.Omega.{arith}
-use Rattle.lookup.proofs.Values.{Search, inside, begin, next-one, go-on, hit, no-more}
+use mathlib.Core.Path.{_∙_, ap, sym, subst}
+use Prim.Native.Nat.{ℕ, _+_}
+use Rattle.accepted.specs.Accepted.{Entries, Item}
+use Rattle.lookup.specs.Found.{firstValue}
+use Rattle.lookup.proofs.Values.{listed, inside, first-found}
 use Rattle.lookup.proofs.value_in.Statement.{statement}
 use Rattle.lookup.proofs.value_in.Tie as tie
 
-abbrev Inv-loop : tie.InvT-loop
-Inv-loop s block name left₀ at₀ left at = Search s block name left at
-
-abbrev μ-loop : tie.MeasureT-loop
-μ-loop s block name left₀ at₀ left at = left
-
--- The places, each seen from a later one: what was known there.
-abbrev at-start : tie.After-read2 Inv-loop μ-loop → tie.Start Inv-loop μ-loop
+-- The place where the function begins, seen from a later one.
+abbrev at-start : tie.After-read2 → tie.Start
 at-start r = r .before .before .before
 
-add-read2 : tie.Need-add-read2 Inv-loop μ-loop
+add-value-from : tie.Need-add-value-from
+add-value-from c = omega (arith, inside (c .before .before .pre))
+
+add-value-from-2 : tie.Need-add-value-from-2
+add-value-from-2 c = omega (arith, inside (c .before .before .pre))
+
+add-read2 : tie.Need-add-read2
 add-read2 c = omega (arith, inside (c .before .before .pre))
 
-read2-requires : tie.Need-read2-requires Inv-loop μ-loop
+read2-requires : tie.Need-read2-requires
 read2-requires c κs = inside (c .before .before .pre)
 
-add-at : tie.Need-add-at Inv-loop μ-loop
-add-at c = omega (arith, inside (at-start c .pre))
+value-from-requires : tie.Need-value-from-requires
+value-from-requires c κs =
+    let start = at-start c in
+    subst (λ (n : ℕ). Entries (start .args .s .now) Item.values n (start .args .block + 6 + 2)) (sym (c .read2 .ensures .0)) (listed (start .pre) .list)
 
-add-at-2 : tie.Need-add-at-2 Inv-loop μ-loop
-add-at-2 c = omega (arith, inside (at-start c .pre))
-
-loop-holds : tie.Need-loop-holds Inv-loop μ-loop
-loop-holds c = begin (at-start c .pre) (c .read2 .ensures .0)
-
-behind-name-requires : tie.Need-behind-name-requires Inv-loop μ-loop
-behind-name-requires c κs = omega (
-  arith,
-  next-one _ (c .loop-test .taken) (c .before .loop .inv),
-)
-
-is-named-requires : tie.Need-is-named-requires Inv-loop μ-loop
-is-named-requires c κs = omega (
-  arith,
-  next-one _ (c .before .loop-test .taken) (c .before .before .loop .inv),
-)
-
-returns : tie.Need-returns Inv-loop μ-loop
+returns : tie.Need-returns
 returns c =
-    let at-behind = c .before .before in
-    let in-loop = at-behind .before in
-    let at-loop = in-loop .before in
-    hit _
-    (in-loop .loop-test .taken)
-    (c .before .is-named .ensures)
-    (at-behind .behind-name .ensures)
-    (c .if1 .taken)
-    (at-loop .loop .inv)
-
-add-at-3 : tie.Need-add-at-3 Inv-loop μ-loop
-add-at-3 c =
-    let at-behind = c .before .before in
-    let in-loop = at-behind .before in
-    let at-loop = in-loop .before in
-    omega (
-      arith,
-      at-behind .behind-name .ensures,
-      next-one _ (in-loop .loop-test .taken) (at-loop .loop .inv),
-    )
-
-sub-left : tie.Need-sub-left Inv-loop μ-loop
-sub-left c = omega arith
-
-loop-less : tie.Need-loop-less Inv-loop μ-loop
-loop-less c = omega arith
-
-loop-again : tie.Need-loop-again Inv-loop μ-loop
-loop-again c =
-    let at-behind = c .before .before in
-    let in-loop = at-behind .before in
-    let at-loop = in-loop .before in
-    go-on _
-    (in-loop .loop-test .taken)
-    (c .before .is-named .ensures)
-    (at-behind .behind-name .ensures)
-    (c .if1 .left)
-    (at-loop .loop .inv)
-
-returns-2 : tie.Need-returns-2 Inv-loop μ-loop
-returns-2 c = no-more _ (c .loop-test .left) (c .before .loop .inv)
+    let start = at-start (c .before) in
+    let found = c .value-from .ensures ∙ ap (λ (n : ℕ). firstValue (start .args .s .now) (start .args .name .now) n (start .args .block + 6 + 2)) (c .before .read2 .ensures .0) in
+    (found, λ a. first-found (start .args .block) (start .args .name .now) a found)
 
 pub value-in-spec : {M : Type 1} → statement M
-value-in-spec =
-    tie.close
-    (tie.spec
-    Inv-loop
-    μ-loop
-    add-read2
-    read2-requires
-    add-at
-    add-at-2
-    loop-holds
-    behind-name-requires
-    is-named-requires
-    returns
-    add-at-3
-    sub-left
-    loop-less
-    loop-again
-    returns-2)
+value-in-spec = tie.close (tie.spec add-value-from add-value-from-2 add-read2 read2-requires value-from-requires returns)
