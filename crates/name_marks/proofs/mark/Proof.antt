@@ -4,7 +4,7 @@ use mathlib.Core.Path.{_≡_}
 use native.Mathlib.Omega.{arith}
 use borrow.Author.Needs.{needs}
 use lib.ListN.{length}
-use Rattle.name_marks.proofs.Marks.{mark-short, Marked, marked-none, marked-more, mark-long}
+use Rattle.name_marks.proofs.Marks.{short-mark, mark-short, Marked, marked-none, marked-more, mark-long}
 use Rattle.name_marks.proofs.mark.Statement.{statement}
 use Rattle.name_marks.proofs.mark.Tie as tie
 
@@ -29,7 +29,7 @@ step-requires-2 c κs = search needs
 returns : tie.Need-returns Inv-loop μ-loop
 returns c =
     let at-short = c .before .before in
-    mark-short _ _ (at-short .before .if1 .taken) (c .step2 .ensures) (c .before .step .ensures) (at-short .short .ensures)
+    mark-short _ _ (at-short .before .if1 .taken) (short-mark _ (c .step2 .ensures) (c .before .step .ensures) (at-short .short .ensures))
 
 loop-holds : tie.Need-loop-holds Inv-loop μ-loop
 loop-holds c = (marked-none _ _, omega arith, omega arith, omega arith)
