@@ -354,6 +354,13 @@ module _ {s : List ℕ} {n at : ℕ} where
       (isText (nameAt s at) ≡ true) × (inOrder (l .earlier) (nameAt s at) ≡ true) × After l (cons (name (nameAt s at)) (num 8 (le8 s (at + 2 + le2 s at)))) (at + 2 + le2 s at + 8)
   value-entry l h = let k = value-read s (l .start) (l .end) at (l .earlier) (entered l h .one-read) in (k .1, k .2, after l h (k .3) (k .0))
 
+  -- what is asked of the entry behind it: the same, with this one met; keeps the order of a list from one entry to the next
+  pub value-met : (l : Entries s Item.values n at) (h : 0 < n) → value-entry l h .2 .rest .earlier ≡ met (l .earlier) (cons (name (nameAt s at)) (num 8 (le8 s (at + 2 + le2 s at))))
+  unfolding value-entry after
+  value-met l h =
+      let k = value-read s (l .start) (l .end) at (l .earlier) (entered l h .one-read) in
+      ap (λ (z : Tree × ℕ). met (l .earlier) (z .0)) (k .3)
+
 -- where a list ends
 item-high : (i : Item) (room : ℕ) (s : List ℕ) (start end : ℕ) → end ≤ length s → (e : Earlier) (at : ℕ) (x : Tree × ℕ) → readItem i room s start end e at ≡ done x → x .1 ≤ end
 item-high (Item.blocks lo hi) room s start end fits e at x d =
@@ -452,6 +459,14 @@ sole {s} {k} {at} a e d =
       list = l .list;
       tree = ap (λ (z : Tree). rest (part 0 (body z))) (b .tree) ∙ ap (λ (z : Tree). rest (part 0 z)) (l .behind .tree);
     }
+
+-- what is asked of the list's first entry: where the order of its entries begins
+pub sole-earlier : {s : List ℕ} {k at limit : ℕ} {p : Part} {i : Item} {o : Earlier} (a : Accepted s k k at) (e : partsOf k ≡ p ∷ []) (d : Counted p i limit o) → sole a e d .list .earlier ≡ o
+unfolding sole
+sole-earlier a e d =
+    let w = opened a refl refl in
+    let b = opened a (omega (arith, w .least, w .most)) e in
+    list-part d (b .parts) .earlier
 
 -- ---- an input
 

@@ -1,7 +1,7 @@
 -- The first value of a name, among entries that were accepted.
 use mathlib.Core.Path.{_≡_, refl, sym, _∙_, ap, subst}
 use mathlib.Core.Bool.{Bool, true, false}
-use mathlib.Core.List.{List}
+use mathlib.Core.List.{List, []}
 use mathlib.Core.Option.{some}
 use Prim.Native.Nat.{ℕ, zero, suc, _+_, _-_, _≤_, _<_}
 use native.Mathlib.Numerals.{sub-one}
@@ -13,8 +13,9 @@ use Rattle.blocks.specs.Bytes.{le2, le8}
 use Rattle.blocks.specs.Name.{Name, same}
 use Rattle.blocks.specs.Grammar.{partsOf, findRow, grammar, nodeTable}
 use Rattle.blocks.specs.Tree.{Tree, name, num, cons, entries}
+use Rattle.blocks.specs.Read.{Earlier}
 use Rattle.accepted.specs.Accepted.{Accepted, tree, Item, Entries, nameAt, Counted}
-use Rattle.accepted.proofs.Laws.{Sole, sole, After, value-entry, none-left}
+use Rattle.accepted.proofs.Laws.{Sole, sole, sole-earlier, After, value-entry, none-left}
 use Rattle.interpreter.specs.Eval.{ParamMap, find}
 use Rattle.interpreter.specs.Validate.{bindingOf, valuesOf}
 use Rattle.lookup.specs.declared.Found.{Found}
@@ -27,6 +28,11 @@ use Rattle.lookup.specs.Found.{ValueFound, firstValue}
 pub listed : {s : List ℕ} {b : ℕ} (a : Accepted s 192 192 b) → Sole a Item.values 512
 unfolding partsOf findRow grammar nodeTable
 listed a = sole a refl Counted.values
+
+-- ascending names are asked of it, from its first entry on: what the order of its entries rests on
+pub listed-ascending : {s : List ℕ} {b : ℕ} (a : Accepted s 192 192 b) → listed a .list .earlier ≡ Earlier.ascending [] 0
+unfolding listed partsOf findRow grammar nodeTable
+listed-ascending a = sole-earlier a refl Counted.values
 
 -- the values are those of that list
 values-are : {s : List ℕ} {b : ℕ} (a : Accepted s 192 192 b) → valuesOf (tree a) ≡ entries bindingOf (listed a .list .got .0)
