@@ -32,7 +32,7 @@ module _ (s : List ℕ) (first : ℕ) where
   entry-next k e f = rw (f, add-one k, ← e)
 
   -- those behind the first are counted from where the second begins
-  entry-behind : (k : ℕ) → entryAt s first (suc k) ≡ entryAt s (first + 2 + le2 s first + 8) k
+  pub entry-behind : (k : ℕ) → entryAt s first (suc k) ≡ entryAt s (first + 2 + le2 s first + 8) k
   unfolding entryAt
   entry-behind zero = refl
   entry-behind (suc k) = ap (λ (o : ℕ). o + 2 + le2 s o + 8) (entry-behind k)
