@@ -14,7 +14,7 @@ use Rattle.accepted.proofs.Laws.{value-entry}
 use Rattle.lookup.specs.Found.{firstValue}
 use Rattle.lookup.specs.declared.Found.the-variants.{At}
 use Rattle.lookup.proofs.Values.{listed}
-use Rattle.name_marks.specs.Mark.{markOf}
+use Rattle.name_marks.specs.Mark.{sumMarkOf}
 use Rattle.interpreter_values.specs.Entries.{entryAt, entryMark, First, Spans}
 use Rattle.interpreter_values.specs.declared.Span.{Span}
 
@@ -99,7 +99,7 @@ module _ {s : List ℕ} {block : ℕ} where
   standing-end w h = omega (arith, w .within)
 
   -- the mark of its name
-  pub standing-mark : {to i at mark : ℕ} {m : Name} → Standing s block to i at → m ≡ nameAt s at → mark ≡ markOf 8 m → entryMark s (block + 6 + 2) i ≡ mark
+  pub standing-mark : {to i at mark : ℕ} {m : Name} → Standing s block to i at → m ≡ nameAt s at → mark ≡ sumMarkOf m → entryMark s (block + 6 + 2) i ≡ mark
   unfolding entryMark
   standing-mark w e f = rw (← w .here, f, e)
 

@@ -13,12 +13,13 @@ use Rattle.blocks.specs.Bytes.{le2, nameAt}
 use Rattle.blocks.specs.Name.{Name, same}
 use Rattle.blocks.proofs.Name.{false-true, same-eq}
 use Rattle.marks.specs.Table.{Linked, Table, Prior}
-use Rattle.marks.proofs.Walks.{Walk, walk-last, walk-before, walk-end, walk-more}
-use Rattle.name_marks.specs.Mark.{markOf}
+use Rattle.marks.proofs.Walks.{Walk, walk-last, walk-before, walk-end}
+use Rattle.name_marks.specs.Mark.{sumMarkOf}
 use Rattle.accepted.specs.Accepted.{Accepted}
 use Rattle.interpreter_values.specs.Entries.{entryAt, entryMark, Offsets, First}
 use Rattle.interpreter_values.specs.Remembered.{Indexed, Same, Kept}
 use Rattle.interpreter_values.proofs.Entries.{few, entry-in}
+use Rattle.interpreter_values.proofs.Order.{entry-alone}
 
 -- ---- the words
 
@@ -173,47 +174,51 @@ module _ {s : List ℕ} {block m : ℕ} (a : Accepted s 192 192 block) (ws : Lis
 abbrev pub Has : List ℕ → ℕ → Name → ℕ → Type 0
 Has s first m k = same m (nameAt s (entryAt s first k)) ≡ true
 
--- the search among n entries: the entry that was kept has the name, if it is one; the walk stands before entry j, and of the entries that
--- were asked none that has the name stands before the one that was kept
-pub record Searching (s : List ℕ) (first n : ℕ) (m : Name) (mark found j : ℕ) : Type 0 where
-  pub within : found ≤ n
-  pub named : found < n → Has s first m found
-  pub walk : Walk (entryMark s first) mark n (λ k. Has s first m k → found ≤ k) j
+-- the search among n entries of the block stands before entry j: none of the entries that were asked has the name
+pub record Searching (s : List ℕ) (block n : ℕ) (m : Name) (mark j : ℕ) : Type 0 where
+  pub walk : Walk (entryMark s (block + 6 + 2)) mark n (λ k. Has s (block + 6 + 2) m k → ⊥) j
 
-module _ {s : List ℕ} {first n : ℕ} {m : Name} {mark : ℕ} where
+module _ {s : List ℕ} {block n mark : ℕ} {m : Name} where
   -- it begins with none
-  pub searching-first : {found r : ℕ} → found ≡ n → Prior (entryMark s first) mark n r → Searching s first n m mark found r
-  searching-first e q = record { within = omega arith; named = λ l. absurd (let z : ⊥ = omega arith in z); walk = walk-last q }
+  pub searching-first : {r : ℕ} → Prior (entryMark s (block + 6 + 2)) mark n r → Searching s block n m mark r
+  searching-first q = record { walk = walk-last q }
 
-  module _ {found j r : ℕ} (w : Searching s first n m mark found j) (z : 0 < j) (q : Prior (entryMark s first) mark (j - 1) r)
-      {b : Bool} {o : ℕ} (f : b ≡ same m (nameAt s o)) (here : o ≡ entryAt s first (j - 1)) where
+  module _ {j : ℕ} (w : Searching s block n m mark j) (z : 0 < j) {b : Bool} {o : ℕ} (f : b ≡ same m (nameAt s o)) (here : o ≡ entryAt s (block + 6 + 2) (j - 1)) where
     -- what was asked of the entry before j
-    asked : b ≡ same m (nameAt s (entryAt s first (j - 1)))
+    asked : b ≡ same m (nameAt s (entryAt s (block + 6 + 2) (j - 1)))
     asked = f ∙ ap (λ (i : ℕ). same m (nameAt s i)) here
 
-    -- the entry before j has the name: it is kept, since it stands before those that were asked
-    pub searching-hit : b ≡ true → Searching s first n m mark (j - 1) r
-    searching-hit e = record {
+    -- it has the name: it is the first of it, since no other entry has it
+    pub searching-hit : Accepted s 192 192 block → n ≤ le2 s (block + 6) → b ≡ true → First s m (block + 6 + 2) n (j - 1)
+    searching-hit a h e = record {
       within = omega (arith, w .walk .within);
       named = λ l. sym asked ∙ e;
-      walk = walk-before {P = λ k. Has s first m k → j - 1 ≤ k} (walk-more (λ k h p g. omega arith) (w .walk)) z (λ g. omega arith) q .0;
+      before = λ i l. go i l (same m (nameAt s (entryAt s (block + 6 + 2) i))) refl;
     }
+      where
+        go : (i : ℕ) → i < j - 1 → (t : Bool) → same m (nameAt s (entryAt s (block + 6 + 2) i)) ≡ t → t ≡ false
+        go i l true g =
+            let one : same (nameAt s (entryAt s (block + 6 + 2) i)) (nameAt s (entryAt s (block + 6 + 2) (j - 1))) ≡ true =
+            ap (λ (x : Name). same x (nameAt s (entryAt s (block + 6 + 2) (j - 1)))) (sym (same-eq m (nameAt s (entryAt s (block + 6 + 2) i)) g)) ∙ (sym asked ∙ e) in
+            let q : i ≡ j - 1 = entry-alone a i (j - 1) (omega (arith, w .walk .within)) (omega (arith, w .walk .within)) one in
+            absurd (let y : ⊥ = omega arith in y)
+        go i l false g = refl
 
-    -- it has not
-    pub searching-miss : b ≡ false → Searching s first n m mark found r
-    searching-miss e = record {
-      within = w .within;
-      named = w .named;
-      walk = walk-before (w .walk) z (λ g. false-true (sym e ∙ (asked ∙ g))) q .0;
-    }
+    -- it has not: the search goes on
+    pub searching-miss : {r : ℕ} → Prior (entryMark s (block + 6 + 2)) mark (j - 1) r → b ≡ false → Searching s block n m mark r
+    searching-miss q e = record { walk = walk-before (w .walk) z (λ g. false-true (sym e ∙ (asked ∙ g))) q .0 }
 
-  -- the entry that was kept at its end is the first of the name: an entry of the name has its mark
-  pub searching-end : {found j : ℕ} → mark ≡ markOf 8 m → Searching s first n m mark found j → j ≤ 0 → First s m first n found
+  -- at its end no entry has the name: one that had it would have its mark
+  pub searching-end : {j : ℕ} → mark ≡ sumMarkOf m → Searching s block n m mark j → j ≤ 0 → First s m (block + 6 + 2) n n
   unfolding entryMark
-  searching-end {found} {j} e w h = record { within = w .within; named = w .named; before = λ i l. go i l (same m (nameAt s (entryAt s first i))) refl }
+  searching-end {j} e w h = record {
+    within = omega arith;
+    named = λ l. absurd (let z : ⊥ = omega arith in z);
+    before = λ i l. go i l (same m (nameAt s (entryAt s (block + 6 + 2) i))) refl;
+  }
     where
-      go : (i : ℕ) → i < found → (b : Bool) → same m (nameAt s (entryAt s first i)) ≡ b → b ≡ false
+      go : (i : ℕ) → i < n → (t : Bool) → same m (nameAt s (entryAt s (block + 6 + 2) i)) ≡ t → t ≡ false
       go i l true g =
-          let marked : entryMark s first i ≡ mark = ap (markOf 8) (sym (same-eq m (nameAt s (entryAt s first i)) g)) ∙ sym e in
-          absurd (omega (arith, walk-end (w .walk) h i (omega (arith, w .within)) marked g))
+          let marked : entryMark s (block + 6 + 2) i ≡ mark = ap sumMarkOf (sym (same-eq m (nameAt s (entryAt s (block + 6 + 2) i)) g)) ∙ sym e in
+          absurd (walk-end (w .walk) h i l marked g)
       go i l false g = refl

@@ -6,7 +6,7 @@ use mathlib.Core.List.{List}
 use lib.ListN.{getD}
 use Rattle.blocks.specs.Bytes.{le2, nameAt}
 use Rattle.blocks.specs.Name.{Name, same}
-use Rattle.name_marks.specs.Mark.{markOf}
+use Rattle.name_marks.specs.Mark.{sumMarkOf}
 use Rattle.interpreter_values.specs.declared.Span.{Span}
 
 -- the offset of entry k of those from an offset on
@@ -14,9 +14,9 @@ unfoldable pub entryAt : List ℕ → ℕ → ℕ → ℕ
 entryAt s first zero = first
 entryAt s first (suc k) = entryAt s first k + 2 + le2 s (entryAt s first k) + 8
 
--- the mark of its name, with all bytes
+-- the mark of its name
 unfoldable pub entryMark : List ℕ → ℕ → ℕ → ℕ
-entryMark s first k = markOf 8 (nameAt s (entryAt s first k))
+entryMark s first k = sumMarkOf (nameAt s (entryAt s first k))
 
 -- the first n words are the offsets of the entries
 abbrev pub Offsets : List ℕ → ℕ → ℕ → List ℕ → Type 0

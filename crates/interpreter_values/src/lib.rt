@@ -79,7 +79,7 @@ fn link_names(values: &[u8], block: usize, span: Span, table: &mut [u64])
     let mut at = span.at;
     let mut i = span.from;
     while i < to {
-        marks::link(table, i, name_marks::mark(wire::name_at(values, at), 8));
+        marks::link(table, i, name_marks::sum_mark(wire::name_at(values, at)));
         at = behind_entry(values, at);
         i += 1;
     }
@@ -136,25 +136,24 @@ fn extend(values: &[u8], block: usize, words: &mut [u64], m: usize) -> usize
     at
 }
 
-// The place of the first entry of a name among the m of the index, or m. Of the entries that may have the name by their mark, from the last to
-// the first, the earliest that has it is kept.
+// The place of the entry of a name among the m of the index, or m. Those are asked that may have the name by their mark; the names of a block are
+// distinct, so the one that has it is the first.
 fn place(values: &[u8], block: usize, words: &[u64], m: usize, name: &[u8]) -> usize
     requires { ⌜ Accepted (now values) 192 192 block × Indexed (now values) block m (drop 17 (now words)) ⌝ }
     ensures { λ r. ⌜ First (now (values .entry)) (now (name .entry)) (block + 6 + 2) m r ⌝ }
 {
-    let mark = name_marks::mark(name, 8);
+    let mark = name_marks::sum_mark(name);
     let table = &words[TABLE..OFFSETS];
-    let mut found = m;
     let mut j = marks::last(table, mark);
     while 0 < j {
         let k = j - 1;
         let word = OFFSETS + k;
         if lookup::is_named(values, words[word] as usize, name) {
-            found = k;
+            return k;
         }
         j = marks::before(table, mark, j);
     }
-    found
+    m
 }
 
 // The first value of a name: by the index, or else one by one behind the entries that are in it, which become more.

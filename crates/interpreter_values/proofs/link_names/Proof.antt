@@ -2,6 +2,7 @@
 -- those before the span were.
 use Prim.Native.Nat.{_+_, _-_, _≤_}
 use native.Mathlib.Omega.{arith}
+use borrow.Author.Needs.{needs}
 use mathlib.Core.Path.{_≡_, refl, _∙_, subst}
 use lib.ListN.{length}
 use Rattle.marks.specs.Table.{Linked}
@@ -37,8 +38,8 @@ entry-here r = let at-loop = r .before in standing-in (at-loop .loop .inv .0) (r
 name-at-requires : tie.Need-name-at-requires Inv-loop μ-loop
 name-at-requires c κs = omega (arith, entry-here (c .before))
 
-mark-requires : tie.Need-mark-requires Inv-loop μ-loop
-mark-requires c κs = (omega arith, omega arith)
+sum-mark-requires : tie.Need-sum-mark-requires Inv-loop μ-loop
+sum-mark-requires c κs = search needs
 
 link-requires : tie.Need-link-requires Inv-loop μ-loop
 link-requires c κs =
@@ -67,7 +68,7 @@ loop-again c =
     let at-loop = in-loop .before in
     let here = at-loop .loop .inv .0 in (
       standing-next here (in-loop .loop-test .taken) (c .behind-entry .ensures),
-      λ l. at-link .link .ensures _ (at-loop .loop .inv .1 l) (standing-mark here (at-mark .before .name-at .ensures) (at-mark .mark .ensures)),
+      λ l. at-link .link .ensures _ (at-loop .loop .inv .1 l) (standing-mark here (at-mark .before .name-at .ensures) (at-mark .sum-mark .ensures)),
       at-link .link .kept .0 ∙ at-loop .loop .inv .2,
     )
 
@@ -90,7 +91,7 @@ link-names-spec =
     μ-loop
     loop-holds
     name-at-requires
-    mark-requires
+    sum-mark-requires
     link-requires
     behind-entry-requires
     add-i

@@ -1,25 +1,22 @@
--- `place` meets its contract. The loop's invariant (`Searching`): the entry that was kept has the name, if it is one, and each entry that may
--- have the mark was asked from the last one down to `j`.
+-- `place` meets its contract. The loop's invariant: each entry that may have the mark was asked from the last one down to `j`, and none has the
+-- name.
 use native.Mathlib.Omega.{arith}
 use borrow.Author.Needs.{needs}
-use mathlib.Core.Logic.{⊎-elim}
 use Prim.Native.Nat.{_+_, _-_, _<_}
 use lib.ListN.{length, length-drop}
-use mathlib.Core.Path.{refl}
 use Rattle.marks.proofs.Walks.{walk-chain}
 use Rattle.interpreter_values.proofs.Index.{table-of, word-in, offset-at, name-in, Searching, searching-first, searching-hit, searching-miss, searching-end}
 use Rattle.interpreter_values.proofs.place.Statement.{statement}
 use Rattle.interpreter_values.proofs.place.Tie as tie
 
 abbrev Inv-loop : tie.InvT-loop
-Inv-loop values block words m name mark table found₀ j₀ found j =
-    Searching values (block + 6 + 2) m name mark found j
+Inv-loop values block words m name mark table j₀ j = Searching values block m name mark j
 
 abbrev μ-loop : tie.MeasureT-loop
-μ-loop values block words m name mark table found₀ j₀ found j = j
+μ-loop values block words m name mark table j₀ j = j
 
 -- The places, each seen from a later one: what was known there.
-abbrev from-mark : tie.After-mark Inv-loop μ-loop → tie.Start Inv-loop μ-loop
+abbrev from-mark : tie.After-sum-mark Inv-loop μ-loop → tie.Start Inv-loop μ-loop
 from-mark r = r .before .before .before .before
 
 abbrev from-last : tie.After-last Inv-loop μ-loop → tie.Start Inv-loop μ-loop
@@ -28,8 +25,8 @@ from-last r = from-mark (r .before .before)
 abbrev from-loop : tie.At-loop Inv-loop μ-loop → tie.Start Inv-loop μ-loop
 from-loop r = from-last (r .before)
 
-mark-requires : tie.Need-mark-requires Inv-loop μ-loop
-mark-requires c κs = (omega arith, omega arith)
+sum-mark-requires : tie.Need-sum-mark-requires Inv-loop μ-loop
+sum-mark-requires c κs = search needs
 
 sub-table : tie.Need-sub-table Inv-loop μ-loop
 sub-table c = omega arith
@@ -44,7 +41,7 @@ last-requires : tie.Need-last-requires Inv-loop μ-loop
 last-requires c κs = table-of (from-mark (c .before) .pre .1)
 
 loop-holds : tie.Need-loop-holds Inv-loop μ-loop
-loop-holds c = searching-first refl (c .last .ensures (table-of (from-last c .pre .1)))
+loop-holds c = searching-first (c .last .ensures (table-of (from-last c .pre .1)))
 
 -- an entry that is asked is one of the index's
 asked : (r : tie.In-loop Inv-loop μ-loop) → r .before .loop .j - 1 < from-loop (r .before) .args .m
@@ -71,6 +68,15 @@ is-named-requires c κs =
     let at-start = from-loop (c .before .before) in
     name-in (at-start .pre .0) (at-start .args .words .now) (at-start .pre .1) (asked (c .before))
 
+returns : tie.Need-returns Inv-loop μ-loop
+returns c =
+    let at-is-named = c .before in
+    let in-loop = at-is-named .before .before in
+    let at-loop = in-loop .before in
+    let at-start = from-loop at-loop in
+    let here = offset-at (at-start .pre .0) (at-start .args .words .now) (at-start .pre .1) (asked in-loop) in
+    searching-hit (at-loop .loop .inv) (in-loop .loop-test .taken) (at-is-named .is-named .ensures) here (at-start .pre .0) (at-start .pre .1 .within) (c .if1 .taken)
+
 before-requires : tie.Need-before-requires Inv-loop μ-loop
 before-requires c κs =
     let in-loop = c .before .before .before in
@@ -86,24 +92,20 @@ loop-less c =
 
 loop-again : tie.Need-loop-again Inv-loop μ-loop
 loop-again c =
-    let joined = c .before in
-    let at-is-named = joined .before in
+    let missed = c .before in
+    let at-is-named = missed .before in
     let in-loop = at-is-named .before .before in
     let at-loop = in-loop .before in
     let at-start = from-loop at-loop in
     let prior = c .before2 .ensures (walk-chain (at-loop .loop .inv .walk) (at-start .pre .1 .linked)) in
-    let named = at-is-named .is-named .ensures in
     let here = offset-at (at-start .pre .0) (at-start .args .words .now) (at-start .pre .1) (asked in-loop) in
-    ⊎-elim
-    (λ t. rw (t .1) (searching-hit (at-loop .loop .inv) (in-loop .loop-test .taken) prior named here (t .0 .taken)))
-    (λ t. rw (t .1) (searching-miss (at-loop .loop .inv) (in-loop .loop-test .taken) prior named here (t .0 .left)))
-    (joined .if1 .came)
+    searching-miss (at-loop .loop .inv) (in-loop .loop-test .taken) (at-is-named .is-named .ensures) here prior (missed .if1 .left)
 
-returns : tie.Need-returns Inv-loop μ-loop
-returns c =
+returns-2 : tie.Need-returns-2 Inv-loop μ-loop
+returns-2 c =
     let at-loop = c .before in
     let at-mark = at-loop .before .before .before in
-    searching-end (at-mark .mark .ensures) (at-loop .loop .inv) (c .loop-test .left)
+    searching-end (at-mark .sum-mark .ensures) (at-loop .loop .inv) (c .loop-test .left)
 
 pub place-spec : {M : Type 1} → statement M
 place-spec =
@@ -111,7 +113,7 @@ place-spec =
     (tie.spec
     Inv-loop
     μ-loop
-    mark-requires
+    sum-mark-requires
     sub-table
     part-table-start
     part-table-end
@@ -122,7 +124,8 @@ place-spec =
     mul-is-named
     shared-slice-read-is-named
     is-named-requires
+    returns
     before-requires
     loop-less
     loop-again
-    returns)
+    returns-2)
