@@ -146,7 +146,7 @@ impl Scale {
             number,
         };
         let placed = values_of_one_place(self.values, VALUE);
-        let more = names_of_one_mark(self.values + 1, VALUE);
+        let more = values_of_one_mark(self.values + 1, VALUE);
         let marked = more[..self.values].to_vec();
         vec![
             run("values-alike", 0, all_asked(self.values_alike())),
@@ -450,29 +450,40 @@ fn eight(bytes: &[u8]) -> u64 {
     bytes[..8].iter().rev().fold(0, more)
 }
 
-/// A mark of a type's name with eight bytes more, as crates/name_marks has it.
+/// A name's length as a number for a step.
+fn length_of(name: &str) -> u64 {
+    1_640_531_527 + name.len() as u64
+}
+
+/// A mark with eight bytes more, as crates/name_marks has it.
 fn step(h: u64, x: u64) -> u64 {
     ((1 << 32) + h % (1 << 32)) * (x % (1 << 31)) + h / (1 << 32) + x / (1 << 32)
 }
 
-/// The mark that is asked for first of more than 32 types: eight bytes of every
-/// 32, and the last eight. The steps go by turns from two marks.
-fn type_mark(name: &str) -> u64 {
-    mark_of(name, 32)
-}
-
-fn mark_of(name: &str, apart: usize) -> u64 {
+/// The mark of a type's name: eight bytes of every so many, and the last eight.
+/// The steps go by turns from two marks.
+fn mark_apart(name: &str, apart: usize) -> u64 {
     let bytes = name.as_bytes();
-    let (mut h, mut g) = (0, 1_640_531_527 + bytes.len() as u64);
+    let (mut h, mut g) = (0, length_of(name));
     for i in (0..bytes.len() - 8).step_by(apart) {
         (h, g) = (g, step(h, eight(&bytes[i..])));
     }
     step(step(h, eight(&bytes[bytes.len() - 8..])), g)
 }
 
-/// The mark of all bytes of a name of eight bytes or more.
+/// The mark that is asked for first of more than 32 types.
+fn type_mark(name: &str) -> u64 {
+    mark_apart(name, 32)
+}
+
+/// The mark of a value's name of eight bytes or more: the sum of its eights,
+/// then the last eight and the length by two steps, as crates/name_marks has it.
 fn value_mark(name: &str) -> u64 {
-    mark_of(name, 8)
+    let bytes = name.as_bytes();
+    let last = bytes.len() - 8;
+    let eights = (0..last).step_by(8).map(|i| eight(&bytes[i..]));
+    let sum = eights.fold(0, u64::wrapping_add);
+    step(step(sum, eight(&bytes[last..])), length_of(name))
 }
 
 /// The eight bytes of a text, if there are some, that take one mark to another.
@@ -489,23 +500,16 @@ fn between(h: u64, mark: u64) -> Option<[u8; 8]> {
     solve(rest / factor).or_else(|| solve((rest / factor).checked_sub(1)?))
 }
 
-/// So many names of one length that have one mark of all their bytes, and are
-/// alike in those of which the first mark is made. The bytes from 8 on are tried
-/// one behind the other, those from 24 on solved for. They ascend.
-fn names_of_one_mark(many: usize, length: usize) -> Vec<String> {
-    let start = 1_640_531_527 + length as u64;
-    let begun = |i: u64| step(start, eight(format!("{i:08}").as_bytes()));
-    let mark = step(begun(0), eight(b"AAAAAAAA"));
-    let name = |i: u64| {
-        let solved = between(begun(i), mark)?;
-        let solved = std::str::from_utf8(&solved).ok()?;
-        let n = "n".repeat(8);
-        Some(format!("{n}{i:08}{n}{solved}") + &"n".repeat(length - 32))
-    };
-    (0..).filter_map(name).take(many).collect()
+/// Names of values of one length, 24 bytes or more, that have one mark: what
+/// one eight has more, another has less. Names are compared from their end on,
+/// so these eights are the first. They ascend.
+fn values_of_one_mark(many: usize, length: usize) -> Vec<String> {
+    let two = |i: usize| format!("{i:08}{:08}", 99_999_999 - i);
+    let name = |i| two(i) + &"n".repeat(length - 16);
+    (0..many).map(name).collect()
 }
 
-/// Names of one length whose marks of all bytes share a place in a table. They
+/// Names of values of one length whose marks share a place in a table. They
 /// ascend.
 fn values_of_one_place(many: usize, length: usize) -> Vec<String> {
     let name = |i: usize| format!("{i:06}") + &"n".repeat(length - 6);
@@ -543,8 +547,20 @@ impl Scale {
         good.take(self.names).collect()
     }
 
+    /// Names of one length that have one mark of all their bytes, and are alike
+    /// in those of which the first mark is made. The bytes from 8 on are tried
+    /// one behind the other, those from 24 on solved for.
     fn of_one_mark(self) -> Vec<String> {
-        names_of_one_mark(self.names, NAME)
+        let start = length_of(&"n".repeat(NAME));
+        let begun = |i: u64| step(start, eight(format!("{i:08}").as_bytes()));
+        let mark = step(begun(0), eight(b"AAAAAAAA"));
+        let name = |i: u64| {
+            let solved = between(begun(i), mark)?;
+            let solved = std::str::from_utf8(&solved).ok()?;
+            let n = "n".repeat(8);
+            Some(format!("{n}{i:08}{n}{solved}") + &"n".repeat(NAME - 32))
+        };
+        (0..).filter_map(name).take(self.names).collect()
     }
 
     /// Paths under one owner of which each and its alias share a place, called
@@ -687,7 +703,7 @@ impl Scale {
     }
 
     fn handed_one_mark(self) -> Asked {
-        self.handed(names_of_one_mark(self.values, self.short(32)))
+        self.handed(values_of_one_mark(self.values, self.short(32)))
     }
 }
 
@@ -695,20 +711,57 @@ impl Scale {
 mod tests {
     use super::*;
 
+    fn assert_one_length(names: &[String], length: usize) {
+        let text = |name: &String| name.bytes().all(|b| (0x20..0x7F).contains(&b));
+        assert!(names.windows(2).all(|two| two[0] < two[1]));
+        assert!(names.iter().all(|name| name.len() == length && text(name)));
+    }
+
+    fn assert_one(names: &[String], mark: impl Fn(&str) -> u64) {
+        let first = mark(&names[0]);
+        assert!(names.iter().all(|name| mark(name) == first));
+    }
+
+    /// The numbers of crates/name_marks/proofs/Worked.antt.
+    #[test]
+    fn marks_by_a_sum() {
+        let large = "z".repeat(32);
+        for (name, mark) in [
+            ("abcdefgh", 9_919_595_624_331_532_684),
+            ("abcdefghi", 9_737_636_600_716_664_590),
+            ("aaaaaaaabbbbbbbbcccccccc", 11_834_403_638_736_806_878),
+            ("bbbbbbbbaaaaaaaacccccccc", 11_834_403_638_736_806_878),
+            (&large, 11_629_930_687_621_600_819),
+        ] {
+            assert_eq!(value_mark(name), mark, "{name}");
+        }
+    }
+
     /// Names of values ascend, and their marks are as they are made to be.
     #[test]
     fn marks_of_values() {
+        let many = FULL.values + 1;
         for length in [32, VALUE] {
-            let one = names_of_one_mark(50, length);
-            let place = values_of_one_place(50, length);
-            for names in [&one, &place] {
-                assert!(names.windows(2).all(|two| two[0] < two[1]));
-                assert!(names.iter().all(|name| name.len() == length));
-            }
-            assert!(one
-                .iter()
-                .all(|name| value_mark(name) == value_mark(&one[0])));
-            assert!(place.iter().all(|name| value_mark(name) % 127 == 0));
+            let names = values_of_one_mark(many, length);
+            assert_one_length(&names, length);
+            assert_one(&names, value_mark);
         }
+        for length in [8, VALUE] {
+            let names = values_of_one_place(many, length);
+            assert_one_length(&names, length);
+            assert_one(&names, |name| value_mark(name) % 127);
+        }
+    }
+
+    /// So do those of types.
+    #[test]
+    fn marks_of_types() {
+        let names = FULL.of_one_mark();
+        assert_one_length(&names, NAME);
+        assert_one(&names, type_mark);
+        assert_one(&names, |name| mark_apart(name, 8));
+        let names = FULL.of_one_place();
+        assert_one_length(&names, NAME);
+        assert_one(&names, |name| type_mark(name) % 127);
     }
 }
