@@ -2,12 +2,11 @@
 //! 65,000 bytes from somebody who knows where names are compared. Before entries and names were
 //! found by marks, one of them took 5 seconds.
 
+#[path = "../../../judge/driver/src/bench/clock.rs"]
+mod clock;
 #[allow(dead_code)]
 #[path = "../../../judge/driver/src/data.rs"]
 mod data;
-#[allow(dead_code)]
-#[path = "../../../judge/driver/src/bench/measure.rs"]
-mod measure;
 #[allow(dead_code)]
 #[path = "../../../judge/driver/src/slow.rs"]
 mod slow;
@@ -60,9 +59,9 @@ const RUN_HEAD: usize = 4 + 2 + (2 + 1) + 8;
 fn quickest(most: f64, mut call: impl FnMut()) -> f64 {
     let mut best = f64::INFINITY;
     for _ in 0..3 {
-        let start = measure::now();
+        let start = clock::now();
         call();
-        best = best.min((measure::now() - start) / 1e6);
+        best = best.min((clock::now() - start) / 1e6);
         if best <= most {
             break;
         }

@@ -1,5 +1,6 @@
 //! Time: rounds of several things in turn, in one process.
 
+use super::clock::now;
 use super::ours::{archives, Archive};
 use std::hint::black_box;
 
@@ -9,32 +10,6 @@ const FEW_ROUNDS: usize = 3;
 const LONG: f64 = 200e6;
 /// Nanoseconds that a round has at least.
 const ROUND: f64 = 20e6;
-
-#[repr(C)]
-struct Time {
-    seconds: i64,
-    nanoseconds: i64,
-}
-
-extern "C" {
-    fn clock_gettime(clock: i32, time: *mut Time) -> i32;
-}
-
-/// CLOCK_THREAD_CPUTIME_ID of Linux: it stands still while another program
-/// has the processor.
-const OF_THREAD: i32 = 3;
-
-/// The thread's own time, in nanoseconds.
-pub fn now() -> f64 {
-    let mut time = Time {
-        seconds: 0,
-        nanoseconds: 0,
-    };
-    // SAFETY: the call writes to `time`, which has the form that it asks for.
-    let answer = unsafe { clock_gettime(OF_THREAD, &mut time) };
-    assert_eq!(answer, 0, "there is no clock of a thread's own time");
-    time.seconds as f64 * 1e9 + time.nanoseconds as f64
-}
 
 /// Does its call as often as it is told.
 pub type Work<'a> = Box<dyn FnMut(u32) + 'a>;

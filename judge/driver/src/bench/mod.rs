@@ -2,6 +2,7 @@
 //! a row is measured, both must give the same answer.
 
 mod building;
+mod clock;
 mod inputs;
 mod lean;
 mod lean_sets;
