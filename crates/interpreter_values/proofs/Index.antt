@@ -18,6 +18,7 @@ use Rattle.name_marks.specs.Mark.{sumMarkOf}
 use Rattle.accepted.specs.Accepted.{Accepted}
 use Rattle.interpreter_values.specs.Entries.{entryAt, entryMark, Offsets, First}
 use Rattle.interpreter_values.specs.Remembered.{Indexed, Same, Kept}
+use Rattle.interpreter_values.proofs.Laws.{remembered-none}
 use Rattle.interpreter_values.proofs.Entries.{few, entry-in}
 use Rattle.interpreter_values.proofs.Order.{entry-alone}
 
@@ -116,17 +117,24 @@ offsets-more s first i at ws o e h k l = go (eqb k i) refl
 -- ---- what is kept of the words
 
 module _ {s : List ℕ} {block : ℕ} where
-  -- words whose first 17 stay, with the index behind them of as many entries as word 16 says
-  pub kept-index : {ws us : List ℕ} {m : ℕ} → 16 ≤ length us → Same 17 ws us → getD ws 16 0 ≡ m → Indexed s block m (drop 17 us) → Kept s block 16 ws us
+  -- words whose first 17 stay, with the index behind them of as many entries as word 16 says besides the first names
+  pub kept-index : {ws us : List ℕ} {m : ℕ} → 16 ≤ length us → Same 17 ws us → getD ws 16 0 ≡ m + 4 → Indexed s block m (drop 17 us) → Kept s block 16 ws us
   kept-index {us} {m} h f e x =
-      let c : getD us 16 0 ≡ m = f 16 (omega arith) ∙ e in
+      let c : getD us 16 0 - 4 ≡ m = omega (arith, f 16 (omega arith), e) in
       record { same = λ i l. f i (omega arith); remembered = record { room = h; index = λ l g. rw c x } }
 
   -- the same where word 16 was written first
-  pub kept-more : {ws us : List ℕ} (m : ℕ) → 1168 ≤ length ws → length us ≡ length ws → Same 17 (set ws 16 m) us → Indexed s block m (drop 17 us) → Kept s block 16 ws us
+  pub kept-more : {ws us : List ℕ} (m : ℕ) → 1168 ≤ length ws → length us ≡ length ws → Same 17 (set ws 16 (m + 4)) us → Indexed s block m (drop 17 us) → Kept s block 16 ws us
   kept-more {ws} {us} m room e f x =
-      let k = kept-index {ws = set ws 16 m} {us = us} (omega (arith, e)) f (getD-set-same ws 16 m 0 (omega arith)) x in
-      record { same = λ i l. k .same i l ∙ getD-set-other ws 16 i m 0 (λ q. absurd (omega arith)); remembered = k .remembered }
+      let k = kept-index {ws = set ws 16 (m + 4)} {us = us} (omega (arith, e)) f (getD-set-same ws 16 (m + 4) 0 (omega arith)) x in
+      record { same = λ i l. k .same i l ∙ getD-set-other ws 16 i (m + 4) 0 (λ q. absurd (omega arith)); remembered = k .remembered }
+
+  -- a name more of the first is counted
+  pub kept-count : (ws : List ℕ) → 1168 ≤ length ws → (c : ℕ) → c ≤ 4 → Kept s block 16 ws (set ws 16 c)
+  kept-count ws room c h = record {
+    same = λ i l. getD-set-other ws 16 i c 0 (λ e. absurd (omega arith));
+    remembered = remembered-none (omega (arith, length-set ws 16 c)) (omega (arith, getD-set-same ws 16 c 0 (omega arith)));
+  }
 
   -- a table without a slot, put into the words, is the index of no entry
   pub index-none : (ws ys : List ℕ) → 1168 ≤ length ws → length ys ≡ length (take 639 (drop 17 ws)) → ((f : ℕ → ℕ) → Linked ys f 0) → Indexed s block 0 (drop 17 (putMid 17 639 ws ys))

@@ -37,8 +37,8 @@ module _ {s : List ℕ} {block : ℕ} where
   pub kept-set : {ws : List ℕ} (d w : ℕ) → d < 16 → Remembered s block ws → Kept s block d ws (set ws d w)
   kept-set {ws} d w h r = record { same = λ i l. getD-set-other ws d i w 0 (λ e. absurd (omega arith)); remembered = remembered-set d w h r }
 
-  -- a count of zero remembers nothing
-  pub remembered-none : {ws : List ℕ} → 16 ≤ length ws → getD ws 16 0 ≤ 0 → Remembered s block ws
+  -- a count of the first names remembers nothing
+  pub remembered-none : {ws : List ℕ} → 16 ≤ length ws → getD ws 16 0 ≤ 4 → Remembered s block ws
   remembered-none h z = record { room = h; index = λ l g. absurd (omega arith) }
 
   -- nor does one that was set to zero

@@ -1,6 +1,6 @@
--- What evaluating remembers of the root's values, in the working words behind the sixteen of the open calls: word 16 has how many entries are
--- in the index that stands from word 17 on.
-use Prim.Native.Nat.{ℕ, _+_, _≤_, _<_}
+-- What evaluating remembers of the root's values, in the working words behind the sixteen of the open calls: word 16 has how
+-- many names were asked for, up to 4, and from then on how many entries are in the index besides, which stands from word 17 on.
+use Prim.Native.Nat.{ℕ, _+_, _-_, _≤_, _<_}
 use mathlib.Core.Path.{_≡_}
 use mathlib.Core.List.{List}
 use lib.ListN.{length, getD, take, drop}
@@ -19,7 +19,7 @@ pub record Indexed (s : List ℕ) (block m : ℕ) (ws : List ℕ) : Type 0 where
 -- entry is in it
 pub record Remembered (s : List ℕ) (block : ℕ) (ws : List ℕ) : Type 0 where
   pub room : 16 ≤ length ws
-  pub index : 1168 ≤ length ws → 0 < getD ws 16 0 → Indexed s block (getD ws 16 0) (drop 17 ws)
+  pub index : 1168 ≤ length ws → 4 < getD ws 16 0 → Indexed s block (getD ws 16 0 - 4) (drop 17 ws)
 
 -- the first m words are the same
 abbrev pub Same : ℕ → List ℕ → List ℕ → Type 0

@@ -1,9 +1,10 @@
-// The values of a record by name. Where there are many, each search that does not find a name in the index puts some more entries into it.
+// The values of a record by name. Where there are many, and some names were asked for, each search that does not find a name in the index puts
+// more entries into it.
 use lookup::Found;
 ghost use mathlib.Core.Path.{_≡_};
 ghost use mathlib.Core.List.{List};
 ghost use Prim.Native.Nat.{ℕ, _+_, _≤_};
-ghost use lib.ListN.{length, drop};
+ghost use lib.ListN.{length, getD, drop};
 ghost use Rattle.blocks.specs.Bytes.{le2};
 ghost use Rattle.marks.specs.Table.{Linked};
 ghost use Rattle.interpreter.specs.Validate.{valuesOf};
@@ -15,8 +16,11 @@ ghost use Rattle.interpreter_values.specs.Remembered.{Indexed, Remembere
 // How many working words evaluating uses where it may remember values.
 pub const WORDS: usize = 1168;
 
-// The word that has how many entries are in the index.
+// The word that counts: the names asked for, up to FREE, and from then on the entries of the index besides.
 const KNOWN: usize = 16;
+
+// So many names are sought one by one before the index begins.
+const FREE: u64 = 4;
 
 // Where the index begins, with a table of the marks of the names.
 const TABLE: usize = 17;
@@ -87,11 +91,11 @@ fn link_names(values: &[u8], block: usize, span: Span, table: &mut [u64])
 
 // How many entries are in the index, which is made ready for the first.
 fn begin(words: &mut [u64]) -> usize
-    requires { ⌜ 1168 ≤ length (now words) ⌝ }
+    requires { ⌜ (1168 ≤ length (now words)) × (4 ≤ getD (now words) 16 0) ⌝ }
     ensures { λ r. ⌜ ((s : List ℕ) (block : ℕ) → Remembered s block (now (words .entry)) → Indexed s block r (drop 17 (now (words .exit)))) ⌝ }
     ensures { λ _. ⌜ ((s : List ℕ) (block : ℕ) → Remembered s block (now (words .entry)) → Kept s block 16 (now (words .entry)) (now (words .exit))) ⌝ }
 {
-    let m = words[KNOWN] as usize;
+    let m = (words[KNOWN] - FREE) as usize;
     if m == 0 {
         marks::clear(&mut words[TABLE..OFFSETS]);
     }
@@ -130,7 +134,7 @@ fn extend(values: &[u8], block: usize, words: &mut [u64], m: usize) -> usize
     let at = entry_offset(values, block, words, m);
     let to = after_step(m, wire::read2(values, block + 6));
     let span = Span { from: m, to, at };
-    words[KNOWN] = to as u64;
+    words[KNOWN] = to as u64 + FREE;
     note_offsets(values, block, span, &mut words[OFFSETS..WORDS]);
     link_names(values, block, span, &mut words[TABLE..OFFSETS]);
     at
@@ -158,7 +162,7 @@ fn place(values: &[u8], block: usize, words: &[u64], m: usize, name: &[u8]) -> u
 
 // The first value of a name: by the index, or else one by one behind the entries that are in it, which become more.
 fn indexed(values: &[u8], block: usize, words: &mut [u64], name: &[u8]) -> Found
-    requires { ⌜ Accepted (now values) 192 192 block × Remembered (now values) block (now words) × (1168 ≤ length (now words)) ⌝ }
+    requires { ⌜ Accepted (now values) 192 192 block × Remembered (now values) block (now words) × (1168 ≤ length (now words)) × (4 ≤ getD (now words) 16 0) ⌝ }
     ensures { λ r. ⌜ r ≡ firstValue (now (values .entry)) (now (name .entry)) (le2 (now (values .entry)) (block + 6)) (block + 6 + 2) ⌝ }
     ensures { λ _. ⌜ Kept (now (values .entry)) block 16 (now (words .entry)) (now (words .exit)) ⌝ }
 {
@@ -184,6 +188,11 @@ pub fn value(values: &[u8], block: usize, words: &mut [u64], name: &[u8]) -> Fou
         return lookup::value_in(values, block, name);
     }
     if wire::read2(values, block + 6) < MANY {
+        return lookup::value_in(values, block, name);
+    }
+    let asked = words[KNOWN];
+    if asked < FREE {
+        words[KNOWN] = asked + 1;
         return lookup::value_in(values, block, name);
     }
     indexed(values, block, words, name)

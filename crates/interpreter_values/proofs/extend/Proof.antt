@@ -2,7 +2,7 @@
 -- the next names into the table; both together are the index of so many entries.
 use native.Mathlib.Omega.{arith}
 use borrow.Author.Needs.{needs}
-use Prim.Native.Nat.{ℕ, _≤_}
+use Prim.Native.Nat.{ℕ, _+_, _≤_}
 use mathlib.Core.Path.{_≡_, _∙_, sym, subst}
 use mathlib.Core.List.{List}
 use lib.ListN.{length, set, drop, length-set}
@@ -26,17 +26,17 @@ at-step r = r .before .before
 
 -- the words with their count
 abbrev counted : tie.After-after-step → List ℕ
-counted r = set (from-step r .args .words .now) 16 (r .after-step .result)
+counted r = set (from-step r .args .words .now) 16 (r .after-step .result + 4)
 
 -- they are as many, and the index is in them as before
 counted-room : (r : tie.After-after-step) → 1168 ≤ length (counted r)
-counted-room r = omega (arith, from-step r .pre .2, length-set (from-step r .args .words .now) 16 (r .after-step .result))
+counted-room r = omega (arith, from-step r .pre .2, length-set (from-step r .args .words .now) 16 (r .after-step .result + 4))
 
 counted-index : (r : tie.After-after-step) → Indexed (from-step r .args .values .now) (from-step r .args .block) (from-step r .args .m) (drop 17 (counted r))
 counted-index r =
     let at-start = from-step r in
     subst (Indexed (at-start .args .values .now) (at-start .args .block) (at-start .args .m))
-    (sym (drop-set-lt 17 (at-start .args .words .now) 16 (r .after-step .result) (omega arith))) (at-start .pre .1)
+    (sym (drop-set-lt 17 (at-start .args .words .now) 16 (r .after-step .result + 4) (omega arith))) (at-start .pre .1)
 
 entry-offset-requires : tie.Need-entry-offset-requires
 entry-offset-requires c κs = search needs
@@ -49,6 +49,9 @@ read2-requires c κs = inside (from-offset c .pre .0)
 
 after-step-requires : tie.Need-after-step-requires
 after-step-requires c κs = search needs
+
+add-words : tie.Need-add-words
+add-words c = omega (arith, c .after-step .ensures .1, c .before .read2 .ensures .1)
 
 slice-write-words : tie.Need-slice-write-words
 slice-write-words c = search needs
@@ -86,7 +89,7 @@ same-length c =
     let r = at-step at-note in
     linked-length (counted r) (at-note .note-offsets .last .1 .1 .1 .0) (at-link .link-names .last .1 .1 .1 .0) (counted-room r)
     (at-note .note-offsets .kept .1 .1 .1 .0) (at-link .link-names .kept .1 .1 .1 .0)
-    ∙ length-set (from-step r .args .words .now) 16 (r .after-step .result)
+    ∙ length-set (from-step r .args .words .now) 16 (r .after-step .result + 4)
 
 returns : tie.Need-returns
 returns c =
@@ -116,6 +119,7 @@ extend-spec =
     add-read2
     read2-requires
     after-step-requires
+    add-words
     slice-write-words
     sub-note-offsets
     part-note-offsets-start
