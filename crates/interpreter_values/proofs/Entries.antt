@@ -15,7 +15,9 @@ use Rattle.lookup.specs.Found.{firstValue}
 use Rattle.lookup.specs.declared.Found.the-variants.{At}
 use Rattle.lookup.proofs.Values.{listed}
 use Rattle.name_marks.specs.Mark.{sumMarkOf}
-use Rattle.interpreter_values.specs.Entries.{entryAt, entryMark, First, Spans}
+use Rattle.interpreter_values.specs.Entries.{entryAt, entryMark, First, Spans, Leaves}
+use Rattle.interpreter_values.specs.declared.Sought.{Sought}
+use Rattle.interpreter_values.specs.declared.Sought.the-variants.{At as SoughtAt, Among}
 use Rattle.interpreter_values.specs.declared.Span.{Span}
 
 -- ---- where they stand
@@ -142,3 +144,33 @@ module _ (s : List ℕ) (m : Name) where
       let e : suc n - suc k ≡ n - k = omega arith in
       rw (f .before 0 (omega arith), e)
       (first-rest n k (omega arith) (first-behind f) (omega arith) ∙ ap (λ (o : ℕ). firstValue s m (n - k) o) (sym (entry-behind s first k)))
+
+-- ---- what is known of the first value of a name
+
+module _ {s : List ℕ} {block : ℕ} (a : Accepted s 192 192 block) (m : Name) where
+  -- before anything is asked, all entries are left
+  pub leaves-all : {n : ℕ} → n ≡ le2 s (block + 6) → Leaves s block m (Among (block + 6 + 2) n)
+  leaves-all e = subst (λ (n : ℕ). Leaves s block m (Among (block + 6 + 2) n)) (sym e) (Leaves.among (listed a .list) refl)
+
+  -- where none of the first k has the name, those behind them are
+  pub leaves-rest : {k j n o : ℕ} → k ≤ le2 s (block + 6) → First s m (block + 6 + 2) k j → k ≤ j → n ≡ le2 s (block + 6) → o ≡ entryAt s (block + 6 + 2) k →
+      Leaves s block m (Among o (n - k))
+  leaves-rest {k} {n = n} l f h e g =
+      subst (λ (o : ℕ). Leaves s block m (Among o (n - k))) (sym g)
+      (subst (λ (n : ℕ). Leaves s block m (Among (entryAt s (block + 6 + 2) k) (n - k))) (sym e)
+      (Leaves.among (entries-from a k l) (first-rest s m (le2 s (block + 6)) k l f h)))
+
+-- a value that was found
+pub left-at : {s : List ℕ} {block o : ℕ} {m : Name} {r : Sought} → r ≡ SoughtAt o → Leaves s block m r → At o ≡ firstValue s m (le2 s (block + 6)) (block + 6 + 2)
+left-at {o} e (Leaves.at {o = q} h) = let f : q ≡ o = cc in ap At (sym f) ∙ h
+left-at e (Leaves.among l h) = let z : _≡_ {A = ℕ} 0 1 = cc in absurd (omega arith)
+
+-- entries that are left
+pub left-among : {s : List ℕ} {block o n : ℕ} {m : Name} {r : Sought} → r ≡ Among o n → Leaves s block m r →
+    Entries s Item.values n o × (firstValue s m (le2 s (block + 6)) (block + 6 + 2) ≡ firstValue s m n o)
+left-among e (Leaves.at h) = let z : _≡_ {A = ℕ} 0 1 = cc in absurd (omega arith)
+left-among {s} {block} {o} {n} {m} e (Leaves.among {o = p} {n = k} l h) =
+    let f : p ≡ o = cc in
+    let g : k ≡ n = cc in
+    subst (λ (q : ℕ). Entries s Item.values n q × (firstValue s m (le2 s (block + 6)) (block + 6 + 2) ≡ firstValue s m n q)) f
+    (subst (λ (q : ℕ). Entries s Item.values q p × (firstValue s m (le2 s (block + 6)) (block + 6 + 2) ≡ firstValue s m q p)) g (l, h))

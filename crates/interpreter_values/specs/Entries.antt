@@ -7,7 +7,12 @@ use lib.ListN.{getD}
 use Rattle.blocks.specs.Bytes.{le2, nameAt}
 use Rattle.blocks.specs.Name.{Name, same}
 use Rattle.name_marks.specs.Mark.{sumMarkOf}
+use Rattle.accepted.specs.Accepted.{Entries, Item}
+use Rattle.lookup.specs.declared.Found.the-variants.{At as FoundAt}
+use Rattle.lookup.specs.Found.{firstValue}
 use Rattle.interpreter_values.specs.declared.Span.{Span}
+use Rattle.interpreter_values.specs.declared.Sought.{Sought}
+use Rattle.interpreter_values.specs.declared.Sought.the-variants.{At, Among}
 
 -- the offset of entry k of those from an offset on
 unfoldable pub entryAt : List ℕ → ℕ → ℕ → ℕ
@@ -33,3 +38,8 @@ pub record Spans (s : List ℕ) (block : ℕ) (p : Span) : Type 0 where
   pub within : p .from ≤ p .to
   pub most : p .to ≤ le2 s (block + 6)
   pub here : p .at ≡ entryAt s (block + 6 + 2) (p .from)
+
+-- what is known of the first value of a name: its offset, or entries of which the first of the name is the block's
+pub data Leaves (s : List ℕ) (block : ℕ) (m : Name) : Sought → Type 0 where
+  at : {o : ℕ} → FoundAt o ≡ firstValue s m (le2 s (block + 6)) (block + 6 + 2) → Leaves s block m (At o)
+  among : {o n : ℕ} → Entries s Item.values n o → firstValue s m (le2 s (block + 6)) (block + 6 + 2) ≡ firstValue s m n o → Leaves s block m (Among o n)

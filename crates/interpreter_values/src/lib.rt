@@ -2,6 +2,7 @@
 // more entries into it.
 use lookup::Found;
 ghost use mathlib.Core.Path.{_≡_};
+ghost use mathlib.Core.Bool.{true};
 ghost use mathlib.Core.List.{List};
 ghost use Prim.Native.Nat.{ℕ, _+_, _≤_};
 ghost use lib.ListN.{length, getD, drop};
@@ -10,7 +11,7 @@ ghost use Rattle.marks.specs.Table.{Linked};
 ghost use Rattle.interpreter.specs.Validate.{valuesOf};
 ghost use Rattle.accepted.specs.Accepted.{Accepted, tree};
 ghost use Rattle.lookup.specs.Found.{ValueFound, firstValue};
-ghost use Rattle.interpreter_values.specs.Entries.{entryAt, entryMark, Offsets, First, Spans};
+ghost use Rattle.interpreter_values.specs.Entries.{entryAt, entryMark, Offsets, First, Spans, Leaves};
 ghost use Rattle.interpreter_values.specs.Remembered.{Indexed, Remembered, Kept};
 
 // How many working words evaluating uses where it may remember values.
@@ -39,6 +40,12 @@ struct Span {
     from: usize,
     to: usize,
     at: usize,
+}
+
+// A value's offset, or the entries among which it is yet to be sought: the offset of the first, and how many.
+enum Sought {
+    At(usize),
+    Among(usize, usize),
 }
 
 // Nothing is remembered of any values.
@@ -160,40 +167,66 @@ fn place(values: &[u8], block: usize, words: &[u64], m: usize, name: &[u8]) -> u
     m
 }
 
-// The first value of a name: by the index, or else one by one behind the entries that are in it, which become more.
-fn indexed(values: &[u8], block: usize, words: &mut [u64], name: &[u8]) -> Found
+// What the index says of a name's first value, behind which more entries are in it: where it is, or among which entries it is yet to be sought.
+fn indexed(values: &[u8], block: usize, words: &mut [u64], name: &[u8]) -> Sought
     requires { ⌜ Accepted (now values) 192 192 block × Remembered (now values) block (now words) × (1168 ≤ length (now words)) × (4 ≤ getD (now words) 16 0) ⌝ }
-    ensures { λ r. ⌜ r ≡ firstValue (now (values .entry)) (now (name .entry)) (le2 (now (values .entry)) (block + 6)) (block + 6 + 2) ⌝ }
+    ensures { λ r. ⌜ Leaves (now (values .entry)) block (now (name .entry)) r ⌝ }
     ensures { λ _. ⌜ Kept (now (values .entry)) block 16 (now (words .entry)) (now (words .exit)) ⌝ }
 {
     let m = begin(words);
     let found = place(values, block, words, m, name);
     if found < m {
         let word = OFFSETS + found;
-        return Found::At(wire::behind_name(values, words[word] as usize));
+        return Sought::At(wire::behind_name(values, words[word] as usize));
     }
     let at = extend(values, block, words, m);
     let n = wire::read2(values, block + 6);
-    lookup::value_from(values, at, n - m, name)
+    Sought::Among(at, n - m)
 }
 
-// The first value of a name in an accepted block of values at an offset.
+// Whether names are sought in the index: where there is room for it, the values are many, and the first names were asked for, which are counted.
+fn by_index(values: &[u8], block: usize, words: &mut [u64]) -> bool
+    requires { ⌜ Accepted (now values) 192 192 block × Remembered (now values) block (now words) ⌝ }
+    ensures { λ r. ⌜ (r ≡ true → (1168 ≤ length (now (words .exit))) × (4 ≤ getD (now (words .exit)) 16 0)) ⌝ }
+    ensures { λ _. ⌜ Kept (now (values .entry)) block 16 (now (words .entry)) (now (words .exit)) ⌝ }
+{
+    if words.len() < WORDS {
+        return false;
+    }
+    if wire::read2(values, block + 6) < MANY {
+        return false;
+    }
+    let asked = words[KNOWN];
+    if FREE <= asked {
+        return true;
+    }
+    words[KNOWN] = asked + 1;
+    false
+}
+
+// The same as `indexed`, where the index may not be used: then all entries are left.
+fn left_of(values: &[u8], block: usize, words: &mut [u64], name: &[u8]) -> Sought
+    requires { ⌜ Accepted (now values) 192 192 block × Remembered (now values) block (now words) ⌝ }
+    ensures { λ r. ⌜ Leaves (now (values .entry)) block (now (name .entry)) r ⌝ }
+    ensures { λ _. ⌜ Kept (now (values .entry)) block 16 (now (words .entry)) (now (words .exit)) ⌝ }
+{
+    if by_index(values, block, words) {
+        return indexed(values, block, words, name);
+    }
+    let n = wire::read2(values, block + 6);
+    Sought::Among(block + 6 + 2, n)
+}
+
+// The first value of a name in an accepted block of values at an offset. The entries that are left are asked in one place, so that the loop is
+// compiled into its caller.
 pub fn value(values: &[u8], block: usize, words: &mut [u64], name: &[u8]) -> Found
     requires { ⌜ Accepted (now values) 192 192 block × Remembered (now values) block (now words) ⌝ }
     ensures { λ r. ⌜ r ≡ firstValue (now (values .entry)) (now (name .entry)) (le2 (now (values .entry)) (block + 6)) (block + 6 + 2) ⌝ }
     ensures { λ r. ⌜ ((a : Accepted (now (values .entry)) 192 192 block) → ValueFound (now (values .entry)) (now (name .entry)) (valuesOf (tree a)) r) ⌝ }
     ensures { λ _. ⌜ Kept (now (values .entry)) block 16 (now (words .entry)) (now (words .exit)) ⌝ }
 {
-    if words.len() < WORDS {
-        return lookup::value_in(values, block, name);
+    match left_of(values, block, words, name) {
+        Sought::At(o) => Found::At(o),
+        Sought::Among(at, left) => lookup::value_from(values, at, left, name),
     }
-    if wire::read2(values, block + 6) < MANY {
-        return lookup::value_in(values, block, name);
-    }
-    let asked = words[KNOWN];
-    if asked < FREE {
-        words[KNOWN] = asked + 1;
-        return lookup::value_in(values, block, name);
-    }
-    indexed(values, block, words, name)
 }

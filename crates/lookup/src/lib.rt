@@ -10,10 +10,9 @@ ghost use Rattle.blocks.specs.Tree.{Tree};
 ghost use Rattle.blocks.specs.Read.{readSet, readLayout};
 ghost use Rattle.resolved.specs.Set.{typesOf};
 ghost use Rattle.ir.specs.Layout.{layoutOf};
-ghost use Rattle.interpreter.specs.Validate.{valuesOf};
-ghost use Rattle.accepted.specs.Accepted.{Accepted, Entries, Item, tree, nameAt};
+ghost use Rattle.accepted.specs.Accepted.{Entries, Item, nameAt};
 ghost use Rattle.lookup.specs.Named.{Placed, placeOf};
-ghost use Rattle.lookup.specs.Found.{TypeFound, TreeFound, ValueFound, firstValue};
+ghost use Rattle.lookup.specs.Found.{TypeFound, TreeFound, firstValue};
 
 // The offset of a type's block, or of a value's number.
 pub enum Found {
@@ -92,13 +91,4 @@ pub fn value_from(s: &[u8], from: usize, count: usize, name: &[u8]) -> Found
         left -= 1;
     }
     Found::Missing
-}
-
-// The first value of a name in an accepted block of values at an offset, as in a run.
-pub fn value_in(s: &[u8], block: usize, name: &[u8]) -> Found
-    requires { ⌜ Accepted (now s) 192 192 block ⌝ }
-    ensures { λ r. ⌜ r ≡ firstValue (now (s .entry)) (now (name .entry)) (le2 (now (s .entry)) (block + 6)) (block + 6 + 2) ⌝ }
-    ensures { λ r. ⌜ ((a : Accepted (now (s .entry)) 192 192 block) → ValueFound (now (s .entry)) (now (name .entry)) (valuesOf (tree a)) r) ⌝ }
-{
-    value_from(s, block + 6 + 2, wire::read2(s, block + 6), name)
 }

@@ -1,17 +1,13 @@
--- `indexed` meets its contract: an entry that the index has is the first of the name; where it has none, the first behind its entries is.
-use Prim.Native.Nat.{ℕ, _+_, _-_, _≤_, _<_}
+-- `indexed` meets its contract: an entry that the index has is the first of the name; where it has none, those behind its entries are left.
+use Prim.Native.Nat.{_+_, _<_}
 use native.Mathlib.Omega.{arith}
 use borrow.Author.Needs.{needs}
-use mathlib.Core.Path.{_≡_, refl, sym, _∙_, ap, subst}
 use lib.ListN.{length, drop}
-use Rattle.blocks.specs.Bytes.{le2}
-use Rattle.accepted.specs.Accepted.{Entries, Item}
-use Rattle.lookup.specs.Found.{firstValue}
 use Rattle.lookup.proofs.Values.{inside}
 use Rattle.interpreter_values.specs.Remembered.{Indexed}
-use Rattle.interpreter_values.specs.Entries.{entryAt}
+use Rattle.interpreter_values.specs.Entries.{Leaves}
 use Rattle.interpreter_values.proofs.Laws.{kept-both}
-use Rattle.interpreter_values.proofs.Entries.{entries-from, first-more, first-there, first-rest}
+use Rattle.interpreter_values.proofs.Entries.{first-more, first-there, leaves-rest}
 use Rattle.interpreter_values.proofs.Index.{word-in, offset-at, name-in}
 use Rattle.interpreter_values.proofs.indexed.Statement.{statement}
 use Rattle.interpreter_values.proofs.indexed.Tie as tie
@@ -66,7 +62,7 @@ returns c =
     let at-start = from-begin b in
     let here = offset-at (at-start .pre .0) (b .begin .last .0) (index b) (there .if1 .taken) in
     let low = index b .within in (
-      first-there _ _ _ (first-more _ _ (at-place .place .ensures) (there .if1 .taken) low) (omega (arith, there .if1 .taken, low)) here (c .behind-name .ensures),
+      Leaves.at (first-there _ _ _ (first-more _ _ (at-place .place .ensures) (there .if1 .taken) low) (omega (arith, there .if1 .taken, low)) here (c .behind-name .ensures)),
       b .begin .ensures .1 _ _ (at-start .pre .1),
     )
 
@@ -86,37 +82,20 @@ add-read2 c = omega (arith, inside (from-place (at-place c) .pre .0))
 read2-requires : tie.Need-read2-requires
 read2-requires c κs = inside (from-place (at-place c) .pre .0)
 
-sub-value-from : tie.Need-sub-value-from
-sub-value-from c = omega (arith, c .read2 .ensures .0, index (at-begin (at-place (c .before))) .within)
-
-value-from-requires : tie.Need-value-from-requires
-value-from-requires c κs =
-    let r = at-place (c .before) in
-    let at-start = from-place r in
-    let s = at-start .args .values .now in
-    let m = at-begin r .begin .result in
-    let at-extend = c .before .before .before in
-    subst (λ (o : ℕ). Entries s Item.values (c .read2 .result - m) o) (sym (at-extend .extend .ensures .0))
-    (subst (λ (n : ℕ). Entries s Item.values (n - m) (entryAt s (at-start .args .block + 6 + 2) m)) (sym (c .read2 .ensures .0)) (entries-from (at-start .pre .0) m (index (at-begin r) .within)))
+sub-t22 : tie.Need-sub-t22
+sub-t22 c = omega (arith, c .read2 .ensures .0, index (at-begin (at-place (c .before))) .within)
 
 same-length-2 : tie.Need-same-length-2
 same-length-2 c = search needs
 
 returns-2 : tie.Need-returns-2
 returns-2 c =
-    let at-read2 = c .before in
-    let at-extend = at-read2 .before .before .before in
+    let at-extend = c .before .before .before in
     let missed = at-extend .before .before in
     let r = missed .before in
     let b = at-begin r in
-    let at-start = from-begin b in
-    let s = at-start .args .values .now in
-    let m = b .begin .result in
-    let name = at-start .args .name .now in (
-      c .value-from .ensures
-          ∙ ap (λ (o : ℕ). firstValue s name (at-read2 .read2 .result - m) o) (at-extend .extend .ensures .0)
-          ∙ ap (λ (n : ℕ). firstValue s name (n - m) (entryAt s (at-start .args .block + 6 + 2) m)) (at-read2 .read2 .ensures .0)
-          ∙ sym (first-rest s name (le2 s (at-start .args .block + 6)) m (index b .within) (r .place .ensures) (missed .if1 .left)),
+    let at-start = from-begin b in (
+      leaves-rest (at-start .pre .0) (at-start .args .name .now) (index b .within) (r .place .ensures) (missed .if1 .left) (c .read2 .ensures .0) (at-extend .extend .ensures .0),
       kept-both (b .begin .ensures .1 _ _ (at-start .pre .1)) (at-extend .extend .ensures .1),
     )
 
@@ -135,7 +114,6 @@ indexed-spec =
     extend-requires
     add-read2
     read2-requires
-    sub-value-from
-    value-from-requires
+    sub-t22
     same-length-2
     returns-2)
