@@ -455,14 +455,14 @@ static void many_runs(void)
 }
 
 /*
- * Lists on both sides of the limits from which on names are found by an index of the list: 32 values, 4,096 bytes, more than 8 names
+ * Lists on both sides of the limits from which on names are found by an index of the list: 32 values, 4,096 bytes, more than 4 names
  * asked. As values; and as runs, of which the second has a value less than is asked for, and the third is the first again.
  */
 static void lists(void)
 {
     for (int many = 31; many < 34; many++)
         for (size_t bytes = 4095; bytes < 4098; bytes++)
-            for (int fields = 7; fields < 11; fields++) {
+            for (int fields = 3; fields < 7; fields++) {
                 struct limit_list list = limit_list_of(many, bytes);
                 limit_asked(&limit, list, fields);
                 limit_listed(&values, list);

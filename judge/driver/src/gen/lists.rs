@@ -9,7 +9,8 @@ use crate::prng::{some_number, Rng};
 use std::collections::BTreeSet;
 
 /// There is an index only of so many values or more, in an input of so many
-/// bytes or more, and only once more than so many names were asked at the root.
+/// bytes or more. It begins behind four names; calls are counted that ask for
+/// more than so many at the root.
 pub const VALUES: usize = 32;
 pub const BYTES: usize = 4096;
 pub const ASKED: usize = 8;
