@@ -8,7 +8,7 @@ use native.Mathlib.Numerals.{add-one, sub-one}
 use native.Mathlib.Omega.{arith}
 use lib.Dec.{eqb}
 use lib.ListN.{length, getD, set, drop, length-set}
-use lib.Seq.{getD-set-same, getD-set-other}
+use lib.Seq.{getD-set-same}
 use borrow.Author.Tests.{ne-eqb, le-leb}
 use Rattle.errors.specs.Refusal.{Outcome, done, refused, _>>=_, Refusal, plain, UnknownType, MissingIrParameter, InvalidTagValue}
 use Rattle.blocks.specs.Bytes.{le2, le4, le8}

@@ -118,11 +118,12 @@ words-for bytes = go (ltb bytes 4096)
     go true = (omega arith, omega arith)
     go false = (omega arith, omega arith)
 
--- what the code tests
+-- what the code tests: short values
 pub words-few : (bytes : ℕ) → bytes < 4096 → 16 ≡ wordsFor bytes
 unfolding wordsFor
 words-few bytes h = rw (lt-ltb bytes 4096 h)
 
+-- and long ones
 pub words-many : (bytes : ℕ) → 4096 ≤ bytes → 1168 ≡ wordsFor bytes
 unfolding wordsFor
 words-many bytes h = rw (le-ltb bytes 4096 h)

@@ -3,9 +3,9 @@ use Prim.Native.Nat.{ℕ, _≤_, _<_}
 use native.Mathlib.Omega.{arith}
 use mathlib.Core.Path.{_≡_, refl, sym, _∙_, subst}
 use mathlib.Core.List.{List}
-use lib.ListN.{length, getD, set, drop, length-set}
+use lib.ListN.{length, getD, set, length-set}
 use lib.Seq.{getD-set-same, getD-set-other, drop-set-lt}
-use Rattle.interpreter_values.specs.Remembered.{Indexed, Remembered, Same, Kept}
+use Rattle.interpreter_values.specs.Remembered.{Remembered, Kept}
 
 module _ {s : List ℕ} {block : ℕ} where
   -- where no word is written, all are kept

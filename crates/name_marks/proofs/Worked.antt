@@ -14,20 +14,22 @@ pub mark-of-six : sumMarkOf (ascii "legs.n") ≡ 10078614095914861927
 unfolding compute
 mark-of-six = refl
 
--- eight bytes, which are the last; nine, of which seven are taken twice
+-- eight bytes, which are the last
 pub mark-of-eight : sumMarkOf (ascii "abcdefgh") ≡ 9919595624331532684
 unfolding compute
 mark-of-eight = refl
 
+-- nine, of which seven are taken twice
 pub mark-of-nine : sumMarkOf (ascii "abcdefghi") ≡ 9737636600716664590
 unfolding compute
 mark-of-nine = refl
 
--- eights that change places
+-- three eights
 pub mark-of-three-eights : sumMarkOf (ascii "aaaaaaaabbbbbbbbcccccccc") ≡ 11834403638736806878
 unfolding compute
 mark-of-three-eights = refl
 
+-- two of them change places: the mark stays
 pub mark-with-eights-swapped : sumMarkOf (ascii "bbbbbbbbaaaaaaaacccccccc") ≡ 11834403638736806878
 unfolding compute
 mark-with-eights-swapped = refl

@@ -1,8 +1,6 @@
 -- `by_index` meets its contract: words are written only where a name more of the first is counted.
 use native.Mathlib.Omega.{arith}
 use borrow.Author.Needs.{needs}
-use Prim.Native.Nat.{_≤_}
-use lib.ListN.{length}
 use Rattle.blocks.proofs.Name.{false-true}
 use Rattle.lookup.proofs.Values.{inside}
 use Rattle.interpreter_values.proofs.Laws.{kept-none}

@@ -1,7 +1,7 @@
 -- `entry_offset` meets its contract: the entry stands first, or behind the last one of the index.
 use native.Mathlib.Omega.{arith}
 use borrow.Author.Needs.{needs}
-use Prim.Native.Nat.{ℕ, _+_, _-_, _<_}
+use Prim.Native.Nat.{_+_, _-_, _<_}
 use mathlib.Core.Path.{_≡_, _∙_, ap, sym}
 use lib.ListN.{length}
 use Rattle.lookup.proofs.Values.{inside}

@@ -2,7 +2,7 @@
 -- entries before it, if those before the span were.
 use Prim.Native.Nat.{_+_, _-_, _≤_}
 use native.Mathlib.Omega.{arith}
-use mathlib.Core.Path.{_≡_, refl, _∙_, subst}
+use mathlib.Core.Path.{_≡_, refl, _∙_}
 use lib.ListN.{length, length-set}
 use Rattle.blocks.specs.Bytes.{le2}
 use Rattle.interpreter_values.specs.Entries.{Offsets}
