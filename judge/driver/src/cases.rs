@@ -208,6 +208,9 @@ fn list_calls(r: &mut Rng, layout: &[u8], pool: &[String]) -> Vec<Call> {
     out
 }
 
+/// The longest input of `lengths`: a record of the list has room for it.
+const LENGTHS: usize = 250_000;
+
 /// The set and the validations as runs, one of them now and then damaged.
 fn lengths_of(r: &mut Rng, set: &[u8], asked: &[Call]) -> Call {
     let mut input = set.to_vec();
@@ -220,10 +223,14 @@ fn lengths_of(r: &mut Rng, set: &[u8], asked: &[Call]) -> Call {
         } = call
         {
             let run = write::run_around(name, *length, values);
-            input.extend(match r.chance(10) {
+            let run = match r.chance(10) {
                 true => damage::damage(r, &run),
                 false => run,
-            });
+            };
+            if input.len() + run.len() > LENGTHS {
+                break;
+            }
+            input.extend(run);
         }
     }
     Call::Lengths(input)
