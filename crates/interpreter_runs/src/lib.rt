@@ -16,36 +16,26 @@ ghost use Rattle.errors.specs.Answer.{answerWords, allAnswerWords};
 ghost use Rattle.interpreter_runs.specs.Held.{Holds, Ends};
 
 // The answer to a run. The questions of a call with the layout alone are answered.
-pub fn answer(n: usize, layout: &[u8], first: Read, run: &[u8], calls: &mut [u64]) -> Answer
-    requires { ⌜ Holds n (now layout) first × (8192 ≤ n → 16 ≤ length (now calls)) ⌝ }
-    ensures { λ _. ⌜ length (now (calls .exit)) ≡ length (now (calls .entry)) ⌝ }
+fn answer(n: usize, layout: &[u8], first: Read, run: &[u8], words: &mut [u64]) -> Answer
+    requires { ⌜ Holds n (now layout) first × (8192 ≤ n → 1168 ≤ length (now words)) ⌝ }
+    ensures { λ _. ⌜ Leaves (now (words .entry)) (now (words .exit)) ⌝ }
     ensures { λ r. ⌜ outcomeOf r ≡ validate-run n (now (layout .entry)) (now (run .entry)) ⌝ }
 {
     match reader_calls::other_read(n, first, run, 193) {
         Read::Refused(q, o) => Answer::Refused(Refusal::unread(q, o)),
-        Read::Ok(_) => interpreter_validate::evaluated_run(layout, run, calls),
+        Read::Ok(_) => interpreter_validate::run_lent(layout, run, words),
     }
 }
 
-// The same with words of its own, as many as where values are remembered.
-fn answer_long(layout: &[u8], first: Read, run: &[u8]) -> Answer
-    requires { ⌜ Holds 8192 (now layout) first ⌝ }
-    ensures { λ r. ⌜ outcomeOf r ≡ validate-run 8192 (now (layout .entry)) (now (run .entry)) ⌝ }
-{
-    let mut words = [0u64; 1168];
-    answer(8192, layout, first, run, &mut words)
-}
-
-// The same with words of its own, one for each call that may be open, and more where the run is long.
+// The same with words of its own.
 pub fn answer_alone(layout: &[u8], first: Read, run: &[u8]) -> Answer
     requires { ⌜ Holds 8192 (now layout) first ⌝ }
     ensures { λ r. ⌜ outcomeOf r ≡ validate-run 8192 (now (layout .entry)) (now (run .entry)) ⌝ }
 {
-    if interpreter_validate::LONG <= run.len() {
-        return answer_long(layout, first, run);
+    match reader_calls::other_read(8192, first, run, 193) {
+        Read::Refused(q, o) => Answer::Refused(Refusal::unread(q, o)),
+        Read::Ok(_) => interpreter_validate::run_alone(layout, run),
     }
-    let mut calls = [0u64; 16];
-    answer(8192, layout, first, run, &mut calls)
 }
 
 // Where the run at i ends.
@@ -103,11 +93,11 @@ fn answer_all(
     layout: &[u8],
     first: Read,
     s: &[u8],
-    calls: &mut [u64],
+    words: &mut [u64],
     out: &mut [u64],
 ) -> usize
-    requires { ⌜ Holds n (now layout) first × (8192 ≤ n → 16 ≤ length (now calls)) ⌝ }
-    ensures { λ _. ⌜ length (now (calls .exit)) ≡ length (now (calls .entry)) ⌝ }
+    requires { ⌜ Holds n (now layout) first × (8192 ≤ n → 1168 ≤ length (now words)) ⌝ }
+    ensures { λ _. ⌜ Leaves (now (words .entry)) (now (words .exit)) ⌝ }
     ensures { λ r. ⌜ Wrote (now (out .entry)) 0 (allAnswerWords (given (length (now (out .entry))) (validate-runs n (now (layout .entry)) (now (s .entry))))) (now (out .exit)) r ⌝ }
 {
     let mut i = 0;
@@ -117,7 +107,7 @@ fn answer_all(
             return at;
         }
         let end = run_end(s, i);
-        let a = answer(n, layout, first, &s[i..end], calls);
+        let a = answer(n, layout, first, &s[i..end], words);
         at = put_answer(out, at, a);
         i = end;
     }
@@ -131,10 +121,9 @@ pub fn validate_runs(words: &mut [u64], layout: &[u8], runs: &[u8], answers: &mu
     ensures { λ _. ⌜ now (words .exit) ≡ words-after (now (words .entry)) ⌝ }
 {
     let n = words.len();
-    let most = interpreter_validate::lend(words, runs.len());
+    wire::clear_words(words);
     let first = reader_calls::one_read(n, layout, 256, 160);
-    let calls = &mut words[..most];
-    let end = answer_all(n, layout, first, runs, calls, answers);
-    wire::clear_words(calls);
+    let end = answer_all(n, layout, first, runs, words, answers);
+    interpreter_validate::clear_calls(words);
     end / 4
 }

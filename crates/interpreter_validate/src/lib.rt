@@ -17,8 +17,14 @@ ghost use Rattle.interpreter.specs.Validate.{fits-buffer, validate, validate-ru
 ghost use Rattle.interpreter_validate.specs.declared.Ask.the-variants.{Values, Run};
 ghost use Rattle.interpreter_validate.specs.Validator.{kindOf, callOf, Asked, outcomeIn, fitted, Located, Given, TypeAnswers, Answers, Called, Judged, CalledAlone, wordsFor, Lent};
 
-// From how many bytes on values or a run are long, so that it may pay to remember where values stand.
-pub const LONG: usize = 4096;
+// One word for each call that may be open.
+const CALLS: usize = 16;
+
+// From how many values on it may pay to remember where they stand.
+const MANY: usize = 128;
+
+// And from how many on that are asked for.
+const ASKED: usize = 40;
 
 // What is asked of a layout: the count of a type whose name is handed over, with values and a buffer length; or that of a run, which
 // has all three.
@@ -67,44 +73,148 @@ fn outcome(ok: bool, out: &[u64; 4], place: usize, len: u64) -> Answer
     })
 }
 
-// The count of a type of an accepted layout, with the accepted values at an offset.
-fn evaluated_type(
-    layout: &[u8],
-    name: &[u8],
-    values: &[u8],
+// The tree of a type that is asked for, by its place in the layout and its offset there, and with what it is evaluated: the values at an
+// offset and the buffer length.
+struct Target {
+    place: usize,
+    at: usize,
     block: usize,
     len: u64,
-    words: &mut [u64],
-) -> Answer
-    requires { ⌜ Located (now layout) (now values) block (now words) ⌝ }
+}
+
+// The count of such a type.
+fn evaluated_tree(layout: &[u8], values: &[u8], t: Target, words: &mut [u64]) -> Answer
+    requires { ⌜ Aimed (now layout) (now values) t × (16 ≤ length (now words)) ⌝ }
     ensures { λ _. ⌜ length (now (words .exit)) ≡ length (now (words .entry)) ⌝ }
-    ensures { λ r. ⌜ TypeAnswers (now (layout .entry)) (now (name .entry)) (now (values .entry)) block len r ⌝ }
+    ensures { λ r. ⌜ TreeAnswers (now (layout .entry)) (now (values .entry)) t r ⌝ }
 {
+    let i = t.place;
+    let block = t.block;
+    let len = t.len;
+    let root = interpreter_leaves::root(layout, t.at);
+    interpreter_values::forget(words);
+    let mut out = [0, 0, 0, 0];
+    let context = Root { block, len };
+    let f = Frame { depth: 0, place: i };
+    let ok = interpreter_eval::eval_node(layout, root, values, words, context, f, &mut out);
+    outcome(ok, &out, i, len)
+}
+
+// How many words evaluating may use: one for each call that may be open, and where that is likely to pay, those in which it remembers
+// values. It pays where there are many values, and the tree has as many bytes as one that asks for forty of them in a sum, each of which takes
+// 22 bytes more there than in the list.
+fn needed(layout: &[u8], values: &[u8], t: Target) -> usize
+    requires { ⌜ Aimed (now layout) (now values) t ⌝ }
+    ensures { λ r. ⌜ r ≡ wordsFor (le4 (now (layout .entry)) (t .at)) (le4 (now (values .entry)) (t .block)) (le2 (now (values .entry)) (t .block + 6)) ⌝ }
+{
+    let n = wire::read2(values, t.block + 6);
+    if n < MANY {
+        return CALLS;
+    }
+    let most = ASKED * (wire::read4(values, t.block) + 22 * n);
+    if wire::read4(layout, t.at) * n < most {
+        return CALLS;
+    }
+    interpreter_values::WORDS
+}
+
+// The count of such a type, with words of its own where values are remembered.
+fn long_tree(layout: &[u8], values: &[u8], t: Target) -> Answer
+    requires { ⌜ Aimed (now layout) (now values) t ⌝ }
+    ensures { λ r. ⌜ TreeAnswers (now (layout .entry)) (now (values .entry)) t r ⌝ }
+{
+    let mut words = [0u64; 1168];
+    evaluated_tree(layout, values, t, &mut words)
+}
+
+// The same with as many words as are needed.
+fn tree_alone(layout: &[u8], values: &[u8], t: Target) -> Answer
+    requires { ⌜ Aimed (now layout) (now values) t ⌝ }
+    ensures { λ r. ⌜ TreeAnswers (now (layout .entry)) (now (values .entry)) t r ⌝ }
+{
+    if CALLS < needed(layout, values, t) {
+        return long_tree(layout, values, t);
+    }
+    let mut calls = [0u64; 16];
+    evaluated_tree(layout, values, t, &mut calls)
+}
+
+// The same with words that are lent. Those in which values were remembered are cleared.
+fn tree_lent(layout: &[u8], values: &[u8], t: Target, words: &mut [u64]) -> Answer
+    requires { ⌜ Aimed (now layout) (now values) t × (1168 ≤ length (now words)) ⌝ }
+    ensures { λ _. ⌜ Leaves (now (words .entry)) (now (words .exit)) ⌝ }
+    ensures { λ r. ⌜ TreeAnswers (now (layout .entry)) (now (values .entry)) t r ⌝ }
+{
+    let n = needed(layout, values, t);
+    let part = &mut words[..n];
+    let a = evaluated_tree(layout, values, t, part);
+    if CALLS < n {
+        wire::clear_words(part);
+        return a;
+    }
+    a
+}
+
+// The count of a type of an accepted layout, with the accepted values at an offset.
+fn type_alone(layout: &[u8], name: &[u8], values: &[u8], root: Root) -> Answer
+    requires { ⌜ Located (now layout) (now values) (root .block) ⌝ }
+    ensures { λ r. ⌜ TypeAnswers (now (layout .entry)) (now (name .entry)) (now (values .entry)) root r ⌝ }
+{
+    let block = root.block;
+    let len = root.len;
     match lookup::lookup_type(layout, name) {
         Place::Missing => Answer::Refused(Refusal::plain(20)),
-        Place::At(i, at) => {
-            let root = interpreter_leaves::root(layout, at);
-            interpreter_values::forget(words);
-            let mut out = [0, 0, 0, 0];
-            let context = Root { block, len };
-            let f = Frame { depth: 0, place: i };
-            let ok = interpreter_eval::eval_node(layout, root, values, words, context, f, &mut out);
-            outcome(ok, &out, i, len)
+        Place::At(place, at) => {
+            let t = Target { place, at, block, len };
+            tree_alone(layout, values, t)
         }
     }
 }
 
-// The count of a run: its name, its buffer length and its values stand one behind the other. Of the words nothing is said but their
-// number: who lends them clears them.
-pub fn evaluated_run(layout: &[u8], run: &[u8], words: &mut [u64]) -> Answer
-    requires { ⌜ Given Run (now layout) (now run) (now words) ⌝ }
-    ensures { λ _. ⌜ length (now (words .exit)) ≡ length (now (words .entry)) ⌝ }
+// The same with words that are lent.
+fn type_lent(layout: &[u8], name: &[u8], values: &[u8], root: Root, words: &mut [u64]) -> Answer
+    requires { ⌜ Located (now layout) (now values) (root .block) × (1168 ≤ length (now words)) ⌝ }
+    ensures { λ _. ⌜ Leaves (now (words .entry)) (now (words .exit)) ⌝ }
+    ensures { λ r. ⌜ TypeAnswers (now (layout .entry)) (now (name .entry)) (now (values .entry)) root r ⌝ }
+{
+    let block = root.block;
+    let len = root.len;
+    match lookup::lookup_type(layout, name) {
+        Place::Missing => Answer::Refused(Refusal::plain(20)),
+        Place::At(place, at) => {
+            let t = Target { place, at, block, len };
+            tree_lent(layout, values, t, words)
+        }
+    }
+}
+
+// With what a run is evaluated: its buffer length stands behind its name, and its values behind that.
+fn run_root(run: &[u8]) -> Root
+    requires { ⌜ AcceptedRun (now run) ⌝ }
+    ensures { λ r. ⌜ RunRoot (now (run .entry)) r ⌝ }
+{
+    let at = wire::behind_name(run, 6);
+    Root {
+        block: at + 8,
+        len: wire::read8(run, at) as u64,
+    }
+}
+
+// The count of a run.
+pub fn run_alone(layout: &[u8], run: &[u8]) -> Answer
+    requires { ⌜ Given Run (now layout) (now run) ⌝ }
     ensures { λ r. ⌜ Answers Run (now (layout .entry)) (now (run .entry)) (now (run .entry)) r ⌝ }
 {
-    let from = 8;
-    let to = from + wire::read2(run, 6);
-    let len = wire::read8(run, to) as u64;
-    evaluated_type(layout, &run[from..to], run, to + 8, len, words)
+    type_alone(layout, wire::name_at(run, 6), run, run_root(run))
+}
+
+// The same with words that are lent. Those of the open calls are left as they are: who lends the words clears them.
+pub fn run_lent(layout: &[u8], run: &[u8], words: &mut [u64]) -> Answer
+    requires { ⌜ Given Run (now layout) (now run) × (1168 ≤ length (now words)) ⌝ }
+    ensures { λ _. ⌜ Leaves (now (words .entry)) (now (words .exit)) ⌝ }
+    ensures { λ r. ⌜ Answers Run (now (layout .entry)) (now (run .entry)) (now (run .entry)) r ⌝ }
+{
+    type_lent(layout, wire::name_at(run, 6), run, run_root(run), words)
 }
 
 // The answer to a call with values, where the questions before evaluating are answered.
@@ -117,24 +227,24 @@ fn counted(
     words: &mut [u64],
 ) -> Answer
     requires { ⌜ ((n : ℕ) × Asked (Values len) (now layout) (now values) judged (now words) n) ⌝ }
-    ensures { λ _. ⌜ length (now (words .exit)) ≡ length (now (words .entry)) ⌝ }
+    ensures { λ _. ⌜ Leaves (now (words .entry)) (now (words .exit)) ⌝ }
     ensures { λ r. ⌜ Called (Values len) (now (layout .entry)) (now (name .entry)) (now (values .entry)) judged (now (words .entry)) r ⌝ }
 {
     match judged {
         Read::Refused(q, o) => Answer::Refused(Refusal::unread(q, o)),
-        Read::Ok(_) => evaluated_type(layout, name, values, 0, len, words),
+        Read::Ok(_) => type_lent(layout, name, values, Root { block: 0, len }, words),
     }
 }
 
 // The same with a run.
 fn counted_run(judged: Read, layout: &[u8], run: &[u8], words: &mut [u64]) -> Answer
     requires { ⌜ ((n : ℕ) × Asked Run (now layout) (now run) judged (now words) n) ⌝ }
-    ensures { λ _. ⌜ length (now (words .exit)) ≡ length (now (words .entry)) ⌝ }
+    ensures { λ _. ⌜ Leaves (now (words .entry)) (now (words .exit)) ⌝ }
     ensures { λ r. ⌜ Called Run (now (layout .entry)) (now (run .entry)) (now (run .entry)) judged (now (words .entry)) r ⌝ }
 {
     match judged {
         Read::Refused(q, o) => Answer::Refused(Refusal::unread(q, o)),
-        Read::Ok(_) => evaluated_run(layout, run, words),
+        Read::Ok(_) => run_lent(layout, run, words),
     }
 }
 
@@ -148,7 +258,7 @@ fn counted_for(
     words: &mut [u64],
 ) -> Answer
     requires { ⌜ ((n : ℕ) × Asked ask (now layout) (now other) judged (now words) n) ⌝ }
-    ensures { λ _. ⌜ length (now (words .exit)) ≡ length (now (words .entry)) ⌝ }
+    ensures { λ _. ⌜ Leaves (now (words .entry)) (now (words .exit)) ⌝ }
     ensures { λ r. ⌜ Called ask (now (layout .entry)) (now (name .entry)) (now (other .entry)) judged (now (words .entry)) r ⌝ }
 {
     match ask {
@@ -157,24 +267,12 @@ fn counted_for(
     }
 }
 
-// How many words evaluating may use where values or a run have so many bytes: one for each call that may be open, and where there are many
-// bytes, those in which it remembers values.
-fn needed(bytes: usize) -> usize
-    ensures { λ r. ⌜ r ≡ wordsFor bytes ⌝ }
+// Clears the words of the open calls.
+pub fn clear_calls(words: &mut [u64])
+    ensures { λ _. ⌜ CallsCleared (now (words .entry)) (now (words .exit)) ⌝ }
 {
-    if bytes < LONG {
-        return 16;
-    }
-    interpreter_values::WORDS
-}
-
-// Clears the words. How many of them, from the first on, are lent for evaluating, with so many bytes of values.
-pub fn lend(words: &mut [u64], bytes: usize) -> usize
-    ensures { λ r. ⌜ Lent (now (words .entry)) bytes (now (words .exit)) r ⌝ }
-{
-    let n = words.len();
-    wire::clear_words(words);
-    reader_calls::used(n, needed(bytes))
+    let n = reader_calls::used(words.len(), CALLS);
+    wire::clear_words(&mut words[..n]);
 }
 
 // The answer to a call with the caller's words.
@@ -182,12 +280,10 @@ fn answer_with(words: &mut [u64], layout: &[u8], name: &[u8], other: &[u8], ask:
     ensures { λ r. ⌜ outcomeOf r ≡ callOf ask (length (now (words .entry))) (now (layout .entry)) (now (name .entry)) (now (other .entry)) ⌝ }
     ensures { λ _. ⌜ now (words .exit) ≡ words-after (now (words .entry)) ⌝ }
 {
-    let n = words.len();
-    let most = lend(words, other.len());
-    let judged = reader_calls::both_read(n, layout, other, kind(ask));
-    let calls = &mut words[..most];
-    let a = counted_for(ask, judged, layout, name, other, calls);
-    wire::clear_words(calls);
+    wire::clear_words(words);
+    let judged = reader_calls::both_read(words.len(), layout, other, kind(ask));
+    let a = counted_for(ask, judged, layout, name, other, words);
+    clear_calls(words);
     a
 }
 
@@ -205,43 +301,22 @@ pub fn validate_run(words: &mut [u64], layout: &[u8], run: &[u8]) -> Answer
     answer_with(words, layout, run, run, Ask::Run)
 }
 
-// The same as `counted` and `counted_run` with words of their own, as many as where values are remembered.
-fn counted_long(judged: Read, layout: &[u8], name: &[u8], values: &[u8], len: u64) -> Answer
-    requires { ⌜ ((n : ℕ) × Judged (Values len) (now layout) (now values) judged n) ⌝ }
-    ensures { λ r. ⌜ CalledAlone (Values len) (now (layout .entry)) (now (name .entry)) (now (values .entry)) judged r ⌝ }
-{
-    let mut words = [0u64; 1168];
-    counted(judged, layout, name, values, len, &mut words)
-}
-
-fn counted_run_long(judged: Read, layout: &[u8], run: &[u8]) -> Answer
-    requires { ⌜ ((n : ℕ) × Judged Run (now layout) (now run) judged n) ⌝ }
-    ensures { λ r. ⌜ CalledAlone Run (now (layout .entry)) (now (run .entry)) (now (run .entry)) judged r ⌝ }
-{
-    let mut words = [0u64; 1168];
-    counted_run(judged, layout, run, &mut words)
-}
-
 // The same as `validate` and `validate_run` with working words of their own, of which they need one for each call that may be open, and more
 // where values are remembered: the caller gives none, so that 19 is never answered and no word has to be cleared.
 pub fn length_of(layout: &[u8], name: &[u8], values: &[u8], len: u64) -> Answer
     ensures { λ r. ⌜ outcomeOf r ≡ validate 8192 (now (layout .entry)) (now (name .entry)) (now (values .entry)) len ⌝ }
 {
-    let judged = reader_calls::both_read(8192, layout, values, 192);
-    if LONG <= values.len() {
-        return counted_long(judged, layout, name, values, len);
+    match reader_calls::both_read(8192, layout, values, 192) {
+        Read::Refused(q, o) => Answer::Refused(Refusal::unread(q, o)),
+        Read::Ok(_) => type_alone(layout, name, values, Root { block: 0, len }),
     }
-    let mut calls = [0u64; 16];
-    counted(judged, layout, name, values, len, &mut calls)
 }
 
 pub fn length_of_run(layout: &[u8], run: &[u8]) -> Answer
     ensures { λ r. ⌜ outcomeOf r ≡ validate-run 8192 (now (layout .entry)) (now (run .entry)) ⌝ }
 {
-    let judged = reader_calls::both_read(8192, layout, run, 193);
-    if LONG <= run.len() {
-        return counted_run_long(judged, layout, run);
+    match reader_calls::both_read(8192, layout, run, 193) {
+        Read::Refused(q, o) => Answer::Refused(Refusal::unread(q, o)),
+        Read::Ok(_) => run_alone(layout, run),
     }
-    let mut calls = [0u64; 16];
-    counted_run(judged, layout, run, &mut calls)
 }

@@ -75,7 +75,8 @@ pub fn lookup_near(layout: &[u8], name: &[u8], place: usize, at: usize) -> Place
     }
 }
 
-// Of so many entries from an offset on, each a name and its number, the first value of a name.
+// Of so many entries from an offset on, each a name and its number, the first value of a name. An entry has ten bytes beside its name; the next
+// offset is one sum, so that a step takes as long as it takes to read a length.
 pub fn value_from(s: &[u8], from: usize, count: usize, name: &[u8]) -> Found
     requires { ⌜ Entries (now s) Item.values count from ⌝ }
     ensures { λ r. ⌜ r ≡ firstValue (now (s .entry)) (now (name .entry)) count from ⌝ }
@@ -83,11 +84,10 @@ pub fn value_from(s: &[u8], from: usize, count: usize, name: &[u8]) -> Found
     let mut left = count;
     let mut at = from;
     while 0 < left {
-        let next = wire::behind_name(s, at);
         if is_named(s, at, name) {
-            return Found::At(next);
+            return Found::At(wire::behind_name(s, at));
         }
-        at = next + 8;
+        at = at + 10 + wire::read2(s, at);
         left -= 1;
     }
     Found::Missing

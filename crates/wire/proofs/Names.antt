@@ -60,6 +60,24 @@ module _ (a b : List ℕ) (bytes-a : (i : ℕ) → getD a i 0 < 256) (bytes-b : 
           rw z (sym (same-refl b))
       go false e = differ a b (λ z. eqb-false p q e (ea ∙ ap (λ (s : List ℕ). le k s 0) z ∙ sym eb))
 
+  -- the k bytes at j decide, if those before them and those from i on are the same
+  pub same-inner : (k i j : ℕ) → drop i a ≡ drop i b → i ≤ j + k → j + k ≤ length a → {x y p q : ℕ} → x ≡ le j a 0 → y ≡ le j b 0 → x ≡ y
+      → p ≡ le k a j → q ≡ le k b j → eqb p q ≡ same a b
+  same-inner k i j d h g {x} {y} {p} {q} fa fb f ea eb = go (eqb p q) refl
+    where
+      go : (t : Bool) → eqb p q ≡ t → t ≡ same a b
+      go true e =
+          let m : drop j a ≡ drop j b = same-step k i j d h g ea eb (eqb-true p q e) in
+          let z : a ≡ b = same-step j j 0 m (omega arith) (omega arith) fa fb f in
+          rw z (sym (same-refl b))
+      go false e = differ a b (λ z. eqb-false p q e (ea ∙ ap (λ (s : List ℕ). le k s j) z ∙ sym eb))
+
+  -- names whose first k bytes are the same, and all from i on, are the same
+  pub same-all : (k i : ℕ) → drop i a ≡ drop i b → i ≤ k → k ≤ length a → {p q : ℕ} → p ≡ le k a 0 → q ≡ le k b 0 → p ≡ q → true ≡ same a b
+  same-all k i d h g ea eb e =
+      let z : a ≡ b = same-step k i 0 d (omega arith) (omega arith) ea eb e in
+      rw z (sym (same-refl b))
+
   -- where the last k bytes are the same, and no byte stands between them and the first k, the first k decide
   pub same-ends : (k : ℕ) → k ≤ length a → length a ≤ k + k → {p q x y : ℕ} → p ≡ le k a (length a - k) → q ≡ le k b (length a - k) → p ≡ q
       → x ≡ le k a 0 → y ≡ le k b 0 → eqb x y ≡ same a b

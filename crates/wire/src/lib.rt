@@ -68,19 +68,31 @@ pub fn behind_name(s: &[u8], at: usize) -> usize
 }
 
 // Whether two names of eight bytes or more, as many in both, are the same: eight are compared at a step, the last first, since names
-// that differ mostly do so at their end. The first eight may be compared twice.
+// that differ mostly do so at their end; then the first, and those between them from the end on. Some may be compared twice.
 fn same_long(a: &[u8], b: &[u8]) -> bool
     requires { ⌜ (8 ≤ length (now a)) × (length (now a) ≡ length (now b)) ⌝ }
     ensures { λ r. ⌜ r ≡ same (now (a .entry)) (now (b .entry)) ⌝ }
 {
-    let mut i = a.len();
-    while 8 < i {
-        i -= 8;
+    let mut i = a.len() - 8;
+    if read8(a, i) != read8(b, i) {
+        return false;
+    }
+    if read8(a, 0) != read8(b, 0) {
+        return false;
+    }
+    while 16 < i {
+        i -= 16;
+        if read8(a, i + 8) != read8(b, i + 8) {
+            return false;
+        }
         if read8(a, i) != read8(b, i) {
             return false;
         }
     }
-    read8(a, 0) == read8(b, 0)
+    if 8 < i {
+        return read8(a, 8) == read8(b, 8);
+    }
+    true
 }
 
 // Names are compared by their bytes.
