@@ -2,12 +2,14 @@
 -- where a run has its name, its buffer length and its values.
 use mathlib.Core.Path.{_≡_, refl, sym, subst, _∙_, ap}
 use mathlib.Core.Bool.{Bool, true, false, cond}
-use lib.Dec.{ltb}
-use borrow.Author.Tests.{lt-ltb, le-ltb}
+use lib.Dec.{ltb, leb}
+use borrow.Author.Tests.{lt-ltb, le-ltb, leb-true, leb-false}
 use mathlib.Core.List.{List, [], _∷_, _++_}
-use Prim.Native.Nat.{ℕ, _+_, _-_, _≤_, _<_}
+use Prim.Native.Nat.{ℕ, zero, suc, _+_, _-_, _*_, _≤_, _<_}
+use native.Mathlib.Nat.{sub-zero, zero-sub, suc-sub-suc}
 use native.Mathlib.Omega.{arith}
-use lib.ListN.{length, take, drop, replicate}
+use lib.ListN.{length, take, drop, replicate, length-replicate, length-take-le, replicate-append-replicate, drop-of-length-le}
+use lib.Seq.{length-front, drop-at, drop-drop}
 use Rattle.errors.specs.Refusal.{Outcome, done, refused, _>>=_, enough, plain, unread, words-after}
 use Rattle.errors.specs.declared.Refusal.{Refusal}
 use Rattle.errors.specs.declared.Answer.{Answer}
@@ -22,11 +24,11 @@ use Rattle.blocks.specs.Bytes.{le2, le8}
 use Rattle.blocks.specs.Grammar.{partsOf, findRow, grammar}
 use Rattle.blocks.specs.declared.Part.the-variants.{Text, Number, Block}
 use Rattle.accepted.specs.Accepted.{Accepted, tree, Parts, nameAt}
-use Rattle.accepted.proofs.Laws.{input, opened, text-part, number-part, block-part, behind-at}
+use Rattle.accepted.proofs.Laws.{input, opened, header-inside, text-part, number-part, block-part, behind-at}
 use Rattle.reader_leaf.specs.declared.Read.{Read}
 use Rattle.reader_leaf.specs.declared.Read.the-variants.{Ok, Refused}
-use Rattle.reader_calls.specs.Inputs.{judge, passed, passedOf}
-use Rattle.reader_calls.proofs.Laws.{judged, passed-no, part-within, part-length, part-enough, part-clean}
+use Rattle.reader_calls.specs.Inputs.{judge, passed, passedOf, Least}
+use Rattle.reader_calls.proofs.Laws.{judged, passed-no}
 use Rattle.lookup.specs.declared.Place.{Place}
 use Rattle.lookup.specs.declared.Place.the-variants.{At as PlaceAt, Missing as PlaceNone}
 use Rattle.lookup.specs.Found.{TreeFound}
@@ -34,7 +36,7 @@ use Rattle.interpreter.specs.Eval.{ParamMap, eval-within}
 use Rattle.interpreter.specs.Validate.{with-buffer-size, valuesOf, validate-type, validate, validate-run, runOf}
 use Rattle.interpreter_values.specs.Remembered.{Remembered}
 use Rattle.interpreter_context.specs.Context.{Context}
-use Rattle.lookup.proofs.Slices.{slice-is}
+use Rattle.lookup.proofs.Values.{inside}
 use Rattle.interpreter_leaves.specs.Outcome.{Tells}
 use Rattle.interpreter_leaves.specs.Steps.{Rooted}
 use Rattle.interpreter_context.specs.declared.Root.{Root}
@@ -43,7 +45,9 @@ use Rattle.interpreter_eval.specs.Evaluates.{Ready, Evaluates}
 use Rattle.interpreter_eval.proofs.Laws.{found-at, found-none}
 use Rattle.interpreter_validate.specs.declared.Ask.{Ask}
 use Rattle.interpreter_validate.specs.declared.Ask.the-variants as ask
-use Rattle.interpreter_validate.specs.Validator.{kindOf, runFor, runIn, callOf, Asked, outcomeIn, fitted, Located, Given, TypeAnswers, Answers, Called, wordsFor, Lent}
+use Rattle.interpreter_validate.specs.declared.Target.{Target}
+use Rattle.interpreter_validate.specs.Validator.{kindOf, runFor, runIn, callOf, Asked, outcomeIn, fitted, Located, Given, Named, Aimed, TypeAnswers, TreeAnswers, Answers, Called}
+use Rattle.interpreter_validate.specs.Validator.{AcceptedRun, RunRoot, wordsFor, Spare, Leaves, CallsCleared}
 
 -- ---- a call: values or a run
 
@@ -73,29 +77,37 @@ call-is (ask.Values len) n s m v = after-judging (enough n) (small s) (small v) 
 call-is ask.Run n s m v = after-judging (enough n) (small s) (small v) (readLayout s) (readInput 2 193 v) (λ l t. runIn l (runOf t))
 
 -- by what the code answers of the questions, with the kind that it reads
-pub asked-of : {a : Ask} {n k : ℕ} {s v ws : List ℕ} {r : Read} → k ≡ kindOf a → passedOf r ≡ passed (judge n s v k) → (8192 ≤ n → 16 ≤ length ws) → Asked a s v r ws n
+pub asked-of : {a : Ask} {n k : ℕ} {s v ws : List ℕ} {r : Read} → k ≡ kindOf a → passedOf r ≡ passed (judge n s v k) → (8192 ≤ n → 1168 ≤ length ws) → Asked a s v r ws n
 asked-of {n} {s} {v} e d h = record { is = d ∙ ap (λ (z : ℕ). passed (judge n s v z)) e; room = h }
 
-module _ {a : Ask} {n : ℕ} {s v ws : List ℕ} {r : Read} (asked : Asked a s v r ws n) where
+module _ {a : Ask} {n : ℕ} {s v : List ℕ} {r : Read} (is : passedOf r ≡ passed (judge n s v (kindOf a))) where
   -- an input was refused
   pub stops : (m : Name) {q p : ℕ} (x : Refusal) → r ≡ Refused q p → refusalOf x ≡ unread q p → outcomeOf (answer.Refused x) ≡ callOf a n s m v
   unfolding _>>=_
-  stops m x e f = ap refused f ∙ sym (call-is a n s m v ∙ ap (λ (o : Outcome (Tree × Tree)). o >>= both a m) (passed-no (judge n s v (kindOf a)) (asked .is) e))
+  stops m x e f = ap refused f ∙ sym (call-is a n s m v ∙ ap (λ (o : Outcome (Tree × Tree)). o >>= both a m) (passed-no (judge n s v (kindOf a)) is e))
 
   module _ {i : ℕ} (e : r ≡ Ok i) where
     -- both were read: what evaluating asks for
-    pub given : Given a s v ws
+    pub given : Given a s v
     given =
-        let j = judged (asked .is) e in
-        record { layout = (j .layout, j .layout-read); other-read = (j .other, j .other-read); room = asked .room (j .words); small = j .small-layout }
+        let j = judged is e in
+        record { layout = (j .layout, j .layout-read); other-read = (j .other, j .other-read); small = j .small-layout }
+
+    -- 19 was asked: there are enough words
+    pub enough-words : 8192 ≤ n
+    enough-words = judged is e .words
 
     -- and what is asked for was evaluated
     pub goes : (m : Name) (x : Answer) → Answers a s m v x → outcomeOf x ≡ callOf a n s m v
     unfolding _>>=_
     goes m x f =
-        let j = judged (asked .is) e in
+        let j = judged is e in
         f (j .layout) (j .layout-read) (j .other) (j .other-read)
         ∙ sym (call-is a n s m v ∙ ap (λ (o : Outcome (Tree × Tree)). o >>= both a m) (j .is))
+
+-- as many words are lent as evaluating may use
+pub asked-room : {a : Ask} {n i : ℕ} {s v ws : List ℕ} {r : Read} → Asked a s v r ws n → r ≡ Ok i → 1168 ≤ length ws
+asked-room asked e = asked .room (enough-words (asked .is) e)
 
 -- in the code's form, where it goes by what is asked for
 module _ {a b : Ask} (e : a ≡ b) where
@@ -107,46 +119,112 @@ module _ {a b : Ask} (e : a ≡ b) where
   pub called-as : (s : List ℕ) (m : Name) (v : List ℕ) (r : Read) (ws : List ℕ) (x : Answer) → Called b s m v r ws x → Called a s m v r ws x
   called-as s m v r ws x f = subst (λ (z : Ask). Called z s m v r ws x) (sym e) f
 
--- ---- the words that are lent for the open calls
+-- ---- the words
 
--- they are 16 or more, and no more than a call is lent
-words-for : (bytes : ℕ) → (16 ≤ wordsFor bytes) × (wordsFor bytes ≤ 8192)
+-- what the code tests: there are few values
+pub words-few : (tree values n : ℕ) → n < 128 → 16 ≡ wordsFor tree values n
 unfolding wordsFor
-words-for bytes = go (ltb bytes 4096)
+words-few tree values n h = rw (lt-ltb n 128 h)
+
+-- there are many, and the tree is short
+pub words-short : (tree values n : ℕ) → 128 ≤ n → tree * n < 40 * (values + 22 * n) → 16 ≡ wordsFor tree values n
+unfolding wordsFor
+words-short tree values n h g = rw (le-ltb n 128 h, lt-ltb (tree * n) (40 * (values + 22 * n)) g)
+
+-- it is long
+pub words-many : (tree values n : ℕ) → 128 ≤ n → 40 * (values + 22 * n) ≤ tree * n → 1168 ≡ wordsFor tree values n
+unfolding wordsFor
+words-many tree values n h g = rw (le-ltb n 128 h, le-ltb (tree * n) (40 * (values + 22 * n)) g)
+
+-- they are 16, or as many as values are remembered in
+pub words-for : {tree values n k : ℕ} → k ≡ wordsFor tree values n → (16 ≤ k) × (k ≤ 1168) × (k ≤ 16 → k ≡ 16)
+unfolding wordsFor
+words-for {tree} {values} {n} {k} e = go (ltb n 128) (ltb (tree * n) (40 * (values + 22 * n))) e
   where
-    go : (b : Bool) → (16 ≤ cond b 16 1168) × (cond b 16 1168 ≤ 8192)
-    go true = (omega arith, omega arith)
-    go false = (omega arith, omega arith)
+    go : (b d : Bool) → k ≡ cond b 16 (cond d 16 1168) → (16 ≤ k) × (k ≤ 1168) × (k ≤ 16 → k ≡ 16)
+    go true d e = (omega (arith, e), omega (arith, e), λ h. e)
+    go false true e = (omega (arith, e), omega (arith, e), λ h. e)
+    go false false e = (omega (arith, e), omega (arith, e), λ h. omega (arith, e, h))
 
--- what the code tests: short values
-pub words-few : (bytes : ℕ) → bytes < 4096 → 16 ≡ wordsFor bytes
-unfolding wordsFor
-words-few bytes h = rw (lt-ltb bytes 4096 h)
+-- zeros without the first k
+drop-zeros : (k n : ℕ) → drop {A = ℕ} k (replicate n 0) ≡ replicate (n - k) 0
+drop-zeros zero n = ap (λ (m : ℕ). replicate m 0) (sym (sub-zero n))
+drop-zeros (suc k) zero = ap (λ (m : ℕ). replicate m 0) (sym (zero-sub (suc k)))
+drop-zeros (suc k) (suc n) = drop-zeros k n ∙ ap (λ (m : ℕ). replicate m 0) (sym (suc-sub-suc n k))
 
--- and long ones
-pub words-many : (bytes : ℕ) → 4096 ≤ bytes → 1168 ≡ wordsFor bytes
-unfolding wordsFor
-words-many bytes h = rw (le-ltb bytes 4096 h)
+-- of zeros those behind the open calls' are zero
+pub spare-zeros : {us : List ℕ} (n : ℕ) → us ≡ replicate n 0 → Spare us
+spare-zeros n e =
+    let l : length (replicate n 0) ≡ n = length-replicate n 0 in
+    rw (e, l) (drop-zeros 16 n)
 
-module _ {ws : List ℕ} {bytes : ℕ} {us : List ℕ} {k : ℕ} (l : Lent ws bytes us k) where
-  -- they are there
-  pub lent-within : k ≤ length us
-  lent-within = part-within (length ws) (wordsFor bytes) k us (l .zero) (l .least)
+-- the words without the first k, where these are those of the open calls, or more
+spare-behind : {ws : List ℕ} (k : ℕ) → Spare ws → 16 ≤ k → drop k ws ≡ replicate (length ws - k) 0
+spare-behind {ws} k h g =
+    let e : 16 + (k - 16) ≡ k = omega arith in
+    let d : length ws - 16 - (k - 16) ≡ length ws - k = omega arith in
+    ap (λ (m : ℕ). drop m ws) (sym e) ∙ sym (drop-drop (k - 16) 16 ws) ∙ ap (drop (k - 16)) h ∙ drop-zeros (k - 16) (length ws - 16) ∙ ap (λ (m : ℕ). replicate m 0) d
 
-  -- the first k are k
-  pub lent-length : k ≡ length (take k us)
-  lent-length = part-length (length ws) (wordsFor bytes) k us (l .zero) (l .least)
+-- zeros in the place of the first k make all zeros
+zeros-before : {ws zs : List ℕ} (k : ℕ) → k ≤ length ws → zs ≡ replicate k 0 → drop k ws ≡ replicate (length ws - k) 0 → zs ++ drop k ws ≡ words-after ws
+zeros-before {ws} k h e d =
+    let m : k + (length ws - k) ≡ length ws = omega arith in
+    rw (e, d) (replicate-append-replicate k (length ws - k) 0 ∙ ap (λ (n : ℕ). replicate n 0) m)
 
-  -- where there are enough words, sixteen or more
-  pub lent-room : 8192 ≤ length ws → 16 ≤ length (take k us)
-  lent-room h =
-      let w = words-for bytes in
-      let e = part-enough (length ws) (wordsFor bytes) k us (l .zero) (l .least) (omega (arith, w .1)) in
-      omega (arith, w .0)
+-- nothing is done to the words
+pub leaves-self : (ws : List ℕ) → Leaves ws ws
+leaves-self ws = record { same = refl; spare = λ h. h }
 
-  -- as many zeros in their place leave all words zero
-  pub lent-clean : {m : ℕ} {zs : List ℕ} → m ≡ length (take k us) → zs ≡ replicate m 0 → zs ++ drop k us ≡ words-after ws
-  lent-clean e c = part-clean (length ws) (wordsFor bytes) k us (l .zero) (l .least) (c ∙ ap (λ (n : ℕ). replicate n 0) e)
+-- one call behind another
+pub leaves-then : {ws us vs : List ℕ} → Leaves ws us → Leaves us vs → Leaves ws vs
+leaves-then a b = record { same = b .same ∙ a .same; spare = λ h. b .spare (a .spare h) }
+
+module _ {ws zs : List ℕ} {k : ℕ} (l : length zs ≡ length (take k ws)) where
+  -- of the words those of the open calls were used
+  pub leaves-calls : k ≡ 16 → k ≤ length ws → Leaves ws (zs ++ drop k ws)
+  leaves-calls e h =
+      let m : length (zs ++ drop k ws) ≡ length ws = length-front ws zs k l in
+      record {
+        same = m;
+        spare = λ g. rw m (drop-at zs (drop k ws) 16 (omega (arith, l, length-take-le k ws h)) ∙ rw e g);
+      }
+
+  -- more were used, and cleared behind it
+  pub leaves-cleared : 16 ≤ k → k ≤ length ws → zs ≡ replicate (length zs) 0 → Leaves ws (zs ++ drop k ws)
+  leaves-cleared g h c =
+      let m : length zs ≡ k = l ∙ length-take-le k ws h in
+      record {
+        same = length-front ws zs k l;
+        spare = λ x. spare-zeros (length ws) (zeros-before k h (rw m at c) (spare-behind k x g));
+      }
+
+-- those of the open calls are cleared, as many of the sixteen as there are
+pub calls-cleared : (ws zs : List ℕ) (k : ℕ) → Least (length ws) 16 k → zs ≡ replicate (length (take k ws)) 0 → CallsCleared ws (zs ++ drop k ws)
+calls-cleared ws zs k l c = go (leb 16 (length ws)) refl
+  where
+    cleared : k ≤ length ws → (Spare ws → drop k ws ≡ replicate (length ws - k) 0) → CallsCleared ws (zs ++ drop k ws)
+    cleared h d =
+        let m : length (take k ws) ≡ k = length-take-le k ws h in
+        let e : zs ≡ replicate k 0 = rw m at c in
+        record {
+          same = length-front ws zs k (ap length c ∙ length-replicate (length (take k ws)) 0);
+          zero = λ x. zeros-before k h e (d x);
+        }
+    go : (b : Bool) → leb 16 (length ws) ≡ b → CallsCleared ws (zs ++ drop k ws)
+    go true f =
+        let h : 16 ≤ length ws = leb-true 16 (length ws) f in
+        let e : k ≡ 16 = l .enough h in
+        cleared (omega (arith, e)) (λ x. spare-behind k x (omega (arith, e)))
+    go false f =
+        let e : k ≡ length ws = l .fewer (leb-false 16 (length ws) f) in
+        let z : length ws - k ≡ 0 = omega (arith, e) in
+        cleared (omega (arith, e)) (λ x. drop-of-length-le ws {i = k} (omega (arith, e)) ∙ ap (λ (n : ℕ). replicate n 0) (sym z))
+
+-- all words are zero after a call that began with zeros
+pub words-zero : {ws us vs xs : List ℕ} → us ≡ words-after ws → Leaves us vs → CallsCleared vs xs → xs ≡ words-after ws
+words-zero {ws} {us} e l c =
+    let m : length us ≡ length ws = ap length e ∙ length-replicate (length ws) 0 in
+    c .zero (l .spare (spare-zeros (length ws) e)) ∙ ap (λ (n : ℕ). replicate n 0) (l .same ∙ m)
 
 -- ---- a type of an accepted layout
 
@@ -156,12 +234,12 @@ tells-one (done n) t = rw (t .which, t .left)
 tells-one (refused r) t = rw (t .which, t .left)
 
 -- the root's context
-abbrev rooted-at : (block len : ℕ) → Root
-rooted-at b len = record { block = b; len = len }
+abbrev rooted-at : Target → Root
+rooted-at t = record { block = t .block; len = t .len }
 
 -- the frame of a type that was asked for
-abbrev first-frame : ℕ → Frame
-first-frame place = record { depth = 0; place = place }
+abbrev first-frame : Target → Frame
+first-frame t = record { depth = 0; place = t .place }
 
 module _ {s : List ℕ} {name : Name} {r : Place} (f : (t : Tree) → readLayout s ≡ done t → TreeFound s name (layoutOf t) r) where
   -- no type has the name
@@ -170,44 +248,59 @@ module _ {s : List ℕ} {name : Name} {r : Place} (f : (t : Tree) → readLayout
   unfolding validate-type _>>=_
   type-unknown e t rd len γ x g = rw (g, found-none e (f t rd))
 
-  module _ {i o : ℕ} (e : r ≡ PlaceAt i o) where
-    -- the tree of the type that was found
-    pub type-tree : {v ws : List ℕ} {block : ℕ} → Located s v block ws → Accepted s 161 161 o
-    type-tree g = found-at e (f (g .layout .0) (g .layout .1)) .0
+  -- the tree that was found is that of the type
+  pub type-named : {t : Target} → r ≡ PlaceAt (t .place) (t .at) → Named s name t
+  type-named e l rd = subst (TreeFound s name (layoutOf l)) e (f l rd)
 
-    module _ {q : ℕ} (rooted : (c : Accepted s 161 161 o) → Rooted c q) where
-      -- the root is ready to be evaluated, over words that remember nothing
-      pub root-ready : {v ws us : List ℕ} {block : ℕ} (len : ℕ) → Located s v block ws → Remembered v block us → Ready s v us (rooted-at block len) (first-frame i) q
-      root-ready len g m = record {
-        node = rooted (type-tree g) .root;
-        layout = g .layout;
-        context = (_, Context.root (g .values-read) m);
-        here = λ d e. absurd (omega arith);
-        calls = omega arith;
-        room = m .room;
-        small = g .small;
-      }
+  -- so it may be evaluated
+  pub type-aimed : {v : List ℕ} {t : Target} → r ≡ PlaceAt (t .place) (t .at) → Located s v (t .block) → Aimed s v t
+  type-aimed e g = record { located = g; named = (name, type-named e) }
 
-      -- what it comes to, held against the buffer length, is the answer
-      pub type-goes : {v ws : List ℕ} {block len : ℕ} {ok : Bool} {before out : List ℕ} (z : Answer) → Remembered v block ws →
-          Evaluates s v ws (rooted-at block len) (first-frame i) q ok before out → outcomeOf z ≡ fitted i len (outcomeIn ok out) → TypeAnswers s name v block len z
-      unfolding validate-type fitted
-      type-goes {len} z m ev fit t rd a =
-          let c = found-at e (f t rd) in
-          let k = rooted (c .0) in
-          let γ : ParamMap = with-buffer-size len (valuesOf (tree a)) in
-          fit
-          ∙ ap (fitted i len) (tells-one _ (ev γ (Context.root a m) t rd (k .root)) ∙ ap (eval-within 16 (layoutOf t) i γ) (sym (k .is)))
-          ∙ sym (bound-done _ (c .1))
+-- the tree that is aimed at
+pub aimed-tree : {s v : List ℕ} {t : Target} → Aimed s v t → Accepted s 161 161 (t .at)
+aimed-tree a = let l = a .located .layout in found-at refl (a .named .1 (l .0) (l .1)) .0
+
+module _ {s : List ℕ} {t : Target} {q : ℕ} (rooted : (c : Accepted s 161 161 (t .at)) → Rooted c q) where
+  -- the root is ready to be evaluated, over words that remember nothing
+  pub root-ready : {v us : List ℕ} → Aimed s v t → Remembered v (t .block) us → Ready s v us (rooted-at t) (first-frame t) q
+  root-ready a m = record {
+    node = rooted (aimed-tree a) .root;
+    layout = a .located .layout;
+    context = (_, Context.root (a .located .values-read) m);
+    here = λ d e. absurd (omega arith);
+    calls = omega arith;
+    room = m .room;
+    small = a .located .small;
+  }
+
+  -- what it comes to, held against the buffer length, is the answer
+  pub tree-goes : {v ws : List ℕ} {ok : Bool} {before out : List ℕ} (z : Answer) → Remembered v (t .block) ws →
+      Evaluates s v ws (rooted-at t) (first-frame t) q ok before out → outcomeOf z ≡ fitted (t .place) (t .len) (outcomeIn ok out) → TreeAnswers s v t z
+  unfolding validate-type fitted
+  tree-goes z m ev fit name named l rd a =
+      let c = found-at refl (named l rd) in
+      let k = rooted (c .0) in
+      let γ : ParamMap = with-buffer-size (t .len) (valuesOf (tree a)) in
+      fit
+      ∙ ap (fitted (t .place) (t .len)) (tells-one _ (ev γ (Context.root a m) l rd (k .root)) ∙ ap (eval-within 16 (layoutOf l) (t .place) γ) (sym (k .is)))
+      ∙ sym (bound-done _ (c .1))
+
+-- the header of the tree lies in the bytes
+pub tree-header : {s v : List ℕ} {t : Target} → Aimed s v t → t .at + 4 ≤ length s
+tree-header a = omega (arith, header-inside (aimed-tree a))
+
+-- and so do that of the values and their number
+pub values-header : {s v : List ℕ} {t : Target} → Aimed s v t → t .block + 6 + 2 ≤ length v
+values-header a = inside (a .located .values-read)
 
 -- ---- values, which are the whole of their input
 
 -- what evaluating their type asks for
-pub values-located : {len : ℕ} {s v ws : List ℕ} → Given (ask.Values len) s v ws → Located s v 0 ws
-values-located {v} g = record { layout = g .layout; values-read = input 2 192 v (g .other-read .1) .0; room = g .room; small = g .small }
+pub values-located : {len : ℕ} {s v : List ℕ} → Given (ask.Values len) s v → Located s v 0
+values-located {v} g = record { layout = g .layout; values-read = input 2 192 v (g .other-read .1) .0; small = g .small }
 
 -- what their type comes to is what is asked for
-pub values-answer : (len : ℕ) (s v : List ℕ) (m : Name) (r : Answer) → TypeAnswers s m v 0 len r → Answers (ask.Values len) s m v r
+pub values-answer : (len : ℕ) (s v : List ℕ) (m : Name) (r : Answer) → TypeAnswers s m v (record { block = 0; len = len }) r → Answers (ask.Values len) s m v r
 values-answer len s v m r f t rd u ru =
     let b = input 2 192 v ru in
     f t rd (b .0) ∙ ap (λ (z : Tree × ℕ). validate-type (layoutOf t) m len (valuesOf (z .0))) (b .1)
@@ -269,24 +362,28 @@ run-at {s} {u} {t} e eu = go (input 2 193 s e)
         let p = opened {k = 193} {ps = Text ∷ Number ∷ Block 192 192 ∷ []} a k refl in
         run-first t (p .parts) eu (sym (ap (λ (z : Tree × ℕ). z .0) g) ∙ p .tree)
 
--- its header and the length of its name lie in the bytes
-pub run-six : {s v ws : List ℕ} → Given ask.Run s v ws → 8 ≤ length v
-run-six {v} g = omega (arith, run-at {s = v} {u = le2 v 6} (g .other-read .1) refl .inside)
-
--- and so do its name and its buffer length
-pub run-inside : {s v ws : List ℕ} {u : ℕ} → Given ask.Run s v ws → u ≡ le2 v 6 → 8 + u + 8 ≤ length v
-run-inside g eu = run-at (g .other-read .1) eu .inside
+-- its header, its name and its buffer length lie in the bytes
+pub run-inside : {v : List ℕ} → AcceptedRun v → 6 + 2 + le2 v 6 + 8 ≤ length v
+run-inside {v} g = omega (arith, run-at {s = v} {u = le2 v 6} (g .1) refl .inside)
 
 -- what evaluating its type asks for
-pub run-located : {s v ws : List ℕ} {u : ℕ} → Given ask.Run s v ws → u ≡ le2 v 6 → Located s v (8 + u + 8) ws
-run-located g eu = record { layout = g .layout; values-read = run-at (g .other-read .1) eu .block; room = g .room; small = g .small }
+pub run-located : {s v : List ℕ} {r : Root} → Given ask.Run s v → RunRoot v r → Located s v (r .block)
+run-located {s} {v} g e =
+    record {
+      layout = g .layout;
+      values-read = subst (Accepted v 192 192) (sym (e .block)) (run-at (g .other-read .1) refl .block);
+      small = g .small;
+    }
 
 -- what its type comes to is what the run comes to
-pub run-answers : (s v : List ℕ) (u : ℕ) → u ≡ le2 v 6 → (r : Answer) (len : ℕ) → len ≡ le8 v (8 + u) →
-    TypeAnswers s (take (8 + u - 8) (drop 8 v)) v (8 + u + 8) len r → Answers ask.Run s v v r
-run-answers s v u eu r len el f t rd x rx =
-    let k = run-at rx eu in
-    f t rd (k .block)
-    ∙ ap (λ (z : Name). validate-type (layoutOf t) z len (valuesOf (tree (k .block)))) (slice-is v 6 u eu ∙ sym (k .named))
-    ∙ ap (λ (z : ℕ). validate-type (layoutOf t) (runOf x .type-name) z (valuesOf (tree (k .block)))) (el ∙ sym (k .long))
-    ∙ ap (λ (z : Tree). validate-type (layoutOf t) (runOf x .type-name) (runOf x .buffer-length) (valuesOf z)) (sym (k .is))
+pub run-answers : {s v : List ℕ} {r : Root} {m : Name} → RunRoot v r → m ≡ nameAt v 6 → (x : Answer) → TypeAnswers s m v r x → Answers ask.Run s v v x
+run-answers {s} {v} {r} {m} e em x f t rd u ru = go (r .block) (e .block) (r .len) (e .long) f
+  where
+    go : (b : ℕ) → b ≡ 8 + le2 v 6 + 8 → (len : ℕ) → len ≡ le8 v (8 + le2 v 6) → TypeAnswers s m v (record { block = b; len = len }) x → outcomeOf x ≡ runIn t (runOf u)
+    go b eb len el f =
+        let k = run-at ru refl in
+        let g : TypeAnswers s m v (record { block = 8 + le2 v 6 + 8; len = len }) x = subst (λ (z : ℕ). TypeAnswers s m v (record { block = z; len = len }) x) eb f in
+        g t rd (k .block)
+        ∙ ap (λ (z : Name). validate-type (layoutOf t) z len (valuesOf (tree (k .block)))) (em ∙ sym (k .named))
+        ∙ ap (λ (z : ℕ). validate-type (layoutOf t) (runOf u .type-name) z (valuesOf (tree (k .block)))) (el ∙ sym (k .long))
+        ∙ ap (λ (z : Tree). validate-type (layoutOf t) (runOf u .type-name) (runOf u .buffer-length) (valuesOf z)) (sym (k .is))

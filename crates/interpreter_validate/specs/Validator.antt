@@ -1,22 +1,27 @@
 -- What is asked of a layout: a type with values or a run, told once for both. What evaluating asks for; 25, at the end.
-use Prim.Native.Nat.{ℕ, _≤_}
+use Prim.Native.Nat.{ℕ, _+_, _-_, _*_, _≤_}
 use mathlib.Core.Path.{_≡_}
 use mathlib.Core.Bool.{Bool, true, false, cond}
 use lib.Dec.{ltb}
 use mathlib.Core.List.{List}
-use lib.ListN.{length, getD}
+use lib.ListN.{length, getD, drop, replicate}
 use Rattle.errors.specs.Refusal.{Outcome, done, refused, _>>=_, words-after}
 use Rattle.errors.specs.declared.Answer.{Answer}
 use Rattle.errors.specs.Meaning.{outcomeOf}
 use Rattle.blocks.specs.Name.{Name}
 use Rattle.blocks.specs.Tree.{Tree}
-use Rattle.blocks.specs.Read.{readInput, readLayout}
+use Rattle.blocks.specs.Bytes.{le2, le8}
+use Rattle.blocks.specs.Read.{readInput, readLayout, readRun}
 use Rattle.ir.specs.Layout.{layoutOf}
 use Rattle.reader_leaf.specs.declared.Read.{Read}
-use Rattle.reader_calls.specs.Inputs.{judge, passed, passedOf, Least}
+use Rattle.reader_calls.specs.Inputs.{judge, passed, passedOf}
 use Rattle.accepted.specs.Accepted.{Accepted, tree}
+use Rattle.lookup.specs.declared.Place.the-variants.{At}
+use Rattle.lookup.specs.Found.{TreeFound}
 use Rattle.interpreter.specs.Eval.{refusalAt}
 use Rattle.interpreter.specs.Validate.{Run, runOf, valuesOf, fits-buffer, validate-type, validate, validate-run}
+use Rattle.interpreter_context.specs.declared.Root.{Root}
+use Rattle.interpreter_validate.specs.declared.Target.{Target}
 use Rattle.interpreter_validate.specs.declared.Ask.{Ask}
 use Rattle.interpreter_validate.specs.declared.Ask.the-variants as ask
 
@@ -39,10 +44,10 @@ abbrev pub callOf : Ask → ℕ → List ℕ → Name → List ℕ → Outcome �
 callOf (ask.Values len) n layout name values = validate n layout name values len
 callOf ask.Run n layout name run = validate-run n layout run
 
--- the questions of a call with so many words are answered; where the words are enough, there is room for the open calls
+-- the questions of a call with so many words are answered; where the words are enough, as many are lent as evaluating may use
 pub record Asked (a : Ask) (s other : List ℕ) (judged : Read) (words : List ℕ) (n : ℕ) : Type 0 where
   pub is : passedOf judged ≡ passed (judge n s other (kindOf a))
-  pub room : 8192 ≤ n → 16 ≤ length words
+  pub room : 8192 ≤ n → 1168 ≤ length words
 
 -- what evaluating left: whether it is a count, then the first word, or a refusal's number, place, offset and value
 abbrev pub outcomeIn : Bool → List ℕ → Outcome ℕ
@@ -53,24 +58,38 @@ outcomeIn false out = refused (refusalAt (getD out 1 0) (getD out 2 0) (getD out
 unfoldable pub fitted : ℕ → ℕ → Outcome ℕ → Outcome ℕ
 fitted place len o = o >>= fits-buffer place len
 
--- an accepted layout, accepted values at an offset, and room for the open calls
-pub record Located (s values : List ℕ) (block : ℕ) (words : List ℕ) : Type 0 where
+-- an accepted layout, and accepted values at an offset
+pub record Located (s values : List ℕ) (block : ℕ) : Type 0 where
   pub layout : (t : Tree) × (readLayout s ≡ done t)
   pub values-read : Accepted values 192 192 block
-  pub room : 16 ≤ length words
   pub small : length s ≤ 65536
 
--- an accepted layout, accepted values or an accepted run, and room for the open calls
-pub record Given (a : Ask) (s other words : List ℕ) : Type 0 where
+-- an accepted layout, and accepted values or an accepted run
+pub record Given (a : Ask) (s other : List ℕ) : Type 0 where
   pub layout : (t : Tree) × (readLayout s ≡ done t)
   pub other-read : (t : Tree) × (readInput 2 (kindOf a) other ≡ done t)
-  pub room : 16 ≤ length words
   pub small : length s ≤ 65536
 
+-- ---- the tree that is evaluated
+
+-- the tree at its place and offset is that of the type of a name
+abbrev pub Named : List ℕ → Name → Target → Type 0
+Named s name t = (l : Tree) → readLayout s ≡ done l → TreeFound s name (layoutOf l) (At (t .place) (t .at))
+
+-- the tree of a type of an accepted layout, and accepted values
+pub record Aimed (s values : List ℕ) (t : Target) : Type 0 where
+  pub located : Located s values (t .block)
+  pub named : (name : Name) × Named s name t
+
 -- what the code answers is what its type comes to, with the values at an offset
-abbrev pub TypeAnswers : List ℕ → Name → List ℕ → ℕ → ℕ → Answer → Type 0
-TypeAnswers s name values block len r =
-    (t : Tree) → readLayout s ≡ done t → (a : Accepted values 192 192 block) → outcomeOf r ≡ validate-type (layoutOf t) name len (valuesOf (tree a))
+abbrev pub TypeAnswers : List ℕ → Name → List ℕ → Root → Answer → Type 0
+TypeAnswers s name values root r =
+    (t : Tree) → readLayout s ≡ done t → (a : Accepted values 192 192 (root .block)) →
+    outcomeOf r ≡ validate-type (layoutOf t) name (root .len) (valuesOf (tree a))
+
+-- the same of the tree that is evaluated, whatever name its type has
+abbrev pub TreeAnswers : List ℕ → List ℕ → Target → Answer → Type 0
+TreeAnswers s values t r = (name : Name) → Named s name t → TypeAnswers s name values (record { block = t .block; len = t .len }) r
 
 -- what the code answers is what is asked for
 abbrev pub Answers : Ask → List ℕ → Name → List ℕ → Answer → Type 0
@@ -80,19 +99,34 @@ Answers a s name other r = (t : Tree) → readLayout s ≡ done t → (u : Tree)
 abbrev pub Called : Ask → List ℕ → Name → List ℕ → Read → List ℕ → Answer → Type 0
 Called a s name other judged words r = (n : ℕ) → Asked a s other judged words n → outcomeOf r ≡ callOf a n s name other
 
--- the questions of a call with so many words are answered
-abbrev pub Judged : Ask → List ℕ → List ℕ → Read → ℕ → Type 0
-Judged a s other judged n = passedOf judged ≡ passed (judge n s other (kindOf a))
+-- ---- a run
 
--- what the code then answers, with words of its own, is what the call does
-abbrev pub CalledAlone : Ask → List ℕ → Name → List ℕ → Read → Answer → Type 0
-CalledAlone a s name other judged r = (n : ℕ) → Judged a s other judged n → outcomeOf r ≡ callOf a n s name other
+-- a run that was read
+abbrev pub AcceptedRun : List ℕ → Type 0
+AcceptedRun s = (t : Tree) × (readRun s ≡ done t)
 
--- how many words evaluating may use with so many bytes of values
-unfoldable pub wordsFor : ℕ → ℕ
-wordsFor bytes = cond (ltb bytes 4096) 16 1168
+-- the offset of its values, and its buffer length
+pub record RunRoot (s : List ℕ) (r : Root) : Type 0 where
+  pub block : r .block ≡ 8 + le2 s 6 + 8
+  pub long : r .len ≡ le8 s (8 + le2 s 6)
 
--- all words are zero, and the first k of them, which are as many as evaluating may use if there are so many, are lent for it
-pub record Lent (ws : List ℕ) (bytes : ℕ) (us : List ℕ) (k : ℕ) : Type 0 where
-  pub zero : us ≡ words-after ws
-  pub least : Least (length ws) (wordsFor bytes) k
+-- ---- the words
+
+-- how many words evaluating may use, by the bytes of the tree, the bytes of the values and their number: one for each call that may be open, or as many
+-- as it remembers values in
+unfoldable pub wordsFor : ℕ → ℕ → ℕ → ℕ
+wordsFor tree values n = cond (ltb n 128) 16 (cond (ltb (tree * n) (40 * (values + 22 * n))) 16 1168)
+
+-- behind those of the open calls all words are zero
+abbrev pub Spare : List ℕ → Type 0
+Spare ws = drop 16 ws ≡ replicate (length ws - 16) 0
+
+-- what evaluating leaves of the words: as many, and behind those of the open calls they are zero if they were
+pub record Leaves (ws us : List ℕ) : Type 0 where
+  pub same : length us ≡ length ws
+  pub spare : Spare ws → Spare us
+
+-- the words of the open calls are cleared, the others stay
+pub record CallsCleared (ws us : List ℕ) : Type 0 where
+  pub same : length us ≡ length ws
+  pub zero : Spare ws → us ≡ words-after ws

@@ -8,14 +8,16 @@ use lookup::Place;
 use reader_leaf::Read;
 use value::Value;
 ghost use mathlib.Core.Path.{_≡_};
-ghost use Prim.Native.Nat.{ℕ};
+ghost use Prim.Native.Nat.{ℕ, _+_, _≤_};
 ghost use lib.ListN.{length};
 ghost use Rattle.errors.specs.Refusal.{words-after};
 ghost use Rattle.errors.specs.Meaning.{outcomeOf};
 ghost use Rattle.value.specs.Number.{numberOf};
+ghost use Rattle.blocks.specs.Bytes.{le2, le4};
 ghost use Rattle.interpreter.specs.Validate.{fits-buffer, validate, validate-run};
 ghost use Rattle.interpreter_validate.specs.declared.Ask.the-variants.{Values, Run};
-ghost use Rattle.interpreter_validate.specs.Validator.{kindOf, callOf, Asked, outcomeIn, fitted, Located, Given, TypeAnswers, Answers, Called, Judged, CalledAlone, wordsFor, Lent};
+ghost use Rattle.interpreter_validate.specs.Validator.{kindOf, callOf, Asked, outcomeIn, fitted, Located, Given, Aimed, TypeAnswers, TreeAnswers, Answers, Called};
+ghost use Rattle.interpreter_validate.specs.Validator.{AcceptedRun, RunRoot, wordsFor, Leaves, CallsCleared};
 
 // One word for each call that may be open.
 const CALLS: usize = 16;

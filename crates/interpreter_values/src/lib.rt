@@ -1,5 +1,5 @@
-// The values of a record by name. Where there are many, and some names were asked for, each search that does not find a name in the index puts
-// more entries into it.
+// The values of a record by name. Where there are words for an index, and some names were asked for, each search that does not find a name in the
+// index puts more entries into it. Who lends the words says by their number whether it is likely to pay.
 use lookup::Found;
 ghost use mathlib.Core.Path.{_≡_};
 ghost use mathlib.Core.Bool.{true};
@@ -28,9 +28,6 @@ const TABLE: usize = 17;
 
 // Where the offsets of the entries begin, behind the table.
 const OFFSETS: usize = 656;
-
-// With fewer values they are asked one by one.
-const MANY: usize = 32;
 
 // How many entries a search puts into the index.
 const STEP: usize = 16;
@@ -184,16 +181,12 @@ fn indexed(values: &[u8], block: usize, words: &mut [u64], name: &[u8]) -> Sough
     Sought::Among(at, n - m)
 }
 
-// Whether names are sought in the index: where there is room for it, the values are many, and the first names were asked for, which are counted.
-fn by_index(values: &[u8], block: usize, words: &mut [u64]) -> bool
-    requires { ⌜ Accepted (now values) 192 192 block × Remembered (now values) block (now words) ⌝ }
+// Whether names are sought in the index: where there is room for it, and the first names were asked for, which are counted.
+fn by_index(words: &mut [u64]) -> bool
     ensures { λ r. ⌜ (r ≡ true → (1168 ≤ length (now (words .exit))) × (4 ≤ getD (now (words .exit)) 16 0)) ⌝ }
-    ensures { λ _. ⌜ Kept (now (values .entry)) block 16 (now (words .entry)) (now (words .exit)) ⌝ }
+    ensures { λ _. ⌜ ((s : List ℕ) (block : ℕ) → Remembered s block (now (words .entry)) → Kept s block 16 (now (words .entry)) (now (words .exit))) ⌝ }
 {
     if words.len() < WORDS {
-        return false;
-    }
-    if wire::read2(values, block + 6) < MANY {
         return false;
     }
     let asked = words[KNOWN];
@@ -210,7 +203,7 @@ fn left_of(values: &[u8], block: usize, words: &mut [u64], name: &[u8]) -> Sough
     ensures { λ r. ⌜ Leaves (now (values .entry)) block (now (name .entry)) r ⌝ }
     ensures { λ _. ⌜ Kept (now (values .entry)) block 16 (now (words .entry)) (now (words .exit)) ⌝ }
 {
-    if by_index(values, block, words) {
+    if by_index(words) {
         return indexed(values, block, words, name);
     }
     let n = wire::read2(values, block + 6);

@@ -85,16 +85,16 @@ module _ {s : List ℕ} {n : Name} {m from : ℕ} where
     pub next-one : at + 2 + le2 s at + 8 ≤ length s
     next-one = let a = value-entry (c .here) h .2 in omega (arith, a .inside, c .here .fits)
 
-    module _ {r : Bool} {u : ℕ} (e : r ≡ same n (nameAt s at)) (g : u ≡ at + 2 + le2 s at) where
+    module _ {r : Bool} {u : ℕ} (e : r ≡ same n (nameAt s at)) where
       -- it has another name: the loop goes on behind it
-      pub passed-one : r ≡ false → Passed s n m from (left - 1) (u + 8)
-      passed-one f =
-          subst (λ (k : ℕ). Passed s n m from (left - 1) (k + 8)) (sym g)
+      pub passed-one : u ≡ at + 2 + le2 s at + 8 → r ≡ false → Passed s n m from (left - 1) u
+      passed-one g f =
+          subst (Passed s n m from (left - 1)) (sym g)
           (record { here = value-entry (c .here) h .2 .rest; first = c .first ∙ value-behind s n at left h (sym e ∙ f) })
 
       -- it has the name: it is the answer
-      pub passed-hit : r ≡ true → At u ≡ firstValue s n m from
-      passed-hit f = ap At g ∙ sym (c .first ∙ value-here s n at left h (sym e ∙ f))
+      pub passed-hit : u ≡ at + 2 + le2 s at → r ≡ true → At u ≡ firstValue s n m from
+      passed-hit g f = ap At g ∙ sym (c .first ∙ value-here s n at left h (sym e ∙ f))
 
 -- ---- the value at that offset
 

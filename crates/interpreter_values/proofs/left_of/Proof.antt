@@ -2,6 +2,7 @@
 use native.Mathlib.Omega.{arith}
 use borrow.Author.Needs.{needs}
 use Rattle.lookup.proofs.Values.{inside}
+use Rattle.interpreter_values.specs.Remembered.{Kept}
 use Rattle.interpreter_values.proofs.Laws.{kept-both}
 use Rattle.interpreter_values.proofs.Entries.{leaves-all}
 use Rattle.interpreter_values.proofs.left_of.Statement.{statement}
@@ -14,15 +15,19 @@ at-by-index r = r .before .before
 abbrev from-asked : tie.After-slice-known2 → tie.Start
 from-asked r = at-by-index r .before .before .before .before .before
 
+-- The search that is counted keeps what is remembered.
+counted : (r : tie.After-slice-known2) →
+    Kept (from-asked r .args .values .now) (from-asked r .args .block) 16 (from-asked r .args .words .now) (at-by-index r .by-index .last .0)
+counted r = at-by-index r .by-index .ensures .1 _ _ (from-asked r .pre .1)
+
 by-index-requires : tie.Need-by-index-requires
 by-index-requires c κs = search needs
 
 indexed-requires : tie.Need-indexed-requires
 indexed-requires c κs =
     let asked = c .before .before in
-    let told = at-by-index asked .by-index .ensures in
-    let room = told .0 (c .before .if1 .taken) in
-    (from-asked asked .pre .0, told .1 .remembered, room .0, room .1)
+    let room = at-by-index asked .by-index .ensures .0 (c .before .if1 .taken) in
+    (from-asked asked .pre .0, counted asked .remembered, room .0, room .1)
 
 same-length : tie.Need-same-length
 same-length c = search needs
@@ -31,7 +36,7 @@ returns : tie.Need-returns
 returns c =
     let at-indexed = c .before .before in
     let asked = at-indexed .before .before .before in
-    (at-indexed .indexed .ensures .0, kept-both (at-by-index asked .by-index .ensures .1) (at-indexed .indexed .ensures .1))
+    (at-indexed .indexed .ensures .0, kept-both (counted asked) (at-indexed .indexed .ensures .1))
 
 add-read2 : tie.Need-add-read2
 add-read2 c = omega (arith, inside (from-asked (c .before) .pre .0))
@@ -52,7 +57,7 @@ returns-2 : tie.Need-returns-2
 returns-2 c =
     let asked = c .before .before in
     let at-start = from-asked asked in
-    (leaves-all (at-start .pre .0) (at-start .args .name .now) (c .read2 .ensures .0), at-by-index asked .by-index .ensures .1)
+    (leaves-all (at-start .pre .0) (at-start .args .name .now) (c .read2 .ensures .0), counted asked)
 
 pub left-of-spec : {M : Type 1} → statement M
 left-of-spec =

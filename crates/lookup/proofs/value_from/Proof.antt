@@ -14,27 +14,32 @@ abbrev μ-loop : tie.MeasureT-loop
 loop-holds : tie.Need-loop-holds Inv-loop μ-loop
 loop-holds c = passed-none (c .before .before .pre)
 
-behind-name-requires : tie.Need-behind-name-requires Inv-loop μ-loop
-behind-name-requires c κs = omega (arith, next-one (c .loop-test .taken) (c .before .loop .inv))
-
 is-named-requires : tie.Need-is-named-requires Inv-loop μ-loop
-is-named-requires c κs = let in-loop = c .before in omega (arith, next-one (in-loop .loop-test .taken) (in-loop .before .loop .inv))
+is-named-requires c κs = omega (arith, next-one (c .loop-test .taken) (c .before .loop .inv))
 
 -- The place inside the loop, seen from behind the comparison.
 abbrev in-loop : tie.After-is-named Inv-loop μ-loop → tie.In-loop Inv-loop μ-loop
-in-loop r = r .before .before
+in-loop r = r .before
+
+behind-name-requires : tie.Need-behind-name-requires Inv-loop μ-loop
+behind-name-requires c κs = let inside = in-loop (c .before) in omega (arith, next-one (inside .loop-test .taken) (inside .before .loop .inv))
 
 returns : tie.Need-returns Inv-loop μ-loop
 returns c =
-    let compared = c .before in
+    let compared = c .before .before in
     let inside = in-loop compared in
-    passed-hit (inside .loop-test .taken) (inside .before .loop .inv) (compared .is-named .ensures) (compared .before .behind-name .ensures) (c .if1 .taken)
+    passed-hit (inside .loop-test .taken) (inside .before .loop .inv) (compared .is-named .ensures) (c .behind-name .ensures) (c .before .if1 .taken)
 
 add-at : tie.Need-add-at Inv-loop μ-loop
-add-at c =
-    let compared = c .before in
-    let inside = in-loop compared in
-    omega (arith, compared .before .behind-name .ensures, next-one (inside .loop-test .taken) (inside .before .loop .inv))
+add-at c = let inside = in-loop (c .before) in omega (arith, next-one (inside .loop-test .taken) (inside .before .loop .inv))
+
+read2-requires : tie.Need-read2-requires Inv-loop μ-loop
+read2-requires c κs = let inside = in-loop (c .before) in omega (arith, next-one (inside .loop-test .taken) (inside .before .loop .inv))
+
+add-at-2 : tie.Need-add-at-2 Inv-loop μ-loop
+add-at-2 c =
+    let inside = in-loop (c .before .before) in
+    omega (arith, c .read2 .ensures .0, next-one (inside .loop-test .taken) (inside .before .loop .inv))
 
 sub-left : tie.Need-sub-left Inv-loop μ-loop
 sub-left c = omega arith
@@ -44,9 +49,9 @@ loop-less c = omega arith
 
 loop-again : tie.Need-loop-again Inv-loop μ-loop
 loop-again c =
-    let compared = c .before in
+    let compared = c .before .before in
     let inside = in-loop compared in
-    passed-one (inside .loop-test .taken) (inside .before .loop .inv) (compared .is-named .ensures) (compared .before .behind-name .ensures) (c .if1 .left)
+    passed-one (inside .loop-test .taken) (inside .before .loop .inv) (compared .is-named .ensures) (omega (arith, c .read2 .ensures .0)) (c .before .if1 .left)
 
 returns-2 : tie.Need-returns-2 Inv-loop μ-loop
 returns-2 c = passed-all (c .loop-test .left) (c .before .loop .inv)
@@ -58,10 +63,12 @@ value-from-spec =
     Inv-loop
     μ-loop
     loop-holds
-    behind-name-requires
     is-named-requires
+    behind-name-requires
     returns
     add-at
+    read2-requires
+    add-at-2
     sub-left
     loop-less
     loop-again
