@@ -13,6 +13,7 @@ ghost use Rattle.wire.specs.Poke.{Wrote};
 ghost use Rattle.errors.specs.Meaning.{outcomeOf};
 ghost use Rattle.interpreter.specs.Runs.{validate-runs, given};
 ghost use Rattle.errors.specs.Answer.{answerWords, allAnswerWords};
+ghost use Rattle.interpreter_validate.specs.Validator.{Leaves};
 ghost use Rattle.interpreter_runs.specs.Held.{Holds, Ends};
 
 // The answer to a run. The questions of a call with the layout alone are answered.

@@ -6,10 +6,10 @@ use lib.Dec.{ltb, leb}
 use borrow.Author.Tests.{lt-ltb, le-ltb, leb-true, leb-false}
 use mathlib.Core.List.{List, [], _∷_, _++_}
 use Prim.Native.Nat.{ℕ, zero, suc, _+_, _-_, _*_, _≤_, _<_}
-use native.Mathlib.Nat.{sub-zero, zero-sub, suc-sub-suc}
+use native.Mathlib.Nat.{sub-zero, zero-sub, suc-sub-suc, mul-le-mul-right}
 use native.Mathlib.Omega.{arith}
-use lib.ListN.{length, take, drop, replicate, length-replicate, length-take-le, replicate-append-replicate, drop-of-length-le}
-use lib.Seq.{length-front, drop-at, drop-drop}
+use lib.ListN.{length, take, drop, replicate, length-replicate, replicate-append-replicate, drop-of-length-le}
+use lib.Seq.{length-take-le, length-front, drop-at, drop-drop}
 use Rattle.errors.specs.Refusal.{Outcome, done, refused, _>>=_, enough, plain, unread, words-after}
 use Rattle.errors.specs.declared.Refusal.{Refusal}
 use Rattle.errors.specs.declared.Answer.{Answer}
@@ -46,7 +46,7 @@ use Rattle.interpreter_eval.proofs.Laws.{found-at, found-none}
 use Rattle.interpreter_validate.specs.declared.Ask.{Ask}
 use Rattle.interpreter_validate.specs.declared.Ask.the-variants as ask
 use Rattle.interpreter_validate.specs.declared.Target.{Target}
-use Rattle.interpreter_validate.specs.Validator.{kindOf, runFor, runIn, callOf, Asked, outcomeIn, fitted, Located, Given, Named, Aimed, TypeAnswers, TreeAnswers, Answers, Called}
+use Rattle.interpreter_validate.specs.Validator.{kindOf, runFor, runIn, callOf, Judged, Asked, outcomeIn, fitted, Located, Given, Named, Aimed, TypeAnswers, TreeAnswers, Answers, Called}
 use Rattle.interpreter_validate.specs.Validator.{AcceptedRun, RunRoot, wordsFor, Spare, Leaves, CallsCleared}
 
 -- ---- a call: values or a run
@@ -77,37 +77,37 @@ call-is (ask.Values len) n s m v = after-judging (enough n) (small s) (small v) 
 call-is ask.Run n s m v = after-judging (enough n) (small s) (small v) (readLayout s) (readInput 2 193 v) (λ l t. runIn l (runOf t))
 
 -- by what the code answers of the questions, with the kind that it reads
-pub asked-of : {a : Ask} {n k : ℕ} {s v ws : List ℕ} {r : Read} → k ≡ kindOf a → passedOf r ≡ passed (judge n s v k) → (8192 ≤ n → 1168 ≤ length ws) → Asked a s v r ws n
-asked-of {n} {s} {v} e d h = record { is = d ∙ ap (λ (z : ℕ). passed (judge n s v z)) e; room = h }
+pub judged-of : {a : Ask} {n k : ℕ} {s v : List ℕ} {r : Read} → k ≡ kindOf a → passedOf r ≡ passed (judge n s v k) → Judged a s v r n
+judged-of {n} {s} {v} e d = record { is = d ∙ ap (λ (z : ℕ). passed (judge n s v z)) e }
 
-module _ {a : Ask} {n : ℕ} {s v : List ℕ} {r : Read} (is : passedOf r ≡ passed (judge n s v (kindOf a))) where
+module _ {a : Ask} {n : ℕ} {s v : List ℕ} {r : Read} (q : Judged a s v r n) where
   -- an input was refused
-  pub stops : (m : Name) {q p : ℕ} (x : Refusal) → r ≡ Refused q p → refusalOf x ≡ unread q p → outcomeOf (answer.Refused x) ≡ callOf a n s m v
+  pub stops : (m : Name) {u p : ℕ} (x : Refusal) → r ≡ Refused u p → refusalOf x ≡ unread u p → outcomeOf (answer.Refused x) ≡ callOf a n s m v
   unfolding _>>=_
-  stops m x e f = ap refused f ∙ sym (call-is a n s m v ∙ ap (λ (o : Outcome (Tree × Tree)). o >>= both a m) (passed-no (judge n s v (kindOf a)) is e))
+  stops m x e f = ap refused f ∙ sym (call-is a n s m v ∙ ap (λ (o : Outcome (Tree × Tree)). o >>= both a m) (passed-no (judge n s v (kindOf a)) (q .is) e))
 
   module _ {i : ℕ} (e : r ≡ Ok i) where
     -- both were read: what evaluating asks for
     pub given : Given a s v
     given =
-        let j = judged is e in
+        let j = judged (q .is) e in
         record { layout = (j .layout, j .layout-read); other-read = (j .other, j .other-read); small = j .small-layout }
 
     -- 19 was asked: there are enough words
     pub enough-words : 8192 ≤ n
-    enough-words = judged is e .words
+    enough-words = judged (q .is) e .words
 
     -- and what is asked for was evaluated
     pub goes : (m : Name) (x : Answer) → Answers a s m v x → outcomeOf x ≡ callOf a n s m v
     unfolding _>>=_
     goes m x f =
-        let j = judged is e in
+        let j = judged (q .is) e in
         f (j .layout) (j .layout-read) (j .other) (j .other-read)
         ∙ sym (call-is a n s m v ∙ ap (λ (o : Outcome (Tree × Tree)). o >>= both a m) (j .is))
 
 -- as many words are lent as evaluating may use
 pub asked-room : {a : Ask} {n i : ℕ} {s v ws : List ℕ} {r : Read} → Asked a s v r ws n → r ≡ Ok i → 1168 ≤ length ws
-asked-room asked e = asked .room (enough-words (asked .is) e)
+asked-room asked e = asked .room (enough-words (asked .questions) e)
 
 -- in the code's form, where it goes by what is asked for
 module _ {a b : Ask} (e : a ≡ b) where
@@ -137,14 +137,20 @@ unfolding wordsFor
 words-many tree values n h g = rw (le-ltb n 128 h, le-ltb (tree * n) (40 * (values + 22 * n)) g)
 
 -- they are 16, or as many as values are remembered in
-pub words-for : {tree values n k : ℕ} → k ≡ wordsFor tree values n → (16 ≤ k) × (k ≤ 1168) × (k ≤ 16 → k ≡ 16)
+pub words-for : (tree values n : ℕ) {k : ℕ} → k ≡ wordsFor tree values n → (16 ≤ k) × (k ≤ 1168) × (k ≤ 16 → k ≡ 16)
 unfolding wordsFor
-words-for {tree} {values} {n} {k} e = go (ltb n 128) (ltb (tree * n) (40 * (values + 22 * n))) e
+words-for tree values n {k} e = go (ltb n 128) (ltb (tree * n) (40 * (values + 22 * n))) e
   where
     go : (b d : Bool) → k ≡ cond b 16 (cond d 16 1168) → (16 ≤ k) × (k ≤ 1168) × (k ≤ 16 → k ≡ 16)
     go true d e = (omega (arith, e), omega (arith, e), λ h. e)
     go false true e = (omega (arith, e), omega (arith, e), λ h. e)
     go false false e = (omega (arith, e), omega (arith, e), λ h. omega (arith, e, h))
+
+-- the product of a number of four bytes and one of two has no more than eight
+pub product-small : {x n : ℕ} → x < 4294967296 → n < 65536 → x * n < 18446744073709551616
+product-small {x} {n} h g =
+    let k : x * n ≤ 4294967295 * n = mul-le-mul-right n (omega (arith, h)) in
+    omega (arith, k, g)
 
 -- zeros without the first k
 drop-zeros : (k n : ℕ) → drop {A = ℕ} k (replicate n 0) ≡ replicate (n - k) 0
@@ -155,19 +161,19 @@ drop-zeros (suc k) (suc n) = drop-zeros k n ∙ ap (λ (m : ℕ). replicate m 0)
 -- of zeros those behind the open calls' are zero
 pub spare-zeros : {us : List ℕ} (n : ℕ) → us ≡ replicate n 0 → Spare us
 spare-zeros n e =
-    let l : length (replicate n 0) ≡ n = length-replicate n 0 in
+    let l : length {A = ℕ} (replicate n 0) ≡ n = length-replicate n 0 in
     rw (e, l) (drop-zeros 16 n)
 
 -- the words without the first k, where these are those of the open calls, or more
-spare-behind : {ws : List ℕ} (k : ℕ) → Spare ws → 16 ≤ k → drop k ws ≡ replicate (length ws - k) 0
-spare-behind {ws} k h g =
+spare-behind : (ws : List ℕ) (k : ℕ) → Spare ws → 16 ≤ k → drop k ws ≡ replicate (length ws - k) 0
+spare-behind ws k h g =
     let e : 16 + (k - 16) ≡ k = omega arith in
     let d : length ws - 16 - (k - 16) ≡ length ws - k = omega arith in
     ap (λ (m : ℕ). drop m ws) (sym e) ∙ sym (drop-drop (k - 16) 16 ws) ∙ ap (drop (k - 16)) h ∙ drop-zeros (k - 16) (length ws - 16) ∙ ap (λ (m : ℕ). replicate m 0) d
 
 -- zeros in the place of the first k make all zeros
-zeros-before : {ws zs : List ℕ} (k : ℕ) → k ≤ length ws → zs ≡ replicate k 0 → drop k ws ≡ replicate (length ws - k) 0 → zs ++ drop k ws ≡ words-after ws
-zeros-before {ws} k h e d =
+zeros-before : (ws : List ℕ) {zs : List ℕ} (k : ℕ) → k ≤ length ws → zs ≡ replicate k 0 → drop k ws ≡ replicate (length ws - k) 0 → zs ++ drop k ws ≡ words-after ws
+zeros-before ws k h e d =
     let m : k + (length ws - k) ≡ length ws = omega arith in
     rw (e, d) (replicate-append-replicate k (length ws - k) 0 ∙ ap (λ (n : ℕ). replicate n 0) m)
 
@@ -179,24 +185,23 @@ leaves-self ws = record { same = refl; spare = λ h. h }
 pub leaves-then : {ws us vs : List ℕ} → Leaves ws us → Leaves us vs → Leaves ws vs
 leaves-then a b = record { same = b .same ∙ a .same; spare = λ h. b .spare (a .spare h) }
 
-module _ {ws zs : List ℕ} {k : ℕ} (l : length zs ≡ length (take k ws)) where
-  -- of the words those of the open calls were used
-  pub leaves-calls : k ≡ 16 → k ≤ length ws → Leaves ws (zs ++ drop k ws)
-  leaves-calls e h =
-      let m : length (zs ++ drop k ws) ≡ length ws = length-front ws zs k l in
-      record {
-        same = m;
-        spare = λ g. rw m (drop-at zs (drop k ws) 16 (omega (arith, l, length-take-le k ws h)) ∙ rw e g);
-      }
+-- of the words those of the open calls were used
+pub leaves-calls : (ws zs : List ℕ) (k : ℕ) → length zs ≡ length (take k ws) → k ≡ 16 → k ≤ length ws → Leaves ws (zs ++ drop k ws)
+leaves-calls ws zs k l e h =
+    let m : length (zs ++ drop k ws) ≡ length ws = length-front ws zs k l in
+    record {
+      same = m;
+      spare = λ g. rw m (drop-at zs (drop k ws) 16 (omega (arith, l, length-take-le k ws h)) ∙ rw e g);
+    }
 
-  -- more were used, and cleared behind it
-  pub leaves-cleared : 16 ≤ k → k ≤ length ws → zs ≡ replicate (length zs) 0 → Leaves ws (zs ++ drop k ws)
-  leaves-cleared g h c =
-      let m : length zs ≡ k = l ∙ length-take-le k ws h in
-      record {
-        same = length-front ws zs k l;
-        spare = λ x. spare-zeros (length ws) (zeros-before k h (rw m at c) (spare-behind k x g));
-      }
+-- more were used, and cleared behind it
+pub leaves-cleared : (ws zs : List ℕ) (k : ℕ) {m : ℕ} → m ≡ length (take k ws) → zs ≡ replicate m 0 → 16 ≤ k → k ≤ length ws → Leaves ws (zs ++ drop k ws)
+leaves-cleared ws zs k {m} l c g h =
+    let e : m ≡ k = l ∙ length-take-le k ws h in
+    record {
+      same = length-front ws zs k (ap length c ∙ length-replicate m 0 ∙ l);
+      spare = λ x. spare-zeros (length ws) (zeros-before ws k h (rw e at c) (spare-behind ws k x g));
+    }
 
 -- those of the open calls are cleared, as many of the sixteen as there are
 pub calls-cleared : (ws zs : List ℕ) (k : ℕ) → Least (length ws) 16 k → zs ≡ replicate (length (take k ws)) 0 → CallsCleared ws (zs ++ drop k ws)
@@ -208,21 +213,21 @@ calls-cleared ws zs k l c = go (leb 16 (length ws)) refl
         let e : zs ≡ replicate k 0 = rw m at c in
         record {
           same = length-front ws zs k (ap length c ∙ length-replicate (length (take k ws)) 0);
-          zero = λ x. zeros-before k h e (d x);
+          zero = λ x. zeros-before ws k h e (d x);
         }
     go : (b : Bool) → leb 16 (length ws) ≡ b → CallsCleared ws (zs ++ drop k ws)
     go true f =
         let h : 16 ≤ length ws = leb-true 16 (length ws) f in
         let e : k ≡ 16 = l .enough h in
-        cleared (omega (arith, e)) (λ x. spare-behind k x (omega (arith, e)))
+        cleared (omega (arith, e)) (λ x. spare-behind ws k x (omega (arith, e)))
     go false f =
         let e : k ≡ length ws = l .fewer (leb-false 16 (length ws) f) in
         let z : length ws - k ≡ 0 = omega (arith, e) in
         cleared (omega (arith, e)) (λ x. drop-of-length-le ws {i = k} (omega (arith, e)) ∙ ap (λ (n : ℕ). replicate n 0) (sym z))
 
 -- all words are zero after a call that began with zeros
-pub words-zero : {ws us vs xs : List ℕ} → us ≡ words-after ws → Leaves us vs → CallsCleared vs xs → xs ≡ words-after ws
-words-zero {ws} {us} e l c =
+pub words-zero : (ws : List ℕ) {us vs xs : List ℕ} → us ≡ words-after ws → Leaves us vs → CallsCleared vs xs → xs ≡ words-after ws
+words-zero ws {us} e l c =
     let m : length us ≡ length ws = ap length e ∙ length-replicate (length ws) 0 in
     c .zero (l .spare (spare-zeros (length ws) e)) ∙ ap (λ (n : ℕ). replicate n 0) (l .same ∙ m)
 
@@ -241,20 +246,20 @@ rooted-at t = record { block = t .block; len = t .len }
 abbrev first-frame : Target → Frame
 first-frame t = record { depth = 0; place = t .place }
 
-module _ {s : List ℕ} {name : Name} {r : Place} (f : (t : Tree) → readLayout s ≡ done t → TreeFound s name (layoutOf t) r) where
+module _ {s : List ℕ} {m : Name} {r : Place} (f : (t : Tree) → readLayout s ≡ done t → TreeFound s m (layoutOf t) r) where
   -- no type has the name
   pub type-unknown : r ≡ PlaceNone → (t : Tree) → readLayout s ≡ done t → (len : ℕ) (γ : ParamMap) (x : Refusal) → refusalOf x ≡ plain 20 →
-      outcomeOf (answer.Refused x) ≡ validate-type (layoutOf t) name len γ
+      outcomeOf (answer.Refused x) ≡ validate-type (layoutOf t) m len γ
   unfolding validate-type _>>=_
   type-unknown e t rd len γ x g = rw (g, found-none e (f t rd))
 
   -- the tree that was found is that of the type
-  pub type-named : {t : Target} → r ≡ PlaceAt (t .place) (t .at) → Named s name t
-  type-named e l rd = subst (TreeFound s name (layoutOf l)) e (f l rd)
+  pub type-named : {i o : ℕ} → r ≡ PlaceAt i o → (t : Tree) → readLayout s ≡ done t → TreeFound s m (layoutOf t) (PlaceAt i o)
+  type-named e t rd = subst (TreeFound s m (layoutOf t)) e (f t rd)
 
   -- so it may be evaluated
-  pub type-aimed : {v : List ℕ} {t : Target} → r ≡ PlaceAt (t .place) (t .at) → Located s v (t .block) → Aimed s v t
-  type-aimed e g = record { located = g; named = (name, type-named e) }
+  pub type-aimed : {v : List ℕ} (t : Target) → r ≡ PlaceAt (t .place) (t .at) → Located s v (t .block) → Aimed s v t
+  type-aimed t e g = record { located = g; named = (m, type-named e) }
 
 -- the tree that is aimed at
 pub aimed-tree : {s v : List ℕ} {t : Target} → Aimed s v t → Accepted s 161 161 (t .at)
@@ -277,7 +282,7 @@ module _ {s : List ℕ} {t : Target} {q : ℕ} (rooted : (c : Accepted s 161 161
   pub tree-goes : {v ws : List ℕ} {ok : Bool} {before out : List ℕ} (z : Answer) → Remembered v (t .block) ws →
       Evaluates s v ws (rooted-at t) (first-frame t) q ok before out → outcomeOf z ≡ fitted (t .place) (t .len) (outcomeIn ok out) → TreeAnswers s v t z
   unfolding validate-type fitted
-  tree-goes z m ev fit name named l rd a =
+  tree-goes z m ev fit n named l rd a =
       let c = found-at refl (named l rd) in
       let k = rooted (c .0) in
       let γ : ParamMap = with-buffer-size (t .len) (valuesOf (tree a)) in
@@ -363,8 +368,8 @@ run-at {s} {u} {t} e eu = go (input 2 193 s e)
         run-first t (p .parts) eu (sym (ap (λ (z : Tree × ℕ). z .0) g) ∙ p .tree)
 
 -- its header, its name and its buffer length lie in the bytes
-pub run-inside : {v : List ℕ} → AcceptedRun v → 6 + 2 + le2 v 6 + 8 ≤ length v
-run-inside {v} g = omega (arith, run-at {s = v} {u = le2 v 6} (g .1) refl .inside)
+pub run-inside : (v : List ℕ) → AcceptedRun v → 6 + 2 + le2 v 6 + 8 ≤ length v
+run-inside v g = omega (arith, run-at {s = v} {u = le2 v 6} (g .1) refl .inside)
 
 -- what evaluating its type asks for
 pub run-located : {s v : List ℕ} {r : Root} → Given ask.Run s v → RunRoot v r → Located s v (r .block)
@@ -376,8 +381,8 @@ run-located {s} {v} g e =
     }
 
 -- what its type comes to is what the run comes to
-pub run-answers : {s v : List ℕ} {r : Root} {m : Name} → RunRoot v r → m ≡ nameAt v 6 → (x : Answer) → TypeAnswers s m v r x → Answers ask.Run s v v x
-run-answers {s} {v} {r} {m} e em x f t rd u ru = go (r .block) (e .block) (r .len) (e .long) f
+pub run-answers : (s : List ℕ) {v : List ℕ} {r : Root} {m : Name} → RunRoot v r → m ≡ nameAt v 6 → (x : Answer) → TypeAnswers s m v r x → Answers ask.Run s v v x
+run-answers s {v} {r} {m} e em x f t rd u ru = go (r .block) (e .block) (r .len) (e .long) f
   where
     go : (b : ℕ) → b ≡ 8 + le2 v 6 + 8 → (len : ℕ) → len ≡ le8 v (8 + le2 v 6) → TypeAnswers s m v (record { block = b; len = len }) x → outcomeOf x ≡ runIn t (runOf u)
     go b eb len el f =

@@ -44,9 +44,13 @@ abbrev pub callOf : Ask → ℕ → List ℕ → Name → List ℕ → Outcome �
 callOf (ask.Values len) n layout name values = validate n layout name values len
 callOf ask.Run n layout name run = validate-run n layout run
 
--- the questions of a call with so many words are answered; where the words are enough, as many are lent as evaluating may use
-pub record Asked (a : Ask) (s other : List ℕ) (judged : Read) (words : List ℕ) (n : ℕ) : Type 0 where
+-- the questions of a call with so many words are answered
+pub record Judged (a : Ask) (s other : List ℕ) (judged : Read) (n : ℕ) : Type 0 where
   pub is : passedOf judged ≡ passed (judge n s other (kindOf a))
+
+-- and where the words are enough, as many are lent as evaluating may use
+pub record Asked (a : Ask) (s other : List ℕ) (judged : Read) (words : List ℕ) (n : ℕ) : Type 0 where
+  pub questions : Judged a s other judged n
   pub room : 8192 ≤ n → 1168 ≤ length words
 
 -- what evaluating left: whether it is a count, then the first word, or a refusal's number, place, offset and value

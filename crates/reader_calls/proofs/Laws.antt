@@ -182,7 +182,7 @@ judged {n} {s} {v} {k} d e = let x = passed-yes (judge n s v k) d e in judged-as
 -- ---- the words that a call uses: the first k of n words that are zero, and at most m
 
 -- all of them are there
-used-within : {n m k : ℕ} → Least n m k → k ≤ n
+pub used-within : {n m k : ℕ} → Least n m k → k ≤ n
 used-within {n} {m} {k} l = go (leb m n) refl
   where
     go : (b : Bool) → leb m n ≡ b → k ≤ n

@@ -1,7 +1,6 @@
 -- `counted_run` meets its contract: a refusal ends it, else the run is evaluated.
-use mathlib.Core.Path.{refl}
+use Rattle.interpreter_validate.proofs.Laws.{stops, goes, given, asked-room, leaves-self}
 use mathlib.Core.List.{[]}
-use Rattle.interpreter_validate.proofs.Laws.{stops, goes, given}
 use borrow.Author.Needs.{needs}
 use Rattle.interpreter_validate.proofs.counted_run.Statement.{statement}
 use Rattle.interpreter_validate.proofs.counted_run.Tie as tie
@@ -15,39 +14,33 @@ unread-requires c κs = search needs
 enum-told : tie.Need-enum-told
 enum-told c = search needs
 
-evaluated-run-requires : tie.Need-evaluated-run-requires
-evaluated-run-requires c κs =
-    let at-start = c .before .before .before .before .before .before in
-    given (at-start .pre .1) (c .before .enum-told .given .1)
+
+run-lent-requires : tie.Need-run-lent-requires
+run-lent-requires c κs =
+    let at-enum-told = c .before in
+    let at-start = at-enum-told .before .before .before .before .before in
+    let e = at-enum-told .enum-told .given .1 in
+    (given (at-start .pre .1 .questions) e, asked-room (at-start .pre .1) e)
 
 returns : tie.Need-returns
 returns c = (
-  refl,
-  λ n asked. stops asked [] _ (c .before .before .judged .given .1) (c .unread .ensures),
+  leaves-self _,
+  λ n asked. stops (asked .questions) [] _ (c .before .before .judged .given .1) (c .unread .ensures),
 )
 
 same-length : tie.Need-same-length
 same-length c = search needs
 
+
 returns-2 : tie.Need-returns-2
 returns-2 c =
-    let at-evaluated-run = c .before .before in
-    let at-enum-told = at-evaluated-run .before .before in (
-      at-evaluated-run .evaluated-run .ensures .0,
-      λ n asked. goes asked
-          (at-enum-told .enum-told .given .1) []
-          (at-evaluated-run .evaluated-run .result)
-          (at-evaluated-run .evaluated-run .ensures .1),
+    let at-run-lent = c .before .before in
+    let at-enum-told = at-run-lent .before .before in (
+      at-run-lent .run-lent .ensures .0,
+      λ n asked. goes (asked .questions) (at-enum-told .enum-told .given .1) [] (at-run-lent .run-lent .result) (at-run-lent .run-lent .ensures .1),
     )
 
 pub counted-run-spec : {M : Type 1} → statement M
 counted-run-spec =
     tie.close
-    (tie.spec
-    enum-known-judged
-    unread-requires
-    enum-told
-    evaluated-run-requires
-    returns
-    same-length
-    returns-2)
+    (tie.spec enum-known-judged unread-requires enum-told run-lent-requires returns same-length returns-2)

@@ -1,31 +1,51 @@
--- `length_of` meets its contract: words of its own, of which there are enough.
+-- `length_of` meets its contract: the questions are answered, then the type is evaluated with words of its own.
+use Rattle.interpreter_validate.proofs.Laws.{judged-of, stops, goes, given, values-located, values-answer}
 use mathlib.Core.Path.{refl}
-use native.Mathlib.Omega.{arith}
-use Rattle.interpreter_validate.proofs.Laws.{asked-of}
+use Rattle.interpreter_validate.specs.Validator.{Judged}
+use Rattle.interpreter_validate.specs.declared.Ask.the-variants as ask
 use borrow.Author.Needs.{needs}
 use Rattle.interpreter_validate.proofs.length_of.Statement.{statement}
 use Rattle.interpreter_validate.proofs.length_of.Tie as tie
 
+-- The questions are answered, seen from behind them.
+judged : (r : tie.After-both-read) →
+    let start = r .before .before .before .before in
+    Judged (ask.Values (start .args .len)) (start .args .layout .now) (start .args .values .now) (r .both-read .result) 8192
+judged r = judged-of refl (r .both-read .ensures)
+
 both-read-requires : tie.Need-both-read-requires
 both-read-requires c κs = search needs
 
-counted-long-requires : tie.Need-counted-long-requires
-counted-long-requires c κs = (8192, c .before .both-read .ensures)
+enum-known-q : tie.Need-enum-known-q
+enum-known-q c = search needs
+
+unread-requires : tie.Need-unread-requires
+unread-requires c κs = search needs
+
+enum-told : tie.Need-enum-told
+enum-told c = search needs
+
+
+type-alone-requires : tie.Need-type-alone-requires
+type-alone-requires c κs =
+    let at-both-read = c .before .before in
+    values-located (given (judged at-both-read) (c .enum-told .given .1))
 
 returns : tie.Need-returns
-returns c = c .counted-long .ensures 8192 (c .before .before .both-read .ensures)
-
-slice-aggregate-counted : tie.Need-slice-aggregate-counted
-slice-aggregate-counted c = search needs
-
-counted-requires : tie.Need-counted-requires
-counted-requires c κs = (8192, asked-of refl (c .before .before .both-read .ensures) (λ g. omega arith))
+returns c =
+    let at-q = c .before .before in
+    stops (judged (at-q .before .before)) _ _ (at-q .q .given .1) (c .unread .ensures)
 
 returns-2 : tie.Need-returns-2
 returns-2 c =
-    let at-counted = c .before in
-    let at-both-read = at-counted .before .before .before in
-    at-counted .counted .ensures .1 8192 (asked-of refl (at-both-read .both-read .ensures) (λ g. omega arith))
+    let at-enum-told = c .before in
+    let at-both-read = at-enum-told .before .before in
+    goes (judged at-both-read)
+    (at-enum-told .enum-told .given .1) _
+    (c .type-alone .result)
+    (values-answer _ _ _ _ (c .type-alone .result) (c .type-alone .ensures))
 
 pub length-of-spec : {M : Type 1} → statement M
-length-of-spec = tie.close (tie.spec both-read-requires counted-long-requires returns slice-aggregate-counted counted-requires returns-2)
+length-of-spec =
+    tie.close
+    (tie.spec both-read-requires enum-known-q unread-requires enum-told type-alone-requires returns returns-2)

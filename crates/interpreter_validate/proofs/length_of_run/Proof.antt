@@ -1,31 +1,46 @@
--- `length_of_run` meets its contract: words of its own, of which there are enough.
+-- `length_of_run` meets its contract: the questions are answered, then the run is evaluated with words of its own.
+use Rattle.interpreter_validate.proofs.Laws.{judged-of, stops, goes, given}
+use mathlib.Core.List.{[]}
 use mathlib.Core.Path.{refl}
-use native.Mathlib.Omega.{arith}
-use Rattle.interpreter_validate.proofs.Laws.{asked-of}
+use Rattle.interpreter_validate.specs.Validator.{Judged}
+use Rattle.interpreter_validate.specs.declared.Ask.the-variants as ask
 use borrow.Author.Needs.{needs}
 use Rattle.interpreter_validate.proofs.length_of_run.Statement.{statement}
 use Rattle.interpreter_validate.proofs.length_of_run.Tie as tie
 
+-- The questions are answered, seen from behind them.
+judged : (r : tie.After-both-read) →
+    let start = r .before .before .before in
+    Judged ask.Run (start .args .layout .now) (start .args .run .now) (r .both-read .result) 8192
+judged r = judged-of refl (r .both-read .ensures)
+
 both-read-requires : tie.Need-both-read-requires
 both-read-requires c κs = search needs
 
-counted-run-long-requires : tie.Need-counted-run-long-requires
-counted-run-long-requires c κs = (8192, c .before .both-read .ensures)
+enum-known-q : tie.Need-enum-known-q
+enum-known-q c = search needs
+
+unread-requires : tie.Need-unread-requires
+unread-requires c κs = search needs
+
+enum-told : tie.Need-enum-told
+enum-told c = search needs
+
+
+run-alone-requires : tie.Need-run-alone-requires
+run-alone-requires c κs = given (judged (c .before .before)) (c .enum-told .given .1)
 
 returns : tie.Need-returns
-returns c = c .counted-run-long .ensures 8192 (c .before .before .both-read .ensures)
-
-slice-aggregate-counted-run : tie.Need-slice-aggregate-counted-run
-slice-aggregate-counted-run c = search needs
-
-counted-run-requires : tie.Need-counted-run-requires
-counted-run-requires c κs = (8192, asked-of refl (c .before .before .both-read .ensures) (λ g. omega arith))
+returns c =
+    let at-q = c .before .before in
+    stops (judged (at-q .before .before)) [] _ (at-q .q .given .1) (c .unread .ensures)
 
 returns-2 : tie.Need-returns-2
 returns-2 c =
-    let at-counted = c .before in
-    let at-both-read = at-counted .before .before .before in
-    at-counted .counted-run .ensures .1 8192 (asked-of refl (at-both-read .both-read .ensures) (λ g. omega arith))
+    let at-enum-told = c .before in
+    goes (judged (at-enum-told .before .before)) (at-enum-told .enum-told .given .1) [] (c .run-alone .result) (c .run-alone .ensures)
 
 pub length-of-run-spec : {M : Type 1} → statement M
-length-of-run-spec = tie.close (tie.spec both-read-requires counted-run-long-requires returns slice-aggregate-counted-run counted-run-requires returns-2)
+length-of-run-spec =
+    tie.close
+    (tie.spec both-read-requires enum-known-q unread-requires enum-told run-alone-requires returns returns-2)
