@@ -215,6 +215,7 @@ calls-cleared ws zs k l c = go (leb 16 (length ws)) refl
           same = length-front ws zs k (ap length c ∙ length-replicate (length (take k ws)) 0);
           zero = λ x. zeros-before ws k h e (d x);
         }
+
     go : (b : Bool) → leb 16 (length ws) ≡ b → CallsCleared ws (zs ++ drop k ws)
     go true f =
         let h : 16 ≤ length ws = leb-true 16 (length ws) f in

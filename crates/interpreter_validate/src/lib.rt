@@ -167,7 +167,12 @@ fn type_alone(layout: &[u8], name: &[u8], values: &[u8], root: Root) -> Answer
     match lookup::lookup_type(layout, name) {
         Place::Missing => Answer::Refused(Refusal::plain(20)),
         Place::At(place, at) => {
-            let t = Target { place, at, block, len };
+            let t = Target {
+                place,
+                at,
+                block,
+                len,
+            };
             tree_alone(layout, values, t)
         }
     }
@@ -184,7 +189,12 @@ fn type_lent(layout: &[u8], name: &[u8], values: &[u8], root: Root, words: &mut 
     match lookup::lookup_type(layout, name) {
         Place::Missing => Answer::Refused(Refusal::plain(20)),
         Place::At(place, at) => {
-            let t = Target { place, at, block, len };
+            let t = Target {
+                place,
+                at,
+                block,
+                len,
+            };
             tree_lent(layout, values, t, words)
         }
     }

@@ -41,7 +41,6 @@ kind-requires c κs = search needs
 both-read-requires : tie.Need-both-read-requires
 both-read-requires c κs = search needs
 
-
 counted-for-requires : tie.Need-counted-for-requires
 counted-for-requires c κs = (_, asked (c .before))
 
@@ -50,7 +49,6 @@ clear-calls-requires c κs = search needs
 
 same-length : tie.Need-same-length
 same-length c = search needs
-
 
 returns : tie.Need-returns
 returns c =

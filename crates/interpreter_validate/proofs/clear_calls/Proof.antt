@@ -11,7 +11,6 @@ use Rattle.interpreter_validate.proofs.clear_calls.Tie as tie
 used-requires : tie.Need-used-requires
 used-requires c κs = search needs
 
-
 slice-relend-prefix-clear-words : tie.Need-slice-relend-prefix-clear-words
 slice-relend-prefix-clear-words c = used-within (c .used .ensures)
 
@@ -23,7 +22,6 @@ clear-words-requires c κs = search needs
 
 same-length : tie.Need-same-length
 same-length c = search needs
-
 
 returns : tie.Need-returns
 returns c =

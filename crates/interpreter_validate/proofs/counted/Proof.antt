@@ -13,7 +13,6 @@ unread-requires c κs = search needs
 enum-told : tie.Need-enum-told
 enum-told c = search needs
 
-
 type-lent-requires : tie.Need-type-lent-requires
 type-lent-requires c κs =
     let at-enum-told = c .before in
@@ -29,7 +28,6 @@ returns c = (
 
 same-length : tie.Need-same-length
 same-length c = search needs
-
 
 returns-2 : tie.Need-returns-2
 returns-2 c =

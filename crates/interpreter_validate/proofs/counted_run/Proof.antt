@@ -14,7 +14,6 @@ unread-requires c κs = search needs
 enum-told : tie.Need-enum-told
 enum-told c = search needs
 
-
 run-lent-requires : tie.Need-run-lent-requires
 run-lent-requires c κs =
     let at-enum-told = c .before in
@@ -30,7 +29,6 @@ returns c = (
 
 same-length : tie.Need-same-length
 same-length c = search needs
-
 
 returns-2 : tie.Need-returns-2
 returns-2 c =

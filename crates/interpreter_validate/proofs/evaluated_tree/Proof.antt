@@ -33,7 +33,6 @@ outcome-requires c κs = search needs
 same-length : tie.Need-same-length
 same-length c = search needs
 
-
 returns : tie.Need-returns
 returns c =
     let at-eval-node = c .before .before .before .before in

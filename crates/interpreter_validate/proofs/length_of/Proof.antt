@@ -25,7 +25,6 @@ unread-requires c κs = search needs
 enum-told : tie.Need-enum-told
 enum-told c = search needs
 
-
 type-alone-requires : tie.Need-type-alone-requires
 type-alone-requires c κs =
     let at-both-read = c .before .before in

@@ -26,7 +26,6 @@ unread-requires c κs = search needs
 enum-told : tie.Need-enum-told
 enum-told c = search needs
 
-
 run-alone-requires : tie.Need-run-alone-requires
 run-alone-requires c κs = given (judged (c .before .before)) (c .enum-told .given .1)
 

@@ -7,7 +7,6 @@ use Rattle.interpreter_validate.proofs.long_tree.Tie as tie
 slice-aggregate-evaluated-tree : tie.Need-slice-aggregate-evaluated-tree
 slice-aggregate-evaluated-tree c = search needs
 
-
 evaluated-tree-requires : tie.Need-evaluated-tree-requires
 evaluated-tree-requires c κs = let start = c .before .before .before in (start .pre, omega arith)
 

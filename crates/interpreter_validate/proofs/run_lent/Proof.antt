@@ -20,7 +20,6 @@ type-lent-requires c κs =
 same-length : tie.Need-same-length
 same-length c = search needs
 
-
 returns : tie.Need-returns
 returns c =
     let at-type-lent = c .before .before in

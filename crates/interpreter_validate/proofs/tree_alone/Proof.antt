@@ -10,13 +10,11 @@ needed-requires c κs = search needs
 long-tree-requires : tie.Need-long-tree-requires
 long-tree-requires c κs = search needs
 
-
 returns : tie.Need-returns
 returns c = c .long-tree .ensures
 
 slice-aggregate-evaluated-tree : tie.Need-slice-aggregate-evaluated-tree
 slice-aggregate-evaluated-tree c = search needs
-
 
 evaluated-tree-requires : tie.Need-evaluated-tree-requires
 evaluated-tree-requires c κs = let start = c .before .before .before .before .before in (start .pre, omega arith)

@@ -19,7 +19,6 @@ fits r = omega (arith, words-for _ _ _ (r .needed .ensures) .1, at-start r .pre 
 needed-requires : tie.Need-needed-requires
 needed-requires c κs = search needs
 
-
 slice-relend-prefix-part : tie.Need-slice-relend-prefix-part
 slice-relend-prefix-part c = fits c
 
@@ -37,7 +36,6 @@ clear-words-requires c κs = search needs
 same-length : tie.Need-same-length
 same-length c = search needs
 
-
 returns : tie.Need-returns
 returns c =
     let at-clear-words = c .before .before in
@@ -49,7 +47,6 @@ returns c =
 
 same-length-2 : tie.Need-same-length-2
 same-length-2 c = search needs
-
 
 returns-2 : tie.Need-returns-2
 returns-2 c =

@@ -16,7 +16,6 @@ plain-requires c κs = search needs
 enum-known-place : tie.Need-enum-known-place
 enum-known-place c = search needs
 
-
 tree-alone-requires : tie.Need-tree-alone-requires
 tree-alone-requires c κs =
     let at-place = c .before in

@@ -16,7 +16,6 @@ plain-requires c κs = search needs
 enum-known-place : tie.Need-enum-known-place
 enum-known-place c = search needs
 
-
 tree-lent-requires : tie.Need-tree-lent-requires
 tree-lent-requires c κs =
     let at-place = c .before .before in
@@ -32,7 +31,6 @@ returns c = (
 
 same-length : tie.Need-same-length
 same-length c = search needs
-
 
 returns-2 : tie.Need-returns-2
 returns-2 c =
