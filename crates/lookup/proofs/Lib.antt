@@ -1,4 +1,3 @@
-pub mod Slices
 pub mod Types
 pub mod Values
 pub mod Distinct

@@ -5,6 +5,7 @@ use crate::cases::{make, What};
 use crate::data::*;
 use crate::gen::{lists, spelling};
 use crate::rules::{build, eval, lengths, read};
+use crate::write;
 use std::collections::BTreeMap;
 use std::panic::{catch_unwind, AssertUnwindSafe};
 
@@ -61,7 +62,7 @@ impl Met {
 
 /// What `asks_index` counts, in words.
 pub const INDEXED: &str =
-    "with more than 8 names asked at the root of 32 values or more in 4,096 bytes or more";
+    "with an index: more than 8 names asked at the root of 128 values or more, by a tree as long as one that asks for 40";
 
 pub fn call_name(call: &Call) -> &'static str {
     match call {
@@ -216,16 +217,14 @@ pub fn asks_index(call: &Call) -> bool {
             name,
             values,
         } => {
-            *words >= WORDS
-                && values.len() >= lists::BYTES
-                && read::values(values).is_ok_and(|v| asks_many(layout, name, *length, &v))
+            let asks = |v: Values| asks_many(layout, name, *length, &v);
+            *words >= WORDS && read::values(values).is_ok_and(asks)
         }
         Call::Run { words, layout, run } => *words >= WORDS && run_asks_index(layout, run),
         Call::Lengths(input) => lengths::blocks(input).is_some_and(|(set, runs)| {
-            let mut long = runs
-                .iter()
-                .filter(|run| run.len() >= lists::BYTES)
-                .peekable();
+            // Names and numbers have ten bytes each or more.
+            let long = |run: &&&[u8]| run.len() >= 10 * lists::VALUES;
+            let mut long = runs.iter().filter(long).peekable();
             long.peek().is_some()
                 && build::build(set, WORDS, LIMIT as u64)
                     .is_ok_and(|layout| long.any(|run| run_asks_index(&layout, run)))
@@ -235,13 +234,23 @@ pub fn asks_index(call: &Call) -> bool {
 
 fn run_asks_index(layout: &[u8], run: &[u8]) -> bool {
     let asks = |r: Run| asks_many(layout, r.name.as_bytes(), r.length, &r.values);
-    run.len() >= lists::BYTES && read::run(run).is_ok_and(asks)
+    read::run(run).is_ok_and(asks)
 }
 
 fn asks_many(layout: &[u8], name: &[u8], length: u64, values: &Values) -> bool {
-    let asked = |trees| eval::asked_at_root(&trees, name, length, values);
-    values.len() >= lists::VALUES && read::layout(layout).is_ok_and(|l| asked(l) > lists::ASKED)
+    values.len() >= lists::VALUES
+        && read::layout(layout).is_ok_and(|trees| {
+            let tree = trees.iter().find(|t| t.name.as_bytes() == name);
+            let bytes = |t| write::layout(std::slice::from_ref(t)).len() - LAYOUT_HEAD - LENGTH;
+            let listed = write::values(values).len() - LENGTH;
+            tree.is_some_and(|t| lists::has_index(bytes(t), listed, values.len()))
+                && eval::asked_at_root(&trees, name, length, values) > lists::FOUND
+        })
 }
+
+/// Bytes of a length field, and of what stands before the trees of a layout.
+const LENGTH: usize = 4;
+const LAYOUT_HEAD: usize = 8;
 
 /// The kinds of types and expressions in a good set, of nodes in a layout.
 pub fn kinds_met(call: &Call, answer: &Answer) -> Vec<u16> {

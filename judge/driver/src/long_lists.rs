@@ -1,9 +1,9 @@
-//! Long lists for the stored list: some ten names asked of 32 or 33 values in
-//! 4,096 bytes or a few more, from where on names are found by an index.
+//! Long lists for the stored list: sixty names asked of 128 or 129 values, from
+//! where on names are found by an index.
 
 use crate::call::Call;
 use crate::data::*;
-use crate::gen::lists::BYTES;
+use crate::gen::lists::VALUES;
 use crate::rules::{build, eval};
 use crate::write;
 
@@ -16,27 +16,20 @@ pub fn calls() -> Vec<Call> {
 
 /// The `i`th name of a list: those with even numbers have one length.
 fn name(i: usize) -> String {
-    let more = if i % 2 == 0 { 0 } else { i };
-    format!("f.{i:02}") + &"x".repeat(more)
+    let more = if i % 2 == 0 { 0 } else { i % 16 };
+    format!("f.{i:03}") + &"x".repeat(more)
 }
 
-/// The names that the records ask for, from both ends of a list of 32.
+/// The names that the records ask for, from everywhere in a list, the last
+/// among the first.
 fn asked() -> Vec<String> {
-    [31, 0, 16, 8, 30, 2, 17, 9, 28, 4].map(name).to_vec()
+    (0..60).map(|i| name((i * 49 + 127) % 128)).collect()
 }
 
-/// So many values, in so many bytes; the names that are not asked for fill it.
-fn list(many: usize, bytes: usize, by: u64) -> Values {
+/// So many values.
+fn list(many: usize, by: u64) -> Values {
     let value = |i: usize| (name(i), by * (i as u64 + 1));
-    let mut list: Values = (0..many).map(value).collect();
-    let mut missing = bytes - write::values(&list).len();
-    let asked = asked();
-    for (name, _) in list.iter_mut().filter(|(name, _)| !asked.contains(name)) {
-        let more = missing.min(255 - name.len());
-        *name += &"~".repeat(more);
-        missing -= more;
-    }
-    list
+    (0..many).map(value).collect()
 }
 
 fn without(mut list: Values, name: &str) -> Values {
@@ -83,7 +76,7 @@ fn tagged() -> Layout {
     vec![tree("L", fields(others, switch), &[])]
 }
 
-/// Five as fields, two as arguments, three handed down through two calls.
+/// Fifty as fields, six as arguments, four handed down through two calls.
 fn called() -> Layout {
     let asked = asked();
     let argument = |i: usize| Argument {
@@ -92,12 +85,12 @@ fn called() -> Layout {
         value: asked[i].clone(),
     };
     let call = |name: &str, arguments| Node::new(1, Body::Call(name.to_string(), arguments));
-    let arguments = (5..7).map(argument).collect();
-    let mut held = asked[7..].to_vec();
-    held.extend(["a5", "a6"].map(String::from));
+    let arguments = (50..56).map(argument).collect();
+    let mut held = asked[56..].to_vec();
+    held.extend((50..56).map(|i| format!("a{i}")));
     let end = Node::new(1, Body::Zero);
     vec![
-        tree("L", fields(&asked[..5], call("M", arguments)), &[]),
+        tree("L", fields(&asked[..50], call("M", arguments)), &[]),
         tree("M", call("N", Vec::new()), &held),
         tree("N", fields(&held, end), &held),
     ]
@@ -117,19 +110,18 @@ fn validate(layout: &Layout, list: &Values, length: u64) -> Call {
     }
 }
 
-/// Accepted, 25, 21 and 22; through calls accepted and 21. What is taken out
-/// for 21 has 14 bytes.
+/// Accepted, 25, 21 and 22; through calls accepted and 21.
 fn validations() -> Vec<Call> {
-    let (short, long) = (list(32, BYTES, 3), list(33, BYTES + 14, 5));
-    let absent = without(long.clone(), &asked()[9]);
+    let (short, long) = (list(VALUES, 3), list(VALUES + 1, 5));
+    let absent = without(long.clone(), &asked()[59]);
     let required = count(&plain(), &short);
     vec![
         validate(&plain(), &short, required),
         validate(&plain(), &short, required - 1),
-        validate(&plain(), &absent, 1000),
-        validate(&tagged(), &long, 1000),
+        validate(&plain(), &absent, 100_000),
+        validate(&tagged(), &long, 100_000),
         validate(&called(), &long, count(&called(), &long)),
-        validate(&called(), &absent, 1000),
+        validate(&called(), &absent, 100_000),
     ]
 }
 
@@ -145,11 +137,11 @@ fn runs() -> Vec<Call> {
             values,
         }),
     };
-    let long = list(33, BYTES, 7);
+    let long = list(VALUES + 1, 7);
     vec![
-        run(list(32, BYTES, 2), 1000),
-        run(without(long.clone(), &asked()[9]), 1000),
-        run(long, 1000),
+        run(list(VALUES, 2), 10_000),
+        run(without(long.clone(), &asked()[59]), 10_000),
+        run(long, 10_000),
     ]
 }
 
@@ -186,12 +178,12 @@ fn lengths() -> Call {
     let run = |values: Values| {
         write::run(&Run {
             name: "L".to_string(),
-            length: 1000,
+            length: 10_000,
             values,
         })
     };
-    let second = without(list(33, BYTES, 4), &asked[8]);
-    Call::Lengths([set, run(list(32, BYTES, 2)), run(second)].concat())
+    let second = without(list(VALUES + 1, 4), &asked[58]);
+    Call::Lengths([set, run(list(VALUES, 2)), run(second)].concat())
 }
 
 #[cfg(test)]
@@ -208,6 +200,6 @@ mod tests {
         let Answer::Lines(lines) = judge(&lengths()).answer else {
             panic!("lines");
         };
-        assert_eq!(lines, "0 0 310 31\n1 21 0 0\n");
+        assert_eq!(lines, "0 0 7828 78\n1 21 0 0\n");
     }
 }

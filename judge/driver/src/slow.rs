@@ -58,10 +58,10 @@ pub const FULL: Scale = Scale {
     structs: 200,
     fills: true,
 };
-/// Full registries, one struct each; lists of some 4,200 bytes.
+/// Full registries, one struct each; lists of some 4,400 bytes.
 pub const ONE: Scale = Scale {
     names: 32,
-    values: 40,
+    values: 130,
     structs: 1,
     fills: false,
     ..FULL
@@ -145,8 +145,8 @@ impl Scale {
             bytes: [write::layout(&asked.layout), write::run(&asked.run)].concat(),
             number,
         };
-        let placed = values_of_one_place(self.values, VALUE);
-        let more = values_of_one_mark(self.values + 1, VALUE);
+        let placed = values_of_one_place(self.values, self.value_bytes());
+        let more = values_of_one_mark(self.values + 1, self.value_bytes());
         let marked = more[..self.values].to_vec();
         vec![
             run("values-alike", 0, all_asked(self.values_alike())),
@@ -663,16 +663,26 @@ fn last_absent(names: Vec<String>) -> Asked {
 }
 
 impl Scale {
+    /// Bytes of a value's name: short ones keep a list small.
+    fn value_bytes(self) -> usize {
+        if self.fills {
+            VALUE
+        } else {
+            24
+        }
+    }
+
     /// Names that differ in three digits in their middle.
     fn values_alike(self) -> Vec<String> {
-        let half = "n".repeat(VALUE / 2);
+        let half = "n".repeat(self.value_bytes() / 2);
         let name = |i| format!("{half}{i:03}{}", &half[3..]);
         (0..self.values).map(name).collect()
     }
 
     /// A type that lists names of values as parameters and asks for them, and a
-    /// record that calls it again and again: each call asks for each name. There
-    /// is room for 190 calls, with which the attack would take minutes.
+    /// record that asks for some, so that there is an index, and calls it again
+    /// and again: each call asks for each name. There is room for 190 calls, with
+    /// which the attack would take minutes.
     fn handed(self, names: Vec<String>) -> Asked {
         let mut called = trees(vec![String::new()]);
         let param = |name: &String| Param {
@@ -684,26 +694,18 @@ impl Scale {
         called[0].root = sum(names.iter().map(asked).collect());
         let many = if self.fills { 40 } else { self.fields };
         let call = || Node::new(1, Body::Call(String::new(), Vec::new()));
-        let calls = (0..many).map(|_| call()).collect();
-        Asked::new(sum(calls), called, &names)
+        let first = names.iter().take(60).map(asked);
+        let nodes = first.chain((0..many).map(|_| call())).collect();
+        Asked::new(sum(nodes), called, &names)
     }
 
-    /// Short names leave room in the layout; few values need longer ones for as
-    /// many bytes as an index asks for.
-    fn short(self, length: usize) -> usize {
-        if self.fills {
-            length
-        } else {
-            VALUE
-        }
-    }
-
+    /// Short names leave room in the layout.
     fn handed_one_place(self) -> Asked {
-        self.handed(values_of_one_place(self.values, self.short(8)))
+        self.handed(values_of_one_place(self.values, 8))
     }
 
     fn handed_one_mark(self) -> Asked {
-        self.handed(values_of_one_mark(self.values, self.short(32)))
+        self.handed(values_of_one_mark(self.values, 32))
     }
 }
 

@@ -1,6 +1,6 @@
 //! Records that ask for many values of long lists, against a lookup that compares name by name.
-//! From 32 values in 4,096 bytes on, and after some names were asked, the proved code finds names
-//! by an index of the list: the lists here stand below, at and above these limits.
+//! From 128 values on, in records that ask for some forty of them or more, the proved code finds
+//! names by an index of the list: the lists and records here stand below, at and above these limits.
 
 use ciztarmo::{Layout, Number, Refusal, Run, Values, Work};
 
@@ -64,7 +64,7 @@ fn layout_of(asked: &[String]) -> Layout {
 // Names and lists.
 
 /// How many values the lists have.
-const MANY: [usize; 7] = [31, 32, 33, 127, 128, 500, 512];
+const MANY: [usize; 7] = [31, 90, 127, 128, 129, 500, 512];
 
 const KINDS: [&str; 7] = [
     "alike at their beginnings",
@@ -77,7 +77,7 @@ const KINDS: [&str; 7] = [
 ];
 
 /// The name of a place in a list of so many values. Where names are of one length, this is such
-/// that 31 of them have more than 4,096 bytes, and 512 at most 65,536.
+/// that 512 of them have at most 65,536 bytes.
 fn name_of(kind: usize, i: usize, many: usize) -> String {
     let rest = (65_000 / many - 10).min(125) - 3;
     let half = rest / 2;
@@ -188,11 +188,12 @@ fn values_are_those_of_a_plain_lookup() {
     assert_eq!((found, absent), (1260, 1260));
 }
 
-/// How many fields the records have: 1 to 40; with the longest lists, which take most of the time,
-/// some of these.
+/// How many fields the records have: 1 to 60, with the longest lists, which take most of the time,
+/// some of these; near forty all.
 fn fields(many: usize) -> Vec<usize> {
-    let taken = |n: &usize| many < 100 || (7..=10).contains(n) || n % 4 == 0 || [1, 2].contains(n);
-    (1..=40).filter(taken).collect()
+    let taken =
+        |n: &usize| many < 100 || (36..=45).contains(n) || n % 6 == 0 || [1, 2, 5].contains(n);
+    (1..=60).filter(taken).collect()
 }
 
 /// Names that are like one of the list, but are not in it, behind so many that are.
@@ -207,7 +208,7 @@ fn names_that_are_nearly_there() {
         cut.pop();
         for near in [format!("{like}x"), cut.clone() + "~", cut + "\u{10FFFF}"] {
             assert!(looked_up(&list, std::slice::from_ref(&near)).is_err());
-            for fields in [0, 7, 8, 9, 30] {
+            for fields in [0, 4, 5, 9, 39, 40, 60] {
                 let mut names = asked(&list, fields);
                 names.push(near.clone());
                 let told = answers(&mut work, &layout_of(&names), &given);
@@ -217,26 +218,23 @@ fn names_that_are_nearly_there() {
     }
 }
 
-/// Values of 4,094 to 4,097 bytes, by themselves and as a run.
+/// Names of one length, so that a record's tree and its values stand just below, at and above the
+/// limit from which on there is an index; one name more that is not asked has the bytes that move it.
 #[test]
-fn lists_near_4096_bytes() {
+fn trees_near_the_limit() {
     let mut work = Work::new();
-    // What a run of the type `R` has before its values.
-    let head = 4 + 2 + (2 + 1) + 8;
-    for many in [31, 32, 33] {
-        for bytes in [4094, 4095, 4096, 4097].map(|n| [n, n - head]).concat() {
-            let mut list: List = (0..many).map(|i| (format!("{i:0100}"), i)).collect();
-            let mut missing = bytes - values(&list).to_bytes().len();
-            for (name, _) in list.iter_mut().rev() {
-                let more = missing.min(255 - name.len());
-                *name += &"~".repeat(more);
-                missing -= more;
-            }
-            let given = values(&list);
-            assert_eq!(given.to_bytes().len(), bytes);
-            for fields in 7..=10 {
-                let names = asked(&list, fields);
-                let told = answers(&mut work, &layout_of(&names), &given);
+    for many in [127, 128, 129, 160] {
+        for fields in 38..=42 {
+            for more in [0, 40, 80, 120, 160, 200] {
+                let mut list: List = (0..many).map(|i| (format!("{i:020}"), i)).collect();
+                let names: Vec<String> = list
+                    .iter()
+                    .rev()
+                    .take(fields)
+                    .map(|v| v.0.clone())
+                    .collect();
+                list[0].0 += &"~".repeat(more);
+                let told = answers(&mut work, &layout_of(&names), &values(&list));
                 assert_eq!(told, vec![looked_up(&list, &names); 5]);
             }
         }
@@ -247,9 +245,9 @@ fn lists_near_4096_bytes() {
 /// without the last name, a short one, none.
 #[test]
 fn each_run_has_its_own_values() {
-    for (many, kind) in [(500, 0), (128, 3), (33, 6)] {
+    for (many, kind, fields) in [(500, 0, 60), (128, 3, 90), (129, 6, 20), (33, 6, 20)] {
         let whole = list(kind, many, 1);
-        let names = asked(&whole, 20);
+        let names = asked(&whole, fields);
         let layout = layout_of(&names);
         let without = |n: &String| whole.iter().filter(|(k, _)| k != n).cloned().collect();
         let short = whole.iter().filter(|(k, _)| names.contains(k)).cloned();
@@ -280,11 +278,11 @@ fn each_run_has_its_own_values() {
 #[test]
 fn names_through_calls() {
     for open in [1, 2, 16] {
-        for many in [31, 33, 500] {
+        for (many, half) in [(31, 12), (128, 12), (128, 50), (500, 60)] {
             let list = list(2, many, 1);
-            let names = asked(&list, 24);
-            let (arguments, handed) = names.split_at(12);
-            let inside: Vec<String> = (0..12).map(|i| format!("a{i}")).collect();
+            let names = asked(&list, 2 * half);
+            let (arguments, handed) = names.split_at(half);
+            let inside: Vec<String> = (0..half).map(|i| format!("a{i}")).collect();
             let held = [&inside[..], handed].concat();
             let pass = |i: usize, inner: &str| block(164, &[&name(&format!("a{i}")), &name(inner)]);
             let call = |to: usize, arguments: &[Vec<u8>]| {
@@ -292,7 +290,7 @@ fn names_through_calls() {
                 let to = name(&format!("C{to}"));
                 node(133, &[&to, &count, &arguments.concat()])
             };
-            let given: Vec<_> = (0..12).map(|i| pass(i, &arguments[i])).collect();
+            let given: Vec<_> = (0..half).map(|i| pass(i, &arguments[i])).collect();
             let mut trees = vec![tree("R", &call(1, &given), &[])];
             for i in 1..open {
                 trees.push(tree(&format!("C{i}"), &call(i + 1, &[]), &held));
@@ -302,12 +300,15 @@ fn names_through_calls() {
             let count = layout.length_of("R", &values(&list), u64::MAX);
             assert_eq!(count.ok(), looked_up(&list, &names).ok());
             // A name that is handed down and absent is missing where it is asked for.
-            let fewer: List = list.into_iter().filter(|(n, _)| *n != names[23]).collect();
+            let fewer: List = list
+                .into_iter()
+                .filter(|(n, _)| *n != names[2 * half - 1])
+                .collect();
             let refusal = layout.length_of("R", &values(&fewer), u64::MAX);
             let refusal = refusal.expect_err("a name is missing");
             assert_eq!(refusal.place(), Some(open as u16));
             let missing = layout.borrowed().missing_value(&refusal);
-            assert_eq!(missing, Some(&names[23][..]));
+            assert_eq!(missing, Some(&names[2 * half - 1][..]));
         }
     }
 }

@@ -1,22 +1,27 @@
 //! Lists of many values, and layouts and sets whose records ask for many of
-//! them. From some values, bytes and names asked on, a name is found by an
-//! index of the list and no longer by comparing one by one; the cases stand on
-//! both sides of each of these limits.
+//! them. From some values and some bytes of the record's tree on, a name is
+//! found by an index of the list and no longer by comparing one by one; the
+//! cases stand on both sides of each of these limits.
 
 use super::runs;
 use crate::data::*;
 use crate::prng::{some_number, Rng};
 use std::collections::BTreeSet;
 
-/// There is an index only of so many values or more, in an input of so many
-/// bytes or more. It begins behind four names; calls are counted that ask for
-/// more than so many at the root.
-pub const VALUES: usize = 32;
-pub const BYTES: usize = 4096;
-pub const ASKED: usize = 8;
+/// There is an index only of so many values or more, for a tree as long as one
+/// that asks for so many of them in a sum: a field takes 22 bytes more than its
+/// value. It begins behind four names; calls are counted that ask for more than
+/// so many at the root.
+pub const VALUES: usize = 128;
+pub const ASKED: usize = 40;
+pub const FOUND: usize = 8;
 
-/// What a run of a type `L0` or `T0` has before its values.
-const RUN_HEAD: usize = 18;
+/// Whether there is an index, by the length fields of a tree and of a block of
+/// so many values.
+pub fn has_index(tree: usize, values: usize, many: usize) -> bool {
+    many >= VALUES && tree * many >= ASKED * (values + 22 * many)
+}
+
 const KINDS: usize = 7;
 /// Bytes of a layout, which may have a few thousand more than are counted.
 const LAYOUT: usize = 50_000;
@@ -26,16 +31,16 @@ const LAYOUT: usize = 50_000;
 fn how_many(r: &mut Rng) -> usize {
     match r.weighted(&[35, 45, 20]) {
         0 => r.between(VALUES - 1, VALUES + 1),
-        1 => r.between(34, 200),
-        _ => *r.pick(&[127, 128, 129, 254, 255, 256, 400, 500, 511, 512]),
+        1 => r.between(130, 300),
+        _ => *r.pick(&[31, 64, 100, 254, 255, 256, 400, 500, 511, 512]),
     }
 }
 
-/// Bytes of a list: at the limit as values or as a run, or more.
+/// Bytes of a list.
 fn how_long(r: &mut Rng) -> usize {
-    match r.weighted(&[25, 60, 15]) {
-        0 => r.between(BYTES - 2, BYTES + 1) - *r.pick(&[0, RUN_HEAD]),
-        1 => r.between(BYTES, 9000),
+    match r.weighted(&[30, 55, 15]) {
+        0 => r.between(1800, 4000),
+        1 => r.between(4000, 9000),
         _ => r.between(9000, 65_000),
     }
 }
@@ -155,7 +160,7 @@ fn absent(r: &mut Rng, pool: &[String]) -> String {
 /// How many names are asked, no more than there is room for.
 fn how_many_asked(r: &mut Rng, most: usize) -> usize {
     let many = match r.weighted(&[35, 40, 25]) {
-        0 => r.between(ASKED - 1, ASKED + 2),
+        0 => r.between(ASKED - 3, ASKED + 4),
         1 => r.between(1, 64),
         _ => r.between(65, 300),
     };
@@ -426,7 +431,7 @@ mod tests {
         let r = &mut Rng::new(1, 1);
         for _ in 0..300 {
             let names = pool(r, "");
-            assert!((VALUES - 1..=512).contains(&names.len()));
+            assert!((31..=512).contains(&names.len()));
             let list: Values = names.iter().map(|n| (n.clone(), 1)).collect();
             let mut list = list;
             list.sort();
