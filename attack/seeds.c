@@ -455,27 +455,24 @@ static void many_runs(void)
 }
 
 /*
- * Lists on both sides of the limits from which on names are found by an index of the list: 32 values, 4,096 bytes, more than 4 names
- * asked. As values; and as runs, of which the second has a value less than is asked for, and the third is the first again.
+ * Lists on both sides of the limits from which on names are found by an index of the list: 128 values, and a tree as long as one that asks
+ * for 40. As values; and as runs, of which the second has a value less than is asked for, and the third is the first again.
  */
 static void lists(void)
 {
-    for (int many = 31; many < 34; many++)
-        for (size_t bytes = 4095; bytes < 4098; bytes++)
-            for (int fields = 3; fields < 7; fields++) {
-                struct limit_list list = limit_list_of(many, bytes);
-                limit_asked(&limit, list, fields);
-                limit_listed(&values, list);
-                limit_seed(ATTACK_VALIDATE);
-                limit_seed(ATTACK_LENGTH_OF);
-                /* A run has 22 bytes more than its values. */
-                list = limit_list_of(many, bytes - 22);
-                limit_asked(&limit, list, fields);
-                runs.len = 0;
-                for (int i = 0; i < 3; i++)
-                    limit_add_run(&runs, many - (i == 1), list.more, list.longer);
-                runs_seed(0, 0, 0);
-            }
+    for (int many = 127; many < 130; many++)
+        for (int fields = 38; fields < 44; fields++) {
+            const size_t bytes = 26 * (size_t)many;
+            struct limit_list list = limit_list_of(many, bytes);
+            limit_asked(&limit, list, fields);
+            limit_listed(&values, list);
+            limit_seed(ATTACK_VALIDATE);
+            limit_seed(ATTACK_LENGTH_OF);
+            runs.len = 0;
+            for (int i = 0; i < 3; i++)
+                limit_add_run(&runs, many - (i == 1), list.more, list.longer);
+            runs_seed(0, 0, 0);
+        }
 }
 
 static int ends_with(const char *text, const char *end)

@@ -73,7 +73,7 @@ static void close_block(struct bytes *b, size_t at)
 /* Types that add nothing but their number: a reader may keep more of many names than of a few. */
 #define OTHERS 40
 
-/* As many values as a block may have beside t; they are longer than 4,096 bytes. */
+/* As many values as a block may have beside t. */
 #define MANY_VALUES 511
 
 /* How the nodes of a layout are nested. */
