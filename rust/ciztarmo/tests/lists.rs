@@ -184,8 +184,8 @@ fn values_are_those_of_a_plain_lookup() {
             }
         }
     }
-    // For each kind of names 40 records of three lists and 15 of four.
-    assert_eq!((found, absent), (1260, 1260));
+    // For each kind of names 60 records of two lists and 21 of five.
+    assert_eq!((found, absent), (1575, 1575));
 }
 
 /// How many fields the records have: 1 to 60, with the longest lists, which take most of the time,
@@ -274,15 +274,16 @@ fn each_run_has_its_own_values() {
 }
 
 /// The same through calls that are open together: names as arguments, and names that called types
-/// list as parameters, so that they are handed down.
+/// list as parameters, so that they are handed down, behind others that the record asks for itself.
 #[test]
 fn names_through_calls() {
     for open in [1, 2, 16] {
-        for (many, half) in [(31, 12), (128, 12), (128, 50), (500, 60)] {
+        for (many, fields) in [(31, 1), (127, 60), (128, 60), (500, 60)] {
             let list = list(2, many, 1);
-            let names = asked(&list, 2 * half);
-            let (arguments, handed) = names.split_at(half);
-            let inside: Vec<String> = (0..half).map(|i| format!("a{i}")).collect();
+            let all = asked(&list, 24 + fields);
+            let (names, own) = all.split_at(24);
+            let (arguments, handed) = names.split_at(12);
+            let inside: Vec<String> = (0..12).map(|i| format!("a{i}")).collect();
             let held = [&inside[..], handed].concat();
             let pass = |i: usize, inner: &str| block(164, &[&name(&format!("a{i}")), &name(inner)]);
             let call = |to: usize, arguments: &[Vec<u8>]| {
@@ -290,25 +291,23 @@ fn names_through_calls() {
                 let to = name(&format!("C{to}"));
                 node(133, &[&to, &count, &arguments.concat()])
             };
-            let given: Vec<_> = (0..half).map(|i| pass(i, &arguments[i])).collect();
-            let mut trees = vec![tree("R", &call(1, &given), &[])];
+            let given: Vec<_> = (0..12).map(|i| pass(i, &arguments[i])).collect();
+            let root = node(134, &[&record(own), &call(1, &given)]);
+            let mut trees = vec![tree("R", &root, &[])];
             for i in 1..open {
                 trees.push(tree(&format!("C{i}"), &call(i + 1, &[]), &held));
             }
             trees.push(tree(&format!("C{open}"), &record(&held), &held));
             let layout = layout(&trees);
             let count = layout.length_of("R", &values(&list), u64::MAX);
-            assert_eq!(count.ok(), looked_up(&list, &names).ok());
+            assert_eq!(count.ok(), looked_up(&list, &all).ok());
             // A name that is handed down and absent is missing where it is asked for.
-            let fewer: List = list
-                .into_iter()
-                .filter(|(n, _)| *n != names[2 * half - 1])
-                .collect();
+            let fewer: List = list.into_iter().filter(|(n, _)| *n != names[23]).collect();
             let refusal = layout.length_of("R", &values(&fewer), u64::MAX);
             let refusal = refusal.expect_err("a name is missing");
             assert_eq!(refusal.place(), Some(open as u16));
             let missing = layout.borrowed().missing_value(&refusal);
-            assert_eq!(missing, Some(&names[2 * half - 1][..]));
+            assert_eq!(missing, Some(&names[23][..]));
         }
     }
 }
