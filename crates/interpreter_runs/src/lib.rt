@@ -33,10 +33,8 @@ pub fn answer_alone(layout: &[u8], first: Read, run: &[u8]) -> Answer
     requires { ⌜ Holds 8192 (now layout) first ⌝ }
     ensures { λ r. ⌜ outcomeOf r ≡ validate-run 8192 (now (layout .entry)) (now (run .entry)) ⌝ }
 {
-    match reader_calls::other_read(8192, first, run, 193) {
-        Read::Refused(q, o) => Answer::Refused(Refusal::unread(q, o)),
-        Read::Ok(_) => interpreter_validate::run_alone(layout, run),
-    }
+    let judged = reader_calls::other_read(8192, first, run, 193);
+    interpreter_validate::run_counted(judged, layout, run)
 }
 
 // Where the run at i ends.

@@ -46,7 +46,7 @@ use Rattle.interpreter_eval.proofs.Laws.{found-at, found-none}
 use Rattle.interpreter_validate.specs.declared.Ask.{Ask}
 use Rattle.interpreter_validate.specs.declared.Ask.the-variants as ask
 use Rattle.interpreter_validate.specs.declared.Target.{Target}
-use Rattle.interpreter_validate.specs.Validator.{kindOf, runFor, runIn, callOf, Judged, Asked, outcomeIn, fitted, Located, Given, Named, Aimed, TypeAnswers, TreeAnswers, Answers, Called}
+use Rattle.interpreter_validate.specs.Validator.{kindOf, runFor, runIn, callOf, Judged, Asked, outcomeIn, fitted, Located, Given, Aimed, TypeAnswers, TreeAnswers, Answers, Called}
 use Rattle.interpreter_validate.specs.Validator.{AcceptedRun, RunRoot, wordsFor, Spare, Leaves, CallsCleared}
 
 -- ---- a call: values or a run

@@ -16,7 +16,7 @@ ghost use Rattle.value.specs.Number.{numberOf};
 ghost use Rattle.blocks.specs.Bytes.{le2, le4};
 ghost use Rattle.interpreter.specs.Validate.{fits-buffer, validate, validate-run};
 ghost use Rattle.interpreter_validate.specs.declared.Ask.the-variants.{Values, Run};
-ghost use Rattle.interpreter_validate.specs.Validator.{kindOf, callOf, Asked, outcomeIn, fitted, Located, Given, Aimed, TypeAnswers, TreeAnswers, Answers, Called};
+ghost use Rattle.interpreter_validate.specs.Validator.{kindOf, callOf, Judged, Asked, outcomeIn, fitted, Located, Given, Aimed, TypeAnswers, TreeAnswers, Answers, Called};
 ghost use Rattle.interpreter_validate.specs.Validator.{AcceptedRun, RunRoot, wordsFor, Leaves, CallsCleared};
 
 // One word for each call that may be open.
@@ -213,7 +213,7 @@ fn run_root(run: &[u8]) -> Root
 }
 
 // The count of a run.
-pub fn run_alone(layout: &[u8], run: &[u8]) -> Answer
+fn run_alone(layout: &[u8], run: &[u8]) -> Answer
     requires { ⌜ Given Run (now layout) (now run) ⌝ }
     ensures { λ r. ⌜ Answers Run (now (layout .entry)) (now (run .entry)) (now (run .entry)) r ⌝ }
 {
@@ -324,11 +324,20 @@ pub fn length_of(layout: &[u8], name: &[u8], values: &[u8], len: u64) -> Answer
     }
 }
 
-pub fn length_of_run(layout: &[u8], run: &[u8]) -> Answer
-    ensures { λ r. ⌜ outcomeOf r ≡ validate-run 8192 (now (layout .entry)) (now (run .entry)) ⌝ }
+// The answer to a run with words of its own, where the questions before evaluating are answered.
+pub fn run_counted(judged: Read, layout: &[u8], run: &[u8]) -> Answer
+    requires { ⌜ ((n : ℕ) × Judged Run (now layout) (now run) judged n) ⌝ }
+    ensures { λ r. ⌜ ((n : ℕ) → Judged Run (now (layout .entry)) (now (run .entry)) judged n → outcomeOf r ≡ validate-run n (now (layout .entry)) (now (run .entry))) ⌝ }
 {
-    match reader_calls::both_read(8192, layout, run, 193) {
+    match judged {
         Read::Refused(q, o) => Answer::Refused(Refusal::unread(q, o)),
         Read::Ok(_) => run_alone(layout, run),
     }
+}
+
+pub fn length_of_run(layout: &[u8], run: &[u8]) -> Answer
+    ensures { λ r. ⌜ outcomeOf r ≡ validate-run 8192 (now (layout .entry)) (now (run .entry)) ⌝ }
+{
+    let judged = reader_calls::both_read(8192, layout, run, 193);
+    run_counted(judged, layout, run)
 }

@@ -1,7 +1,6 @@
 -- `answer` meets its contract: the questions of the run, behind those of the layout; a refusal ends it, else the run is evaluated.
 use mathlib.Core.Path.{refl}
 use mathlib.Core.List.{[]}
-use native.Mathlib.Omega.{arith}
 use borrow.Author.Needs.{needs}
 use Rattle.interpreter_validate.specs.Validator.{Judged}
 use Rattle.interpreter_validate.specs.declared.Ask.the-variants as ask

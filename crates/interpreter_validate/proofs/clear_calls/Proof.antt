@@ -3,7 +3,6 @@ use Rattle.interpreter_validate.proofs.Laws.{calls-cleared}
 use Rattle.reader_calls.proofs.Laws.{used-within}
 use lib.Seq.{length-take-le}
 use mathlib.Core.Path.{sym}
-use native.Mathlib.Omega.{arith}
 use borrow.Author.Needs.{needs}
 use Rattle.interpreter_validate.proofs.clear_calls.Statement.{statement}
 use Rattle.interpreter_validate.proofs.clear_calls.Tie as tie

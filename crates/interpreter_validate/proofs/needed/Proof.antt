@@ -1,10 +1,6 @@
 -- `needed` meets its contract: by the number of the values, and by the bytes of the tree. No product leaves its 64 bits, since a length has 32 and a count 16.
-use mathlib.Core.Path.{_≡_, sym, subst}
-use Prim.Native.Nat.{ℕ, _+_, _*_, _<_, _≤_}
 use native.Mathlib.Omega.{arith}
-use Rattle.interpreter_validate.specs.Validator.{wordsFor}
 use Rattle.interpreter_validate.proofs.Laws.{tree-header, values-header, words-few, words-short, words-many, product-small}
-use borrow.Author.Needs.{needs}
 use Rattle.interpreter_validate.proofs.needed.Statement.{statement}
 use Rattle.interpreter_validate.proofs.needed.Tie as tie
 

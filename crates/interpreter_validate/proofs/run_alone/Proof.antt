@@ -1,7 +1,6 @@
 -- `run_alone` meets its contract: its type is evaluated with its values and its buffer length.
 use Rattle.interpreter_validate.proofs.Laws.{run-inside, run-located, run-answers}
 use native.Mathlib.Omega.{arith}
-use borrow.Author.Needs.{needs}
 use Rattle.interpreter_validate.proofs.run_alone.Statement.{statement}
 use Rattle.interpreter_validate.proofs.run_alone.Tie as tie
 

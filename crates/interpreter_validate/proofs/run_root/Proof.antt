@@ -1,10 +1,9 @@
 -- `run_root` meets its contract: its name, its buffer length and its values stand one behind the other.
 use Rattle.interpreter_validate.proofs.Laws.{run-inside}
 use mathlib.Core.Path.{_≡_, _∙_, ap}
-use Prim.Native.Nat.{ℕ, _+_}
+use Prim.Native.Nat.{_+_}
 use Rattle.blocks.specs.Bytes.{le2, le8}
 use native.Mathlib.Omega.{arith}
-use borrow.Author.Needs.{needs}
 use Rattle.interpreter_validate.proofs.run_root.Statement.{statement}
 use Rattle.interpreter_validate.proofs.run_root.Tie as tie
 
