@@ -21,11 +21,11 @@
  * - The answer is four words, see enum ciztarmo_answer; ciztarmo_validate_runs gives four for each run.
  * - Reading, building and evaluating recurse over nested blocks, of which at most 32 are open in a set and 256 in a layout;
  *   evaluating also over calls of types, of which at most 16 are open. So the stack is bounded, but not small. Measured by
- *   `c/test --stack` on hostile inputs: reading 12,775 bytes for a set and 98,791 for a layout of 256 open blocks; building 121,423
- *   with ciztarmo_layout_of and 108,127 with ciztarmo_build_set, where the first of 64 fields with padding calls a type of 64 owners
- *   and 64 paths; validating 1,184,415, where a type of 254 nested nodes calls itself. On the type Trip of document 01
- *   ciztarmo_layout_of takes 21,671, ciztarmo_length_of and ciztarmo_length_of_run 10,911 (of which 9,344 are words in which they may
- *   remember where long values stand), ciztarmo_build_set 8,375, and no other call more than 2,711. A thread that validates with sets
+ *   `c/test --stack` on hostile inputs: reading 12,775 bytes for a set and 98,791 for a layout of 256 open blocks; building 121,431
+ *   with ciztarmo_layout_of and 108,135 with ciztarmo_build_set, where the first of 64 fields with padding calls a type of 64 owners
+ *   and 64 paths; validating 1,184,247, where a type of 254 nested nodes calls itself. On the type Trip of document 01
+ *   ciztarmo_layout_of takes 21,671, ciztarmo_length_of and ciztarmo_length_of_run 10,735 (of which 9,344 are words in which they may
+ *   remember where values stand), ciztarmo_build_set 8,375, and no other call more than 2,711. A thread that validates with sets
  *   or layouts from somebody whom it does not trust should have CIZTARMO_STACK_BYTES left. The proofs say nothing of the stack.
  *
  * What the calls answer is proved (README.md, "What is proved"); what is said here of stack and NULL is measured and tested. The

@@ -231,7 +231,7 @@ fn reading_alone() {
             Err(_) => refused += 1,
         }
     }
-    // All 6,161 records but those of `lengths`; refused are those with 1 to 6 and 19.
+    // All records but the 321 of `lengths`; refused are those with 1 to 6 and 19.
     assert_eq!((accepted, refused), (4068, 2086));
 }
 
