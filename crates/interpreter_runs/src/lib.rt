@@ -13,13 +13,12 @@ ghost use Rattle.wire.specs.Poke.{Wrote};
 ghost use Rattle.errors.specs.Meaning.{outcomeOf};
 ghost use Rattle.interpreter.specs.Runs.{validate-runs, given};
 ghost use Rattle.errors.specs.Answer.{answerWords, allAnswerWords};
-ghost use Rattle.interpreter_validate.specs.Validator.{Leaves};
 ghost use Rattle.interpreter_runs.specs.Held.{Holds, Ends};
 
 // The answer to a run. The questions of a call with the layout alone are answered.
 fn answer(n: usize, layout: &[u8], first: Read, run: &[u8], words: &mut [u64]) -> Answer
     requires { ⌜ Holds n (now layout) first × (8192 ≤ n → 1168 ≤ length (now words)) ⌝ }
-    ensures { λ _. ⌜ Leaves (now (words .entry)) (now (words .exit)) ⌝ }
+    ensures { λ _. ⌜ length (now (words .exit)) ≡ length (now (words .entry)) ⌝ }
     ensures { λ r. ⌜ outcomeOf r ≡ validate-run n (now (layout .entry)) (now (run .entry)) ⌝ }
 {
     match reader_calls::other_read(n, first, run, 193) {
@@ -96,7 +95,7 @@ fn answer_all(
     out: &mut [u64],
 ) -> usize
     requires { ⌜ Holds n (now layout) first × (8192 ≤ n → 1168 ≤ length (now words)) ⌝ }
-    ensures { λ _. ⌜ Leaves (now (words .entry)) (now (words .exit)) ⌝ }
+    ensures { λ _. ⌜ length (now (words .exit)) ≡ length (now (words .entry)) ⌝ }
     ensures { λ r. ⌜ Wrote (now (out .entry)) 0 (allAnswerWords (given (length (now (out .entry))) (validate-runs n (now (layout .entry)) (now (s .entry))))) (now (out .exit)) r ⌝ }
 {
     let mut i = 0;
@@ -120,9 +119,8 @@ pub fn validate_runs(words: &mut [u64], layout: &[u8], runs: &[u8], answers: &mu
     ensures { λ _. ⌜ now (words .exit) ≡ words-after (now (words .entry)) ⌝ }
 {
     let n = words.len();
-    wire::clear_words(words);
     let first = reader_calls::one_read(n, layout, 256, 160);
     let end = answer_all(n, layout, first, runs, words, answers);
-    interpreter_validate::clear_calls(words);
+    interpreter_validate::clear_used(words);
     end / 4
 }

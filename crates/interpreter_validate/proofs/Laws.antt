@@ -4,12 +4,13 @@ use mathlib.Core.Path.{_≡_, refl, sym, subst, _∙_, ap}
 use mathlib.Core.Bool.{Bool, true, false, cond}
 use lib.Dec.{ltb, leb}
 use borrow.Author.Tests.{lt-ltb, le-ltb, leb-true, leb-false}
-use mathlib.Core.List.{List, [], _∷_, _++_}
+use mathlib.Core.List.{List, [], _∷_, _++_, append-nil}
 use Prim.Native.Nat.{ℕ, zero, suc, _+_, _-_, _*_, _≤_, _<_}
-use native.Mathlib.Nat.{sub-zero, zero-sub, suc-sub-suc, mul-le-mul-right}
+use native.Mathlib.Nat.{mul-le-mul-right}
 use native.Mathlib.Omega.{arith}
-use lib.ListN.{length, take, drop, replicate, length-replicate, replicate-append-replicate, drop-of-length-le}
-use lib.Seq.{length-take-le, length-front, drop-at, drop-drop}
+use lib.ListN.{length, take, drop, replicate, length-drop, length-replicate, replicate-append-replicate, drop-of-length-le}
+use lib.Seq.{length-take-le, length-front, take-at, take-all}
+use borrow.Rule.Slice.PartMut.{midOf, postOf, putMid}
 use Rattle.errors.specs.Refusal.{Outcome, done, refused, _>>=_, enough, plain, unread, words-after}
 use Rattle.errors.specs.declared.Refusal.{Refusal}
 use Rattle.errors.specs.declared.Answer.{Answer}
@@ -47,7 +48,7 @@ use Rattle.interpreter_validate.specs.declared.Ask.{Ask}
 use Rattle.interpreter_validate.specs.declared.Ask.the-variants as ask
 use Rattle.interpreter_validate.specs.declared.Target.{Target}
 use Rattle.interpreter_validate.specs.Validator.{kindOf, runFor, runIn, callOf, Judged, Asked, outcomeIn, fitted, Located, Given, Aimed, TypeAnswers, TreeAnswers, Answers, Called}
-use Rattle.interpreter_validate.specs.Validator.{AcceptedRun, RunRoot, wordsFor, Spare, Leaves, CallsCleared}
+use Rattle.interpreter_validate.specs.Validator.{AcceptedRun, RunRoot, wordsFor}
 
 -- ---- a call: values or a run
 
@@ -122,24 +123,24 @@ module _ {a b : Ask} (e : a ≡ b) where
 -- ---- the words
 
 -- what the code tests: there are few values
-pub words-few : (tree values n : ℕ) → n < 128 → 16 ≡ wordsFor tree values n
+pub words-few : (tree values n : ℕ) → n < 256 → 16 ≡ wordsFor tree values n
 unfolding wordsFor
-words-few tree values n h = rw (lt-ltb n 128 h)
+words-few tree values n h = rw (lt-ltb n 256 h)
 
 -- there are many, and the tree is short
-pub words-short : (tree values n : ℕ) → 128 ≤ n → tree * n < 40 * (values + 22 * n) → 16 ≡ wordsFor tree values n
+pub words-short : (tree values n : ℕ) → 256 ≤ n → tree * n < 40 * (values + 22 * n) → 16 ≡ wordsFor tree values n
 unfolding wordsFor
-words-short tree values n h g = rw (le-ltb n 128 h, lt-ltb (tree * n) (40 * (values + 22 * n)) g)
+words-short tree values n h g = rw (le-ltb n 256 h, lt-ltb (tree * n) (40 * (values + 22 * n)) g)
 
 -- it is long
-pub words-many : (tree values n : ℕ) → 128 ≤ n → 40 * (values + 22 * n) ≤ tree * n → 1168 ≡ wordsFor tree values n
+pub words-many : (tree values n : ℕ) → 256 ≤ n → 40 * (values + 22 * n) ≤ tree * n → 1168 ≡ wordsFor tree values n
 unfolding wordsFor
-words-many tree values n h g = rw (le-ltb n 128 h, le-ltb (tree * n) (40 * (values + 22 * n)) g)
+words-many tree values n h g = rw (le-ltb n 256 h, le-ltb (tree * n) (40 * (values + 22 * n)) g)
 
 -- they are 16, or as many as values are remembered in
 pub words-for : (tree values n : ℕ) {k : ℕ} → k ≡ wordsFor tree values n → (16 ≤ k) × (k ≤ 1168) × (k ≤ 16 → k ≡ 16)
 unfolding wordsFor
-words-for tree values n {k} e = go (ltb n 128) (ltb (tree * n) (40 * (values + 22 * n))) e
+words-for tree values n {k} e = go (ltb n 256) (ltb (tree * n) (40 * (values + 22 * n))) e
   where
     go : (b d : Bool) → k ≡ cond b 16 (cond d 16 1168) → (16 ≤ k) × (k ≤ 1168) × (k ≤ 16 → k ≡ 16)
     go true d e = (omega (arith, e), omega (arith, e), λ h. e)
@@ -152,85 +153,40 @@ product-small {x} {n} h g =
     let k : x * n ≤ 4294967295 * n = mul-le-mul-right n (omega (arith, h)) in
     omega (arith, k, g)
 
--- zeros without the first k
-drop-zeros : (k n : ℕ) → drop {A = ℕ} k (replicate n 0) ≡ replicate (n - k) 0
-drop-zeros zero n = ap (λ (m : ℕ). replicate m 0) (sym (sub-zero n))
-drop-zeros (suc k) zero = ap (λ (m : ℕ). replicate m 0) (sym (zero-sub (suc k)))
-drop-zeros (suc k) (suc n) = drop-zeros k n ∙ ap (λ (m : ℕ). replicate m 0) (sym (suc-sub-suc n k))
-
--- of zeros those behind the open calls' are zero
-pub spare-zeros : {us : List ℕ} (n : ℕ) → us ≡ replicate n 0 → Spare us
-spare-zeros n e =
-    let l : length {A = ℕ} (replicate n 0) ≡ n = length-replicate n 0 in
-    rw (e, l) (drop-zeros 16 n)
-
--- the words without the first k, where these are those of the open calls, or more
-spare-behind : (ws : List ℕ) (k : ℕ) → Spare ws → 16 ≤ k → drop k ws ≡ replicate (length ws - k) 0
-spare-behind ws k h g =
-    let e : 16 + (k - 16) ≡ k = omega arith in
-    let d : length ws - 16 - (k - 16) ≡ length ws - k = omega arith in
-    ap (λ (m : ℕ). drop m ws) (sym e) ∙ sym (drop-drop (k - 16) 16 ws) ∙ ap (drop (k - 16)) h ∙ drop-zeros (k - 16) (length ws - 16) ∙ ap (λ (m : ℕ). replicate m 0) d
-
--- zeros in the place of the first k make all zeros
-zeros-before : (ws : List ℕ) {zs : List ℕ} (k : ℕ) → k ≤ length ws → zs ≡ replicate k 0 → drop k ws ≡ replicate (length ws - k) 0 → zs ++ drop k ws ≡ words-after ws
-zeros-before ws k h e d =
-    let m : k + (length ws - k) ≡ length ws = omega arith in
-    rw (e, d) (replicate-append-replicate k (length ws - k) 0 ∙ ap (λ (n : ℕ). replicate n 0) m)
-
--- nothing is done to the words
-pub leaves-self : (ws : List ℕ) → Leaves ws ws
-leaves-self ws = record { same = refl; spare = λ h. h }
-
--- one call behind another
-pub leaves-then : {ws us vs : List ℕ} → Leaves ws us → Leaves us vs → Leaves ws vs
-leaves-then a b = record { same = b .same ∙ a .same; spare = λ h. b .spare (a .spare h) }
-
--- of the words those of the open calls were used
-pub leaves-calls : (ws zs : List ℕ) (k : ℕ) → length zs ≡ length (take k ws) → k ≡ 16 → k ≤ length ws → Leaves ws (zs ++ drop k ws)
-leaves-calls ws zs k l e h =
-    let m : length (zs ++ drop k ws) ≡ length ws = length-front ws zs k l in
-    record {
-      same = m;
-      spare = λ g. rw m (drop-at zs (drop k ws) 16 (omega (arith, l, length-take-le k ws h)) ∙ rw e g);
-    }
-
--- more were used, and cleared behind it
-pub leaves-cleared : (ws zs : List ℕ) (k : ℕ) {m : ℕ} → m ≡ length (take k ws) → zs ≡ replicate m 0 → 16 ≤ k → k ≤ length ws → Leaves ws (zs ++ drop k ws)
-leaves-cleared ws zs k {m} l c g h =
-    let e : m ≡ k = l ∙ length-take-le k ws h in
-    record {
-      same = length-front ws zs k (ap length c ∙ length-replicate m 0 ∙ l);
-      spare = λ x. spare-zeros (length ws) (zeros-before ws k h (rw e at c) (spare-behind ws k x g));
-    }
-
--- those of the open calls are cleared, as many of the sixteen as there are
-pub calls-cleared : (ws zs : List ℕ) (k : ℕ) → Least (length ws) 16 k → zs ≡ replicate (length (take k ws)) 0 → CallsCleared ws (zs ++ drop k ws)
-calls-cleared ws zs k l c = go (leb 16 (length ws)) refl
+-- what a call uses of its words is no more than it ever needs
+pub used-few : {n m k : ℕ} → Least n m k → k ≤ m
+used-few {n} {m} {k} l = go (leb m n) refl
   where
-    cleared : k ≤ length ws → (Spare ws → drop k ws ≡ replicate (length ws - k) 0) → CallsCleared ws (zs ++ drop k ws)
-    cleared h d =
-        let m : length (take k ws) ≡ k = length-take-le k ws h in
-        let e : zs ≡ replicate k 0 = rw m at c in
-        record {
-          same = length-front ws zs k (ap length c ∙ length-replicate (length (take k ws)) 0);
-          zero = λ x. zeros-before ws k h e (d x);
-        }
+    go : (b : Bool) → leb m n ≡ b → k ≤ m
+    go true t = let h = leb-true m n t in omega (arith, l .enough h)
+    go false t = let h = leb-false m n t in omega (arith, h, l .fewer h)
 
-    go : (b : Bool) → leb 16 (length ws) ≡ b → CallsCleared ws (zs ++ drop k ws)
-    go true f =
-        let h : 16 ≤ length ws = leb-true 16 (length ws) f in
-        let e : k ≡ 16 = l .enough h in
-        cleared (omega (arith, e)) (λ x. spare-behind ws k x (omega (arith, e)))
-    go false f =
-        let e : k ≡ length ws = l .fewer (leb-false 16 (length ws) f) in
-        let z : length ws - k ≡ 0 = omega (arith, e) in
-        cleared (omega (arith, e)) (λ x. drop-of-length-le ws {i = k} (omega (arith, e)) ∙ ap (λ (n : ℕ). replicate n 0) (sym z))
+-- the first k words were cleared: there are as many
+first-cleared : (ws zs : List ℕ) (k : ℕ) → zs ≡ replicate (length (take k ws)) 0 → length (zs ++ drop k ws) ≡ length ws
+first-cleared ws zs k e = length-front ws zs k (ap length e ∙ length-replicate (length (take k ws)) 0)
 
--- all words are zero after a call that began with zeros
-pub words-zero : (ws : List ℕ) {us vs xs : List ℕ} → us ≡ words-after ws → Leaves us vs → CallsCleared vs xs → xs ≡ words-after ws
-words-zero ws {us} e l c =
-    let m : length us ≡ length ws = ap length e ∙ length-replicate (length ws) 0 in
-    c .zero (l .spare (spare-zeros (length ws) e)) ∙ ap (λ (n : ℕ). replicate n 0) (l .same ∙ m)
+-- so they are still within them
+pub first-fits : (ws : List ℕ) {zs : List ℕ} (k : ℕ) → k ≤ length ws → zs ≡ replicate (length (take k ws)) 0 → k ≤ length (zs ++ drop k ws)
+first-fits ws {zs} k h e = omega (arith, first-cleared ws zs k e)
+
+-- zeros behind zeros
+zeros-both : (zs us : List ℕ) (k m n : ℕ) → zs ≡ replicate k 0 → us ≡ replicate m 0 → k + m ≡ n → zs ++ us ≡ replicate n 0
+zeros-both zs us k m n e f g = rw (e, f) (replicate-append-replicate k m 0 ∙ ap (λ (i : ℕ). replicate i 0) g)
+
+-- the first k words were cleared, and then the others: all are zero
+pub cleared-apart : (ws zs : List ℕ) (k : ℕ) → k ≤ length ws → zs ≡ replicate (length (take k ws)) 0 → (us xs : List ℕ) → xs ≡ zs ++ drop k ws →
+    us ≡ replicate (length (midOf k (length xs - k) xs)) 0 → putMid k (length xs - k) xs us ≡ words-after ws
+cleared-apart ws zs k h e us xs ex f =
+    let t : length (take k ws) ≡ k = length-take-le k ws h in
+    let l : length zs ≡ k = ap length e ∙ length-replicate (length (take k ws)) 0 ∙ t in
+    let n : length xs ≡ length ws = ap length ex ∙ first-cleared ws zs k e in
+    let first : take k xs ≡ replicate k 0 = ap (take k) ex ∙ take-at zs (drop k ws) k l ∙ e ∙ ap (λ (i : ℕ). replicate i 0) t in
+    let d : length (drop k xs) ≡ length xs - k = length-drop k xs in
+    let others : us ≡ replicate (length xs - k) 0 = f ∙ ap (λ (i : ℕ). replicate i 0) (ap length (take-all (length xs - k) (drop k xs) (omega (arith, d))) ∙ d) in
+    let none : postOf k (length xs - k) xs ≡ [] = drop-of-length-le (drop k xs) {i = length xs - k} (omega (arith, d)) in
+    ap (λ (z : List ℕ). take k xs ++ (us ++ z)) none
+    ∙ ap (λ (z : List ℕ). take k xs ++ z) (append-nil us)
+    ∙ zeros-both (take k xs) us k (length xs - k) (length ws) first others (omega (arith, n))
 
 -- ---- a type of an accepted layout
 

@@ -1,11 +1,11 @@
 -- What is asked of a layout: a type with values or a run, told once for both. What evaluating asks for; 25, at the end.
-use Prim.Native.Nat.{ℕ, _+_, _-_, _*_, _≤_}
+use Prim.Native.Nat.{ℕ, _+_, _*_, _≤_}
 use mathlib.Core.Path.{_≡_}
 use mathlib.Core.Bool.{Bool, true, false, cond}
 use lib.Dec.{ltb}
 use mathlib.Core.List.{List}
-use lib.ListN.{length, getD, drop, replicate}
-use Rattle.errors.specs.Refusal.{Outcome, done, refused, _>>=_, words-after}
+use lib.ListN.{length, getD}
+use Rattle.errors.specs.Refusal.{Outcome, done, refused, _>>=_}
 use Rattle.errors.specs.declared.Answer.{Answer}
 use Rattle.errors.specs.Meaning.{outcomeOf}
 use Rattle.blocks.specs.Name.{Name}
@@ -119,18 +119,4 @@ pub record RunRoot (s : List ℕ) (r : Root) : Type 0 where
 -- how many words evaluating may use, by the bytes of the tree, the bytes of the values and their number: one for each call that may be open, or as many
 -- as it remembers values in
 unfoldable pub wordsFor : ℕ → ℕ → ℕ → ℕ
-wordsFor tree values n = cond (ltb n 128) 16 (cond (ltb (tree * n) (40 * (values + 22 * n))) 16 1168)
-
--- behind those of the open calls all words are zero
-abbrev pub Spare : List ℕ → Type 0
-Spare ws = drop 16 ws ≡ replicate (length ws - 16) 0
-
--- what evaluating leaves of the words: as many, and behind those of the open calls they are zero if they were
-pub record Leaves (ws us : List ℕ) : Type 0 where
-  pub same : length us ≡ length ws
-  pub spare : Spare ws → Spare us
-
--- the words of the open calls are cleared, the others stay
-pub record CallsCleared (ws us : List ℕ) : Type 0 where
-  pub same : length us ≡ length ws
-  pub zero : Spare ws → us ≡ words-after ws
+wordsFor tree values n = cond (ltb n 256) 16 (cond (ltb (tree * n) (40 * (values + 22 * n))) 16 1168)

@@ -17,13 +17,19 @@ ghost use Rattle.blocks.specs.Bytes.{le2, le4};
 ghost use Rattle.interpreter.specs.Validate.{fits-buffer, validate, validate-run};
 ghost use Rattle.interpreter_validate.specs.declared.Ask.the-variants.{Values, Run};
 ghost use Rattle.interpreter_validate.specs.Validator.{kindOf, callOf, Judged, Asked, outcomeIn, fitted, Located, Given, Aimed, TypeAnswers, TreeAnswers, Answers, Called};
-ghost use Rattle.interpreter_validate.specs.Validator.{AcceptedRun, RunRoot, wordsFor, Leaves, CallsCleared};
+ghost use Rattle.interpreter_validate.specs.Validator.{AcceptedRun, RunRoot, wordsFor};
 
 // One word for each call that may be open.
 const CALLS: usize = 16;
 
-// From how many values on it may pay to remember where they stand.
-const MANY: usize = 128;
+// These, and the word that counts the names which were asked for.
+const COUNTED: usize = 17;
+
+// How many words an index of the values has behind them.
+const INDEX: usize = 1151;
+
+// From how many values on it may pay to remember where they stand: with fewer, making the words for it is felt where they are not used.
+const MANY: usize = 256;
 
 // And from how many on that are asked for.
 const ASKED: usize = 40;
@@ -141,20 +147,14 @@ fn tree_alone(layout: &[u8], values: &[u8], t: Target) -> Answer
     evaluated_tree(layout, values, t, &mut calls)
 }
 
-// The same with words that are lent. Those in which values were remembered are cleared.
+// The same with words that are lent, and are left as they are: who lends them clears them.
 fn tree_lent(layout: &[u8], values: &[u8], t: Target, words: &mut [u64]) -> Answer
     requires { ⌜ Aimed (now layout) (now values) t × (1168 ≤ length (now words)) ⌝ }
-    ensures { λ _. ⌜ Leaves (now (words .entry)) (now (words .exit)) ⌝ }
+    ensures { λ _. ⌜ length (now (words .exit)) ≡ length (now (words .entry)) ⌝ }
     ensures { λ r. ⌜ TreeAnswers (now (layout .entry)) (now (values .entry)) t r ⌝ }
 {
     let n = needed(layout, values, t);
-    let part = &mut words[..n];
-    let a = evaluated_tree(layout, values, t, part);
-    if CALLS < n {
-        wire::clear_words(part);
-        return a;
-    }
-    a
+    evaluated_tree(layout, values, t, &mut words[..n])
 }
 
 // The count of a type of an accepted layout, with the accepted values at an offset.
@@ -181,7 +181,7 @@ fn type_alone(layout: &[u8], name: &[u8], values: &[u8], root: Root) -> Answer
 // The same with words that are lent.
 fn type_lent(layout: &[u8], name: &[u8], values: &[u8], root: Root, words: &mut [u64]) -> Answer
     requires { ⌜ Located (now layout) (now values) (root .block) × (1168 ≤ length (now words)) ⌝ }
-    ensures { λ _. ⌜ Leaves (now (words .entry)) (now (words .exit)) ⌝ }
+    ensures { λ _. ⌜ length (now (words .exit)) ≡ length (now (words .entry)) ⌝ }
     ensures { λ r. ⌜ TypeAnswers (now (layout .entry)) (now (name .entry)) (now (values .entry)) root r ⌝ }
 {
     let block = root.block;
@@ -220,10 +220,10 @@ fn run_alone(layout: &[u8], run: &[u8]) -> Answer
     type_alone(layout, wire::name_at(run, 6), run, run_root(run))
 }
 
-// The same with words that are lent. Those of the open calls are left as they are: who lends the words clears them.
+// The same with words that are lent.
 pub fn run_lent(layout: &[u8], run: &[u8], words: &mut [u64]) -> Answer
     requires { ⌜ Given Run (now layout) (now run) × (1168 ≤ length (now words)) ⌝ }
-    ensures { λ _. ⌜ Leaves (now (words .entry)) (now (words .exit)) ⌝ }
+    ensures { λ _. ⌜ length (now (words .exit)) ≡ length (now (words .entry)) ⌝ }
     ensures { λ r. ⌜ Answers Run (now (layout .entry)) (now (run .entry)) (now (run .entry)) r ⌝ }
 {
     type_lent(layout, wire::name_at(run, 6), run, run_root(run), words)
@@ -239,7 +239,7 @@ fn counted(
     words: &mut [u64],
 ) -> Answer
     requires { ⌜ ((n : ℕ) × Asked (Values len) (now layout) (now values) judged (now words) n) ⌝ }
-    ensures { λ _. ⌜ Leaves (now (words .entry)) (now (words .exit)) ⌝ }
+    ensures { λ _. ⌜ length (now (words .exit)) ≡ length (now (words .entry)) ⌝ }
     ensures { λ r. ⌜ Called (Values len) (now (layout .entry)) (now (name .entry)) (now (values .entry)) judged (now (words .entry)) r ⌝ }
 {
     match judged {
@@ -251,7 +251,7 @@ fn counted(
 // The same with a run.
 fn counted_run(judged: Read, layout: &[u8], run: &[u8], words: &mut [u64]) -> Answer
     requires { ⌜ ((n : ℕ) × Asked Run (now layout) (now run) judged (now words) n) ⌝ }
-    ensures { λ _. ⌜ Leaves (now (words .entry)) (now (words .exit)) ⌝ }
+    ensures { λ _. ⌜ length (now (words .exit)) ≡ length (now (words .entry)) ⌝ }
     ensures { λ r. ⌜ Called Run (now (layout .entry)) (now (run .entry)) (now (run .entry)) judged (now (words .entry)) r ⌝ }
 {
     match judged {
@@ -270,7 +270,7 @@ fn counted_for(
     words: &mut [u64],
 ) -> Answer
     requires { ⌜ ((n : ℕ) × Asked ask (now layout) (now other) judged (now words) n) ⌝ }
-    ensures { λ _. ⌜ Leaves (now (words .entry)) (now (words .exit)) ⌝ }
+    ensures { λ _. ⌜ length (now (words .exit)) ≡ length (now (words .entry)) ⌝ }
     ensures { λ r. ⌜ Called ask (now (layout .entry)) (now (name .entry)) (now (other .entry)) judged (now (words .entry)) r ⌝ }
 {
     match ask {
@@ -279,12 +279,23 @@ fn counted_for(
     }
 }
 
-// Clears the words of the open calls.
-pub fn clear_calls(words: &mut [u64])
-    ensures { λ _. ⌜ CallsCleared (now (words .entry)) (now (words .exit)) ⌝ }
+// Every word is 0 after it. Those of an index stand first, and are cleared apart from the others.
+fn clear_index(words: &mut [u64])
+    ensures { λ _. ⌜ now (words .exit) ≡ words-after (now (words .entry)) ⌝ }
 {
-    let n = reader_calls::used(words.len(), CALLS);
+    let n = reader_calls::used(words.len(), INDEX);
     wire::clear_words(&mut words[..n]);
+    wire::clear_words(&mut words[n..]);
+}
+
+// Every word is 0 after it. Words that are zero are only looked at, so three parts are cleared one behind the other: that of the open calls
+// and of the word that counts, which most records use, that of an index, which few do, and the others, which none does.
+pub fn clear_used(words: &mut [u64])
+    ensures { λ _. ⌜ now (words .exit) ≡ words-after (now (words .entry)) ⌝ }
+{
+    let calls = reader_calls::used(words.len(), COUNTED);
+    wire::clear_words(&mut words[..calls]);
+    clear_index(&mut words[calls..]);
 }
 
 // The answer to a call with the caller's words.
@@ -292,10 +303,9 @@ fn answer_with(words: &mut [u64], layout: &[u8], name: &[u8], other: &[u8], ask:
     ensures { λ r. ⌜ outcomeOf r ≡ callOf ask (length (now (words .entry))) (now (layout .entry)) (now (name .entry)) (now (other .entry)) ⌝ }
     ensures { λ _. ⌜ now (words .exit) ≡ words-after (now (words .entry)) ⌝ }
 {
-    wire::clear_words(words);
     let judged = reader_calls::both_read(words.len(), layout, other, kind(ask));
     let a = counted_for(ask, judged, layout, name, other, words);
-    clear_calls(words);
+    clear_used(words);
     a
 }
 

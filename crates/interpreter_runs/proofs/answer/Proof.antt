@@ -4,7 +4,7 @@ use mathlib.Core.List.{[]}
 use borrow.Author.Needs.{needs}
 use Rattle.interpreter_validate.specs.Validator.{Judged}
 use Rattle.interpreter_validate.specs.declared.Ask.the-variants as ask
-use Rattle.interpreter_validate.proofs.Laws.{judged-of, stops, goes, given, enough-words, leaves-self}
+use Rattle.interpreter_validate.proofs.Laws.{judged-of, stops, goes, given, enough-words}
 use Rattle.interpreter_runs.proofs.answer.Statement.{statement}
 use Rattle.interpreter_runs.proofs.answer.Tie as tie
 
@@ -37,7 +37,7 @@ run-lent-requires c κs =
 returns : tie.Need-returns
 returns c =
     let at-q = c .before .before in
-    (leaves-self _, stops (judged (at-q .before .before)) [] _ (at-q .q .given .1) (c .unread .ensures))
+    (refl, stops (judged (at-q .before .before)) [] _ (at-q .q .given .1) (c .unread .ensures))
 
 same-length : tie.Need-same-length
 same-length c = search needs

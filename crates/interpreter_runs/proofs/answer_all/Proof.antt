@@ -5,21 +5,20 @@ use native.Mathlib.Omega.{arith}
 use lib.ListN.{length}
 use Rattle.interpreter.specs.Validate.{validate-run}
 use Rattle.interpreter.specs.Runs.{validate-runs}
-use Rattle.interpreter_validate.specs.Validator.{Leaves}
-use Rattle.interpreter_validate.proofs.Laws.{leaves-self, leaves-then}
+use mathlib.Core.Path.{_≡_, refl, _∙_}
 use Rattle.interpreter_runs.proofs.Loop.{Answering, answering-start, answering-end, answering-full, answering-more}
 use Rattle.interpreter_runs.proofs.answer_all.Statement.{statement}
 use Rattle.interpreter_runs.proofs.answer_all.Tie as tie
 
 abbrev Inv-loop : tie.InvT-loop
 Inv-loop n layout first s words₀ out₀ i₀ at₀ words out i at =
-    Leaves words₀ words × Answering (validate-run n layout) s out₀ out i at
+    (length words ≡ length words₀) × Answering (validate-run n layout) s out₀ out i at
 
 abbrev μ-loop : tie.MeasureT-loop
 μ-loop n layout first s words₀ out₀ i₀ at₀ words out i at = length s - i
 
 loop-holds : tie.Need-loop-holds Inv-loop μ-loop
-loop-holds c = (leaves-self _, answering-start _ _ _)
+loop-holds c = (refl, answering-start _ _ _)
 
 sub-if1 : tie.Need-sub-if1 Inv-loop μ-loop
 sub-if1 c = omega (arith, c .before .loop .inv .1 .same, c .before .loop .inv .1 .fits)
@@ -52,7 +51,7 @@ answer-requires : tie.Need-answer-requires Inv-loop μ-loop
 answer-requires c κs =
     let at-loop = c .before .before .before .before .before in
     let at-start = at-loop .before .before .before .before .before in
-    (at-start .pre .0, λ h. omega (arith, at-loop .loop .inv .0 .same, at-start .pre .1 h))
+    (at-start .pre .0, λ h. omega (arith, at-loop .loop .inv .0, at-start .pre .1 h))
 
 put-answer-requires : tie.Need-put-answer-requires Inv-loop μ-loop
 put-answer-requires c κs =
@@ -72,7 +71,7 @@ loop-again c =
     let at-else1 = at-run-end .before in
     let in-loop = at-else1 .before in
     let at-loop = in-loop .before in (
-      leaves-then (at-loop .loop .inv .0) (at-answer .answer .ensures .0),
+      at-answer .answer .ensures .0 ∙ at-loop .loop .inv .0,
       answering-more
           (at-loop .loop .inv .1)
           (in-loop .loop-test .taken)

@@ -1,5 +1,6 @@
 -- `counted` meets its contract: a refusal ends it, else the type is evaluated.
-use Rattle.interpreter_validate.proofs.Laws.{stops, goes, given, asked-room, leaves-self, values-located, values-answer}
+use Rattle.interpreter_validate.proofs.Laws.{stops, goes, given, asked-room, values-located, values-answer}
+use mathlib.Core.Path.{refl}
 use borrow.Author.Needs.{needs}
 use Rattle.interpreter_validate.proofs.counted.Statement.{statement}
 use Rattle.interpreter_validate.proofs.counted.Tie as tie
@@ -22,7 +23,7 @@ type-lent-requires c κs =
 
 returns : tie.Need-returns
 returns c = (
-  leaves-self _,
+  refl,
   λ n asked. stops (asked .questions) _ _ (c .before .before .judged .given .1) (c .unread .ensures),
 )
 

@@ -1,6 +1,7 @@
 -- `counted_run` meets its contract: a refusal ends it, else the run is evaluated.
-use Rattle.interpreter_validate.proofs.Laws.{stops, goes, given, asked-room, leaves-self}
+use Rattle.interpreter_validate.proofs.Laws.{stops, goes, given, asked-room}
 use mathlib.Core.List.{[]}
+use mathlib.Core.Path.{refl}
 use borrow.Author.Needs.{needs}
 use Rattle.interpreter_validate.proofs.counted_run.Statement.{statement}
 use Rattle.interpreter_validate.proofs.counted_run.Tie as tie
@@ -23,7 +24,7 @@ run-lent-requires c κs =
 
 returns : tie.Need-returns
 returns c = (
-  leaves-self _,
+  refl,
   λ n asked. stops (asked .questions) [] _ (c .before .before .judged .given .1) (c .unread .ensures),
 )
 

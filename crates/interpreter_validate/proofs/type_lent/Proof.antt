@@ -1,5 +1,6 @@
 -- `type_lent` meets its contract: the type is looked up, and its tree evaluated.
-use Rattle.interpreter_validate.proofs.Laws.{leaves-self, type-unknown, type-named, type-aimed}
+use Rattle.interpreter_validate.proofs.Laws.{type-unknown, type-named, type-aimed}
+use mathlib.Core.Path.{refl}
 use borrow.Author.Needs.{needs}
 use Rattle.interpreter_validate.proofs.type_lent.Statement.{statement}
 use Rattle.interpreter_validate.proofs.type_lent.Tie as tie
@@ -25,7 +26,7 @@ tree-lent-requires c κs =
 
 returns : tie.Need-returns
 returns c = (
-  leaves-self _,
+  refl,
   λ t rd a. type-unknown (c .before .before .before .lookup-type .ensures) (c .before .enum-told .given .1) t rd _ _ _ (c .plain .ensures),
 )
 

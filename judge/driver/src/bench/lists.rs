@@ -14,6 +14,9 @@ const PATH: &str = "depot.line.trip.leg.stop.door.count.";
 /// The kind of a node that adds.
 const ADD: u16 = 134;
 
+/// How many cases a switch has.
+const CASES: usize = 64;
+
 /// The asked type's name.
 const RECORD: &str = "Record";
 
@@ -120,6 +123,12 @@ pub fn short_names() -> List {
     }
 }
 
+/// The first names of a list.
+pub fn first(many: usize, list: List) -> List {
+    let names = list.names[..many].to_vec();
+    List { names, ..list }
+}
+
 /// In a mixed order, the same each time.
 pub fn shuffled(names: &[String]) -> Vec<String> {
     let mut out = names.to_vec();
@@ -163,6 +172,20 @@ fn through_calls(fields: &[String]) -> Layout {
     let mut out: Layout = eighths.iter().enumerate().map(part).collect();
     out.push(tree(RECORD, sum(calls), fields));
     out
+}
+
+/// A record that asks for three names, however many its tree has: a switch of
+/// 64 cases with two of these names each, of which the list's 33rd value takes
+/// the 33rd.
+pub fn asked_by_a_case(list: &List, fields: &[String]) -> Asked {
+    let case = |(tag, pair): (u64, &[String])| Case {
+        tag,
+        node: sum(pair.iter().map(field).collect()),
+        params: Vec::new(),
+    };
+    let cases = (1..).zip(fields.chunks(2)).map(case).take(CASES).collect();
+    let root = Node::new(1, Body::Switch(list.names[CASES / 2].clone(), cases, None));
+    asked_of(list, &list.names, &[tree(RECORD, root, &[])])
 }
 
 /// The values of a list are 1, 2 and so on, and the buffer holds the fields.

@@ -1,14 +1,15 @@
 //! Looking up: fields found by their names among 500 values.
 
 use super::inputs::Asked;
-use super::lists::{asked, asked_through_calls, list, short_names, shuffled};
+use super::lists::{asked, asked_by_a_case, asked_through_calls};
+use super::lists::{first, list, short_names, shuffled};
 use super::lists::{Bytes, List, Shape, ALL_ASKED, ALL_CALLED, LONGEST, MANY, SHAPES};
 use super::ours::{Lent, Words};
 use super::table::{Group, Row};
 use super::validating::{runs_row, validating_row};
 use super::{inputs, Head};
 
-pub const HEADS: [Head; 10] = [
+pub const HEADS: [Head; 12] = [
     ("length_of, 500 names, one asked", "field"),
     ("length_of, 500 names, all asked", "field"),
     (
@@ -21,12 +22,20 @@ pub const HEADS: [Head; 10] = [
     ),
     ("length_of, 500 names, asked through calls", "field"),
     ("length_of, 512 short names, beside the 500 names", "field"),
+    (
+        "length_of, 500 names and fewer, three asked by a switch of 64 cases",
+        "field",
+    ),
     ("validate, 500 names, all asked", "field"),
     (
         "validate, 500 names of one length, some asked at random",
         "field",
     ),
     ("validate, 500 names, asked through calls", "field"),
+    (
+        "validate, 500 names and fewer, three asked by a switch of 64 cases",
+        "field",
+    ),
     (
         "validate_runs, beside the 500 names, times per run",
         "field",
@@ -43,9 +52,11 @@ pub fn table(lent: Lent, place: usize, head: Head) -> Result<Group, String> {
         3 => some_asked(own, Shape::Spread),
         4 => through_calls(own),
         5 => few_of_short(own),
-        6 => all_asked(lent_words),
-        7 => some_asked(lent_words, Shape::Prefix),
-        8 => through_calls(lent_words),
+        6 => by_a_case(own),
+        7 => all_asked(lent_words),
+        8 => some_asked(lent_words, Shape::Prefix),
+        9 => through_calls(lent_words),
+        10 => by_a_case(lent_words),
         _ => runs(lent),
     };
     Ok(Group { head, rows: rows? })
@@ -132,13 +143,36 @@ fn few_of_short(words: Words) -> Result<Vec<Row>, String> {
     Ok(vec![row(words, "64 fields, shuffled".to_string(), &asked)?])
 }
 
+/// Long trees of which little is evaluated: an index of the values would not
+/// pay.
+fn by_a_case(words: Words) -> Result<Vec<Row>, String> {
+    let lists = [
+        (
+            "many lengths, 1 to 240 bytes",
+            list(Shape::Spread, &LONGEST),
+        ),
+        (
+            "common prefix, 121 bytes",
+            list(Shape::Prefix, &LONGEST),
+        ),
+        ("512 short names", short_names()),
+        ("256 short names", first(256, short_names())),
+        ("130 short names", first(130, short_names())),
+    ];
+    let mut rows = Vec::new();
+    for (what, list) in lists {
+        let asked = asked_by_a_case(&list, &shuffled(&list.names));
+        rows.push(row(words, what.to_string(), &asked)?);
+    }
+    Ok(rows)
+}
+
 /// Short lists: each run has its own, and nothing that was seen in one holds for
 /// the next.
 fn runs(lent: Lent) -> Result<Vec<Row>, String> {
     let twenty = |list: List| {
-        let names = list.names[..20].to_vec();
-        let fields = shuffled(&names);
-        asked(&List { names, ..list }, &fields)
+        let list = first(20, list);
+        asked(&list, &shuffled(&list.names))
     };
     let asked = [
         ("20 names of 4 bytes, 20 fields", twenty(short_names())),
