@@ -455,12 +455,12 @@ static void many_runs(void)
 }
 
 /*
- * Lists on both sides of the limits from which on names are found by an index of the list: 128 values, and a tree as long as one that asks
+ * Lists on both sides of the limits from which on names are found by an index of the list: 256 values, and a tree as long as one that asks
  * for 40. As values; and as runs, of which the second has a value less than is asked for, and the third is the first again.
  */
 static void lists(void)
 {
-    for (int many = 127; many < 130; many++)
+    for (int many = 255; many < 258; many++)
         for (int fields = 38; fields < 44; fields++) {
             const size_t bytes = 26 * (size_t)many;
             struct limit_list list = limit_list_of(many, bytes);

@@ -22,11 +22,12 @@ ghost use Rattle.interpreter_validate.specs.Validator.{AcceptedRun, RunR
 // One word for each call that may be open.
 const CALLS: usize = 16;
 
-// These, and the word that counts the names which were asked for.
-const COUNTED: usize = 17;
+// These, the word that counts the names which were asked for, and some more, so that what lies behind them begins at a multiple of 64 bytes if
+// the words do: else they are looked at more slowly.
+const COUNTED: usize = 24;
 
-// How many words an index of the values has behind them.
-const INDEX: usize = 1151;
+// Behind them, the words of an index of the values.
+const INDEX: usize = 1144;
 
 // From how many values on it may pay to remember where they stand: with fewer, making the words for it is felt where they are not used.
 const MANY: usize = 256;

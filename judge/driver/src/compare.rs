@@ -62,7 +62,7 @@ impl Met {
 
 /// What `asks_index` counts, in words.
 pub const INDEXED: &str =
-    "with an index: more than 8 names asked at the root of 128 values or more, by a tree as long as one that asks for 40";
+    "with an index: more than 8 names asked at the root of 256 values or more, by a tree as long as one that asks for 40";
 
 pub fn call_name(call: &Call) -> &'static str {
     match call {

@@ -1,4 +1,4 @@
-//! Long lists for the stored list: sixty names asked of 128 or 129 values, from
+//! Long lists for the stored list: sixty names asked of 256 or 257 values, from
 //! where on names are found by an index.
 
 use crate::call::Call;
@@ -23,7 +23,7 @@ fn name(i: usize) -> String {
 /// The names that the records ask for, from everywhere in a list, the last
 /// among the first.
 fn asked() -> Vec<String> {
-    (0..60).map(|i| name((i * 49 + 127) % 128)).collect()
+    (0..60).map(|i| name((i * 49 + 255) % 256)).collect()
 }
 
 /// So many values.
@@ -139,9 +139,9 @@ fn runs() -> Vec<Call> {
     };
     let long = list(VALUES + 1, 7);
     vec![
-        run(list(VALUES, 2), 10_000),
-        run(without(long.clone(), &asked()[59]), 10_000),
-        run(long, 10_000),
+        run(list(VALUES, 2), 40_000),
+        run(without(long.clone(), &asked()[59]), 40_000),
+        run(long, 40_000),
     ]
 }
 
@@ -178,7 +178,7 @@ fn lengths() -> Call {
     let run = |values: Values| {
         write::run(&Run {
             name: "L".to_string(),
-            length: 10_000,
+            length: 40_000,
             values,
         })
     };

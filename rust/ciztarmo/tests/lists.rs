@@ -1,5 +1,5 @@
 //! Records that ask for many values of long lists, against a lookup that compares name by name.
-//! From 128 values on, in records that ask for some forty of them or more, the proved code finds
+//! From 256 values on, in records that ask for some forty of them or more, the proved code finds
 //! names by an index of the list: the lists and records here stand below, at and above these limits.
 
 use ciztarmo::{Layout, Number, Refusal, Run, Values, Work};
@@ -64,7 +64,7 @@ fn layout_of(asked: &[String]) -> Layout {
 // Names and lists.
 
 /// How many values the lists have.
-const MANY: [usize; 7] = [31, 90, 127, 128, 129, 500, 512];
+const MANY: [usize; 7] = [31, 90, 255, 256, 257, 500, 512];
 
 const KINDS: [&str; 7] = [
     "alike at their beginnings",
@@ -201,7 +201,7 @@ fn fields(many: usize) -> Vec<usize> {
 fn names_that_are_nearly_there() {
     let mut work = Work::new();
     for kind in 0..KINDS.len() {
-        let list = list(kind, 128, 1);
+        let list = list(kind, 256, 1);
         let given = values(&list);
         let like = &list[77].0;
         let mut cut = like.clone();
@@ -223,7 +223,7 @@ fn names_that_are_nearly_there() {
 #[test]
 fn trees_near_the_limit() {
     let mut work = Work::new();
-    for many in [127, 128, 129, 160] {
+    for many in [255, 256, 257, 288] {
         for fields in 38..=42 {
             for more in [0, 40, 80, 120, 160, 200] {
                 let mut list: List = (0..many).map(|i| (format!("{i:020}"), i)).collect();
@@ -245,7 +245,7 @@ fn trees_near_the_limit() {
 /// without the last name, a short one, none.
 #[test]
 fn each_run_has_its_own_values() {
-    for (many, kind, fields) in [(500, 0, 60), (128, 3, 90), (129, 6, 20), (33, 6, 20)] {
+    for (many, kind, fields) in [(500, 0, 60), (256, 3, 90), (257, 6, 20), (33, 6, 20)] {
         let whole = list(kind, many, 1);
         let names = asked(&whole, fields);
         let layout = layout_of(&names);
@@ -278,7 +278,7 @@ fn each_run_has_its_own_values() {
 #[test]
 fn names_through_calls() {
     for open in [1, 2, 16] {
-        for (many, fields) in [(31, 1), (127, 60), (128, 60), (500, 60)] {
+        for (many, fields) in [(31, 1), (255, 60), (256, 60), (500, 60)] {
             let list = list(2, many, 1);
             let all = asked(&list, 24 + fields);
             let (names, own) = all.split_at(24);

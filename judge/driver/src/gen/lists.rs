@@ -12,7 +12,7 @@ use std::collections::BTreeSet;
 /// that asks for so many of them in a sum: a field takes 22 bytes more than its
 /// value. It begins behind four names; calls are counted that ask for more than
 /// so many at the root.
-pub const VALUES: usize = 128;
+pub const VALUES: usize = 256;
 pub const ASKED: usize = 40;
 pub const FOUND: usize = 8;
 
@@ -31,8 +31,8 @@ const LAYOUT: usize = 50_000;
 fn how_many(r: &mut Rng) -> usize {
     match r.weighted(&[35, 45, 20]) {
         0 => r.between(VALUES - 1, VALUES + 1),
-        1 => r.between(130, 300),
-        _ => *r.pick(&[31, 64, 100, 254, 255, 256, 400, 500, 511, 512]),
+        1 => r.between(VALUES + 2, 400),
+        _ => *r.pick(&[31, 64, 100, 128, 200, 400, 500, 511, 512]),
     }
 }
 
