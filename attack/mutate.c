@@ -387,7 +387,7 @@ static void many_values(struct part_view *part, const struct names *names)
     if (i == NO_SPOT)
         return;
     const struct spot list = part->spot[i];
-    const uint64_t many = draw(4) == 0 ? 1 + draw(500) : 120 + draw(20);
+    const uint64_t many = draw(4) == 0 ? 1 + draw(500) : 248 + draw(20);
     const size_t bytes = 4096 / many + draw(20), least = bytes < 240 ? bytes : 240;
     const size_t named = fresh_name(names, name) - 2, short_enough = named < 200 ? named : 0;
     const int before = draw(2) == 0;
