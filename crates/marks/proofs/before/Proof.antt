@@ -6,13 +6,13 @@ use Rattle.marks.proofs.Walks.{chain_link, prior_link}
 use Rattle.marks.proofs.before.Statement.{statement}
 use Rattle.marks.proofs.before.Tie as tie
 
-add-k : tie.Need-overflow-add-k
+add-k : tie.Need-overflow_add-k
 add-k c = search rules
 
-mul-link : tie.Need-overflow-mul-link
+mul-link : tie.Need-offset_bounds-table-k
 mul-link c = search rules
 
-shared-slice-read-link : tie.Need-shared-slice-read-link
+shared-slice-read-link : tie.Need-bounds-table-k
 shared-slice-read-link c = search rules
 
 -- a mark is a number of 64 bits

@@ -8,40 +8,40 @@ use Rattle.marks.proofs.Tables.{linked_none, zeros_more}
 use Rattle.marks.proofs.clear.Statement.{statement}
 use Rattle.marks.proofs.clear.Tie as tie
 
-abbrev invariant-loop : tie.invariant-loop
+abbrev invariant-loop : tie.invariant-loop-p
 invariant-loop table₀ p₀ table p = (p ≤ 127) × (length table ≡ length table₀) × ((k : ℕ) → k < p → get_or table k 0 ≡ 0)
 
-abbrev decreases-loop : tie.decreases-loop
+abbrev decreases-loop : tie.decreases-loop-p
 decreases-loop table₀ p₀ table p = 127 - p
 
-loop-holds : tie.Need-loop-init invariant-loop decreases-loop
+loop-holds : tie.Need-loop-p-init invariant-loop decreases-loop
 loop-holds c = (omega arith, search rules, λ k h. absurd (let z : ⊥ = omega arith in z))
 
-mul-table : tie.Need-overflow-mul-table invariant-loop decreases-loop
+mul-table : tie.Need-offset_bounds-table-p invariant-loop decreases-loop
 mul-table c = search rules
 
-slice-write-table : tie.Need-slice-write-table invariant-loop decreases-loop
-slice-write-table c = omega (arith, c.before.loop.invariant.1)
+slice-write-table : tie.Need-bounds-table-p invariant-loop decreases-loop
+slice-write-table c = omega (arith, c.loop-p.invariant.1)
 
-add-p : tie.Need-overflow-add-p invariant-loop decreases-loop
+add-p : tie.Need-overflow_add-p invariant-loop decreases-loop
 add-p c = search rules
 
-loop-less : tie.Need-loop-smaller invariant-loop decreases-loop
+loop-less : tie.Need-loop-p-smaller invariant-loop decreases-loop
 loop-less c = omega arith
 
-loop-again : tie.Need-loop-preserved invariant-loop decreases-loop
+loop-again : tie.Need-loop-p-preserved invariant-loop decreases-loop
 loop-again c =
     let at-loop = c.before in (
       omega arith,
       search rules,
-      zeros_more at-loop.loop.table at-loop.loop.p at-loop.loop.invariant.2 (omega (arith, at-loop.loop.invariant.1)),
+      zeros_more at-loop.loop-p.table at-loop.loop-p.p at-loop.loop-p.invariant.2 (omega (arith, at-loop.loop-p.invariant.1)),
     )
 
-same_length : tie.Need-same-length invariant-loop decreases-loop
+same_length : tie.Need-shape_of-table invariant-loop decreases-loop
 same_length c = search rules
 
 returns : tie.Need-returns invariant-loop decreases-loop
-returns c f = linked_none f (omega (arith, c.before.loop.invariant.1)) (λ p h. c.before.loop.invariant.2 p (omega arith))
+returns c f = linked_none f (omega (arith, c.loop-p.invariant.1)) (λ p h. c.loop-p.invariant.2 p (omega arith))
 
 pub clear_spec : {M : Type 1} → statement M
 clear_spec =

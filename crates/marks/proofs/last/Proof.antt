@@ -6,10 +6,10 @@ use Rattle.marks.proofs.Walks.{first, chain_first, prior_last}
 use Rattle.marks.proofs.last.Statement.{statement}
 use Rattle.marks.proofs.last.Tie as tie
 
-mul-head : tie.Need-overflow-mul-head
+mul-head : tie.Need-offset_bounds-table-p
 mul-head c = search rules
 
-shared-slice-read-head : tie.Need-shared-slice-read-head
+shared-slice-read-head : tie.Need-bounds-table-p
 shared-slice-read-head c = search rules
 
 reach-requires : tie.Need-reach-requires
