@@ -73,6 +73,7 @@ class Walk:
     def __init__(self, path, text, names, ens, said):
         self.path, self.text, self.n, self.ens, self.said = path, text, names, ens, said
         self.place, self.new_place = {}, {}
+        self.arms = {p[0]: a for p, a in zip(names["places"], names["arms"]) if a}
         for p, new in zip(names["places"], names["places_by_name"]):
             old, parent, step, callee, _ = p
             self.place[old] = (parent, step[0], step[1], callee)
@@ -135,6 +136,16 @@ class Walk:
             if rest[0] in FLAT:
                 return ".".join([root] + rest)
             k = plain(rest[0])
+            # what an arm's pattern says
+            at, best = cur, None
+            while at is not None:
+                arm = self.arms.get(at)
+                for field, step, fields in arm[2] if arm else ():
+                    if fields and plain(step) == k and rest[1 : 1 + len(fields)] == fields and (best is None or len(fields) > len(best[2])):
+                        best = (arm[0], field, fields)
+                at = self.place[at][0]
+            if best:
+                return ".".join([root, best[0], best[1]] + rest[1 + len(best[2]) :])
             at = cur
             while at is not None:
                 parent, old, new, callee = self.place[at]
@@ -204,6 +215,8 @@ def main():
     ens = clauses(top)
     said = []
     for crate in sys.argv[1:]:
+        if not any("Proof.antt" in f for _, _, f in os.walk(os.path.join(top, "crates", crate, "proofs"))):
+            continue
         names = names_of(top, crate)
         folder = os.path.join(top, "crates", crate, "proofs")
         for d, subs, files in os.walk(folder):

@@ -4,24 +4,24 @@ use borrow.Author.Rules.{rules}
 use Rattle.errors.proofs.Answer.words.Statement.{statement}
 use Rattle.errors.proofs.Answer.words.Tie as tie
 
-enum-known-self : tie.Need-enum-known-self
+enum-known-self : tie.Need-enum_known-self
 enum-known-self c = search rules
 
 low-requires : tie.Need-low-requires
 low-requires c κs = search rules
 
-enum-known-self-2 : tie.Need-enum-known-self-2
+enum-known-self-2 : tie.Need-enum_known-self-in-Refused-1
 enum-known-self-2 c = search rules
 
 words-requires : tie.Need-words-requires
 words-requires c κs = search rules
 
-returns : tie.Need-returns
+returns : tie.Need-returns-in-Count
 unfolding answer_words
-returns c = rw (c.before.before.self.given.1, c.low.ensures)
+returns c = rw (c.in-Count.is, c.low.ensures)
 
-returns-2 : tie.Need-returns-2
-returns-2 c = rw (c.before.before.self2.given.1, c.words.ensures)
+returns-2 : tie.Need-returns-in-Refused
+returns-2 c = rw (c.in-Refused.is, c.words.ensures)
 
 pub words_spec : {M : Type 1} → statement M
 words_spec =

@@ -3,20 +3,20 @@ use borrow.Author.Rules.{rules}
 use Rattle.errors.proofs.Length.answer.Statement.{statement}
 use Rattle.errors.proofs.Length.answer.Tie as tie
 
-enum-known-self : tie.Need-enum-known-self
+enum-known-self : tie.Need-enum_known-self
 enum-known-self c = search rules
 
 of-requires : tie.Need-of-requires
 of-requires c κs = search rules
 
-enum-known-self-2 : tie.Need-enum-known-self-2
+enum-known-self-2 : tie.Need-enum_known-self-in-Refused-1
 enum-known-self-2 c = search rules
 
-returns : tie.Need-returns
-returns c = rw (c.before.before.self.given.1, c.of.ensures)
+returns : tie.Need-returns-in-Bytes
+returns c = rw (c.in-Bytes.is, c.of.ensures)
 
-returns-2 : tie.Need-returns-2
-returns-2 c = rw c.before.self2.given.1
+returns-2 : tie.Need-returns-in-Refused
+returns-2 c = rw c.in-Refused.is
 
 pub answer_spec : {M : Type 1} → statement M
 answer_spec = tie.close (tie.spec enum-known-self of-requires enum-known-self-2 returns returns-2)
