@@ -67,7 +67,7 @@ def files(top):
 
 
 def walk(path):
-    return os.path.basename(path) in ("Proof.antt", "Answers.antt", "Invariants.antt")
+    return "/proofs/" in path and os.path.basename(path) in ("Proof.antt", "Answers.antt", "Invariants.antt")
 
 
 def code_and_comments(text):
@@ -148,7 +148,7 @@ def main():
             if len(olds) > 1:
                 met += 1
                 print(f"falls together: {os.path.relpath(p, top)}: {', '.join(sorted(olds))} -> {n}")
-        new = "".join(new)
+        new = "".join(new).replace("◌andThen◌", "◌and_then◌")
         if write and new != t:
             with open(p, "w", encoding="utf-8") as f:
                 f.write(new)

@@ -113,6 +113,8 @@ chars_after = (
 after_first : (n : ℕ) (fs : List Form) (b : ℕ) {c : List ℕ} → After n fs → OneOf (b ∷ c) fs → n ≤ b
 after_first n ((r ∷ rs) ∷ fs) b a (OneOf.this (Matches.byte l h m)) = omega (arith, a.0)
 after_first n ((r ∷ rs) ∷ fs) b a (OneOf.later o) = omega (arith, a.0, a.1, after_first (suc r.hi) fs b a.2 o)
+after_first n [] b {c = c} a x'' = elim x'' [ ]
+after_first n ([] ∷ fs) b {c = c} a _ = elim a [ ]
 
 -- what is left of the form that a byte begins, and the bytes that match it
 data Begun (fs : List Form) (b : ℕ) (c : List ℕ) : Type 0 where
@@ -134,6 +136,8 @@ one_begun n ((r ∷ rs) ∷ fs) b {c} a (OneOf.later o) = go (one_begun (suc r.h
 
     go : Begun fs b c → Begun ((r ∷ rs) ∷ fs) b c
     go (Begun.with_rest {rs = q} e m) = Begun.with_rest {rs = q} (rw past e) m
+one_begun n [] b {c = c} a x'' = elim x'' [ ]
+one_begun n ([] ∷ fs) b {c = c} a _ = elim a [ ]
 
 -- bytes that match a form, and accepted ones behind them
 matched_accepted : {f : Form} {c : List ℕ} (bs : List ℕ) → Matches f c → rest_of [] bs ≡ true → rest_of f (c ++ bs) ≡ true
@@ -301,6 +305,7 @@ unfolding begun
 begun_before n [] b a l = refl
 begun_before n ((r ∷ rs) ∷ fs) b a l =
     let e : leb r.lo b ≡ false = lt-leb r.lo b (omega (arith, a.0)) in rw e (begun_before (suc r.hi) fs b a.2 (omega (arith, a.0, a.1)))
+begun_before n ([] ∷ fs) b a l = elim a [ ]
 
 -- a range that ends before a byte has not got it
 pub range_past : (r : Range) (b : ℕ) → r.hi < b → in_range r b ≡ false
@@ -323,12 +328,16 @@ begun_past r rs fs b l = rw (range_past r b l) refl
 form_first : (n : ℕ) (fs : List Form) {r : Range} {rs : Form} (b : ℕ) → After n fs → FormIn (r ∷ rs) fs → r.lo ≤ b → n ≤ b
 form_first n ((q ∷ qs) ∷ fs) b a FormIn.this l = omega (arith, a.0)
 form_first n ((q ∷ qs) ∷ fs) b a (FormIn.later i) l = omega (arith, a.0, a.1, form_first (suc q.hi) fs b a.2 i l)
+form_first n [] {r = r} {rs = rs} b a x3 l = elim x3 [ ]
+form_first n ([] ∷ fs) {r = r} {rs = rs} b a _ l = elim a [ ]
 
 -- a byte in the first range of a form begins it
 begun_form : (n : ℕ) (fs : List Form) {r : Range} {rs : Form} (b : ℕ) → After n fs → FormIn (r ∷ rs) fs → r.lo ≤ b → b ≤ r.hi → begun fs b ≡ some rs
 unfolding begun
 begun_form n ((q ∷ qs) ∷ fs) b a FormIn.this l h = rw (range_in q b l h) refl
 begun_form n ((q ∷ qs) ∷ fs) b a (FormIn.later i) l h = begun_past q qs fs b (form_first (suc q.hi) fs b a.2 i l) ∙ begun_form (suc q.hi) fs b a.2 i l h
+begun_form n [] {r = r} {rs = rs} b a x4 l h = elim x4 [ ]
+begun_form n ([] ∷ fs) {r = r} {rs = rs} b a _ l h = elim a [ ]
 
 -- a byte in the first range of a form of the grammar begins it
 pub begun_char : {r : Range} {rs : Form} (b : ℕ) → FormIn (r ∷ rs) utf8_char → r.lo ≤ b → b ≤ r.hi → begun utf8_char b ≡ some rs

@@ -2,7 +2,7 @@
 use Rattle.std.specs.Prelude.{ℕ, Bool, true, false, ◌&&◌, cond, List, [], ◌∷◌, ◌++◌, leb, ltb, length}
 use Rattle.std.proofs.Math.Option.{Option, some, none}
 use Rattle.errors.specs.Refusal.{Outcome, done, refused, plain}
-use Rattle.errors.specs.Refusal.{◌>>=◌ as ◌andThen◌}
+use Rattle.errors.specs.Refusal.{◌>>=◌ as ◌and_then◌}
 use Rattle.blocks.specs.Name.{Name, same, among}
 use Rattle.resolved.specs.Resolved.{Owner}
 use Rattle.ir.specs.Ir.{IrParameter}
@@ -26,7 +26,7 @@ Build A = Registry → Outcome (A × Registry)
 
 infixl 20 ◌>>=◌
 unfoldable pub ◌>>=◌ : {A B : Type 0} → Build A → (A → Build B) → Build B
-◌>>=◌ m k = λ r. ◌andThen◌ (m r) (λ x. k x.0 x.1)
+◌>>=◌ m k = λ r. ◌and_then◌ (m r) (λ x. k x.0 x.1)
 
 unfoldable pub give : {A : Type 0} → A → Build A
 give a = λ r. done (a, r)

@@ -9,7 +9,7 @@ use native.Mathlib.Omega.{arith}
 use lib.Dec.{leb}
 use borrow.Author.Tests.{leb-true, leb-false}
 use Rattle.errors.specs.Refusal.{Outcome, done, refused, plain, UnsupportedArrayElement}
-use Rattle.errors.specs.Refusal.{◌>>=◌ as ◌andThen◌}
+use Rattle.errors.specs.Refusal.{◌>>=◌ as ◌and_then◌}
 use Rattle.blocks.specs.Bytes.{le2}
 use Rattle.blocks.specs.Name.{Name}
 use Rattle.blocks.specs.Tree.{Tree, block, view, flag, part}
@@ -33,7 +33,7 @@ use Rattle.builder_arrays.specs.Array.{counted, summed}
 module _ {A B : Type 0} (m : Build A) (x : Build Unit) (k : A → Build B) where
   -- the action comes before what is done with the value: first all of it, then that
   pub between : (g : Registry) → (m >>= (λ a. x >>= (λ _. k a))) g ≡ ((m >>= (λ a. x >>= (λ _. give a))) >>= k) g
-  unfolding ◌>>=◌ ◌andThen◌ give
+  unfolding ◌>>=◌ ◌and_then◌ give
   between g =
       step_same m g (λ a. x >>= (λ _. k a)) (λ a. (x >>= (λ _. give a)) >>= k) (λ a h. sym (step_assoc x h (λ _. give a) k))
       ∙ sym (step_assoc m g (λ a. x >>= (λ _. give a)) k)

@@ -8,7 +8,7 @@ use lib.Dec.{leb, ltb}
 use lib.ListN.{length, replicate, length-append, length-replicate}
 use borrow.Author.Tests.{le-leb, lt-leb}
 use Rattle.errors.specs.Refusal.{Outcome, done, refused, plain}
-use Rattle.errors.specs.Refusal.{◌>>=◌ as ◌andThen◌}
+use Rattle.errors.specs.Refusal.{◌>>=◌ as ◌and_then◌}
 use Rattle.errors.proofs.Laws.{done_one, bound}
 use Rattle.answers.specs.Answers.{AnswersIn}
 use Rattle.answers.proofs.Laws.{answered, passes, goes, reads_as}
@@ -39,31 +39,31 @@ module _ (o p : Name) (before : List IrArgument) (g : Registry) where
 
   -- a path whose canonical name is too long: refusal 17
   pub one_long : 255 < length (canonical_name o p) → collect_paths o (p ∷ []) before g ≡ refused (plain 17)
-  unfolding collect_paths ◌>>=◌ ◌andThen◌ require refuse
+  unfolding collect_paths ◌>>=◌ ◌and_then◌ require refuse
   one_long h = rw (lt-leb _ _ h)
 
   -- one that is short enough is entered first
-  pub one_short : length (canonical_name o p) ≤ 255 → collect_paths o (p ∷ []) before g ≡ ◌andThen◌ (ensure o p g) entered
-  unfolding collect_paths ◌>>=◌ ◌andThen◌ require give
+  pub one_short : length (canonical_name o p) ≤ 255 → collect_paths o (p ∷ []) before g ≡ ◌and_then◌ (ensure o p g) entered
+  unfolding collect_paths ◌>>=◌ ◌and_then◌ require give
   one_short h = rw (le-leb _ _ h)
 
 -- the paths of an owner: the first, then the others
 pub paths_more : (o p : Name) (ps : List Name) (before : List IrArgument) (g : Registry) →
-    collect_paths o (p ∷ ps) before g ≡ ◌andThen◌ (collect_paths o (p ∷ []) before g) (λ x. collect_paths o ps x.0 x.1)
-unfolding collect_paths ◌>>=◌ ◌andThen◌ require give refuse
+    collect_paths o (p ∷ ps) before g ≡ ◌and_then◌ (collect_paths o (p ∷ []) before g) (λ x. collect_paths o ps x.0 x.1)
+unfolding collect_paths ◌>>=◌ ◌and_then◌ require give refuse
 paths_more o p ps before g = go (leb (length (canonical_name o p)) 255) (ensure o p) (ltb (length before) 512)
   where
     next : List IrArgument
     next = before ++ (argument (canonical_name o p) ∷ [])
 
-    then : (y : Outcome (Unit {0} × Registry)) (b : Bool) → ◌andThen◌ y (λ x. (require b 17 >>= (λ _. collect_paths o ps next)) x.1) ≡
-        ◌andThen◌ (◌andThen◌ y (λ x. (require b 17 >>= (λ _. give next)) x.1)) (λ x. collect_paths o ps x.0 x.1)
+    then : (y : Outcome (Unit {0} × Registry)) (b : Bool) → ◌and_then◌ y (λ x. (require b 17 >>= (λ _. collect_paths o ps next)) x.1) ≡
+        ◌and_then◌ (◌and_then◌ y (λ x. (require b 17 >>= (λ _. give next)) x.1)) (λ x. collect_paths o ps x.0 x.1)
     then (done y) true = refl
     then (done y) false = refl
     then (refused q) b = refl
 
     go : (a : Bool) (e : Build Unit) (b : Bool) → (require a 17 >>= (λ _. e >>= (λ _. require b 17 >>= (λ _. collect_paths o ps next)))) g ≡
-        ◌andThen◌ ((require a 17 >>= (λ _. e >>= (λ _. require b 17 >>= (λ _. give next)))) g) (λ x. collect_paths o ps x.0 x.1)
+        ◌and_then◌ ((require a 17 >>= (λ _. e >>= (λ _. require b 17 >>= (λ _. give next)))) g) (λ x. collect_paths o ps x.0 x.1)
     go true e b = then (e g) b
     go false e b = refl
 
@@ -131,7 +131,7 @@ behind_index {c = c} z b = (answered z (b.collects (replicate c.made (argument [
 -- what `all` collects of those behind it.
 pub record Walk (one all : Tree → List IrArgument → Build (List IrArgument)) : Type 0 where
   pub none : (before : List IrArgument) (g : Registry) → all nil before g ≡ done (before, g)
-  pub more : (t u : Tree) (before : List IrArgument) (g : Registry) → all (cons t u) before g ≡ ◌andThen◌ (one t before g) (λ x. all u x.0 x.1)
+  pub more : (t u : Tree) (before : List IrArgument) (g : Registry) → all (cons t u) before g ≡ ◌and_then◌ (one t before g) (λ x. all u x.0 x.1)
 
 -- the paths of an owner
 pub paths_walk : (o : Name) → Walk (λ t. collect_paths o (text t ∷ [])) (λ u. collect_paths o (entries text u))

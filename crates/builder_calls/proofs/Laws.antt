@@ -9,7 +9,7 @@ use native.Mathlib.Omega.{arith}
 use lib.ListN.{length, length-append}
 use borrow.Author.Tests.{lt-ltb, le-ltb}
 use Rattle.errors.specs.Refusal.{done, refused, plain}
-use Rattle.errors.specs.Refusal.{◌>>=◌ as ◌andThen◌}
+use Rattle.errors.specs.Refusal.{◌>>=◌ as ◌and_then◌}
 use Rattle.answers.specs.Answers.{AnswersIn}
 use Rattle.answers.proofs.Laws.{answered, refuses, makes, passes, goes}
 use Rattle.blocks.specs.Bytes.{le2, le4, bytes}
@@ -95,7 +95,7 @@ module _ {s xs ws us : List ℕ} {c : Collected} {h : Held} {owner path : ℕ} {
     (k : Kept s us h (ensure (held s owner) (held s path) (entries_of s ws c.count))) where
   -- what follows where the path is entered
   after_entry : {ys : List ℕ} {r : Collected} → ((before : List IrArgument) → length before ≡ c.made →
-      Collects s xs c before us ys r (◌andThen◌ (ensure o p (entries_of s ws c.count)) (entered o p before (entries_of s ws c.count)))) →
+      Collects s xs c before us ys r (◌and_then◌ (ensure o p (entries_of s ws c.count)) (entered o p before (entries_of s ws c.count)))) →
       Behind s xs c ws us ys r (collect_paths (name_at s owner) (name_at s path ∷ []))
   after_entry f =
       renamed owner path n.owner_is n.path_is

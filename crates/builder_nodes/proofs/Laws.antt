@@ -4,7 +4,7 @@ use mathlib.Core.List.{List, [], ◌++◌, append_assoc, append-nil}
 use Prim.Native.Nat.{ℕ, ◌+◌, ◌-◌, ◌≤◌, ◌<◌}
 use native.Mathlib.Omega.{arith}
 use Rattle.errors.specs.Refusal.{Outcome, done, refused, plain}
-use Rattle.errors.specs.Refusal.{◌>>=◌ as ◌andThen◌}
+use Rattle.errors.specs.Refusal.{◌>>=◌ as ◌and_then◌}
 use Rattle.answers.specs.Answers.{Answers, AnswersIn}
 use Rattle.answers.proofs.Laws.{answered, unanswered, passes, goes}
 use Rattle.blocks.specs.Bytes.{bytes}
@@ -86,30 +86,30 @@ module _ {A B : Type 0} {Made : A × Registry → Type 0} {Next : B × Registry 
 
   -- whatever the answer is: a refusal is the whole's, and what was made goes on
   pub step_then : Answers n Made (m g) → ((x : A × Registry) → n ≡ 0 → Made x → Answers n Next (k x.0 x.1)) → Answers n Next ((m >>= k) g)
-  unfolding ◌>>=◌ ◌andThen◌
+  unfolding ◌>>=◌ ◌and_then◌
   step_then a f = go a
     where
-      go : {o : Outcome (A × Registry)} → Answers n Made o → Answers n Next (◌andThen◌ o (λ x. k x.0 x.1))
+      go : {o : Outcome (A × Registry)} → Answers n Made o → Answers n Next (◌and_then◌ o (λ x. k x.0 x.1))
       go (AnswersIn.made x e h) = f x e h
       go (AnswersIn.not i e l) = AnswersIn.not i e l
 
 module _ {A B : Type 0} (m : Build A) (g : Registry) where
   -- steps are the same however they are grouped
   pub step_assoc : {C : Type 0} (k : A → Build B) (l : B → Build C) → ((m >>= k) >>= l) g ≡ (m >>= (λ a. k a >>= l)) g
-  unfolding ◌>>=◌ ◌andThen◌
+  unfolding ◌>>=◌ ◌and_then◌
   step_assoc {C} k l = go (m g)
     where
       go : (o : Outcome (A × Registry)) →
-          ◌andThen◌ {B = C × Registry} (◌andThen◌ o (λ x. k x.0 x.1)) (λ y. l y.0 y.1) ≡ ◌andThen◌ o (λ x. ◌andThen◌ (k x.0 x.1) (λ y. l y.0 y.1))
+          ◌and_then◌ {B = C × Registry} (◌and_then◌ o (λ x. k x.0 x.1)) (λ y. l y.0 y.1) ≡ ◌and_then◌ o (λ x. ◌and_then◌ (k x.0 x.1) (λ y. l y.0 y.1))
       go (done x) = refl
       go (refused q) = refl
 
   -- steps that go on alike are the same
   pub step_same : (k l : A → Build B) → ((a : A) (h : Registry) → k a h ≡ l a h) → (m >>= k) g ≡ (m >>= l) g
-  unfolding ◌>>=◌ ◌andThen◌
+  unfolding ◌>>=◌ ◌and_then◌
   step_same k l f = go (m g)
     where
-      go : (o : Outcome (A × Registry)) → ◌andThen◌ o (λ x. k x.0 x.1) ≡ ◌andThen◌ o (λ x. l x.0 x.1)
+      go : (o : Outcome (A × Registry)) → ◌and_then◌ o (λ x. k x.0 x.1) ≡ ◌and_then◌ o (λ x. l x.0 x.1)
       go (done x) = f x.0 x.1
       go (refused q) = refl
 

@@ -11,7 +11,7 @@ use lib.ListN.{length, take, get_or, set}
 use lib.Seq.{take-suc-set, take-set-lt, set-get_or}
 use borrow.Author.Tests.{eq-eqb, ne_eqb, lt-ltb, le-ltb, le-leb, lt-leb}
 use Rattle.errors.specs.Refusal.{Outcome, done, refused, plain}
-use Rattle.errors.specs.Refusal.{◌>>=◌ as ◌andThen◌}
+use Rattle.errors.specs.Refusal.{◌>>=◌ as ◌and_then◌}
 use Rattle.answers.specs.Answers.{AnswersIn}
 use Rattle.blocks.specs.Name.{Name}
 use Rattle.ir.specs.Ir.{IrParameter}
@@ -32,40 +32,40 @@ use Rattle.builder_registry.proofs.Places.{entries_length, entry_at, found_at_le
 module _ (e : Entry) (g : Registry) where
   -- the definition refuses a name of more than 255 bytes
   enter_long : 255 < length e.parameter.name → enter e g ≡ refused (plain 17)
-  unfolding enter ◌>>=◌ ◌andThen◌ give refuse require reads change
+  unfolding enter ◌>>=◌ ◌and_then◌ give refuse require reads change
   enter_long h = rw (lt-leb (length e.parameter.name) 255 h)
 
   -- it refuses a 513th entry
   enter_full : length e.parameter.name ≤ 255 → 512 ≤ length g → enter e g ≡ refused (plain 17)
-  unfolding enter ◌>>=◌ ◌andThen◌ give refuse require reads change
+  unfolding enter ◌>>=◌ ◌and_then◌ give refuse require reads change
   enter_full h k = rw (le-leb (length e.parameter.name) 255 h, le-ltb (length g) 512 k)
 
   -- else the entry goes behind the others
   enter_room : length e.parameter.name ≤ 255 → length g < 512 → enter e g ≡ done (tt, g ++ (e ∷ []))
-  unfolding enter ◌>>=◌ ◌andThen◌ give refuse require reads change
+  unfolding enter ◌>>=◌ ◌and_then◌ give refuse require reads change
   enter_room h k = rw (le-leb (length e.parameter.name) 255 h, lt-ltb (length g) 512 k)
 
 module _ (o p : Name) (g : Registry) where
   -- a key that is there is not entered again
   ensure_found : (x : IrParameter) → find_key o (normalize_path o p) g ≡ some x → ensure o p g ≡ done (tt, g)
-  unfolding ensure ◌>>=◌ ◌andThen◌ reads give
+  unfolding ensure ◌>>=◌ ◌and_then◌ reads give
   ensure_found x h = rw h
 
   -- a new one is entered
   ensure_new : find_key o (normalize_path o p) g ≡ none → ensure o p g ≡ enter (path_entry o p) g
-  unfolding ensure ◌>>=◌ ◌andThen◌ reads
+  unfolding ensure ◌>>=◌ ◌and_then◌ reads
   ensure_new h = rw h
 
   module _ (q : IrParameter) where
     -- the same for a made parameter: the name is that of the entry that is there
     synthetic_found : (x : IrParameter) → find_key o (normalize_path o p) g ≡ some x → add_synthetic o p q g ≡ done (x.name, g)
-    unfolding add_synthetic ◌>>=◌ ◌andThen◌ reads give
+    unfolding add_synthetic ◌>>=◌ ◌and_then◌ reads give
     synthetic_found x h = rw h
 
     -- or that of the new entry
     synthetic_new : find_key o (normalize_path o p) g ≡ none →
-        add_synthetic o p q g ≡ ◌andThen◌ (enter (record { owner = o; keys = normalize_path o p ∷ []; parameter = q }) g) (λ x. done (q.name, x.1))
-    unfolding add_synthetic ◌>>=◌ ◌andThen◌ reads give
+        add_synthetic o p q g ≡ ◌and_then◌ (enter (record { owner = o; keys = normalize_path o p ∷ []; parameter = q }) g) (λ x. done (q.name, x.1))
+    unfolding add_synthetic ◌>>=◌ ◌and_then◌ reads give
     synthetic_new h = rw h
 
 -- ---- one word more
@@ -174,8 +174,8 @@ module _ (s ws : List ℕ) (n owner made : ℕ) (fit : n ≤ length ws) (o p : N
   -- the outcome of entering, with the name that is then answered
   tagged : {us : List ℕ} {r : Held} {x : Outcome (Unit × Registry)} (m : Name) → Kept s us r x →
       (r.number ≡ 0 → m ≡ entry_name s (get_or us n 0)) → (r.number ≡ 0 → r.count ≡ n + 1) →
-      Tags s us (record { at = n; count = r.count; number = r.number }) (◌andThen◌ x (λ y. done (m, y.1)))
-  unfolding ◌andThen◌
+      Tags s us (record { at = n; count = r.count; number = r.number }) (◌and_then◌ x (λ y. done (m, y.1)))
+  unfolding ◌and_then◌
   tagged m (AnswersIn.made x z q) k l = AnswersIn.made _ z (record { named = k z; entries = q.entries; within = omega (arith, l z); index = q.index })
   tagged m (AnswersIn.not j z q) k l = AnswersIn.not j z q
 

@@ -5,7 +5,7 @@ use mathlib.Core.Path.{◌≡◌, refl, sym, ap, ◌∙◌, subst}
 use mathlib.Core.List.{List, [], ◌∷◌}
 use lib.ListN.{length}
 use Rattle.errors.specs.Refusal.{Outcome, done, refused, plain}
-use Rattle.errors.specs.Refusal.{◌>>=◌ as ◌andThen◌}
+use Rattle.errors.specs.Refusal.{◌>>=◌ as ◌and_then◌}
 use Rattle.answers.specs.Answers.{AnswersIn}
 use Rattle.answers.proofs.Laws.{unanswered, refuses}
 use Rattle.blocks.specs.Bytes.{le2, le4, name_at}
@@ -29,7 +29,7 @@ use Rattle.builder_registry.proofs.Laws.{held_name, kept_done}
 -- an action on a list, one on each of its elements in turn
 pub record Each {A : Type 0} (all : List A → Build Unit) (one : A → Build Unit) : Type 0 where
   pub none : (g : Registry) → all [] g ≡ done (tt, g)
-  pub more : (x : A) (xs : List A) (g : Registry) → all (x ∷ xs) g ≡ ◌andThen◌ (one x g) (λ y. all xs y.1)
+  pub more : (x : A) (xs : List A) (g : Registry) → all (x ∷ xs) g ≡ ◌and_then◌ (one x g) (λ y. all xs y.1)
 
 -- the whole list on g is the rest of it on h
 pub record Met {A : Type 0} (all : List A → Build Unit) (make : Tree → A) (g h : Registry) (w u : Tree) : Type 0 where
@@ -42,21 +42,21 @@ module _ {A : Type 0} (all : List A → Build Unit) (one : A → Build Unit) (ea
 
   -- the entries behind one, after what it made
   abbrev rest : Tree → Outcome (Unit × Registry) → Outcome (Unit × Registry)
-  rest u o = ◌andThen◌ o (λ y. all (entries make u) y.1)
+  rest u o = ◌and_then◌ o (λ y. all (entries make u) y.1)
 
   module _ {s us : List ℕ} {i : Item} {n at left q : ℕ} {g h : Registry} {r : Held} where
     -- an entry t, which is entered; the next begins at p
     pub go_on : {p : ℕ} (t : Entries s i left q → Tree) → ((l : Entries s i left q) → After l (t l) p) →
         ((l : Entries s i left q) → Kept s us r (one (make (t l)) h)) → r.number ≡ 0 →
         Left (Met all make g h) s i n at left q → Left (Met all make g (entries_of s us r.count)) s i n at (left - 1) p
-    unfolding entries ◌andThen◌
+    unfolding entries ◌and_then◌
     go_on t a k z l = steps t a (λ m w u x. record { is = x.is ∙ (each.more (make (t m)) (entries make u) h ∙ ap (rest u) (kept_done z (k m))) }) l
 
     -- an entry that is refused
     pub stop : {p : ℕ} (t : Entries s i left q → Tree) → ((l : Entries s i left q) → After l (t l) p) →
         ((l : Entries s i left q) → Kept s us r (one (make (t l)) h)) → (r.number ≡ 0 → ⊥) →
         Left (Met all make g h) s i n at left q → (w : Entries s i n at) → Kept s us r (all (entries make w.got.0) g)
-    unfolding entries ◌andThen◌
+    unfolding entries ◌and_then◌
     stop t a k z l w =
         let m = l.whole w in
         let b = unanswered z (k m.0) in

@@ -9,7 +9,7 @@ use lib.Dec.{ltb}
 use lib.ListN.{length}
 use borrow.Author.Tests.{lt-ltb, le-ltb}
 use Rattle.errors.specs.Refusal.{Outcome, done, refused, plain}
-use Rattle.errors.specs.Refusal.{◌>>=◌ as ◌andThen◌}
+use Rattle.errors.specs.Refusal.{◌>>=◌ as ◌and_then◌}
 use Rattle.answers.specs.Answers.{AnswersIn}
 use Rattle.answers.proofs.Laws.{answered, refuses, makes, passes, goes}
 use Rattle.blocks.specs.Bytes.{le2, le4, bytes}
@@ -187,15 +187,15 @@ module _ {s : List ℕ} {left field : ℕ} {f : FieldParts} (h : 0 < left) (fp :
     -- the end of the prefix is 2^64 or more: 16
     node_over : {v : End} → EndIs s f end v → v ≡ Over → (l : Listed s 33 33 left field) →
         next types refs (state_of g (fields_of l.got.0) end true) ≡ refused (plain 16)
-    unfolding field_node ◌andThen◌ need refuse
+    unfolding field_node ◌and_then◌ need refuse
     node_over pe e l = let q : prefix_end end (offset_of f.placed f.offset) (head (type_of (tree (kind_at l)))).size ≡ none = ended_over (pe (kind_at l)) e in next_node l ∙ rw q
 
     -- the field's node, and the state behind it
     node_at : {v : End} {n : ℕ} → EndIs s f end v → v ≡ At n → (l : Listed s 33 33 left field) →
         next types refs (state_of g (fields_of l.got.0) end true) ≡
-        ◌andThen◌ (build_field types refs (name_at s (field + 6)) (head (type_of (tree (kind_at l)))).size (head (type_of (tree (kind_at l)))) (kind_of (type_of (tree (kind_at l)))) g)
+        ◌and_then◌ (build_field types refs (name_at s (field + 6)) (head (type_of (tree (kind_at l)))).size (head (type_of (tree (kind_at l)))) (kind_of (type_of (tree (kind_at l)))) g)
         (node_of n (fields_of (rest_at l).got.0))
-    unfolding field_node ◌andThen◌ need give
+    unfolding field_node ◌and_then◌ need give
     node_at {n} pe e l = let q : prefix_end end (offset_of f.placed f.offset) (head (type_of (tree (kind_at l)))).size ≡ some n = ended_at (pe (kind_at l)) e in next_node l ∙ rw q
 
   -- what the code leaves of it
@@ -280,7 +280,7 @@ sum_one {s} {xs} {us} {ys} {at} {r} nx st z g = subst (Ran s xs at us ys r) (sym
 
 module _ {s x₁ x₂ us : List ℕ} {k p : ℕ} {a : Run} (nx : State → Outcome (State × IrNode)) (st : State) (h : 0 < k) (z : k ≡ 1 → ⊥) (g : Ran s x₁ p us x₂ a (summed nx (k - 1) st)) where
   -- the sum, by the sum of the first
-  sum_is : summed nx k st ≡ ◌andThen◌ (summed nx (k - 1) st) (more nx)
+  sum_is : summed nx k st ≡ ◌and_then◌ (summed nx (k - 1) st) (more nx)
   sum_is = summed_at nx k st (λ e. omega arith) z
 
   -- the sum of the first was refused
@@ -402,15 +402,15 @@ node_out y = done (y.1, y.0.registry)
 
 -- what was built of a sum of nodes, without the fields that are left
 ran_built : {s xs us ys : List ℕ} {at : ℕ} {r : Run} {x : Outcome (State × IrNode)} → Ran s xs at us ys r x →
-    Builds s xs at us ys (record { at = r.at; count = r.rest.count; number = r.number }) (◌andThen◌ x node_out)
-unfolding ◌andThen◌
+    Builds s xs at us ys (record { at = r.at; count = r.rest.count; number = r.number }) (◌and_then◌ x node_out)
+unfolding ◌and_then◌
 ran_built (AnswersIn.made y z m) = AnswersIn.made (y.1, y.0.registry) z
     (record { entries = ap (λ (c : State). c.registry) (sym m.state); index = m.index; wrote = m.wrote })
 ran_built (AnswersIn.not k z l) = AnswersIn.not k z l
 
 -- that node, aligned
-up_is : (a : ℕ) (g : Registry) (x : Outcome (State × IrNode)) → ◌andThen◌ x (λ y. done (align_node y.1 a, y.0.registry)) ≡ with_align a (λ _. ◌andThen◌ x node_out) g
-unfolding with_align ◌>>=◌ ◌andThen◌ give
+up_is : (a : ℕ) (g : Registry) (x : Outcome (State × IrNode)) → ◌and_then◌ x (λ y. done (align_node y.1 a, y.0.registry)) ≡ with_align a (λ _. ◌and_then◌ x node_out) g
+unfolding with_align ◌>>=◌ ◌and_then◌ give
 up_is a g (done y) = refl
 up_is a g (refused q) = refl
 
@@ -428,25 +428,25 @@ module _ {s : List ℕ} {kind k : ℕ} {h : TypeHead} {f : ListParts} (g : Regis
   -- the struct's node is the sum of the nodes that the code counts, aligned
   whole_is : (types : List ResolvedType) (a : Accepted s 1 7 kind) {fs : Fields} → kind_of (type_of (tree a)) ≡ ResolvedTypeKind.Struct fs →
       build_variable_struct types (head (type_of (tree a))) fs g ≡
-      ◌andThen◌ (summed (next types (owners_of (tree (hd a).references))) k (state_of g (fields_of (fl a).list.got.0) 0 false)) (up h.alignment)
+      ◌and_then◌ (summed (next types (owners_of (tree (hd a).references))) k (state_of g (fields_of (fl a).list.got.0) 0 false)) (up h.alignment)
   whole_is types a {fs} e =
       let H : Head = head (type_of (tree a)) in
       let F : Fields = fields_in (view thing_of (fl a).list.got.0) in
       let j : kind_of (type_of (tree a)) ≡ ResolvedTypeKind.Struct F = (fl a).struct ek in
       let i : fs ≡ F = same_fields e j in
       ap (λ (z : Fields). build_variable_struct types H z g) i ∙ struct_is types H F g
-      ∙ ap (λ (os : List Owner). ◌andThen◌ (summed (next types os) (count_of 0 (fields F)) (state_of g (fields F) 0 false)) (up H.alignment)) (hd a).owners
-      ∙ ap (λ (n : ℕ). ◌andThen◌ (summed (next types (owners_of (tree (hd a).references))) n (state_of g (fields F) 0 false)) (up H.alignment)) (sym (ck (fl a).list))
-      ∙ ap (λ (m : ℕ). ◌andThen◌ (summed (next types (owners_of (tree (hd a).references))) k (state_of g (fields F) 0 false)) (up m)) (hd a).alignment
+      ∙ ap (λ (os : List Owner). ◌and_then◌ (summed (next types os) (count_of 0 (fields F)) (state_of g (fields F) 0 false)) (up H.alignment)) (hd a).owners
+      ∙ ap (λ (n : ℕ). ◌and_then◌ (summed (next types (owners_of (tree (hd a).references))) n (state_of g (fields F) 0 false)) (up H.alignment)) (sym (ck (fl a).list))
+      ∙ ap (λ (m : ℕ). ◌and_then◌ (summed (next types (owners_of (tree (hd a).references))) k (state_of g (fields F) 0 false)) (up m)) (hd a).alignment
 
   -- there is no node
   pub struct_none : {xs us ys : List ℕ} {at u c : ℕ} → k ≡ 0 → (t : Tree) (a : Accepted s 1 7 kind) (fs : Fields) → read_set s ≡ done t → kind_of (type_of (tree a)) ≡ ResolvedTypeKind.Struct fs →
       Builds s xs at us ys (record { at = u; count = c; number = 11 }) (build_variable_struct (types_of t) (head (type_of (tree a))) fs g)
-  unfolding summed up_to combine ◌andThen◌
+  unfolding summed up_to combine ◌and_then◌
   struct_none z t a fs q e =
       refuses (omega arith)
       (whole_is (types_of t) a e
-      ∙ ap (λ (n : ℕ). ◌andThen◌ (summed (next (types_of t) (owners_of (tree (hd a).references))) n (state_of g (fields_of (fl a).list.got.0) 0 false)) (up h.alignment)) z)
+      ∙ ap (λ (n : ℕ). ◌and_then◌ (summed (next (types_of t) (owners_of (tree (hd a).references))) n (state_of g (fields_of (fl a).list.got.0) 0 false)) (up h.alignment)) z)
 
   -- the sum, aligned
   pub struct_built : {us xs x₁ x₂ ys : List ℕ} {at p : ℕ} {r : Run} {b : Built} →
@@ -458,4 +458,4 @@ module _ {s : List ℕ} {kind k : ℕ} {h : TypeHead} {f : ListParts} (g : Regis
   struct_built {us} {xs} {x₁} {ys} {at} {p} {b} sm w c t a fs q e =
       let o = summed (next (types_of t) (owners_of (tree (hd a).references))) k (state_of g (fields_of (fl a).list.got.0) 0 false) in
       subst (Builds s xs at us ys b) (sym (whole_is (types_of t) a e ∙ up_is h.alignment g o))
-      (c s us xs x₁ p h.alignment (λ _. ◌andThen◌ o node_out) g w (ran_built (sm t (hd a).references (fl a).list q)))
+      (c s us xs x₁ p h.alignment (λ _. ◌and_then◌ o node_out) g w (ran_built (sm t (hd a).references (fl a).list q)))

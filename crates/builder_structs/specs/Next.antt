@@ -2,7 +2,7 @@
 use Rattle.std.specs.Prelude.{ℕ, suc, ◌+◌, ◌-◌, ◌^◌, Bool, true, false, ◌&&◌, not, cond, List, [], ◌∷◌, ltb}
 use Rattle.std.proofs.Math.Option.{Option, some, none}
 use Rattle.errors.specs.Refusal.{Outcome, done, refused, plain, MissingDynamicRefs}
-use Rattle.errors.specs.Refusal.{◌>>=◌ as ◌andThen◌}
+use Rattle.errors.specs.Refusal.{◌>>=◌ as ◌and_then◌}
 use Rattle.blocks.specs.Tree.{Tree, view}
 use Rattle.accepted.specs.Accepted.{Listed}
 use Rattle.resolved.specs.Resolved.{Owner, Size, ResolvedType, ResolvedField, head, kind_of, fields}
@@ -57,8 +57,8 @@ state_at s ws x l = state_of (entries_of s ws x.count) (fields_of l.got.0) x.end
 -- the node of a field, once its padding is made
 unfoldable pub field_node : List ResolvedType → List Owner → ResolvedField → List ResolvedField → ℕ → Registry → Outcome (State × IrNode)
 field_node types refs f fs e g =
-    ◌andThen◌ (need (prefix_end e f.offset (head f.field_type).size) 16 g) (λ x.
-    ◌andThen◌ (build_field types refs f.name (head f.field_type).size (head f.field_type) (kind_of f.field_type) x.1) (λ y.
+    ◌and_then◌ (need (prefix_end e f.offset (head f.field_type).size) 16 g) (λ x.
+    ◌and_then◌ (build_field types refs f.name (head f.field_type).size (head f.field_type) (kind_of f.field_type) x.1) (λ y.
     done (state_of y.1 fs x.0 false, y.0)))
 
 -- the next node and the state behind it: the padding before the first field, or the field; 11 where no field is left

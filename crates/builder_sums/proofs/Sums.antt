@@ -10,7 +10,7 @@ use lib.ListN.{length, take, get_or, length-append}
 use lib.Seq.{take-suc, take-length}
 use borrow.Author.Tests.{le-leb, lt-leb}
 use Rattle.errors.specs.Refusal.{Outcome, done, refused, MissingParameter}
-use Rattle.errors.specs.Refusal.{◌>>=◌ as ◌andThen◌}
+use Rattle.errors.specs.Refusal.{◌>>=◌ as ◌and_then◌}
 use Rattle.answers.specs.Answers.{AnswersIn}
 use Rattle.blocks.specs.Bytes.{bytes}
 use Rattle.blocks.specs.Name.{Name}
@@ -48,7 +48,7 @@ module _ (owner : Name) where
   -- references, and then l: the first reference, the others, and then l of all of them
   refs_then : (p : Name) (ps : List Name) (l : List IrNode → Build IrNode) (g : Registry) →
       (build_field_ref_nodes owner (p ∷ ps) >>= l) g ≡ (build_ref owner p >>= (λ n. build_field_ref_nodes owner ps >>= (λ ns. l (n ∷ ns)))) g
-  unfolding build_field_ref_nodes build_ref ◌>>=◌ ◌andThen◌ reads need require give refuse
+  unfolding build_field_ref_nodes build_ref ◌>>=◌ ◌and_then◌ reads need require give refuse
   refs_then p ps l g = go (lookup_name owner p g) (short (ref_text owner p))
     where
       go : (o : Option Name) (b : Bool) →
@@ -80,20 +80,20 @@ module _ (owner : Name) where
         first_onto x (ps ++ (p ∷ [])) g
         ∙ step_same (build_ref owner x) g _ _ i
         ∙ sym (step_assoc (build_ref owner x) g (λ m. onto (f m) ps) (add_last p))
-        ∙ ap (λ (o : Outcome (IrNode × Registry)). ◌andThen◌ o (λ y. add_last p y.0 y.1)) (sym (first_onto x ps g))
+        ∙ ap (λ (o : Outcome (IrNode × Registry)). ◌and_then◌ o (λ y. add_last p y.0 y.1)) (sym (first_onto x ps g))
 
   -- what is added to n last
   onto_last : (n : IrNode) (ps : List Name) (p : Name) (g : Registry) → onto n (ps ++ (p ∷ [])) g ≡ (onto n ps >>= add_last p) g
-  unfolding build_field_ref_nodes add_all ◌>>=◌ ◌andThen◌ give
+  unfolding build_field_ref_nodes add_all ◌>>=◌ ◌and_then◌ give
   onto_last n [] p g = refs_then p [] (λ ns. give (add_all n ns)) g
   onto_last n (x ∷ ps) p g = last_after (λ ns. give (add_all n ns)) (added n) (λ m ns h. refl) x ps p g (λ m h. onto_last (added n m) ps p h)
 
   -- the sum of one reference is that reference
   sum_one : (p : Name) (g : Registry) → sum_refs owner (p ∷ []) g ≡ build_ref owner p g
-  unfolding sum_refs combine_checked_add build_field_ref_nodes add_all ◌>>=◌ ◌andThen◌ give
+  unfolding sum_refs combine_checked_add build_field_ref_nodes add_all ◌>>=◌ ◌and_then◌ give
   sum_one p g = refs_then p [] combine_checked_add g ∙ go (build_ref owner p g)
     where
-      go : (o : Outcome (IrNode × Registry)) → ◌andThen◌ o (λ x. done (x.0, x.1)) ≡ o
+      go : (o : Outcome (IrNode × Registry)) → ◌and_then◌ o (λ x. done (x.0, x.1)) ≡ o
       go (done x) = refl
       go (refused q) = refl
 
@@ -112,13 +112,13 @@ module _ {s ws xs ys : List ℕ} {n at : ℕ} {f : Found} (owner : Name) {path n
     (l : Looked s ws n f (lookup_name owner path (entries_of s ws n))) where
   -- no entry has the path
   pub ref_missing : f ≡ Missing → Builds s xs at ws ys (record { at = at; count = n; number = 12 }) (build_ref owner name (entries_of s ws n))
-  unfolding build_ref ◌>>=◌ ◌andThen◌ reads need refuse
+  unfolding build_ref ◌>>=◌ ◌and_then◌ reads need refuse
   ref_missing m = rw (← e, looked_missing m l) (AnswersIn.not 12 refl (omega arith))
 
   -- the text owner.path is too long
   pub ref_long : {i : ℕ} → f ≡ At i → 255 < length owner + (1 + length path) →
       Builds s xs at ws ys (record { at = at; count = n; number = 17 }) (build_ref owner name (entries_of s ws n))
-  unfolding build_ref ◌>>=◌ ◌andThen◌ reads need require give refuse
+  unfolding build_ref ◌>>=◌ ◌and_then◌ reads need require give refuse
   ref_long m h =
       rw (← e, (looked_entry m l).1, lt-leb (length (ref_text owner path)) 255 (omega (arith, ref_length owner path))) (AnswersIn.not 17 refl (omega arith))
 
@@ -126,7 +126,7 @@ module _ {s ws xs ys : List ℕ} {n at : ℕ} {f : Found} (owner : Name) {path n
   pub ref_done : {i w r : ℕ} → Indexed s ws n → f ≡ At i → length owner + (1 + length path) ≤ 255 → w ≡ get_or ws i 0 →
       Wrote xs at (write (node_tree (ref_node owner path (entry_name s w)))) ys r →
       Builds s xs at ws ys (record { at = r; count = n; number = 0 }) (build_ref owner name (entries_of s ws n))
-  unfolding build_ref ◌>>=◌ ◌andThen◌ reads need require give
+  unfolding build_ref ◌>>=◌ ◌and_then◌ reads need require give
   ref_done {i} x m h d v =
       rw (← e, (looked_entry m l).1, le-leb (length (ref_text owner path)) 255 (omega (arith, ref_length owner path)))
       (AnswersIn.made (ref_node owner path (entry_name s (get_or ws i 0)), entries_of s ws n) refl
@@ -196,7 +196,7 @@ sum_within h f a b = record { low = omega (arith, a.low, b.low); high = omega (a
 -- no path is chosen: refusal 11
 pub sum_none : {s xs us ys : List ℕ} {at n k q : ℕ} (owner : Name) (only : Bool) (g : Registry) → k ≡ length (picks s only q) → k ≡ 0 → (p : PathsAt s q) →
     Builds s xs at us ys (record { at = at; count = n; number = 11 }) (sum_refs owner (chosen only (texts_of p.list.got.0)) g)
-unfolding sum_refs build_field_ref_nodes combine_checked_add ◌>>=◌ ◌andThen◌ give refuse
+unfolding sum_refs build_field_ref_nodes combine_checked_add ◌>>=◌ ◌and_then◌ give refuse
 sum_none {s} {xs} {us} {ys} {at} {n} {q} owner only g e z p = rw (picks_are only p) (go (picks s only q) (omega arith))
   where
     go : (ps : List Name) → length ps ≡ 0 → Builds s xs at us ys (record { at = at; count = n; number = 11 }) (sum_refs owner ps g)

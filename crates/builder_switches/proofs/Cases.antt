@@ -9,7 +9,7 @@ use native.Mathlib.Omega.{arith}
 use lib.ListN.{length}
 use lib.Dec.{eqb}
 use Rattle.errors.specs.Refusal.{done, MissingDynamicRefs}
-use Rattle.errors.specs.Refusal.{◌>>=◌ as ◌andThen◌}
+use Rattle.errors.specs.Refusal.{◌>>=◌ as ◌and_then◌}
 use Rattle.answers.specs.Answers.{Answers, AnswersIn}
 use Rattle.answers.proofs.Laws.{answered}
 use Rattle.blocks.specs.Bytes.{bytes, le4, name_at}
@@ -241,7 +241,7 @@ module _ {s xs ws x₁ x₂ x₃ : List ℕ} {k q i at b p references : ℕ} {x 
 -- the cases of the definition: the first, then the others
 cases_are : (os : List Owner) (x : Alternative) (xs : List Alternative) (g : Registry) →
     build_cases os (x ∷ xs) g ≡ (build_case os x >>= (λ c. build_cases os xs >>= (λ cs. give (SwitchCases.case x.tag c.0 c.1 cs)))) g
-unfolding build_cases build_case ◌>>=◌ ◌andThen◌ reads give
+unfolding build_cases build_case ◌>>=◌ ◌and_then◌ reads give
 cases_are os x xs g =
     sym
     (step_assoc (build_alternative os x.name x.size x.alignment) g

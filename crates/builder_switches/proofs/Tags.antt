@@ -7,7 +7,7 @@ use native.Mathlib.Omega.{arith}
 use lib.ListN.{length, take}
 use lib.Dec.{leb, eqb}
 use borrow.Author.Tests.{leb-true, leb-false, eqb-true, eqb-false}
-use Rattle.errors.specs.Refusal.{◌>>=◌ as ◌andThen◌}
+use Rattle.errors.specs.Refusal.{◌>>=◌ as ◌and_then◌}
 use Rattle.answers.specs.Answers.{AnswersIn}
 use Rattle.blocks.specs.Bytes.{le2, name_at}
 use Rattle.blocks.specs.Name.{Name}
@@ -77,7 +77,7 @@ module _ {s ws : List ℕ} {n e : ℕ} {f : Found} (o owner : Name) (d : o ≡ o
   -- the path has an entry
   pub tag_known : {i : ℕ} → Indexed s ws n → f ≡ At i → (a : Accepted s 64 91 e) →
       Tags s ws (record { at = i; count = n; number = 0 }) (enum_tag_parameter owner (expr_of (tree a)) (entries_of s ws n))
-  unfolding enum_tag_parameter ◌>>=◌ ◌andThen◌ reads need give
+  unfolding enum_tag_parameter ◌>>=◌ ◌and_then◌ reads need give
   tag_known x h a =
       let p = field_ref_at a k in
       let found = looked_entry h (l a (texts_of p.list.got.0) p.is) in
@@ -86,7 +86,7 @@ module _ {s ws : List ℕ} {n e : ℕ} {f : Found} (o owner : Name) (d : o ≡ o
   -- it has none
   pub tag_unknown : f ≡ Missing → {i : ℕ} (a : Accepted s 64 91 e) →
       Tags s ws (record { at = i; count = n; number = 12 }) (enum_tag_parameter owner (expr_of (tree a)) (entries_of s ws n))
-  unfolding enum_tag_parameter ◌>>=◌ ◌andThen◌ reads need refuse
+  unfolding enum_tag_parameter ◌>>=◌ ◌and_then◌ reads need refuse
   tag_unknown h a =
       let p = field_ref_at a k in
       rw (p.is, looked_missing h (l a (texts_of p.list.got.0) p.is)) (AnswersIn.not 12 refl (omega arith))
@@ -112,7 +112,7 @@ not_path {s} {e} owner g u d n a = go (eqb u 64) refl (eqb u 66) refl (eqb u 67)
 -- its references are marked first
 made_tag : (owner : Name) (e : ExprKind) (g : Registry) →
     computed_tag owner e g ≡ add_synthetic owner (made_path 1) (made_parameter 1 owner) (mark_all owner (field_refs e) g)
-unfolding computed_tag ◌>>=◌ ◌andThen◌ change made_path made_parameter
+unfolding computed_tag ◌>>=◌ ◌and_then◌ change made_path made_parameter
 made_tag owner e g = refl
 
 -- the tag that was made
