@@ -118,7 +118,8 @@ def main():
                 steps = head[1].split(".") if head else []
                 if steps and steps[0] in MADE:
                     return tok
-                return snake(tok) if tok in turns else tok
+                # a constructor, behind its type
+                return snake(tok) if tok in turns or steps and steps[-1][:1].isupper() and "-" not in tok and not walk(p) else tok
             if tok in here:
                 return snake(tok) if re.search(r"-spec$", tok) and not tok.startswith("+") else tok
             if clauses or walk(p):

@@ -25,39 +25,6 @@ def plain(name):
     return name.replace("-", "_").replace("_", "").lower()
 
 
-def clauses(top):
-    """The names of the ensures clauses of each function, where it has more than one."""
-    found = {}
-    for c in sorted(os.listdir(os.path.join(top, "crates"))):
-        for d, subs, names in os.walk(os.path.join(top, "crates", c, "src")):
-            for n in sorted(names):
-                if not n.endswith(".rt"):
-                    continue
-                with open(os.path.join(d, n), encoding="utf-8") as f:
-                    lines = f.read().split("\n")
-                owner = ""
-                for i, l in enumerate(lines):
-                    m = re.match(r"impl(?:<[^>]*>)? (\w+)", l)
-                    if m:
-                        owner = m[1] + "::"
-                    if l == "}":
-                        owner = ""
-                    m = re.match(r" *(?:#\[[^\]]*\] *)?(?:pub )?(?:unsafe )?(?:extern \"C\" )?fn (\w+)", l)
-                    if m:
-                        ens, req = [], []
-                        for k in lines[i + 1 :]:
-                            if re.match(r" *(?:pub )?(?:extern \"C\" )?fn ", k) or re.match(r" *\{$", k):
-                                break
-                            e = re.match(r" +ensures (\w+) \{", k)
-                            if e:
-                                ens.append(e[1])
-                            e = re.match(r" +requires (\w+) \{", k)
-                            if e:
-                                req.append(e[1])
-                        found[f"{c}::{owner}{m[1]}"] = (ens, req)
-    return found
-
-
 def names_of(top, crate):
     with tempfile.TemporaryDirectory() as d:
         r = subprocess.run(["rt", "check", "--generated", d, "--old-names", "--allow-holes"], cwd=os.path.join(top, "crates", crate), capture_output=True, text=True)
@@ -69,9 +36,29 @@ def names_of(top, crate):
             return json.load(f)
 
 
+def arrows(typ):
+    """The parts of a type between its outermost arrows; what stands in braces is left out."""
+    parts, depth, cur = [], 0, ""
+    for ch in typ:
+        depth += (ch in "({") - (ch in ")}")
+        if ch == "→" and depth == 0:
+            parts.append(cur)
+            cur = ""
+        elif ch == ")" and depth == 0 and re.match(r"\s*\([^()]* : ", cur):
+            # binders one behind another
+            parts.append(cur + ch)
+            cur = ""
+        elif ch == "}" and depth == 0:
+            cur = ""
+        else:
+            cur += ch
+    parts.append(cur)
+    return [p for p in parts[:-1] if p.strip()] + parts[-1:]
+
+
 class Walk:
-    def __init__(self, path, text, names, ens, said):
-        self.path, self.text, self.n, self.ens, self.said = path, text, names, ens, said
+    def __init__(self, path, text, names, said):
+        self.path, self.text, self.n, self.said = path, text, names, said
         self.place, self.new_place = {}, {}
         self.arms = {p[0]: a for p, a in zip(names["places"], names["arms"]) if a}
         for p, new in zip(names["places"], names["places_by_name"]):
@@ -82,6 +69,16 @@ class Walk:
         self.needs = {}
         for (old, new), (at, _) in zip(names["needs"], names["asked_at"]):
             self.needs.setdefault(plain(old), (new, at))
+        for (old, new), (at, _) in zip(names["needs"], names["asked_at"]):
+            self.needs.setdefault(plain(new), (new, at))
+        # an answer whose goal's name says nothing goes by its place among the answers
+        spec = re.search(r"\(tie\.spec\s([^()]*)\)", text)
+        given = spec[1].split() if spec else []
+        given = given[len(given) - len(names["needs"]) :] if len(given) >= len(names["needs"]) else []
+        for g, (old, new), (at, _) in zip(given, names["needs"], names["asked_at"]):
+            m = re.search(rf"(?m)^{re.escape(g)} : tie\.(Need-{NAME})", text)
+            if m and plain(m[1]) not in self.needs:
+                self.needs[plain(m[1])] = (new, at)
         self.loops = {}
         for l in names["loops"]:
             self.loops[plain(l[0][0])] = l[0][1]
@@ -123,16 +120,46 @@ class Walk:
         return cur, i, segs[i:]
 
     def paths(self, text, env):
+        text = self.calls(text, env)
+
         def turn(m):
             root, segs = m[1], m[2][1:].split(".")
             if root not in env:
                 return m[0]
+            return self.turn(env, root, segs, m)
+
+        return PATH.sub(turn, text)
+
+    def calls(self, text, env):
+        """Paths behind a call of a function that gives a place, as (at-loop c).loop.invariant."""
+        out, at = [], 0
+        for m in re.finditer(r"\)((?:\.[^\s(){}.;,@\"«»]+)+)", text):
+            if m.start() < at:
+                continue
+            depth, k = 0, m.start()
+            while k >= 0:
+                depth += (text[k] == ")") - (text[k] == "(")
+                if depth == 0:
+                    break
+                k -= 1
+            head = re.match(rf"\(({NAME}) ", text[max(k, 0) :])
+            place = self.gives.get(head[1]) if head else None
+            if not place:
+                continue
+            out.append(text[at : m.start() + 1])
+            out.append(self.turn({"": place}, "", m[1][1:].split("."), m)[0:])
+            at = m.end()
+        return "".join(out) + text[at:]
+
+    def turn(self, env, root, segs, m):
             cur, i, rest = self.resolve(env, root, segs)
             if cur is None:
                 self.say(f"too many steps back: {m[0]}")
-                return m[0]
+                return ".".join([root] + segs)
+            if rest and rest[0] == "pre":
+                rest[0] = "requires"
             if not rest:
-                return m[0]
+                return ".".join([root] + segs)
             if rest[0] in FLAT:
                 return ".".join([root] + rest)
             k = plain(rest[0])
@@ -151,21 +178,10 @@ class Walk:
                 parent, old, new, callee = self.place[at]
                 if plain(old) == k and old:
                     rest = [new] + rest[1:]
-                    ens = self.ens.get(callee or "", ([], []))[0]
-                    if len(rest) > 2 and rest[1] == "ensures" and len(ens) > 1 and rest[2] in ("0", "1"):
-                        j, r = 0, rest[2:]
-                        while r and r[0] == "1" and j < len(ens) - 2:
-                            j, r = j + 1, r[1:]
-                        if r and r[0] in ("0", "1"):
-                            rest = rest[:2] + [ens[j + int(r[0])]] + r[1:]
-                        else:
-                            self.say(f"which clause: {m[0]}")
                     return ".".join([root] + rest)
                 at = parent
             self.say(f"no step {rest[0]} at {cur}: {m[0]}")
-            return m[0]
-
-        return PATH.sub(turn, text)
+            return ".".join([root] + segs)
 
     def item(self, text):
         env = {}
@@ -182,11 +198,14 @@ class Walk:
                 if k in self.needs:
                     binders = [self.needs[k][1]]
             else:
-                for b in re.finditer(rf"\(([^()\n:]+) : (tie\.({NAME})|)", typ):
-                    for one in b[1].split():
-                        old = self.by_plain.get(plain(b[3])) if b[3] else None
+                parts = arrows(typ)
+                for part in parts[:-1]:
+                    b = re.match(rf"\s*\(([^():]+) : ", part)
+                    t = re.match(rf"\s*(?:\([^():]+ : )?tie\.({NAME})", part)
+                    old = self.by_plain.get(plain(t[1])) if t else None
+                    for one in b[1].split() if b else [""]:
                         binders.append(old)
-                        if old:
+                        if old and one:
                             env[one] = old
             for eq in re.finditer(rf"(?m)^{re.escape(name)}((?: [^\n=]*)?) =", text):
                 args = [a for a in re.findall(rf"\{{[^{{}}]*\}}|\([^()]*\)|{NAME}", eq[1]) if not a.startswith("{")]
@@ -198,21 +217,31 @@ class Walk:
             if old:
                 env[m[1]] = old
         # names that a let gives to a place
+        for m in re.finditer(rf"\blet ({NAME})(?: : [^=\n]*)? = ({NAME}) [^=]*?\sin\b", text):
+            if m[2] in self.gives:
+                env[m[1]] = self.gives[m[2]]
         for m in re.finditer(rf"\blet ({NAME})(?: : [^=\n]*)? = ({NAME})((?:\.before)*)\s+in\b", text):
-            if m[2] in env:
+            if m[2] in self.gives and not m[3]:
+                env[m[1]] = self.gives[m[2]]
+            elif m[2] in env:
                 cur, _, rest = self.resolve(env, m[2], m[3][1:].split(".") if m[3] else [])
                 if cur is not None and not rest:
                     env[m[1]] = cur
         return self.types(self.paths(text, env))
 
     def turned(self):
+        self.gives = {}
+        for m in re.finditer(rf"(?m)^(?:pub |abbrev |unfoldable )*({NAME}) : ([^\n]*(?:\n +[^\n]*)*)", self.text):
+            last = arrows(m[2])[-1]
+            t = re.match(rf"\s*tie\.({NAME})", last)
+            if t and not t[1].startswith("Need-") and plain(t[1]) in self.by_plain and "→" in m[2]:
+                self.gives[m[1]] = self.by_plain[plain(t[1])]
         items = re.split(r"(?<=\n)\n(?=\S)", self.text)
         return "\n".join(self.item(t) for t in items)
 
 
 def main():
     top = os.getcwd()
-    ens = clauses(top)
     said = []
     for crate in sys.argv[1:]:
         if not any("Proof.antt" in f for _, _, f in os.walk(os.path.join(top, "crates", crate, "proofs"))):
@@ -229,7 +258,7 @@ def main():
                 continue
             with open(p, encoding="utf-8") as f:
                 t = f.read()
-            new = Walk(os.path.relpath(p, top), t, names[key], ens, said).turned()
+            new = Walk(os.path.relpath(p, top), t, names[key], said).turned()
             if new != t:
                 with open(p, "w", encoding="utf-8") as f:
                     f.write(new)

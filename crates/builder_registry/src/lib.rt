@@ -10,7 +10,7 @@ ghost use Rattle.ir.specs.Layout.{parameter_tree, list_tree, entries_tree, optio
 ghost use Rattle.wire.specs.Poke.{Wrote};
 ghost use Rattle.marks.specs.Mark.{mark_of};
 ghost use Rattle.builder.specs.Names.{qualify_parent_path, normalize_path};
-ghost use Rattle.builder.specs.Registry.{enter, ensure, ensure_all, extend_with, lookup_name, owner_parameters, add_synthetic, mark_derived, keyed_by, entry_of as pathEntry};
+ghost use Rattle.builder.specs.Registry.{enter, ensure, ensure_all, extend_with, lookup_name, owner_parameters, add_synthetic, mark_derived, keyed_by, entry_of as path_entry};
 ghost use Rattle.builder.specs.Nodes.{lookup_qualified};
 ghost use Rattle.builder_registry.specs.Word.{owner_at, path_at, made_of, derived_of, word_of, derived_word};
 ghost use Rattle.builder_registry.specs.Words.{Indexed, Sought, Marked, Linking, AliasIs, owner_mark, alias_mark, alias_in, Standing, Kept, Tags, Looked, held, made_path, made_parameter, made_entry, entry_of, entries_of, entry_name};
@@ -194,7 +194,7 @@ fn pick<'a>(made: u64, a: &'a [u8], b: &'a [u8], c: &'a [u8]) -> &'a [u8]
 // Whether a key is one of an entered path's: its normal path, or its alias. An alias stands behind `::`, so a path that has none
 // before an end of the key's length is not searched for one.
 fn path_has(owner: &[u8], entered: &[u8], head: &[u8], rest: &[u8]) -> bool
-    ensures { result ≡ among (head.now ++ rest.now) (pathEntry owner.now entered.now).keys }
+    ensures { result ≡ among (head.now ++ rest.now) (path_entry owner.now entered.now).keys }
 {
     let normal = builder_names::normalize_path(owner, entered);
     if builder_names::same_behind(head, rest, normal) {

@@ -178,7 +178,7 @@ unknown_texts = ExprTexts.FieldRef All.none
 make_expr_lem : (k : ℕ) (f : ExprForm) (t : Tree) {v : View ExprKind} → Texts t → InView ExprTexts v → ExprTexts (make_expr k f t v)
 unfolding make_expr
 make_expr_lem k ExprForm.literal t h i = ExprTexts.Literal _
-make_expr_lem k ExprForm.fieldRef t h i = ExprTexts.FieldRef (listed_of text text_of (part 0 t) (part_of 0 t h))
+make_expr_lem k ExprForm.field_ref t h i = ExprTexts.FieldRef (listed_of text text_of (part 0 t) (part_of 0 t h))
 make_expr_lem k ExprForm.sizeof t h i = ExprTexts.Sizeof (part_text 0 t h)
 make_expr_lem k ExprForm.alignof t h i = ExprTexts.Alignof (part_text 0 t h)
 make_expr_lem k ExprForm.unary t h i = ExprTexts.Unary k (part_or_lem unknown unknown_texts 0 i)
@@ -262,8 +262,8 @@ make_thing_lem f t {v} h i = go f
     go Form.union = made (KindTexts.Union (fields_in_lem (rest_view_lem (part_view_lem 4 i))))
     go Form.enum = made (KindTexts.Enum (expr_of_lem (part 4 t) (part_of 4 t h)) (variants_in_lem (rest_view_lem (part_view_lem 5 i))))
     go Form.array = made (KindTexts.Array _ (inner 5) (expr_of_lem (part 6 t) (part_of 6 t h)))
-    go Form.sizedUnion = made (KindTexts.SizeDiscriminatedUnion (variants_in_lem (rest_view_lem (part_view_lem 4 i))))
-    go Form.typeRef = made (KindTexts.TypeRef (part_text 4 t h))
+    go Form.sized_union = made (KindTexts.SizeDiscriminatedUnion (variants_in_lem (rest_view_lem (part_view_lem 4 i))))
+    go Form.type_ref = made (KindTexts.TypeRef (part_text 4 t h))
     go Form.field = ThingTexts.field _ (part_text 0 t h) (inner 2)
     go Form.variant = ThingTexts.variant _ (part_text 0 t h) (inner 2)
     go Form.unknown = ThingTexts.nothing

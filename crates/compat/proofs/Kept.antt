@@ -74,7 +74,7 @@ literal_kept g = rw (number_kept (first_kept g), number_kept (rest_kept g))
 -- the parts of an expression
 unfoldable expr_parts : ExprForm → List Part
 expr_parts ExprForm.literal = Literal ∷ []
-expr_parts ExprForm.fieldRef = Names 64 ∷ []
+expr_parts ExprForm.field_ref = Names 64 ∷ []
 expr_parts ExprForm.sizeof = Text ∷ []
 expr_parts ExprForm.alignof = Text ∷ []
 expr_parts ExprForm.unary = Block 64 91 ∷ []
@@ -99,7 +99,7 @@ module _ (B : InBlocks) (h : (x x' : Tree) → B Earlier.any 64 91 x → Grown x
   made_kept : (f : ExprForm) {t t' : Tree} → PartsFits B e (expr_parts f) t → Grown t t' → make_expr k f t (view expr t) ≡ make_expr k f t' (view expr t')
   unfolding make_expr expr_parts PartsFits PartFits view part_or expr_of
   made_kept ExprForm.literal p g = ap ExprKind.Literal (literal_kept (part_kept 0 g))
-  made_kept ExprForm.fieldRef p g = ap ExprKind.FieldRef (texts_kept (rest_kept (part_kept 0 g)))
+  made_kept ExprForm.field_ref p g = ap ExprKind.FieldRef (texts_kept (rest_kept (part_kept 0 g)))
   made_kept ExprForm.sizeof p g = ap ExprKind.Sizeof (text_kept (part_kept 0 g))
   made_kept ExprForm.alignof p g = ap ExprKind.Alignof (text_kept (part_kept 0 g))
   made_kept ExprForm.unary (both p nothing) (Grown.cons g Grown.nil) = ap (ExprKind.Unary k) (h _ _ p g)

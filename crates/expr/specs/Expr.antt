@@ -37,7 +37,7 @@ pub data Form : Type 0 where
 unfoldable pub form_of : ℕ → Form
 form_of k =
     cond (eqb k 64) Form.literal
-    (cond (eqb k 65) Form.fieldRef
+    (cond (eqb k 65) Form.field_ref
     (cond (eqb k 66) Form.sizeof
     (cond (eqb k 67) Form.alignof
     (cond (within 79 82 k) Form.unary
@@ -45,7 +45,7 @@ form_of k =
 
 unfoldable pub make_expr : ℕ → Form → Tree → View ExprKind → ExprKind
 make_expr k Form.literal t v = ExprKind.Literal (literal_of (part 0 t))
-make_expr k Form.fieldRef t v = ExprKind.FieldRef (listed text (part 0 t))
+make_expr k Form.field_ref t v = ExprKind.FieldRef (listed text (part 0 t))
 make_expr k Form.sizeof t v = ExprKind.Sizeof (text (part 0 t))
 make_expr k Form.alignof t v = ExprKind.Alignof (text (part 0 t))
 make_expr k Form.unary t v = ExprKind.Unary k (part_or unknown 0 v)

@@ -60,27 +60,27 @@ pub data Form : Type 0 where
 
 unfoldable pub form_of : ℕ → Form
 form_of k =
-    cond (eqb k 128) Form.zeroSize
+    cond (eqb k 128) Form.zero_size
     (cond (eqb k 129) Form.const
-    (cond (eqb k 130) Form.fieldRef
+    (cond (eqb k 130) Form.field_ref
     (cond (eqb k 131) Form.align_up
     (cond (eqb k 132) Form.switch
-    (cond (eqb k 133) Form.callNested
+    (cond (eqb k 133) Form.call_nested
     (cond (within 134 143 k) (Form.binary (get_or operations (k - 134) BinaryOp.AddChecked))
-    (cond (eqb k 144) Form.sumOverArray
+    (cond (eqb k 144) Form.sum_over_array
     (cond (eqb k 163) Form.case
     Form.unknown))))))))
 
 -- at: the block's offset; t: its parts; v: what the blocks among them stand for
 unfoldable pub make_thing : Form → ℕ → Tree → View Thing → Thing
-make_thing Form.zeroSize at t v = Thing.node (IrNode.ZeroSize at (meta_of t))
+make_thing Form.zero_size at t v = Thing.node (IrNode.ZeroSize at (meta_of t))
 make_thing Form.const at t v = Thing.node (IrNode.Const at (meta_of t) (number (part 2 t)))
-make_thing Form.fieldRef at t v = Thing.node (IrNode.FieldRef at (meta_of t) (text (part 2 t)) (optional text (part 3 t)))
+make_thing Form.field_ref at t v = Thing.node (IrNode.FieldRef at (meta_of t) (text (part 2 t)) (optional text (part 3 t)))
 make_thing Form.align_up at t v = Thing.node (IrNode.AlignUp at (meta_of t) (number (part 2 t)) (node_in 3 v))
 make_thing Form.switch at t v = Thing.node (IrNode.Switch at (meta_of t) (text (part 2 t)) (cases_in (rest_view (part_view 3 v))) (default_in (part 4 t) (part_view 4 v)))
-make_thing Form.callNested at t v = Thing.node (IrNode.CallNested at (meta_of t) (text (part 2 t)) (listed argument_of (part 3 t)))
+make_thing Form.call_nested at t v = Thing.node (IrNode.CallNested at (meta_of t) (text (part 2 t)) (listed argument_of (part 3 t)))
 make_thing (Form.binary o) at t v = Thing.node (IrNode.Binary at (meta_of t) o (node_in 2 v) (node_in 3 v))
-make_thing Form.sumOverArray at t v = Thing.node (IrNode.SumOverArray at (meta_of t) (node_in 2 v) (text (part 3 t)) (text (part 4 t)))
+make_thing Form.sum_over_array at t v = Thing.node (IrNode.SumOverArray at (meta_of t) (node_in 2 v) (text (part 3 t)) (text (part 4 t)))
 make_thing Form.case at t v = Thing.case (number (part 0 t)) (node_in 1 v) (listed parameter_of (part 2 t))
 make_thing Form.unknown at t v = Thing.nothing
 

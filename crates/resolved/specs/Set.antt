@@ -73,8 +73,8 @@ form_of k =
     (cond (eqb k 3) Form.union
     (cond (eqb k 4) Form.enum
     (cond (eqb k 5) Form.array
-    (cond (eqb k 6) Form.sizedUnion
-    (cond (eqb k 7) Form.typeRef
+    (cond (eqb k 6) Form.sized_union
+    (cond (eqb k 7) Form.type_ref
     (cond (eqb k 33) Form.field
     (cond (eqb k 34) Form.variant
     (cond (eqb k 35) Form.variant
@@ -90,8 +90,8 @@ make_thing Form.struct t v = made t (ResolvedTypeKind.Struct (fields_in (rest_vi
 make_thing Form.union t v = made t (ResolvedTypeKind.Union (fields_in (rest_view (part_view 4 v))))
 make_thing Form.enum t v = made t (ResolvedTypeKind.Enum (expr_of (part 4 t)) (variants_in (rest_view (part_view 5 v))))
 make_thing Form.array t v = made t (ResolvedTypeKind.Array (as_type (part_or Thing.nothing 5 v)) (expr_of (part 6 t)) (flag (part 4 t)))
-make_thing Form.sizedUnion t v = made t (ResolvedTypeKind.SizeDiscriminatedUnion (variants_in (rest_view (part_view 4 v))))
-make_thing Form.typeRef t v = made t (ResolvedTypeKind.TypeRef (text (part 4 t)))
+make_thing Form.sized_union t v = made t (ResolvedTypeKind.SizeDiscriminatedUnion (variants_in (rest_view (part_view 4 v))))
+make_thing Form.type_ref t v = made t (ResolvedTypeKind.TypeRef (text (part 4 t)))
 make_thing Form.field t v = Thing.field (text (part 0 t)) (optional number (part 1 t)) (as_type (part_or Thing.nothing 2 v))
 make_thing Form.variant t v = Thing.variant (text (part 0 t)) (number (part 1 t)) (as_type (part_or Thing.nothing 2 v))
 make_thing Form.unknown t v = Thing.nothing

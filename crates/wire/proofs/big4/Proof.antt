@@ -12,7 +12,7 @@ swap4-requires : tie.Need-swap4-requires
 swap4-requires c κs = search rules
 
 returns : tie.Need-returns
-returns c = (c.swap4.ensures.0.is _ (λ i. omega (arith, c.before.before.shared-slice-known.given i)) _ c.before.read4.ensures.0, c.swap4.ensures.1)
+returns c = (c.swap4.ensures.0.is _ (λ i. omega (arith, c.shared_slice_known-1.given i)) _ c.read4.ensures.0, c.swap4.ensures.1)
 
 pub big4_spec : {M : Type 1} → statement M
 big4_spec = tie.close (tie.spec read4-requires swap4-requires returns)

@@ -12,7 +12,7 @@ swap8-requires : tie.Need-swap8-requires
 swap8-requires c κs = search rules
 
 returns : tie.Need-returns
-returns c = c.swap8.ensures.is _ (λ i. omega (arith, c.before.before.shared-slice-known.given i)) _ c.before.read8.ensures
+returns c = c.swap8.ensures.is _ (λ i. omega (arith, c.shared_slice_known-1.given i)) _ c.read8.ensures
 
 pub big8_spec : {M : Type 1} → statement M
 big8_spec = tie.close (tie.spec read8-requires swap8-requires returns)

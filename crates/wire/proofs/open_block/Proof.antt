@@ -4,13 +4,13 @@ use borrow.Author.Rules.{rules}
 use Rattle.wire.proofs.open_block.Statement.{statement}
 use Rattle.wire.proofs.open_block.Tie as tie
 
-put-le-requires : tie.Need-put-le-requires
+put-le-requires : tie.Need-put_le-p-requires
 put-le-requires c κs = search rules
 
-put-le-requires-2 : tie.Need-put-le-requires-2
+put-le-requires-2 : tie.Need-put_le-requires
 put-le-requires-2 c κs = search rules
 
-same_length : tie.Need-same-length
+same_length : tie.Need-shape_of-out
 same_length c = search rules
 
 returns : tie.Need-returns

@@ -5,24 +5,24 @@ use Rattle.wire.proofs.Laws.{Bits, bits_none, bits_more, ors, five_words, fifths
 use Rattle.wire.proofs.or_of_fifths.Statement.{statement}
 use Rattle.wire.proofs.or_of_fifths.Tie as tie
 
-abbrev invariant-loop : tie.invariant-loop
+abbrev invariant-loop : tie.invariant-loop-i
 invariant-loop words fifth bits₀ i₀ bits i = (i ≤ fifth) × Bits (ors words fifth 4) bits i
 
-abbrev decreases-loop : tie.decreases-loop
+abbrev decreases-loop : tie.decreases-loop-i
 decreases-loop words fifth bits₀ i₀ bits i = fifth - i
 
-loop-holds : tie.Need-loop-init invariant-loop decreases-loop
+loop-holds : tie.Need-loop-i-init invariant-loop decreases-loop
 loop-holds c = (omega arith, bits_none _)
 
-loop-again : tie.Need-loop-preserved invariant-loop decreases-loop
+loop-again : tie.Need-loop-i-preserved invariant-loop decreases-loop
 loop-again c =
     let at-loop = c.before.before.before.before.before.before in
-    (omega arith, rw (five_words _ _) (bits_more _ _ _ at-loop.loop.invariant.1))
+    (omega arith, rw (five_words _ _) (bits_more _ _ _ at-loop.loop-i.invariant.1))
 
 returns : tie.Need-returns invariant-loop decreases-loop
 returns c =
     let at-loop = c.before.before.before in
-    fifths_end _ _ _ at-loop.loop.i _ (omega arith) at-loop.loop.invariant.1 c.or-of.ensures
+    fifths_end _ _ _ at-loop.loop-i.i _ (omega arith) at-loop.loop-i.invariant.1 c.or_of.ensures
 
 pub or_of_fifths_spec : {M : Type 1} → statement M
 or_of_fifths_spec =

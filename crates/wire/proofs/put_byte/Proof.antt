@@ -4,22 +4,22 @@ use borrow.Author.Rules.{rules}
 use Rattle.wire.proofs.put_byte.Statement.{statement}
 use Rattle.wire.proofs.put_byte.Tie as tie
 
-slice-write-out : tie.Need-slice-write-out
+slice-write-out : tie.Need-bounds-out-at
 slice-write-out c = search rules
 
-add-result : tie.Need-overflow-add-result
+add-result : tie.Need-overflow_add-result
 add-result c = search rules
 
-same_length : tie.Need-same-length
+same_length : tie.Need-shape_of-out-then-at-out
 same_length c = search rules
 
-returns : tie.Need-returns
+returns : tie.Need-returns-then-at-out
 returns c = (search writes, search rules)
 
-add-result-2 : tie.Need-overflow-add-result-2
+add-result-2 : tie.Need-overflow_add-result-2
 add-result-2 c = search rules
 
-returns-2 : tie.Need-returns-2
+returns-2 : tie.Need-returns
 returns-2 c = (search writes, search rules)
 
 pub put_byte_spec : {M : Type 1} → statement M

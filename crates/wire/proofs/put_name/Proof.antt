@@ -4,13 +4,13 @@ use borrow.Author.Rules.{rules}
 use Rattle.wire.proofs.put_name.Statement.{statement}
 use Rattle.wire.proofs.put_name.Tie as tie
 
-put-le-requires : tie.Need-put-le-requires
+put-le-requires : tie.Need-put_le-p-requires
 put-le-requires c κs = search rules
 
-put-from-requires : tie.Need-put-from-requires
+put-from-requires : tie.Need-put_from-requires
 put-from-requires c κs = search rules
 
-same_length : tie.Need-same-length
+same_length : tie.Need-shape_of-out
 same_length c = search rules
 
 returns : tie.Need-returns

@@ -7,20 +7,20 @@ use Rattle.wire.proofs.read4.Tie as tie
 read2-requires : tie.Need-read2-requires
 read2-requires c κs = omega arith
 
-add-read2 : tie.Need-overflow-add-read2
+add-read2 : tie.Need-overflow_add-at
 add-read2 c = omega arith
 
 read2-requires-2 : tie.Need-read2-requires-2
 read2-requires-2 c κs = omega arith
 
-mul-result : tie.Need-overflow-mul-result
+mul-result : tie.Need-overflow_mul-result
 mul-result c = omega arith
 
-add-result : tie.Need-overflow-add-result
+add-result : tie.Need-overflow_add-result
 add-result c = omega arith
 
 returns : tie.Need-returns
-returns c = (halves _ 2 _ c.before.read2.ensures.0 c.read22.ensures.0, omega arith)
+returns c = (halves _ 2 _ c.read2.ensures.0 c.read2-2.ensures.0, omega arith)
 
 pub read4_spec : {M : Type 1} → statement M
 read4_spec =

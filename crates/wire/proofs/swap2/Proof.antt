@@ -5,10 +5,10 @@ use Rattle.wire.proofs.Order.{turn_one, turn_halves}
 use Rattle.wire.proofs.swap2.Statement.{statement}
 use Rattle.wire.proofs.swap2.Tie as tie
 
-mul-result : tie.Need-overflow-mul-result
+mul-result : tie.Need-overflow_mul-result
 mul-result c = search rules
 
-add-result : tie.Need-overflow-add-result
+add-result : tie.Need-overflow_add-result
 add-result c = search rules
 
 returns : tie.Need-returns
