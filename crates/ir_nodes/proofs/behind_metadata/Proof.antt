@@ -4,13 +4,13 @@ use borrow.Author.Rules.{rules}
 use Rattle.ir_nodes.proofs.behind_metadata.Statement.{statement}
 use Rattle.ir_nodes.proofs.behind_metadata.Tie as tie
 
-sub-result : tie.Need-overflow-sub-result
+sub-result : tie.Need-overflow_sub-result
 sub-result c = search rules
 
-mul-result : tie.Need-overflow-mul-result
+mul-result : tie.Need-offset_bounds-kind
 mul-result c = search rules
 
-array-read-result : tie.Need-array-read-result
+array-read-result : tie.Need-bounds-kind
 array-read-result c = search rules
 
 returns : tie.Need-returns

@@ -5,16 +5,16 @@ use borrow.Author.Rules.{rules}
 use Rattle.ir_nodes.proofs.node_part.Statement.{statement}
 use Rattle.ir_nodes.proofs.node_part.Tie as tie
 
-node-row-requires : tie.Need-node-row-requires
+node-row-requires : tie.Need-node_row-requires
 node-row-requires c κs = search rules
 
-mul-result : tie.Need-overflow-mul-result
+mul-result : tie.Need-overflow_mul-result
 mul-result c = omega arith
 
-shr-result : tie.Need-overflow-shr-result
+shr-result : tie.Need-overflow_shr-result
 shr-result c = omega arith
 
-cast-result : tie.Need-overflow-cast-result
+cast-result : tie.Need-overflow_cast-result
 cast-result c = omega arith
 
 returns : tie.Need-returns

@@ -5,16 +5,16 @@ use Rattle.name_marks.proofs.Marks.{step_product}
 use Rattle.name_marks.proofs.step.Statement.{statement}
 use Rattle.name_marks.proofs.step.Tie as tie
 
-add_a : tie.Need-overflow-add-a
+add_a : tie.Need-overflow_add-a
 add_a c = omega arith
 
-mul-result : tie.Need-overflow-mul-result
+mul-result : tie.Need-overflow_mul-result
 mul-result c = omega (arith, step_product c.args.h c.args.x)
 
-add-result : tie.Need-overflow-add-result
+add-result : tie.Need-overflow_add-result
 add-result c = omega (arith, step_product c.args.h c.args.x)
 
-add-result-2 : tie.Need-overflow-add-result-2
+add-result-2 : tie.Need-overflow_add-result-2
 add-result-2 c = omega (arith, step_product c.args.h c.args.x)
 
 returns : tie.Need-returns

@@ -4,13 +4,13 @@ use Rattle.name_marks.proofs.Marks.{short_mark_lem, sum_short, Summed, summed_no
 use Rattle.name_marks.proofs.sum_mark.Statement.{statement}
 use Rattle.name_marks.proofs.sum_mark.Tie as tie
 
-abbrev invariant-loop : tie.invariant-loop
+abbrev invariant-loop : tie.invariant-loop-i
 invariant-loop name n g sum₀ i₀ sum i = Summed name i sum × (i < n + 8) × (n ≡ length name) × (8 ≤ n)
 
-abbrev decreases-loop : tie.decreases-loop
+abbrev decreases-loop : tie.decreases-loop-i
 decreases-loop name n g sum₀ i₀ sum i = n + 8 - i
 
-add-g : tie.Need-overflow-add-g invariant-loop decreases-loop
+add-g : tie.Need-overflow_add-g invariant-loop decreases-loop
 add-g c = omega arith
 
 short-requires : tie.Need-short-requires invariant-loop decreases-loop
@@ -19,37 +19,37 @@ short-requires c κs = omega arith
 step-requires : tie.Need-step-requires invariant-loop decreases-loop
 step-requires c κs = search rules
 
-step-requires-2 : tie.Need-step-requires-2 invariant-loop decreases-loop
+step-requires-2 : tie.Need-step-requires-then-n-lt8 invariant-loop decreases-loop
 step-requires-2 c κs = search rules
 
-returns : tie.Need-returns invariant-loop decreases-loop
+returns : tie.Need-returns-then-n-lt8 invariant-loop decreases-loop
 returns c =
     let at-short = c.before.before in
-    sum_short _ at-short.before.if1.true (short_mark_lem _ c.step2.ensures c.before.step.ensures at-short.short.ensures)
+    sum_short _ at-short.if-n-lt8.true (short_mark_lem _ c.step-then-n-lt8.ensures c.step.ensures at-short.short.ensures)
 
-loop-holds : tie.Need-loop-init invariant-loop decreases-loop
+loop-holds : tie.Need-loop-i-init invariant-loop decreases-loop
 loop-holds c = (summed_none _, omega arith, omega arith, omega arith)
 
-add-loop : tie.Need-overflow-add-loop invariant-loop decreases-loop
+add-loop : tie.Need-overflow_add-i invariant-loop decreases-loop
 add-loop c = omega arith
 
 read8-requires : tie.Need-read8-requires invariant-loop decreases-loop
 read8-requires c κs = omega arith
 
-wrapping-add-usize-requires : tie.Need-wrapping-add-usize-requires invariant-loop decreases-loop
+wrapping-add-usize-requires : tie.Need-wrapping_add_usize-sum-requires invariant-loop decreases-loop
 wrapping-add-usize-requires c κs = search rules
 
-add-i : tie.Need-overflow-add-i invariant-loop decreases-loop
+add-i : tie.Need-overflow_add-i-in-loop-i invariant-loop decreases-loop
 add-i c = omega arith
 
-loop-less : tie.Need-loop-smaller invariant-loop decreases-loop
+loop-less : tie.Need-loop-i-smaller invariant-loop decreases-loop
 loop-less c = omega arith
 
-loop-again : tie.Need-loop-preserved invariant-loop decreases-loop
+loop-again : tie.Need-loop-i-preserved invariant-loop decreases-loop
 loop-again c =
     let at_read = c.before in
     let at-loop = at_read.before.before in (
-      summed_more _ at-loop.loop.invariant.0 (omega arith) c.wrapping-add-usize.ensures at_read.read8.ensures,
+      summed_more _ at-loop.loop-i.invariant.0 (omega arith) c.wrapping_add_usize-sum.ensures at_read.read8.ensures,
       omega arith,
       omega arith,
       omega arith,
@@ -58,16 +58,16 @@ loop-again c =
 read8-requires-2 : tie.Need-read8-requires-2 invariant-loop decreases-loop
 read8-requires-2 c κs = omega arith
 
-step-requires-3 : tie.Need-step-requires-3 invariant-loop decreases-loop
+step-requires-3 : tie.Need-step-requires-2 invariant-loop decreases-loop
 step-requires-3 c κs = search rules
 
-step-requires-4 : tie.Need-step-requires-4 invariant-loop decreases-loop
+step-requires-4 : tie.Need-step-requires-3 invariant-loop decreases-loop
 step-requires-4 c κs = search rules
 
-returns-2 : tie.Need-returns-2 invariant-loop decreases-loop
+returns-2 : tie.Need-returns invariant-loop decreases-loop
 returns-2 c =
     let at-loop = c.before.before.before.before in
-    sum_long _ at-loop.loop.invariant.0 (omega arith) (omega arith) c.step4.ensures c.before.step3.ensures c.before.before.read82.ensures
+    sum_long _ at-loop.loop-i.invariant.0 (omega arith) (omega arith) c.step-3.ensures c.step-2.ensures c.read8-2.ensures
 
 pub sum_mark_spec : {M : Type 1} → statement M
 sum_mark_spec =

@@ -6,11 +6,11 @@ use borrow.Author.Rules.{rules}
 use Rattle.texts.proofs.begins.Statement.{statement}
 use Rattle.texts.proofs.begins.Tie as tie
 
-leads-on-requires : tie.Need-leads-on-requires
+leads-on-requires : tie.Need-leads_on-requires
 leads-on-requires c κs = search rules
 
 returns : tie.Need-returns
-returns c = ap (λ (x : Bool). clear_byte c.before.args.b || x) c.leads-on.ensures
+returns c = ap (λ (x : Bool). clear_byte c.args.b || x) c.leads_on.ensures
 
 pub begins_spec : {M : Type 1} → statement M
 begins_spec = tie.close (tie.spec leads-on-requires returns)

@@ -10,53 +10,53 @@ use Rattle.texts.proofs.Characters.{well_is, chars_more, chars_end, ended, ended
 use Rattle.texts.proofs.chars.Statement.{statement}
 use Rattle.texts.proofs.chars.Tie as tie
 
-abbrev invariant-loop : tie.invariant-loop
+abbrev invariant-loop : tie.invariant-loop-i
 invariant-loop s left₀ i₀ left i = (i ≤ length s) × (well_formed s ≡ goes left (drop i s)) × High left
 
-abbrev decreases-loop : tie.decreases-loop
+abbrev decreases-loop : tie.decreases-loop-i
 decreases-loop s left₀ i₀ left i = length s - i
 
-loop-holds : tie.Need-loop-init invariant-loop decreases-loop
+loop-holds : tie.Need-loop-i-init invariant-loop decreases-loop
 loop-holds c = (omega arith, well_is _, omega arith)
 
-shared-slice-read-go-on : tie.Need-shared-slice-read-go-on invariant-loop decreases-loop
+shared-slice-read-go-on : tie.Need-bounds-s-i invariant-loop decreases-loop
 shared-slice-read-go-on c = search rules
 
-go-on-requires : tie.Need-go-on-requires invariant-loop decreases-loop
-go-on-requires c κs = c.before.before.loop.invariant.2
+go-on-requires : tie.Need-go_on-left-requires invariant-loop decreases-loop
+go-on-requires c κs = c.loop-i.invariant.2
 
-add-i : tie.Need-overflow-add-i invariant-loop decreases-loop
+add-i : tie.Need-overflow_add-i invariant-loop decreases-loop
 add-i c = search rules
 
-loop-less : tie.Need-loop-smaller invariant-loop decreases-loop
+loop-less : tie.Need-loop-i-smaller invariant-loop decreases-loop
 loop-less c = omega arith
 
-loop-again : tie.Need-loop-preserved invariant-loop decreases-loop
+loop-again : tie.Need-loop-i-preserved invariant-loop decreases-loop
 loop-again c =
     let at-loop = c.before.before.before in
-    let s = at-loop.before.before.args.s.now in
-    (omega arith, chars_more s at-loop.loop.left at-loop.loop.i at-loop.loop.invariant.1 _ c.go_on.result (omega arith) refl c.go_on.ensures.0, c.go_on.ensures.1)
+    let s = at-loop.args.s.now in
+    (omega arith, chars_more s at-loop.loop-i.left at-loop.loop-i.i at-loop.loop-i.invariant.1 _ c.go_on-left.result (omega arith) refl c.go_on-left.ensures.0, c.go_on-left.ensures.1)
 
-enum_told : tie.Need-enum-told invariant-loop decreases-loop
+enum_told : tie.Need-enum_told-1 invariant-loop decreases-loop
 enum_told c = search rules
 
-enum-known-left : tie.Need-enum-known-left invariant-loop decreases-loop
+enum-known-left : tie.Need-enum_known-left invariant-loop decreases-loop
 enum-known-left c = search rules
 
-returns : tie.Need-returns invariant-loop decreases-loop
+returns : tie.Need-returns-in-Never invariant-loop decreases-loop
 returns c =
     let at_after = c.before.before in
     let at-loop = at_after.before in
-    let s = at-loop.before.before.args.s.now in
-    sym (chars_end s at-loop.loop.left at-loop.loop.i at-loop.loop.invariant.1 at_after.loop-test.false ∙ ended_none at-loop.loop.left c.enum_told.given.1)
+    let s = at-loop.args.s.now in
+    sym (chars_end s at-loop.loop-i.left at-loop.loop-i.i at-loop.loop-i.invariant.1 at_after.loop-i-test.false ∙ ended_none at-loop.loop-i.left c.in-Never.is)
 
-returns-2 : tie.Need-returns-2 invariant-loop decreases-loop
+returns-2 : tie.Need-returns-in-Bytes invariant-loop decreases-loop
 returns-2 c =
     let at_left = c.before in
     let at_after = at_left.before.before in
     let at-loop = at_after.before in
-    let s = at-loop.before.before.args.s.now in
-    sym (chars_end s at-loop.loop.left at-loop.loop.i at-loop.loop.invariant.1 at_after.loop-test.false ∙ ended at-loop.loop.left at_left.left.given.1)
+    let s = at-loop.args.s.now in
+    sym (chars_end s at-loop.loop-i.left at-loop.loop-i.i at-loop.loop-i.invariant.1 at_after.loop-i-test.false ∙ ended at-loop.loop-i.left at_left.in-Bytes.is)
 
 pub chars_spec : {M : Type 1} → statement M
 chars_spec =

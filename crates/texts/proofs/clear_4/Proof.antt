@@ -5,17 +5,17 @@ use borrow.Author.Rules.{rules}
 use Rattle.texts.proofs.clear_4.Statement.{statement}
 use Rattle.texts.proofs.clear_4.Tie as tie
 
-clear-2-requires : tie.Need-clear-2-requires
+clear-2-requires : tie.Need-clear_2-requires
 clear-2-requires c κs = search rules
 
-add-clear-2 : tie.Need-overflow-add-clear-2
+add-clear-2 : tie.Need-overflow_add-at
 add-clear-2 c = search rules
 
-clear-2-requires-2 : tie.Need-clear-2-requires-2
+clear-2-requires-2 : tie.Need-clear_2-requires-2
 clear-2-requires-2 c κs = search rules
 
 returns : tie.Need-returns
-returns c = ap₂ ◌&&◌ c.before.clear-2.ensures c.clear-22.ensures
+returns c = ap₂ ◌&&◌ c.clear_2.ensures c.clear_2-2.ensures
 
 pub clear_4_spec : {M : Type 1} → statement M
 clear_4_spec = tie.close (tie.spec clear-2-requires add-clear-2 clear-2-requires-2 returns)

@@ -5,10 +5,10 @@ use borrow.Author.Rules.{rules}
 use Rattle.texts.proofs.fits_behind.Statement.{statement}
 use Rattle.texts.proofs.fits_behind.Tie as tie
 
-leads-on-requires : tie.Need-leads-on-requires
+leads-on-requires : tie.Need-leads_on-requires
 leads-on-requires c κs = search rules
 
-leads-two-requires : tie.Need-leads-two-requires
+leads-two-requires : tie.Need-leads_two-requires
 leads-two-requires c κs = search rules
 
 follows-requires : tie.Need-follows-requires
@@ -19,8 +19,8 @@ begins-requires c κs = search rules
 
 returns : tie.Need-returns
 returns c =
-    let begun = ap₂ ◌||◌ c.before.before.before.leads-on.ensures c.before.before.leads-two.ensures in
-    let on = ap₂ ◌&&◌ begun c.before.follows.ensures in
+    let begun = ap₂ ◌||◌ c.leads_on.ensures c.leads_two.ensures in
+    let on = ap₂ ◌&&◌ begun c.follows.ensures in
     let new = ap₂ ◌&&◌ (ap not begun) c.begins.ensures in
     ap₂ ◌&&◌ (ap₂ ◌||◌ on new) refl
 

@@ -7,37 +7,37 @@ use borrow.Author.Rules.{rules}
 use Rattle.texts.proofs.is_text.Statement.{statement}
 use Rattle.texts.proofs.is_text.Tie as tie
 
-returns : tie.Need-returns
-returns c = text_long _ c.if1.taken
+returns : tie.Need-returns-then-n-gt255
+returns c = text_long _ c.if-n-gt255.taken
 
-clear-long-requires : tie.Need-clear-long-requires
+clear-long-requires : tie.Need-clear_long-requires
 clear-long-requires c κs = search rules
 
-returns-2 : tie.Need-returns-2
-returns-2 c = text_all _ c.before.before.before.if1.left (sym (c.before.clear-long.ensures c.if3.taken))
+returns-2 : tie.Need-returns-then-clear_long
+returns-2 c = text_all _ c.if-n-gt255.left (sym (c.clear_long.ensures c.if-clear_long.taken))
 
-slice-aggregate-well-formed : tie.Need-slice-aggregate-well-formed
+slice-aggregate-well-formed : tie.Need-slice_bounds-well_formed-end
 slice-aggregate-well-formed c = sym (length-take-le _ _ (omega arith))
 
-well-formed-requires : tie.Need-well-formed-requires
+well-formed-requires : tie.Need-well_formed-requires
 well-formed-requires c κs = search rules
 
-returns-3 : tie.Need-returns-3
+returns-3 : tie.Need-returns-then-n-ge8
 returns-3 c = text_whole _ c.before.before.before.before.before.if1.left c.well-formed.ensures
 
-clear-short-requires : tie.Need-clear-short-requires
+clear-short-requires : tie.Need-clear_short-requires
 clear-short-requires c κs = search rules
 
-returns-4 : tie.Need-returns-4
-returns-4 c = text_all _ c.before.before.before.if1.left (sym (c.before.clear-short.ensures c.if4.taken))
+returns-4 : tie.Need-returns-then-clear_short
+returns-4 c = text_all _ c.if-n-gt255.left (sym (c.clear_short.ensures c.if-clear_short.taken))
 
-slice-aggregate-well-formed-2 : tie.Need-slice-aggregate-well-formed-2
+slice-aggregate-well-formed-2 : tie.Need-slice_bounds-well_formed-end-2
 slice-aggregate-well-formed-2 c = sym (length-take-le _ _ (omega arith))
 
-well-formed-requires-2 : tie.Need-well-formed-requires-2
+well-formed-requires-2 : tie.Need-well_formed-requires-2
 well-formed-requires-2 c κs = search rules
 
-returns-5 : tie.Need-returns-5
+returns-5 : tie.Need-returns
 returns-5 c = text_whole _ c.before.before.before.before.before.if1.left c.well-formed2.ensures
 
 pub is_text_spec : {M : Type 1} → statement M

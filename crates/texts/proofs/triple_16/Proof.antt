@@ -9,38 +9,38 @@ use Rattle.texts.proofs.Steps.{Each, none_yet, one_more}
 use Rattle.texts.proofs.triple_16.Statement.{statement}
 use Rattle.texts.proofs.triple_16.Tie as tie
 
-abbrev invariant-loop : tie.invariant-loop
+abbrev invariant-loop : tie.invariant-loop-k
 invariant-loop s at end k₀ all₀ k all = (at ≤ k) × (k ≤ end) × (all ≡ true → Each (triple1 s) at k)
 
-abbrev decreases-loop : tie.decreases-loop
+abbrev decreases-loop : tie.decreases-loop-k
 decreases-loop s at end k₀ all₀ k all = end - k
 
-add-end : tie.Need-overflow-add-end invariant-loop decreases-loop
+add-end : tie.Need-overflow_add-end invariant-loop decreases-loop
 add-end c = omega arith
 
-loop-holds : tie.Need-loop-init invariant-loop decreases-loop
-loop-holds c = (omega arith, omega arith, λ e. none_yet (triple1 c.before.args.s.now) _)
+loop-holds : tie.Need-loop-k-init invariant-loop decreases-loop
+loop-holds c = (omega arith, omega arith, λ e. none_yet (triple1 c.args.s.now) _)
 
-triple-requires : tie.Need-triple-requires invariant-loop decreases-loop
+triple-requires : tie.Need-triple-all-requires invariant-loop decreases-loop
 triple-requires c κs = omega arith
 
-add-k : tie.Need-overflow-add-k invariant-loop decreases-loop
+add-k : tie.Need-overflow_add-k invariant-loop decreases-loop
 add-k c = omega arith
 
-loop-less : tie.Need-loop-smaller invariant-loop decreases-loop
+loop-less : tie.Need-loop-k-smaller invariant-loop decreases-loop
 loop-less c = omega arith
 
-loop-again : tie.Need-loop-preserved invariant-loop decreases-loop
+loop-again : tie.Need-loop-k-preserved invariant-loop decreases-loop
 loop-again c =
     let at-loop = c.before.before in
-    let s = at-loop.before.before.args.s.now in (
+    let s = at-loop.args.s.now in (
       omega arith,
       omega arith,
-      λ e. one_more (triple1 s) (at-loop.loop.invariant.2 (and_left _ _ e)) (sym c.triple.ensures ∙ and_right at-loop.loop.all _ e),
+      λ e. one_more (triple1 s) (at-loop.loop-k.invariant.2 (and_left _ _ e)) (sym c.triple-all.ensures ∙ and_right at-loop.loop-k.all _ e),
     )
 
 returns : tie.Need-returns invariant-loop decreases-loop
-returns c e k l h = c.before.loop.invariant.2 e k l (omega arith)
+returns c e k l h = c.loop-k.invariant.2 e k l (omega arith)
 
 pub triple_16_spec : {M : Type 1} → statement M
 triple_16_spec =

@@ -15,84 +15,84 @@ use Rattle.texts.proofs.triple_all.Statement.{statement}
 use Rattle.texts.proofs.triple_all.Tie as tie
 
 -- The places, each seen from a later one: where the first byte was asked, the second, the last; and the bytes.
-abbrev first : tie.Else3 → tie.Else2
+abbrev first : tie.Else-not-fits_behind → tie.Else-not-begins
 first r = r.before.before.before.before
 
-abbrev second : tie.Else4 → tie.Else3
+abbrev second : tie.Else-leads_on → tie.Else-not-fits_behind
 second r = r.before.before.before
 
-abbrev last : tie.Else5 → tie.Else4
+abbrev last : tie.Else-leads_two → tie.Else-leads_on
 last r = r.before.before.before
 
-abbrev bytes_of : tie.Else5 → List ℕ
-bytes_of r = (first (second (last r))).before.before.before.before.before.args.s.now
+abbrev bytes_of : tie.Else-leads_two → List ℕ
+bytes_of r = (first (second (last r))).args.s.now
 
 -- the first two and the last two are asked; then all between them
-all-well : (r : tie.Else5) → Tripled (bytes_of r) 0 (length (bytes_of r) - 2) → well_formed (bytes_of r) ≡ true
+all-well : (r : tie.Else-leads_two) → Tripled (bytes_of r) 0 (length (bytes_of r) - 2) → well_formed (bytes_of r) ≡ true
 all-well r all =
     let at_last = last r in
     let at_second = second at_last in
     let at_first = first at_second in
     triples_well (bytes_of r) (omega arith)
-    (sym at_first.before.begins.ensures ∙ not-false _ at_first.if2.left)
-    (sym at_second.before.fits-behind.ensures ∙ not-false _ at_second.if3.left)
-    (sym at_last.before.leads-on.ensures ∙ at_last.if4.left)
-    (sym r.before.leads-two.ensures ∙ r.if5.false)
+    (sym at_first.begins.ensures ∙ not-false _ at_first.if-not-begins.left)
+    (sym at_second.fits_behind.ensures ∙ not-false _ at_second.if-not-fits_behind.left)
+    (sym at_last.leads_on.ensures ∙ at_last.if-leads_on.left)
+    (sym r.leads_two.ensures ∙ r.if-leads_two.false)
     all
 
-returns : tie.Need-returns
+returns : tie.Need-returns-then-n-lt18
 returns c e = false_true e
 
-shared-slice-read-begins : tie.Need-shared-slice-read-begins
+shared-slice-read-begins : tie.Need-bounds-s-0
 shared-slice-read-begins c = search rules
 
 begins-requires : tie.Need-begins-requires
 begins-requires c κs = search rules
 
-returns-2 : tie.Need-returns-2
+returns-2 : tie.Need-returns-then-not-begins
 returns-2 c e = false_true e
 
-shared-slice-read-fits-behind : tie.Need-shared-slice-read-fits-behind
+shared-slice-read-fits-behind : tie.Need-bounds-s-0-2
 shared-slice-read-fits-behind c = search rules
 
-shared-slice-read-fits-behind-2 : tie.Need-shared-slice-read-fits-behind-2
+shared-slice-read-fits-behind-2 : tie.Need-bounds-s-1
 shared-slice-read-fits-behind-2 c = search rules
 
-fits-behind-requires : tie.Need-fits-behind-requires
+fits-behind-requires : tie.Need-fits_behind-requires
 fits-behind-requires c κs = search rules
 
-returns-3 : tie.Need-returns-3
+returns-3 : tie.Need-returns-then-not-fits_behind
 returns-3 c e = false_true e
 
-sub-last : tie.Need-overflow-sub-last
+sub-last : tie.Need-overflow_sub-last
 sub-last c = search rules
 
-shared-slice-read-leads-on : tie.Need-shared-slice-read-leads-on
+shared-slice-read-leads-on : tie.Need-bounds-s-last
 shared-slice-read-leads-on c = search rules
 
-leads-on-requires : tie.Need-leads-on-requires
+leads-on-requires : tie.Need-leads_on-requires
 leads-on-requires c κs = search rules
 
-returns-4 : tie.Need-returns-4
+returns-4 : tie.Need-returns-then-leads_on
 returns-4 c e = false_true e
 
-sub-before : tie.Need-overflow-sub-before
+sub-before : tie.Need-overflow_sub-before
 sub-before c = search rules
 
-shared-slice-read-leads-two : tie.Need-shared-slice-read-leads-two
+shared-slice-read-leads-two : tie.Need-bounds-s-before
 shared-slice-read-leads-two c = search rules
 
-leads-two-requires : tie.Need-leads-two-requires
+leads-two-requires : tie.Need-leads_two-requires
 leads-two-requires c κs = search rules
 
-returns-5 : tie.Need-returns-5
+returns-5 : tie.Need-returns-then-leads_two
 returns-5 c e = false_true e
 
-triple-long-requires : tie.Need-triple-long-requires
+triple-long-requires : tie.Need-triple_long-requires
 triple-long-requires c κs = search rules
 
-returns-6 : tie.Need-returns-6
-returns-6 c e = all-well c.before (c.triple-long.ensures e)
+returns-6 : tie.Need-returns
+returns-6 c e = all-well c.before (c.triple_long.ensures e)
 
 pub triple_all_spec : {M : Type 1} → statement M
 triple_all_spec =

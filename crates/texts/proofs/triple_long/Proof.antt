@@ -8,45 +8,45 @@ use Rattle.texts.proofs.Steps.{Each, none_yet, joined}
 use Rattle.texts.proofs.triple_long.Statement.{statement}
 use Rattle.texts.proofs.triple_long.Tie as tie
 
-abbrev invariant-loop : tie.invariant-loop
+abbrev invariant-loop : tie.invariant-loop-i
 invariant-loop s last i₀ i = (i < last + 16) × Each (triple1 s) 0 i
 
-abbrev decreases-loop : tie.decreases-loop
+abbrev decreases-loop : tie.decreases-loop-i
 decreases-loop s last i₀ i = last + 16 - i
 
-sub-last : tie.Need-overflow-sub-last invariant-loop decreases-loop
+sub-last : tie.Need-overflow_sub-last invariant-loop decreases-loop
 sub-last c = omega arith
 
-loop-holds : tie.Need-loop-init invariant-loop decreases-loop
-loop-holds c = (omega arith, none_yet (triple1 c.before.args.s.now) 0)
+loop-holds : tie.Need-loop-i-init invariant-loop decreases-loop
+loop-holds c = (omega arith, none_yet (triple1 c.args.s.now) 0)
 
-triple-16-requires : tie.Need-triple-16-requires invariant-loop decreases-loop
+triple-16-requires : tie.Need-triple_16-requires invariant-loop decreases-loop
 triple-16-requires c κs = omega arith
 
-returns : tie.Need-returns invariant-loop decreases-loop
+returns : tie.Need-returns-then-not-triple_16 invariant-loop decreases-loop
 returns c e = false_true e
 
-add-i : tie.Need-overflow-add-i invariant-loop decreases-loop
+add-i : tie.Need-overflow_add-i invariant-loop decreases-loop
 add-i c = omega arith
 
-loop-less : tie.Need-loop-smaller invariant-loop decreases-loop
+loop-less : tie.Need-loop-i-smaller invariant-loop decreases-loop
 loop-less c = omega arith
 
-loop-again : tie.Need-loop-preserved invariant-loop decreases-loop
+loop-again : tie.Need-loop-i-preserved invariant-loop decreases-loop
 loop-again c =
     let at-loop = c.before.before.before in
-    let s = at-loop.before.before.args.s.now in
-    let i = at-loop.loop.i in
-    (omega arith, joined (triple1 s) 0 i i _ (omega arith) at-loop.loop.invariant.1 (c.before.triple-16.ensures (not-false _ c.if1.false)))
+    let s = at-loop.args.s.now in
+    let i = at-loop.loop-i.i in
+    (omega arith, joined (triple1 s) 0 i i _ (omega arith) at-loop.loop-i.invariant.1 (c.triple_16.ensures (not-false _ c.if-not-triple_16.false)))
 
-triple-16-requires-2 : tie.Need-triple-16-requires-2 invariant-loop decreases-loop
+triple-16-requires-2 : tie.Need-triple_16-requires-2 invariant-loop decreases-loop
 triple-16-requires-2 c κs = omega arith
 
-returns-2 : tie.Need-returns-2 invariant-loop decreases-loop
+returns-2 : tie.Need-returns invariant-loop decreases-loop
 returns-2 c e =
     let at-loop = c.before.before in
-    let s = at-loop.before.before.args.s.now in
-    let all = joined (triple1 s) 0 at-loop.loop.i _ _ c.before.loop-test.false at-loop.loop.invariant.1 (c.triple-162.ensures e) in
+    let s = at-loop.args.s.now in
+    let all = joined (triple1 s) 0 at-loop.loop-i.i _ _ c.loop-i-test.false at-loop.loop-i.invariant.1 (c.triple_16-2.ensures e) in
     λ k l h. all k l (omega arith)
 
 pub triple_long_spec : {M : Type 1} → statement M

@@ -4,16 +4,16 @@ use borrow.Author.Rules.{rules}
 use Rattle.texts.proofs.well_formed.Statement.{statement}
 use Rattle.texts.proofs.well_formed.Tie as tie
 
-triple-all-requires : tie.Need-triple-all-requires
+triple-all-requires : tie.Need-triple_all-requires
 triple-all-requires c κs = search rules
 
-returns : tie.Need-returns
-returns c = sym (c.before.triple-all.ensures c.if1.true)
+returns : tie.Need-returns-then-triple_all
+returns c = sym (c.triple_all.ensures c.if-triple_all.true)
 
 chars-requires : tie.Need-chars-requires
 chars-requires c κs = search rules
 
-returns-2 : tie.Need-returns-2
+returns-2 : tie.Need-returns
 returns-2 c = search rules
 
 pub well_formed_spec : {M : Type 1} → statement M
