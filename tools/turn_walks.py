@@ -66,6 +66,12 @@ class Walk:
             self.place[old] = (parent, step[0], step[1], callee)
             self.new_place[old] = new
         self.by_plain = {plain(k): k for k in self.place}
+        self.deepest = {}
+        for p in self.arms:
+            first, arm = p, self.arms[p]
+            for _ in range(arm[1] - 1):
+                first = self.place[first][0]
+            self.deepest[first, arm[0]] = max(arm[1], self.deepest.get((first, arm[0]), 0))
         self.needs = {}
         for (old, new), (at, _) in zip(names["needs"], names["asked_at"]):
             self.needs.setdefault(plain(old), (new, at))
@@ -110,14 +116,22 @@ class Walk:
 
         return re.sub(rf"(?<![^\s(){{}};,])tie\.({NAME})", turn, text)
 
-    def resolve(self, env, root, segs):
-        """The place that a path names, how many steps it took to get there, and what is left of it."""
-        cur = env.get(root)
-        i = 0
-        while cur is not None and i < len(segs) and segs[i] == "before":
-            cur = self.place[cur][0]
-            i += 1
-        return cur, i, segs[i:]
+    def parent(self, at):
+        """The place before this one, as the walk has it: an arm's places are one."""
+        arm = self.arms.get(at)
+        if arm:
+            first = at
+            for _ in range(arm[1] - 1):
+                first = self.place[first][0]
+            if arm[1] == self.deepest.get((first, arm[0]), 0):
+                return self.place[first][0]
+        return self.place[at][0]
+
+    def steps(self, at, to):
+        n = 0
+        while at is not None and at != to:
+            at, n = self.parent(at), n + 1
+        return n if at == to else None
 
     def paths(self, text, env):
         text = self.calls(text, env)
@@ -126,7 +140,7 @@ class Walk:
             root, segs = m[1], m[2][1:].split(".")
             if root not in env:
                 return m[0]
-            return self.turn(env, root, segs, m)
+            return self.turn(env[root], root, segs, m)
 
         return PATH.sub(turn, text)
 
@@ -134,8 +148,6 @@ class Walk:
         """Paths behind a call of a function that gives a place, as (at-loop c).loop.invariant."""
         out, at = [], 0
         for m in re.finditer(r"\)((?:\.[^\s(){}.;,@\"«»]+)+)", text):
-            if m.start() < at:
-                continue
             depth, k = 0, m.start()
             while k >= 0:
                 depth += (text[k] == ")") - (text[k] == "(")
@@ -147,24 +159,32 @@ class Walk:
             if not place:
                 continue
             out.append(text[at : m.start() + 1])
-            out.append(self.turn({"": place}, "", m[1][1:].split("."), m)[0:])
+            out.append(self.turn(("", place, place), "", m[1][1:].split("."), m))
             at = m.end()
         return "".join(out) + text[at:]
 
-    def turn(self, env, root, segs, m):
-            cur, i, rest = self.resolve(env, root, segs)
-            if cur is None:
-                self.say(f"too many steps back: {m[0]}")
-                return ".".join([root] + segs)
-            if rest and rest[0] == "pre":
-                rest[0] = "requires"
-            if not rest:
-                return ".".join([root] + segs)
-            if rest[0] in FLAT:
-                return ".".join([root] + rest)
-            k = plain(rest[0])
+    def turn(self, known, var, segs, m):
+        root, start, cur = known
+        rest = list(segs)
+        while cur is not None and rest and rest[0] == "before":
+            cur, rest = self.place[cur][0], rest[1:]
+        if cur is None:
+            self.say(f"too many steps back: {m[0]}")
+            return ".".join([var] + segs)
+        if not rest:
+            n = self.steps(start, cur)
+            if n is None:
+                self.say(f"no way back: {m[0]}")
+                return ".".join([var] + segs)
+            return ".".join([root] + ["before"] * n)
+        if rest[0] == "pre":
+            rest[0] = "requires"
+        if rest[0] in FLAT and plain(rest[0]) != "wellformed":
+            return ".".join([root] + rest)
+        k = plain(rest[0])
+        for begin in (cur, start):
             # what an arm's pattern says
-            at, best = cur, None
+            at, best = begin, None
             while at is not None:
                 arm = self.arms.get(at)
                 for field, step, fields in arm[2] if arm else ():
@@ -173,15 +193,18 @@ class Walk:
                 at = self.place[at][0]
             if best:
                 return ".".join([root, best[0], best[1]] + rest[1 + len(best[2]) :])
-            at = cur
-            while at is not None:
-                parent, old, new, callee = self.place[at]
-                if plain(old) == k and old:
-                    rest = [new] + rest[1:]
-                    return ".".join([root] + rest)
-                at = parent
-            self.say(f"no step {rest[0]} at {cur}: {m[0]}")
-            return ".".join([root] + segs)
+            for same in (lambda o: plain(o) == k, lambda o: plain(o).rstrip("0123456789") == k.rstrip("0123456789")):
+                at = begin
+                while at is not None:
+                    parent, old, new, callee = self.place[at]
+                    if old and same(old):
+                        rest = [new] + rest[1:]
+                        if len(rest) > 1 and rest[1] in ("taken", "left") and (new.startswith("if") or "test" in new):
+                            rest[1] = {"taken": "true", "left": "false"}[rest[1]]
+                        return ".".join([root] + rest)
+                    at = parent
+        self.say(f"no step {rest[0]} at {cur}: {m[0]}")
+        return ".".join([var] + segs)
 
     def item(self, text):
         env = {}
@@ -206,28 +229,39 @@ class Walk:
                     for one in b[1].split() if b else [""]:
                         binders.append(old)
                         if old and one:
-                            env[one] = old
+                            env[one] = (one, old, old)
             for eq in re.finditer(rf"(?m)^{re.escape(name)}((?: [^\n=]*)?) =", text):
                 args = [a for a in re.findall(rf"\{{[^{{}}]*\}}|\([^()]*\)|{NAME}", eq[1]) if not a.startswith("{")]
                 for a, b in zip(args, binders):
                     if b and re.fullmatch(NAME, a):
-                        env[a] = b
+                        env[a] = (a, b, b)
         for m in re.finditer(rf"\((?:λ )?({NAME}) : tie\.({NAME})", text):
             old = self.by_plain.get(plain(m[2]))
             if old:
-                env[m[1]] = old
+                env[m[1]] = (m[1], old, old)
         # names that a let gives to a place
-        for m in re.finditer(rf"\blet ({NAME})(?: : [^=\n]*)? = ({NAME}) [^=]*?\sin\b", text):
-            if m[2] in self.gives:
-                env[m[1]] = self.gives[m[2]]
-        for m in re.finditer(rf"\blet ({NAME})(?: : [^=\n]*)? = ({NAME})((?:\.before)*)\s+in\b", text):
-            if m[2] in self.gives and not m[3]:
-                env[m[1]] = self.gives[m[2]]
-            elif m[2] in env:
-                cur, _, rest = self.resolve(env, m[2], m[3][1:].split(".") if m[3] else [])
-                if cur is not None and not rest:
-                    env[m[1]] = cur
-        return self.types(self.paths(text, env))
+        for m in re.finditer(rf"\blet ({NAME})(?: : [^=\n]*)? = ({NAME})((?:\.before)*)( [^=]*?)?\s+in\b", text):
+            if m[2] in self.gives and m[4] and not m[3]:
+                place = self.gives[m[2]]
+                env[m[1]] = (m[1], place, place)
+            elif m[2] in env and not m[4]:
+                root, start, cur = env[m[2]]
+                for _ in range(m[3].count(".")):
+                    cur = self.place[cur][0] if cur else None
+                if cur is not None:
+                    env[m[1]] = (root, start, cur)
+        text = self.types(self.paths(text, env))
+        # what a negated test says is said without the negation now
+        text = re.sub(r"not-false _ (\S*?\.if-not-\S+?\.false)(?![^\s()])", r"\1", text)
+        # a place that is named and no longer used
+        while True:
+            for m in re.finditer(rf"[ \n]*\blet ({NAME})(?: : [^=\n]*)? = {NAME}(?:\.before)*\s+in\b", text):
+                if m[1] in env and not re.search(rf"(?<![^\s(){{}};.,]){re.escape(m[1])}(?![^\s(){{}};.,])", text[m.end() :]):
+                    text = text[: m.start()] + text[m.end() :]
+                    break
+            else:
+                break
+        return text
 
     def turned(self):
         self.gives = {}

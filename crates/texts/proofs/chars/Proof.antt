@@ -33,9 +33,8 @@ loop-less c = omega arith
 
 loop-again : tie.Need-loop-i-preserved invariant-loop decreases-loop
 loop-again c =
-    let at-loop = c.before.before.before in
-    let s = at-loop.args.s.now in
-    (omega arith, chars_more s at-loop.loop-i.left at-loop.loop-i.i at-loop.loop-i.invariant.1 _ c.go_on-left.result (omega arith) refl c.go_on-left.ensures.0, c.go_on-left.ensures.1)
+    let s = c.args.s.now in
+    (omega arith, chars_more s c.loop-i.left c.loop-i.i c.loop-i.invariant.1 _ c.go_on-left.result (omega arith) refl c.go_on-left.ensures.0, c.go_on-left.ensures.1)
 
 enum_told : tie.Need-enum_told-1 invariant-loop decreases-loop
 enum_told c = search rules
@@ -45,18 +44,13 @@ enum-known-left c = search rules
 
 returns : tie.Need-returns-in-Never invariant-loop decreases-loop
 returns c =
-    let at_after = c.before.before in
-    let at-loop = at_after.before in
-    let s = at-loop.args.s.now in
-    sym (chars_end s at-loop.loop-i.left at-loop.loop-i.i at-loop.loop-i.invariant.1 at_after.loop-i-test.false ∙ ended_none at-loop.loop-i.left c.in-Never.is)
+    let s = c.args.s.now in
+    sym (chars_end s c.loop-i.left c.loop-i.i c.loop-i.invariant.1 c.loop-i-test.false ∙ ended_none c.loop-i.left c.in-Never.is)
 
 returns-2 : tie.Need-returns-in-Bytes invariant-loop decreases-loop
 returns-2 c =
-    let at_left = c.before in
-    let at_after = at_left.before.before in
-    let at-loop = at_after.before in
-    let s = at-loop.args.s.now in
-    sym (chars_end s at-loop.loop-i.left at-loop.loop-i.i at-loop.loop-i.invariant.1 at_after.loop-i-test.false ∙ ended at-loop.loop-i.left at_left.in-Bytes.is)
+    let s = c.args.s.now in
+    sym (chars_end s c.loop-i.left c.loop-i.i c.loop-i.invariant.1 c.loop-i-test.false ∙ ended c.loop-i.left c.in-Bytes.is)
 
 pub chars_spec : {M : Type 1} → statement M
 chars_spec =

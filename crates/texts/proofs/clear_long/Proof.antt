@@ -1,6 +1,8 @@
 -- `texts::clear_long` meets its contract. The loop's invariant: the bytes before i are clear. Assumes nothing.
 use Prim.Native.Nat.{◌+◌, ◌-◌, ◌<◌}
 use native.Mathlib.Omega.{arith}
+use mathlib.Core.Path.{ap}
+use mathlib.Core.Bool.{not}
 use Rattle.blocks.proofs.Name.{false_true}
 use Rattle.texts.specs.Clear.{clear1}
 use Rattle.texts.proofs.Steps.{Each, none_yet, next, last, eight, clear_well}
@@ -33,18 +35,16 @@ loop-less c = omega arith
 
 loop-again : tie.Need-loop-i-preserved invariant-loop decreases-loop
 loop-again c =
-    let at-loop = c.before.before.before in
-    let s = at-loop.args.s.now in
-    (omega arith, next (clear1 s) (eight s) at-loop.loop-i.invariant.1 _ c.clear_8.ensures c.if-not-clear_8.false)
+    let s = c.args.s.now in
+    (omega arith, next (clear1 s) (eight s) c.loop-i.invariant.1 _ c.clear_8.ensures (ap not c.if-not-clear_8.false))
 
 clear-8-requires-2 : tie.Need-clear_8-requires-2 invariant-loop decreases-loop
 clear-8-requires-2 c κs = omega arith
 
 returns-2 : tie.Need-returns invariant-loop decreases-loop
 returns-2 c e =
-    let at-loop = c.before.before in
-    let s = at-loop.args.s.now in
-    let all = last (clear1 s) (eight s) at-loop.loop-i.invariant.1 _ c.loop-i-test.false c.clear_8-2.ensures e in
+    let s = c.args.s.now in
+    let all = last (clear1 s) (eight s) c.loop-i.invariant.1 _ c.loop-i-test.false c.clear_8-2.ensures e in
     clear_well s (λ k l h. all k l (omega arith))
 
 pub clear_long_spec : {M : Type 1} → statement M

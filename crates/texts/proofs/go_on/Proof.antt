@@ -17,18 +17,15 @@ begin-requires c κs = search rules
 
 returns : tie.Need-returns-then-n-eq0
 returns c =
-    let at_left = c.before.before.before in
-    (on_begin at_left.args.left at_left.in-Bytes.is _ c.if-n-eq0.true c.begin.result c.begin.ensures.0, c.begin.ensures.1)
+    (on_begin c.args.left c.in-Bytes.is _ c.if-n-eq0.true c.begin.result c.begin.ensures.0, c.begin.ensures.1)
 
 returns-2 : tie.Need-returns-then-b-lo
 returns-2 c =
-    let at_left = c.before.before.before in
-    (on_never at_left.args.left at_left.in-Bytes.is _ c.if-n-eq0.false (range_before _ _ c.if-b-lo.true), tt)
+    (on_never c.args.left c.in-Bytes.is _ c.if-n-eq0.false (range_before _ _ c.if-b-lo.true), tt)
 
 returns-3 : tie.Need-returns-then-hi-b
 returns-3 c =
-    let at_left = c.before.before.before.before in
-    (on_never at_left.args.left at_left.in-Bytes.is _ c.if-n-eq0.false (range_past _ _ c.if-hi-b.true), tt)
+    (on_never c.args.left c.in-Bytes.is _ c.if-n-eq0.false (range_past _ _ c.if-hi-b.true), tt)
 
 sub-t8 : tie.Need-overflow_sub-result
 sub-t8 c = search rules
@@ -38,9 +35,7 @@ returns-4 c = (on_none c.args.left c.in-Never.is _, tt)
 
 returns-5 : tie.Need-returns-else-hi-b
 returns-5 c =
-    let at_left = c.before.before.before.before in
-    let at-start = at_left.before.before in
-    (on_next at-start.args.left at_left.in-Bytes.is _ at-start.requires c.if-n-eq0.false (omega arith) (omega arith), omega arith)
+    (on_next c.args.left c.in-Bytes.is _ c.requires c.if-n-eq0.false (omega arith) (omega arith), omega arith)
 
 pub go_on_spec : {M : Type 1} → statement M
 go_on_spec =

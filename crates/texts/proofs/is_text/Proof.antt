@@ -8,13 +8,13 @@ use Rattle.texts.proofs.is_text.Statement.{statement}
 use Rattle.texts.proofs.is_text.Tie as tie
 
 returns : tie.Need-returns-then-n-gt255
-returns c = text_long _ c.if-n-gt255.taken
+returns c = text_long _ c.if-n-gt255.true
 
 clear-long-requires : tie.Need-clear_long-requires
 clear-long-requires c κs = search rules
 
 returns-2 : tie.Need-returns-then-clear_long
-returns-2 c = text_all _ c.if-n-gt255.left (sym (c.clear_long.ensures c.if-clear_long.taken))
+returns-2 c = text_all _ c.if-n-gt255.false (sym (c.clear_long.ensures c.if-clear_long.true))
 
 slice-aggregate-well-formed : tie.Need-slice_bounds-well_formed-end
 slice-aggregate-well-formed c = sym (length-take-le _ _ (omega arith))
@@ -23,13 +23,13 @@ well-formed-requires : tie.Need-well_formed-requires
 well-formed-requires c κs = search rules
 
 returns-3 : tie.Need-returns-then-n-ge8
-returns-3 c = text_whole _ c.before.before.before.before.before.if1.left c.well-formed.ensures
+returns-3 c = text_whole _ c.if-n-gt255.false c.well_formed-then-n-ge8.ensures
 
 clear-short-requires : tie.Need-clear_short-requires
 clear-short-requires c κs = search rules
 
 returns-4 : tie.Need-returns-then-clear_short
-returns-4 c = text_all _ c.if-n-gt255.left (sym (c.clear_short.ensures c.if-clear_short.taken))
+returns-4 c = text_all _ c.if-n-gt255.false (sym (c.clear_short.ensures c.if-clear_short.true))
 
 slice-aggregate-well-formed-2 : tie.Need-slice_bounds-well_formed-end-2
 slice-aggregate-well-formed-2 c = sym (length-take-le _ _ (omega arith))
@@ -38,7 +38,7 @@ well-formed-requires-2 : tie.Need-well_formed-requires-2
 well-formed-requires-2 c κs = search rules
 
 returns-5 : tie.Need-returns
-returns-5 c = text_whole _ c.before.before.before.before.before.if1.left c.well-formed2.ensures
+returns-5 c = text_whole _ c.if-n-gt255.false c.well_formed-2.ensures
 
 pub is_text_spec : {M : Type 1} → statement M
 is_text_spec =

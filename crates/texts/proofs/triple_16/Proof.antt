@@ -32,11 +32,10 @@ loop-less c = omega arith
 
 loop-again : tie.Need-loop-k-preserved invariant-loop decreases-loop
 loop-again c =
-    let at-loop = c.before.before in
-    let s = at-loop.args.s.now in (
+    let s = c.args.s.now in (
       omega arith,
       omega arith,
-      λ e. one_more (triple1 s) (at-loop.loop-k.invariant.2 (and_left _ _ e)) (sym c.triple-all.ensures ∙ and_right at-loop.loop-k.all _ e),
+      λ e. one_more (triple1 s) (c.loop-k.invariant.2 (and_left _ _ e)) (sym c.triple-all.ensures ∙ and_right c.loop-k.all _ e),
     )
 
 returns : tie.Need-returns invariant-loop decreases-loop

@@ -34,9 +34,9 @@ all-well r all =
     let at_second = second at_last in
     let at_first = first at_second in
     triples_well (bytes_of r) (omega arith)
-    (sym at_first.begins.ensures ∙ not-false _ at_first.if-not-begins.left)
-    (sym at_second.fits_behind.ensures ∙ not-false _ at_second.if-not-fits_behind.left)
-    (sym at_last.leads_on.ensures ∙ at_last.if-leads_on.left)
+    (sym at_first.begins.ensures ∙ at_first.if-not-begins.false)
+    (sym at_second.fits_behind.ensures ∙ at_second.if-not-fits_behind.false)
+    (sym at_last.leads_on.ensures ∙ at_last.if-leads_on.false)
     (sym r.leads_two.ensures ∙ r.if-leads_two.false)
     all
 

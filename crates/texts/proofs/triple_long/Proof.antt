@@ -34,19 +34,17 @@ loop-less c = omega arith
 
 loop-again : tie.Need-loop-i-preserved invariant-loop decreases-loop
 loop-again c =
-    let at-loop = c.before.before.before in
-    let s = at-loop.args.s.now in
-    let i = at-loop.loop-i.i in
-    (omega arith, joined (triple1 s) 0 i i _ (omega arith) at-loop.loop-i.invariant.1 (c.triple_16.ensures (not-false _ c.if-not-triple_16.false)))
+    let s = c.args.s.now in
+    let i = c.loop-i.i in
+    (omega arith, joined (triple1 s) 0 i i _ (omega arith) c.loop-i.invariant.1 (c.triple_16.ensures (c.if-not-triple_16.false)))
 
 triple-16-requires-2 : tie.Need-triple_16-requires-2 invariant-loop decreases-loop
 triple-16-requires-2 c κs = omega arith
 
 returns-2 : tie.Need-returns invariant-loop decreases-loop
 returns-2 c e =
-    let at-loop = c.before.before in
-    let s = at-loop.args.s.now in
-    let all = joined (triple1 s) 0 at-loop.loop-i.i _ _ c.loop-i-test.false at-loop.loop-i.invariant.1 (c.triple_16-2.ensures e) in
+    let s = c.args.s.now in
+    let all = joined (triple1 s) 0 c.loop-i.i _ _ c.loop-i-test.false c.loop-i.invariant.1 (c.triple_16-2.ensures e) in
     λ k l h. all k l (omega arith)
 
 pub triple_long_spec : {M : Type 1} → statement M
