@@ -22,7 +22,7 @@ mul-product c = record {
 
 returns-2 : tie.Need-returns-then-left-right
 unfolding checked_mul number_of
-returns-2 c = rw (exact_in 64 _ (mul-product c).ranges)
+returns-2 c = rw (exact_in 64 _ (mul-product c).fits)
 
 returns-3 : tie.Need-returns-else-left-right
 unfolding checked_mul number_of
