@@ -206,6 +206,14 @@ class Walk:
                             rest[1] = {"taken": "true", "left": "false"}[rest[1]]
                         if len(rest) > 1 and rest[1] == "inv":
                             rest[1] = "invariant"
+                        params = self.n["params"].get(callee or "", [])
+                        if len(rest) > 2 and rest[1] in ("auto", "new", "kept") and re.fullmatch("[01]", rest[2]):
+                            ones = 0
+                            while 2 + ones < len(rest) and rest[2 + ones] == "1":
+                                ones += 1
+                            if ones < len(params):
+                                # the length that a parameter keeps
+                                rest = [new, rest[1].replace("kept", "auto"), params[ones]] + rest[3 + ones :]
                         return ".".join([root] + rest)
                     at = parent
         self.say(f"no step {rest[0]} at {cur}: {m[0]}")
@@ -243,8 +251,26 @@ class Walk:
                 done = b
         return "".join(out) + text[done:]
 
+    def ways(self, text):
+        """A function from a place to an earlier one: so many steps as there are now."""
+        m = re.match(rf"(?:--[^\n]*\n)*(?:pub |abbrev )*({NAME}) : tie\.({NAME})[^→\n]*→ tie\.({NAME})[^→\n]*\n\1 (\w+) = (\(({NAME}) \4\)|\4)((?:\.before)+)\s*$", text)
+        if not m:
+            return text
+        at, to = self.by_plain.get(plain(m[2])), self.by_plain.get(plain(m[3]))
+        if m[6]:
+            at = self.gives.get(m[6])
+        n = self.steps(at, to) if at and to else None
+        if n is None:
+            self.say(f"no way from {m[2]} to {m[3]}")
+            return text
+        # in the old walk's steps, which the paths are turned from
+        k = 0
+        while at != to:
+            at, k = self.place[at][0], k + 1
+        return text[: m.start(7)] + ".before" * k + text[m.end(7) :]
+
     def lets(self, text, env):
-        for m in re.finditer(rf"\blet ({NAME})(?: : [^=\n]*)? = ({NAME})((?:\.before)*)( [^=]*?)?\s+in\b", text):
+        for m in re.finditer(rf"\blet ({NAME})(?: : [^=\n]*)? = ({NAME})((?:\.before)*)(?![.])( [^=]*?)??\s+in(?=[\s(])", text):
             if m[2] in self.gives and m[4] and not m[3]:
                 place = self.gives[m[2]]
                 env[m[1]] = (m[1], place, place)
@@ -291,12 +317,13 @@ class Walk:
                 env[m[1]] = (m[1], old, old)
         # names that a let gives to a place
         self.lets(text, env)
+        text = self.ways(text)
         text = self.types(self.paths(text, env))
         # what a negated test says is said without the negation now
-        text = re.sub(r"not-false _ (\S*?\.if-not-\S+?\.false)(?![^\s()])", r"\1", text)
+        text = re.sub(r"(?<![^\s(])(?:not-false|not_false|not_not|not-not) _ (\S*?\.if-not-\S+?\.false)(?![^\s()])", r"\1", text)
         # a place that is named and no longer used
         while True:
-            for m in re.finditer(rf"[ \n]*\blet ({NAME})(?: : [^=\n]*)? = {NAME}(?:\.before)*\s+in\b", text):
+            for m in re.finditer(rf"[ \n]*\blet ({NAME})(?: : [^=\n]*)? = {NAME}(?:\.before)*\s+in(?=[\s(])", text):
                 if m[1] in env and not re.search(rf"(?<![^\s(){{}};.,]){re.escape(m[1])}(?![^\s(){{}};.,])", text[m.end() :]):
                     text = text[: m.start()] + text[m.end() :]
                     break
