@@ -22,6 +22,7 @@ def plain(name):
     """A name of a goal or a place, whichever way its words are joined."""
     name = re.sub(r"^(?:Need-)?", "", name)
     name = re.sub(r"^(overflow|no-overflow)-", "", name)
+    name = re.sub(r"^slice-bounds-", "part-", name)
     return name.replace("-", "_").replace("_", "").lower()
 
 
@@ -75,19 +76,43 @@ class Walk:
         self.needs = {}
         for (old, new), (at, _) in zip(names["needs"], names["asked_at"]):
             self.needs.setdefault(plain(old), (new, at))
-        for (old, new), (at, _) in zip(names["needs"], names["asked_at"]):
-            self.needs.setdefault(plain(new), (new, at))
-        # an answer whose goal's name says nothing goes by its place among the answers
-        spec = re.search(r"\(tie\.spec\s([^()]*)\)", text)
-        given = spec[1].split() if spec else []
-        given = given[len(given) - len(names["needs"]) :] if len(given) >= len(names["needs"]) else []
-        for g, (old, new), (at, _) in zip(given, names["needs"], names["asked_at"]):
-            m = re.search(rf"(?m)^{re.escape(g)} : tie\.(Need-{NAME})", text)
-            if m and plain(m[1]) not in self.needs:
-                self.needs[plain(m[1])] = (new, at)
-        self.loops = {}
-        for l in names["loops"]:
-            self.loops[plain(l[0][0])] = l[0][1]
+        self.order()
+
+    def order(self):
+        """The answers in the order in which they are asked for today; one that is not asked for any more goes."""
+        m = re.search(r"\(tie\.spec((?:\s+[^\s()]+)*)\s*\)", self.text)
+        if not m:
+            return
+        args = m[1].split()
+        needs = [plain(n[0]) for n in self.n["needs"]]
+        asked = {}
+        for a in args:
+            t = re.search(rf"(?m)^{re.escape(a)} : tie\.Need-({NAME})", self.text)
+            if t:
+                asked[a] = plain(t[1])
+        head = [a for a in args if a not in asked]
+        # the invariants and measures come first
+        if args[: len(head)] != head:
+            return
+        gone = [a for a in args if a in asked and asked[a] not in needs]
+        left = [n for n in needs if n not in asked.values()]
+        if len(gone) == 1 and len(left) == 1:
+            self.say(f"goal {asked[gone[0]]} taken for {left[0]}")
+            i = needs.index(left[0])
+            self.needs[asked[gone[0]]] = (self.n["needs"][i][1], self.n["asked_at"][i][0])
+            asked[gone[0]] = left[0]
+            gone, left = [], []
+        if left:
+            self.say(f"no answer to {', '.join(left)}; no goal for {', '.join(gone)}")
+            return
+        for a in gone:
+            self.say(f"goal {a} is not asked for any more")
+            self.text = re.sub(rf"(?ms)^(?:--[^\n]*\n)*{re.escape(a)} : tie\.Need-.*?\n(?=\n|\Z)\n?", "", self.text, count=1)
+        want = head + sorted((a for a in args if a in asked and a not in gone), key=lambda a: needs.index(asked[a]))
+        if want != args:
+            m = re.search(r"\(tie\.spec((?:\s+[^\s()]+)*)\s*\)", self.text)
+            sep = "\n    " if "\n" in m[1] else " "
+            self.text = self.text[: m.start(1)] + sep + sep.join(want) + self.text[m.end(1) :]
 
     def say(self, what):
         self.said.append(f"{self.path}: {what}")
