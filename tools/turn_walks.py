@@ -76,6 +76,9 @@ class Walk:
         self.needs = {}
         for (old, new), (at, _) in zip(names["needs"], names["asked_at"]):
             self.needs.setdefault(plain(old), (new, at))
+        self.loops = {}
+        for l in names["loops"]:
+            self.loops[plain(l[0][0])] = l[0][1]
         self.order()
 
     def order(self):
