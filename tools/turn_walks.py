@@ -193,11 +193,9 @@ class Walk:
     def turn(self, known, var, segs, m):
         root, start, cur = known
         rest = list(segs)
-        while cur is not None and rest and rest[0] == "before":
-            cur, rest = self.place[cur][0], rest[1:]
-        if cur is None:
-            self.say(f"too many steps back: {m[0]}")
-            return ".".join([var] + segs)
+        while rest and rest[0] == "before":
+            # the old walk may have had a step more
+            cur, rest = self.place[cur][0] or cur, rest[1:]
         if not rest:
             n = self.steps(start, cur)
             if n is None:
@@ -279,6 +277,41 @@ class Walk:
                 done = b
         return "".join(out) + text[done:]
 
+    def handed(self, text, env):
+        """Places that are handed to a function: so many steps back as its type says."""
+        heads = "|".join(sorted((re.escape(f) for f in self.takes), key=len, reverse=True))
+        if not heads:
+            return text
+        out, at = [], 0
+        for m in re.finditer(rf"(?<![^\s(){{}};,])({heads})(?=\s)", text):
+            if m.start() < at:
+                continue
+            k = m.end()
+            for place in self.takes[m[1]]:
+                a = re.match(rf"[ ]+(?:\(|({NAME}(?:\.{NAME})*)(?=[\s)(,;]|$))", text[k:])
+                if not a or re.match(r"\s*[=:]\s", text[k:]):
+                    break
+                if a[1]:
+                    root, *segs = a[1].split(".")
+                    if place and root in env and all(x == "before" for x in segs):
+                        known = env[root]
+                        n = self.steps(known[1], place)
+                        if n is not None:
+                            out.append(text[at : k + a.start(1)])
+                            # marked, so that it is not turned once more
+                            out.append("\0".join([known[0]] + ["before"] * n))
+                            at = k + a.end(1)
+                    k += a.end()
+                else:
+                    depth, j = 0, k + a.end() - 1
+                    while j < len(text):
+                        depth += (text[j] == "(") - (text[j] == ")")
+                        j += 1
+                        if depth == 0:
+                            break
+                    k = j
+        return "".join(out) + text[at:]
+
     def ways(self, text):
         """A function from a place to an earlier one: so many steps as there are now."""
         m = re.match(rf"(?:--[^\n]*\n)*(?:pub |abbrev )*({NAME}) : tie\.({NAME})[^→\n]*→ tie\.({NAME})[^→\n]*\n\1 (\w+) = (\(({NAME}) \4\)|\4)((?:\.before)+)\s*$", text)
@@ -305,9 +338,8 @@ class Walk:
             elif m[2] in env and not m[4]:
                 root, start, cur = env[m[2]]
                 for _ in range(m[3].count(".")):
-                    cur = self.place[cur][0] if cur else None
-                if cur is not None:
-                    env[m[1]] = (root, start, cur)
+                    cur = self.place[cur][0] or cur
+                env[m[1]] = (root, start, cur)
 
     def item(self, text):
         text = self.given(text)
@@ -346,7 +378,11 @@ class Walk:
         # names that a let gives to a place
         self.lets(text, env)
         text = self.ways(text)
-        text = self.types(self.paths(text, env))
+        head = re.search(rf"(?m)^{re.escape(sig[1])}(?=[ \n])[^=]*=", text[sig.end() :]) if sig else None
+        if head:
+            k = sig.end() + head.end()
+            text = text[:k] + self.handed(text[k:], env)
+        text = self.types(self.paths(text, env)).replace("\0", ".")
         # what a negated test says is said without the negation now
         text = re.sub(r"(?<![^\s(])(?:not-false|not_false|not_not|not-not) _ (\S*?\.if-not-\S+?\.false)(?![^\s()])", r"\1", text)
         # a place that is named and no longer used
@@ -366,6 +402,17 @@ class Walk:
             t = re.match(rf"\s*tie\.({NAME})", last)
             if t and not t[1].startswith("Need-") and plain(t[1]) in self.by_plain and "→" in m[2]:
                 self.gives[m[1]] = self.by_plain[plain(t[1])]
+        self.takes = {}
+        for m in re.finditer(rf"(?m)^(?:pub |abbrev |unfoldable )*({NAME}) : ([^\n]*(?:\n +[^\n]*)*)", self.text):
+            if "tie.Need-" in m[2]:
+                continue
+            takes = []
+            for part in arrows(m[2])[:-1]:
+                b = re.match(r"\s*\(([^():]+) : ", part)
+                t = re.match(rf"\s*(?:\([^():]+ : )?tie\.({NAME})", part)
+                takes += [self.by_plain.get(plain(t[1])) if t else None] * (len(b[1].split()) if b else 1)
+            if any(takes):
+                self.takes[m[1]] = takes
         items = re.split(r"(?<=\n)\n(?=\S)", self.text)
         return "\n".join(self.item(t) for t in items)
 

@@ -1,5 +1,5 @@
 -- `builder_registry::has_key` meets its contract: the owner first, then the keys of the entry that the word holds. Assumes nothing.
-use Rattle.builder_registry.proofs.Keys.{word-keys}
+use Rattle.builder_registry.proofs.Keys.{word_keys}
 use borrow.Author.Rules.{rules}
 use Rattle.builder_registry.proofs.has_key.Statement.{statement}
 use Rattle.builder_registry.proofs.has_key.Tie as tie
@@ -14,16 +14,16 @@ path-has-requires : tie.Need-path-has-requires
 path-has-requires c κs = search rules
 
 returns : tie.Need-returns
-returns c = search word-keys
+returns c = search word_keys
 
 made-has-requires : tie.Need-made-has-requires
 made-has-requires c κs = search rules
 
 returns-2 : tie.Need-returns-2
-returns-2 c = search word-keys
+returns-2 c = search word_keys
 
 returns-3 : tie.Need-returns-3
-returns-3 c = search word-keys
+returns-3 c = search word_keys
 
 pub has_key_spec : {M : Type 1} → statement M
 has_key_spec =

@@ -1,5 +1,5 @@
 -- `builder_registry::path_has` meets its contract: the normal path first, then the alias if there is one. Assumes nothing.
-use Rattle.builder_registry.proofs.Keys.{entered-keys}
+use Rattle.builder_registry.proofs.Keys.{entered_keys}
 use borrow.Author.Rules.{rules}
 use Rattle.builder_registry.proofs.path_has.Statement.{statement}
 use Rattle.builder_registry.proofs.path_has.Tie as tie
@@ -11,25 +11,25 @@ same-behind-requires : tie.Need-same-behind-requires
 same-behind-requires c κs = search rules
 
 returns : tie.Need-returns
-returns c = search entered-keys
+returns c = search entered_keys
 
 colons-before-requires : tie.Need-colons-before-requires
 colons-before-requires c κs = search rules
 
 returns-2 : tie.Need-returns-2
-returns-2 c = search entered-keys
+returns-2 c = search entered_keys
 
 alias-requires : tie.Need-alias-requires
 alias-requires c κs = search rules
 
 returns-3 : tie.Need-returns-3
-returns-3 c = search entered-keys
+returns-3 c = search entered_keys
 
 same-behind-requires-2 : tie.Need-same-behind-requires-2
 same-behind-requires-2 c κs = search rules
 
 returns-4 : tie.Need-returns-4
-returns-4 c = search entered-keys
+returns-4 c = search entered_keys
 
 pub path_has_spec : {M : Type 1} → statement M
 path_has_spec =
