@@ -378,13 +378,25 @@ class Walk:
         # names that a let gives to a place
         self.lets(text, env)
         text = self.ways(text)
+        m = re.search(rf"(?m)^abbrev ({NAME}) : tie\.(?:invariant|decreases)-({NAME})\n\1((?: \S+)*) =", text)
+        if m:
+            for l, changed in zip(self.n["loops"], self.n["changed"]):
+                if plain(l[0][0]) == plain(m[2]):
+                    old = m[3].split()
+                    want = len(l[1]) + sum(changed)
+                    # temporaries that are not live any more
+                    new = [a for a in old if not re.fullmatch(r"t\d+₀?", a)] if len(old) != want else old
+                    if len(new) != want:
+                        self.say(f"{m[1]} takes {' '.join(l[1])} and what changes of them, {want} in all, not {len(old)}")
+                    else:
+                        text = text[: m.start(3)] + "".join(" " + a for a in new) + text[m.end(3) :]
         head = re.search(rf"(?m)^{re.escape(sig[1])}(?=[ \n])[^=]*=", text[sig.end() :]) if sig else None
         if head:
             k = sig.end() + head.end()
             text = text[:k] + self.handed(text[k:], env)
         text = self.types(self.paths(text, env)).replace("\0", ".")
         # what a negated test says is said without the negation now
-        text = re.sub(r"(?<![^\s(])(?:not-false|not_false|not_not|not-not) _ (\S*?\.if-not-\S+?\.false)(?![^\s()])", r"\1", text)
+        text = re.sub(r"(?<![^\s(])(?:not-false|not_false|not_not|not-not|not-true|not_true) _ (\S*?\.if-not-\S+?\.(?:false|true))(?![^\s()])", r"\1", text)
         # a place that is named and no longer used
         while True:
             for m in re.finditer(rf"[ \n]*\blet ({NAME})(?: : [^=\n]*)? = {NAME}(?:\.before)*\s+in(?=[\s(])", text):
