@@ -251,6 +251,8 @@ class Walk:
                 while at is not None:
                     parent, old, new, callee = self.place[at]
                     if old and same(old):
+                        if at in self.mid and new == self.arms[at][0]:
+                            new = "i" + self.new_place[at][1:]
                         rest = [new] + rest[1:]
                         if len(rest) > 1 and rest[1] in ("taken", "left") and (new.startswith("if") or "test" in new):
                             rest[1] = {"taken": "true", "left": "false"}[rest[1]]
@@ -420,8 +422,11 @@ class Walk:
             text = text[:k] + self.handed(text[k:], env)
         text = self.types(self.paths(text, env)).replace("\0", ".")
         # what a negated test says is said without the negation now
-        text = re.sub(r"(?<![^\s(])(?:not-false|not_false|not_not|not-not|not-true|not_true) _ (\S*?\.if-not-\S+?\.(?:false|true))(?![^\s()])", r"\1", text)
-        # a place that is named and no longer used
+        text = re.sub(r"(?<![^\s(])(?:not-false|not_false|not_not|not-not|not-true|not_true) _ (\S*?\.if-not-\S+?\.(?:false|true))(?![^\s()])", "\\1\0", text)
+        if self.fresh:
+            text = re.sub(rf"(?<![^\s({{,])((?:{NAME}|\([^()]*\))\.if-not-[^\s(){{}}.;,]+\.(?:false|true))(?![^\s(){{}};,])", r"(ap not \1)", text)
+        text = text.replace("\0", "")
+                    # a place that is named and no longer used
         while True:
             for m in re.finditer(rf"[ \n]*\blet ({NAME})(?: : [^=\n]*)? = {NAME}(?:\.before)*\s+in(?=[\s(])", text):
                 if m[1] in env and not re.search(rf"(?<![^\s(){{}};.,]){re.escape(m[1])}(?![^\s(){{}};.,])", text[m.end() :]):
@@ -450,7 +455,17 @@ class Walk:
             if any(takes):
                 self.takes[m[1]] = takes
         items = re.split(r"(?<=\n)\n(?=\S)", self.text)
-        return "\n".join(self.item(t) if self.alias + "." in t else t for t in items)
+        self.fresh = ".if-not-" not in self.text
+        new = "\n".join(self.item(t) if self.alias + "." in t else t for t in items)
+        if "(ap not " in new and "(ap not " not in self.text:
+            for word, module in (("ap", "mathlib.Core.Path"), ("not", "mathlib.Core.Bool")):
+                m = re.search(rf"(?m)^use {module}\.\{{([^{{}}]*)\}}", new)
+                if m and word not in [x.strip() for x in m[1].split(",")]:
+                    new = new[: m.end(1)] + ", " + word + new[m.end(1) :]
+                elif not m:
+                    m = re.search(r"(?m)^use ", new)
+                    new = new[: m.start()] + f"use {module}.{{{word}}}\n" + new[m.start() :]
+        return new
 
 
 def main():
