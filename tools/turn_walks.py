@@ -161,7 +161,7 @@ class Walk:
                     return m[0]
             k = plain(w)
             if k in self.by_plain:
-                return self.alias + "." + self.new_place[self.by_plain[k]]
+                return self.alias + "." + self.new_place[self.end(self.by_plain[k])]
             if w not in ("spec", "close") and w != "Claims" and not w.startswith("the-"):
                 self.say(f"no place {w}")
             return m[0]
@@ -178,8 +178,14 @@ class Walk:
             return self.place[first][0]
         return self.place[at][0]
 
+    def end(self, at):
+        """The arm's last place, which stands for those within it."""
+        while at in self.mid:
+            at = next(p for p, a in self.arms.items() if self.place[p][0] == at and a[0] == self.arms[at][0])
+        return at
+
     def steps(self, at, to):
-        n = 0
+        n, to = 0, self.end(to)
         while at is not None and at != to:
             at, n = self.parent(at), n + 1
         return n if at == to else None
@@ -340,23 +346,32 @@ class Walk:
 
     def ways(self, text):
         """A function from a place to an earlier one: so many steps as there are now."""
-        m = re.match(rf"(?:--[^\n]*\n)*(?:pub |abbrev )*({NAME}) : (?:\{{[^{{}}]*\}} → )?{self.a}\.({NAME})[^→\n]*→ {self.a}\.({NAME})[^→\n]*\n\1 (\w+) = (\(({NAME}) \4\)|\4)((?:\.before)+)\s*$", text)
+        m = re.match(rf"(?:--[^\n]*\n)*(?:pub |abbrev )*({NAME}) :\s+(?:\{{[^{{}}]*\}} →\s+)?{self.a}\.({NAME})[^→\n]*→\s+{self.a}\.({NAME})[^→\n]*\n\1 (\w+) = (\(({NAME}) \4\)|\4)((?:\.before)+)\s*$", text)
         if not m:
             return text
         at, to = self.by_plain.get(plain(m[2])), self.by_plain.get(plain(m[3]))
         if m[6]:
             at = self.gives.get(m[6])
+        at, to = self.end(at) if at else at, self.end(to) if to else to
         n = self.steps(at, to) if at and to else None
         if n is None:
             self.say(f"no way from {m[2]} to {m[3]}")
             return text
         # in the old walk's steps, which the paths are turned from
+        if m[6] is None and self.parent(at) != self.place[at][0]:
+            return text[: m.start(7)] + "\0before" * n + text[m.end(7) :]
         k = 0
         while at != to:
             at, k = self.place[at][0], k + 1
         return text[: m.start(7)] + ".before" * k + text[m.end(7) :]
 
     def lets(self, text, env):
+        for m in re.finditer(rf"\blet ({NAME})(?: : [^=\n]*)? = \(({NAME}) [^()]*\)((?:\.before)*)\s+in(?=[\s(])", text):
+            if m[2] in self.gives:
+                cur = self.gives[m[2]]
+                for _ in range(m[3].count(".")):
+                    cur = self.place[cur][0] or cur
+                env[m[1]] = (m[1], cur, cur)
         for m in re.finditer(rf"\blet ({NAME})(?: : [^=\n]*)? = ({NAME})((?:\.before)*)(?![.])( [^=]*?)??\s+in(?=[\s(])", text):
             if m[2] in self.gives and m[4] and not m[3]:
                 place = self.gives[m[2]]
@@ -438,13 +453,13 @@ class Walk:
 
     def turned(self):
         self.gives = {}
-        for m in re.finditer(rf"(?m)^(?:pub |abbrev |unfoldable )*({NAME}) : ([^\n]*(?:\n +[^\n]*)*)", self.text):
+        for m in re.finditer(rf"(?m)^(?:pub |abbrev |unfoldable )*({NAME}) :(?=\s)([^\n]*(?:\n +[^\n]*)*)", self.text):
             last = arrows(m[2])[-1]
             t = re.match(rf"\s*{self.a}\.({NAME})", last)
             if t and not t[1].startswith("Need-") and plain(t[1]) in self.by_plain and "→" in m[2]:
                 self.gives[m[1]] = self.by_plain[plain(t[1])]
         self.takes = {}
-        for m in re.finditer(rf"(?m)^(?:pub |abbrev |unfoldable )*({NAME}) : ([^\n]*(?:\n +[^\n]*)*)", self.text):
+        for m in re.finditer(rf"(?m)^(?:pub |abbrev |unfoldable )*({NAME}) :(?=\s)([^\n]*(?:\n +[^\n]*)*)", self.text):
             if self.alias + ".Need-" in m[2]:
                 continue
             takes = []
