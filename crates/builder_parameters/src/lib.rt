@@ -195,7 +195,7 @@ fn is_new(s: &[u8], words: &[u64], table: &[u64], i: usize, mark: u64) -> bool
 }
 
 // What is listed: how many entries there are, the type, and whether it is a struct with a jagged array.
-#[derive(Drop)]
+#[derive(Clone, Copy)]
 struct Listing {
     n: usize,
     kind: usize,

@@ -54,7 +54,7 @@ struct Search {
 }
 
 // An owner: the offset of its name, and its mark.
-#[derive(Drop)]
+#[derive(Clone, Copy)]
 pub struct Owner {
     pub at: usize,
     pub mark: u64,

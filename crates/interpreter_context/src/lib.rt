@@ -108,7 +108,7 @@ pub enum Held {
 }
 
 // What the root's context is made of, which no call changes: the offset of the block of values, and the buffer length.
-#[derive(Drop)]
+#[derive(Clone, Copy)]
 pub struct Root {
     pub block: usize,
     pub len: u64,

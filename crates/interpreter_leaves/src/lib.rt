@@ -38,7 +38,7 @@ pub enum Arguments {
 
 // What a call changes for the nodes inside: how many calls are open, and the place of the type whose tree holds the node. It stands
 // apart from `Root`, since a struct is handed on by the address of a copy: two words are copied at once, and `Root` is not made anew.
-#[derive(Drop)]
+#[derive(Clone, Copy)]
 pub struct Frame {
     pub depth: usize,
     pub place: usize,

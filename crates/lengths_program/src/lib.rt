@@ -21,7 +21,7 @@ enum Next {
 }
 
 // How far the program has come.
-#[derive(Drop)]
+#[derive(Clone, Copy)]
 pub enum Stage {
     // the set comes next
     Set,
@@ -32,7 +32,7 @@ pub enum Stage {
 }
 
 // What the program keeps between two calls.
-#[derive(Drop)]
+#[derive(Clone, Copy)]
 pub struct State {
     pub stage: Stage,
     // so many bytes at the start of the input's buffer are yet to be used

@@ -14,7 +14,7 @@ use blocks::Part;
 use wire::Block;
 
 // The offset behind what was read, or number and offset of a refusal.
-#[derive(Drop)]
+#[derive(Clone, Copy)]
 pub enum Read {
     Ok(usize),
     Refused(u64, usize),
@@ -34,7 +34,7 @@ pub enum Count {
 }
 
 // What question 6 asks of a block's name, and the blocks of its list before it.
-#[derive(Drop)]
+#[derive(Clone, Copy)]
 pub enum Seen {
     // nothing is asked
     Nothing,
