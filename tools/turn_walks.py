@@ -419,7 +419,7 @@ class Walk:
         for m in re.finditer(rf"\((?:λ )?({NAME}) : {self.a}\.({NAME})", text):
             old = self.by_plain.get(plain(m[2]))
             if old:
-                env[m[1]] = (m[1], old, old)
+                env[m[1]] = (m[1], self.end(old), self.end(old))
         # names that a let gives to a place
         self.lets(text, env)
         text = self.ways(text)

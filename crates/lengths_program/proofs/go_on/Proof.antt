@@ -6,77 +6,72 @@ use borrow.Author.Rules.{rules}
 use Rattle.lengths_program.proofs.go_on.Statement.{statement}
 use Rattle.lengths_program.proofs.go_on.Tie as tie
 
-sub-run-lines : tie.Need-overflow-sub-run-lines
+sub-run-lines : tie.Need-slice_bounds-run_lines-count
 sub-run-lines c = search rules
 
-part-run-lines-start : tie.Need-slice-bounds-run-lines-start
+part-run-lines-start : tie.Need-slice_bounds-run_lines-start
 part-run-lines-start c = search rules
 
-part-run-lines-end : tie.Need-slice-bounds-run-lines-end
+part-run-lines-end : tie.Need-slice_bounds-run_lines-end
 part-run-lines-end c = search rules
 
-run-lines-requires : tie.Need-run-lines-requires
+run-lines-requires : tie.Need-run_lines-requires
 run-lines-requires c κs = search rules
 
-enum-known-wrote : tie.Need-enum-known-wrote
+enum-known-wrote : tie.Need-enum_known-wrote
 enum-known-wrote c = search rules
 
 ended-requires : tie.Need-ended-requires
 ended-requires c κs = search rules
 
-enum-known-wants : tie.Need-enum-known-wants
+enum-known-wants : tie.Need-enum_known-wants
 enum-known-wants c = search rules
 
 -- The places, each seen from a later one: what was known there.
-abbrev at-run-lines : tie.After-wants → tie.After-run-lines
-at-run-lines r = r.before.before.before.before
+abbrev at-run-lines : tie.In-More → tie.After-run_lines
+at-run-lines r = r.before.before.before
 
-abbrev at-start : tie.After-run-lines → tie.Start
-at-start r = r.before.before.before.before.before.before.before
+abbrev at-start : tie.After-run_lines → tie.Start
+at-start r = r.before.before.before.before.before.before
 
-add-keep : tie.Need-overflow-add-keep
+add-keep : tie.Need-overflow_add-from
 add-keep c =
-    let at-wants = c.before.before in
-    let r = at-run-lines at-wants in
-    let u = used_within (at-start r).args.input.now r.run_lines.ensures at-wants.wants.given.1 (at-start r).pre.2 in
+    let r = at-run-lines c.before in
+    let u = used_within (at-start r).args.input.now r.run_lines.ensures c.in-More.is (at-start r).requires.2 in
     omega (arith, u.order, u.inside, u.few)
 
 keep-requires : tie.Need-keep-requires
 keep-requires c κs =
-    let at-wants = c.before.before in
-    let r = at-run-lines at-wants in
-    used_within (at-start r).args.input.now r.run_lines.ensures at-wants.wants.given.1 (at-start r).pre.2
+    let r = at-run-lines c.before in
+    used_within (at-start r).args.input.now r.run_lines.ensures c.in-More.is (at-start r).requires.2
 
-same_length : tie.Need-same-length
+same_length : tie.Need-shape_of-input-in-Ended
 same_length c = search rules
 
-same-length-2 : tie.Need-same-length-2
+same-length-2 : tie.Need-shape_of-out-in-Ended
 same-length-2 c = search rules
 
-returns : tie.Need-returns
+returns : tie.Need-returns-in-Ended
 returns c =
-    let at-wrote = c.before.before in
-    go_ended at-wrote.before.before.before.before.run_lines.ensures _ at-wrote.wrote.given.1 c.ended.ensures
+    go_ended c.run_lines.ensures _ c.in-Ended.is c.ended.ensures
 
-same-length-3 : tie.Need-same-length-3
+same-length-3 : tie.Need-shape_of-input-in-More
 same-length-3 c = search rules
 
-same-length-4 : tie.Need-same-length-4
+same-length-4 : tie.Need-shape_of-out-in-More
 same-length-4 c = search rules
 
-returns-2 : tie.Need-returns-2
+returns-2 : tie.Need-returns-in-More
 returns-2 c =
-    let at-keep = c.before.before in
-    let at-wants = at-keep.before.before.before in
-    let r = at-run-lines at-wants in
+    let r = at-run-lines c.before.before.before.before in
     go_more
     (at-start r).args.input.now _
     r.run_lines.ensures
-    at-wants.wants.given.1
-    (at-start r).pre.2
-    (at-start r).pre.0
-    at-keep.keep.ensures.0
-    at-keep.keep.ensures.1
+    c.in-More.is
+    (at-start r).requires.2
+    (at-start r).requires.0
+    c.keep.ensures.0
+    c.keep.ensures.1
     refl refl refl refl refl
 
 pub go_on_spec : {M : Type 1} → statement M

@@ -5,33 +5,31 @@ use Rattle.lengths_program.proofs.Blocks.{next_short, next_part, next_long, next
 use Rattle.lengths_program.proofs.next_block.Statement.{statement}
 use Rattle.lengths_program.proofs.next_block.Tie as tie
 
-returns : tie.Need-returns
-returns c = next_short _ c.if2.true c.before.if1.true
+returns : tie.Need-returns-then-last
+returns c = next_short _ c.if-last.true c.if-s-lt4.true
 
-returns-2 : tie.Need-returns-2
-returns-2 c = next_part _ c.if2.false (omega (arith, c.before.if1.true))
+returns-2 : tie.Need-returns-then-s-lt4
+returns-2 c = next_part _ c.if-last.false (omega (arith, c.if-s-lt4.true))
 
-read4-requires : tie.Need-read4-requires
+read4-requires : tie.Need-read4-n-requires
 read4-requires c κs = search rules
 
-add-n : tie.Need-overflow-add-n
+add-n : tie.Need-overflow_add-n
 add-n c = search rules
 
-returns-3 : tie.Need-returns-3
-returns-3 c = next_long _ c.before.before.if1.false c.before.read4.ensures.0 c.if3.true
+returns-3 : tie.Need-returns-then-n-gt65536
+returns-3 c = next_long _ c.if-s-lt4.false c.read4-n.ensures.0 c.if-n-gt65536.true
 
-returns-4 : tie.Need-returns-4
+returns-4 : tie.Need-returns-then-n-s
 returns-4 c =
-    let at-read4 = c.before.before in
-    next_whole _ at-read4.before.if1.false at-read4.read4.ensures.0 c.before.if3.false c.if4.true
+    next_whole _ c.if-s-lt4.false c.read4-n.ensures.0 c.if-n-gt65536.false c.if-n-s.true
 
-returns-5 : tie.Need-returns-5
+returns-5 : tie.Need-returns-then-last-2
 returns-5 c =
-    let at-read4 = c.before.before.before in
-    next_cut _ at-read4.before.if1.false at-read4.read4.ensures.0 c.if5.true c.before.before.if3.false c.before.if4.false
+    next_cut _ c.if-s-lt4.false c.read4-n.ensures.0 c.if-last-2.true c.if-n-gt65536.false c.if-n-s.false
 
-returns-6 : tie.Need-returns-6
-returns-6 c = next_part _ c.if5.false (omega (arith, c.before.before.if3.false, c.before.if4.false))
+returns-6 : tie.Need-returns
+returns-6 c = next_part _ c.if-last-2.false (omega (arith, c.if-n-gt65536.false, c.if-n-s.false))
 
 pub next_block_spec : {M : Type 1} → statement M
 next_block_spec =
