@@ -5,25 +5,25 @@ use borrow.Author.Rules.{rules}
 use Rattle.ciztarmo.proofs.ciztarmo_build_set.Statement.{statement}
 use Rattle.ciztarmo.proofs.ciztarmo_build_set.Tie as tie
 
-build-set-requires : tie.Need-build-set-requires
+build-set-requires : tie.Need-build_set-requires
 build-set-requires c κs = search rules
 
-answer-requires : tie.Need-answer-requires
+answer-requires : tie.Need-answer-a-requires
 answer-requires c κs = search rules
 
 words-requires : tie.Need-words-requires
 words-requires c κs = search rules
 
-same_length : tie.Need-same-length
+same_length : tie.Need-shape_of-words
 same_length c = search rules
 
-same-length-2 : tie.Need-same-length-2
+same-length-2 : tie.Need-shape_of-out
 same-length-2 c = search rules
 
 returns : tie.Need-returns
 returns c =
-    let call = c.before.before.before.before.before.before.build_set in
-    (c.words2.ensures ∙ ap answer_words (c.before.answer.ensures ∙ call.ensures.0), (call.ensures.1.0, call.ensures.1.1))
+    let call = c.build_set in
+    (c.words.ensures ∙ ap answer_words (c.answer-a.ensures ∙ call.ensures.0), (call.ensures.1.0, call.ensures.1.1))
 
 pub ciztarmo_build_set_spec : {M : Type 1} → statement M
 ciztarmo_build_set_spec =

@@ -5,7 +5,7 @@ use borrow.Author.Rules.{rules}
 use Rattle.ciztarmo.proofs.ciztarmo_length_of.Statement.{statement}
 use Rattle.ciztarmo.proofs.ciztarmo_length_of.Tie as tie
 
-length-of-requires : tie.Need-length-of-requires
+length-of-requires : tie.Need-length_of-a-requires
 length-of-requires c κs = search rules
 
 words-requires : tie.Need-words-requires
@@ -13,7 +13,7 @@ words-requires c κs = search rules
 
 returns : tie.Need-returns
 returns c =
-    c.words.ensures ∙ ap answer_words c.before.length_of.ensures
+    c.words.ensures ∙ ap answer_words c.length_of-a.ensures
 
 pub ciztarmo_length_of_spec : {M : Type 1} → statement M
 ciztarmo_length_of_spec =

@@ -5,7 +5,7 @@ use borrow.Author.Rules.{rules}
 use Rattle.ciztarmo.proofs.ciztarmo_length_of_run.Statement.{statement}
 use Rattle.ciztarmo.proofs.ciztarmo_length_of_run.Tie as tie
 
-length-of-run-requires : tie.Need-length-of-run-requires
+length-of-run-requires : tie.Need-length_of_run-a-requires
 length-of-run-requires c κs = search rules
 
 words-requires : tie.Need-words-requires
@@ -13,7 +13,7 @@ words-requires c κs = search rules
 
 returns : tie.Need-returns
 returns c =
-    c.words.ensures ∙ ap answer_words c.before.length-of-run.ensures
+    c.words.ensures ∙ ap answer_words c.length_of_run-a.ensures
 
 pub ciztarmo_length_of_run_spec : {M : Type 1} → statement M
 ciztarmo_length_of_run_spec =

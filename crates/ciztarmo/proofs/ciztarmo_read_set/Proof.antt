@@ -5,19 +5,19 @@ use borrow.Author.Rules.{rules}
 use Rattle.ciztarmo.proofs.ciztarmo_read_set.Statement.{statement}
 use Rattle.ciztarmo.proofs.ciztarmo_read_set.Tie as tie
 
-read-set-requires : tie.Need-read-set-requires
+read-set-requires : tie.Need-read_set-a-requires
 read-set-requires c κs = search rules
 
 words-requires : tie.Need-words-requires
 words-requires c κs = search rules
 
-same_length : tie.Need-same-length
+same_length : tie.Need-shape_of-words
 same_length c = search rules
 
 returns : tie.Need-returns
 returns c =
-    let call = c.before.before.before.read_set in
-    (c.words2.ensures ∙ ap answer_words call.ensures.0, call.ensures.1)
+    let call = c.read_set-a in
+    (c.words.ensures ∙ ap answer_words call.ensures.0, call.ensures.1)
 
 pub ciztarmo_read_set_spec : {M : Type 1} → statement M
 ciztarmo_read_set_spec =

@@ -3,13 +3,13 @@ use borrow.Author.Rules.{rules}
 use Rattle.ciztarmo.proofs.ciztarmo_validate_runs.Statement.{statement}
 use Rattle.ciztarmo.proofs.ciztarmo_validate_runs.Tie as tie
 
-validate-runs-requires : tie.Need-validate-runs-requires
+validate-runs-requires : tie.Need-validate_runs-requires
 validate-runs-requires c κs = search rules
 
-same_length : tie.Need-same-length
+same_length : tie.Need-shape_of-words
 same_length c = search rules
 
-same-length-2 : tie.Need-same-length-2
+same-length-2 : tie.Need-shape_of-answers
 same-length-2 c = search rules
 
 returns : tie.Need-returns
