@@ -1,4 +1,6 @@
 // The parts of a block, as document 01's section "Blocks" names them. Kinds lo to hi may stand where a block is a part.
+#![tactic(auto)]
+
 #[derive(Clone, Copy)]
 pub enum Part {
     // a name or a text

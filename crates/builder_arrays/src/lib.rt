@@ -1,4 +1,6 @@
 // builder.rs, arrays: `build_array_node`, `build_array_node_with_prefix`, `select_array_owner`.
+#![tactic(auto)]
+
 ghost use Rattle.std.specs.Prelude.{◌≡◌, ◌&&◌, ◌+◌, ◌*◌, ◌^◌, ◌≤◌, ◌<◌, length};
 ghost use Rattle.std.proofs.Math.Option.{some};
 ghost use Rattle.blocks.specs.Bytes.{le2, le4};

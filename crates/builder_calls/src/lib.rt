@@ -1,4 +1,6 @@
 // builder.rs, `build_typeref_node` and `collect_callee_arguments`.
+#![tactic(auto)]
+
 ghost use Rattle.std.specs.Prelude.{◌≡◌, [], ◌∷◌, ◌+◌, ◌^◌, ◌≤◌, length};
 ghost use Rattle.errors.specs.Refusal.{done};
 ghost use Rattle.blocks.specs.Bytes.{le4};

@@ -1,4 +1,6 @@
 // builder.rs, `build_expr_ir` and `build_binary_expr_ir`: the nodes of a size expression.
+#![tactic(auto)]
+
 ghost use Rattle.std.specs.Prelude.{◌≡◌, cond, List, ℕ, ◌+◌, ◌*◌, ◌^◌, ◌≤◌, ◌<◌};
 ghost use Rattle.std.proofs.Math.Option.{some, none};
 ghost use Rattle.blocks.specs.Bytes.{le2, le4, le8};

@@ -1,4 +1,6 @@
 // The names of parameters, as parts of the caller's own paths.
+#![tactic(auto)]
+
 ghost use Rattle.std.specs.Prelude.{◌≡◌, true, ◌++◌, ℕ, ◌+◌, ◌≤◌, ◌<◌, ◌^◌, length, drop};
 ghost use Rattle.blocks.specs.Name.{same};
 ghost use Rattle.blocks.specs.Tree.{name};

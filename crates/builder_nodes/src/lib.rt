@@ -1,4 +1,6 @@
 // builder.rs, the small nodes: written into the output, by the table of the node kinds.
+#![tactic(auto)]
+
 ghost use Rattle.std.specs.Prelude.{◌≡◌, true, ◌++◌, ◌+◌, ◌^◌, ◌≤◌, ◌<◌, length};
 ghost use Rattle.std.proofs.Math.Option.{some, none};
 ghost use Rattle.blocks.specs.Tree.{name, num, nil, cons};

@@ -1,4 +1,6 @@
 // builder.rs, `into_parameters` and `filter_jagged_element_parameters`: the parameters that a type lists.
+#![tactic(auto)]
+
 ghost use Rattle.std.specs.Prelude.{◌≡◌, false, not, ◌||◌, ◌+◌, ◌≤◌, ◌<◌, length, drop};
 ghost use Rattle.blocks.specs.Bytes.{le2};
 ghost use Rattle.blocks.specs.Name.{same, among};

@@ -1,4 +1,6 @@
 // The path of a field reference (65), joined of its segments.
+#![tactic(auto)]
+
 ghost use Rattle.std.specs.Prelude.{◌≡◌, true, ◌&&◌, List, ◌++◌, ◌+◌, ◌*◌, ◌≤◌, length};
 ghost use Rattle.blocks.specs.Bytes.{le2};
 ghost use Rattle.blocks.specs.Name.{Name, same};

@@ -1,5 +1,7 @@
 // The call that builds every type of a set, in set order. Whatever is answered, the working words are zero after; a refusal
 // leaves the output all zeros.
+#![tactic(auto)]
+
 ghost use Rattle.std.specs.Prelude.{◌≡◌, ◌+◌, ◌^◌, ◌≤◌, ◌<◌, length};
 ghost use Rattle.errors.specs.Refusal.{done, words_after};
 ghost use Rattle.errors.specs.Answer.{built};

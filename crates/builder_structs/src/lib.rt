@@ -1,4 +1,6 @@
 // builder.rs, `build_variable_struct`.
+#![tactic(auto)]
+
 ghost use Rattle.std.specs.Prelude.{◌≡◌, true, List, ◌+◌, ◌*◌, ◌^◌, ◌≤◌, ◌<◌};
 ghost use Rattle.errors.specs.Refusal.{done};
 ghost use Rattle.blocks.specs.Tree.{Tree};

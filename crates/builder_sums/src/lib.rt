@@ -1,4 +1,6 @@
 // builder.rs, `build_field_ref_nodes` and `combine_checked_add`: the sum of an owner's references.
+#![tactic(auto)]
+
 ghost use Rattle.std.specs.Prelude.{◌≡◌, cond, [], ◌+◌, ◌*◌, ◌^◌, ◌≤◌, ◌<◌, length, take, get_or};
 ghost use Rattle.blocks.specs.Bytes.{name_at};
 ghost use Rattle.builder.specs.Nodes.{payload_paths, sum_refs};

@@ -1,4 +1,6 @@
 // builder.rs, enums, unions and size-discriminated unions: one switch over alternatives.
+#![tactic(auto)]
+
 ghost use Rattle.std.specs.Prelude.{◌≡◌, List, ◌+◌, ◌*◌, ◌^◌, ◌≤◌};
 ghost use Rattle.blocks.specs.Bytes.{le2, name_at};
 ghost use Rattle.blocks.specs.Name.{Name};

@@ -1,4 +1,6 @@
 // A refusal, and what a call answers: a count or a length, or a refusal. specs/Meaning.antt says of each what document 01 calls it.
+#![tactic(auto)]
+
 ghost use Rattle.std.specs.Prelude.{◌≡◌};
 ghost use Rattle.errors.specs.Refusal.{plain, unread, refused};
 ghost use Rattle.errors.specs.Answer.{answer_words};

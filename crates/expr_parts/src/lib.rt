@@ -1,1 +1,2 @@
 // Laws only: what an accepted expression holds, by its kind.
+#![tactic(auto)]

@@ -1,4 +1,6 @@
 // Arithmetic on 64 bits: the exact result, or the number of the refusal. What a value holds is looked at here.
+#![tactic(auto)]
+
 ghost use Rattle.std.specs.Prelude.{◌≡◌, ◌-◌, ◌≤◌, get_or};
 ghost use Rattle.ir.specs.Ir.{BinaryOp};
 ghost use Rattle.ir.specs.Layout.{operations};

@@ -1,4 +1,6 @@
 // Where the parts of an accepted node stand, and a value by its name, found through the open calls.
+#![tactic(auto)]
+
 ghost use Rattle.std.specs.Prelude.{◌≡◌, List, ◌∷◌, true, false, ◌+◌, ◌≤◌, ℕ, length, drop};
 ghost use Rattle.std.proofs.Math.Option.{Option, none};
 ghost use Rattle.blocks.specs.declared.Part.{Part};

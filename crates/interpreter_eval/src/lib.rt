@@ -1,5 +1,7 @@
 // interpreter.rs, `eval_node`, `eval_switch`, `eval_call`, over the accepted bytes of a layout. Left before right, arguments
 // before the type lookup.
+#![tactic(auto)]
+
 ghost use Rattle.std.specs.Prelude.{◌≡◌, ◌+◌, ◌≤◌};
 ghost use Rattle.blocks.specs.Bytes.{le2};
 ghost use Rattle.interpreter_values.specs.Remembered.{Kept};

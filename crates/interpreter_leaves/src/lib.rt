@@ -1,5 +1,7 @@
 // What evaluating asks of a node before it evaluates another: the answer of a node that has none inside, a switch's tag and
 // the node that it selects, a call's arguments and the tree of its type.
+#![tactic(auto)]
+
 ghost use Rattle.std.specs.Prelude.{◌≡◌, ℕ, ◌+◌, ◌≤◌};
 ghost use Rattle.errors.specs.Refusal.{done, refused as stop};
 ghost use Rattle.blocks.specs.Bytes.{le2};

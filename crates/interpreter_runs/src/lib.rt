@@ -1,5 +1,7 @@
 // Runs that stand one behind the other, over one layout, which is read once and not again for each run: the answers of
 // `validate_run`, four words each.
+#![tactic(auto)]
+
 ghost use Rattle.std.specs.Prelude.{◌≡◌, [], ◌∷◌, ◌++◌, ◌+◌, ◌*◌, ◌≤◌, ◌<◌, length, drop};
 ghost use Rattle.errors.specs.Refusal.{words_after};
 ghost use Rattle.interpreter.specs.Validate.{validate_run};

@@ -1,5 +1,7 @@
 // From the bytes of a layout, a type's name, the bytes of values and a buffer length to a byte count; or from a layout and a run, which has
 // the other three. Whatever `validate` and `validate_run` answer, the working words are zero after.
+#![tactic(auto)]
+
 ghost use Rattle.std.specs.Prelude.{◌≡◌, ℕ, ◌+◌, ◌≤◌, length};
 ghost use Rattle.errors.specs.Refusal.{words_after};
 ghost use Rattle.errors.specs.Meaning.{outcome_of};

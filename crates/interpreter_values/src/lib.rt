@@ -1,5 +1,7 @@
 // The values of a record by name. Where there are words for an index, and some names were asked for, each search that does not find a name in the
 // index puts more entries into it. Who lends the words says by their number whether it is likely to pay.
+#![tactic(auto)]
+
 ghost use Rattle.std.specs.Prelude.{◌≡◌, true, List, ℕ, ◌+◌, ◌≤◌, length, get_or, drop};
 ghost use Rattle.blocks.specs.Bytes.{le2};
 ghost use Rattle.marks.specs.Table.{Linked};

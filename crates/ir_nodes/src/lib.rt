@@ -1,4 +1,6 @@
 // The code of ir.rs: the metadata of a node, and the parts of the seventeen node kinds.
+#![tactic(auto)]
+
 ghost use Rattle.std.specs.Prelude.{◌≡◌, ◌+◌, ◌*◌, ◌≤◌, ◌<◌};
 ghost use Rattle.blocks.specs.Grammar.{parts_of};
 ghost use Rattle.ir.specs.Ir.{default_alignment};

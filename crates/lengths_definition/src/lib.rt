@@ -1,1 +1,2 @@
 // The definition is in specs/; it has no code.
+#![tactic(auto)]

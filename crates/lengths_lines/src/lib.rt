@@ -1,5 +1,7 @@
 // What the program `lengths` prints for one block, as bytes in a slice that the caller lends: numbers in decimal, the fill, a run's
 // line, the line of a refused block.
+#![tactic(auto)]
+
 ghost use Rattle.std.specs.Prelude.{◌≡◌, [], ◌∷◌, ◌++◌, ◌+◌, ◌^◌, ◌≤◌, ◌<◌};
 ghost use Rattle.errors.specs.Refusal.{plain};
 ghost use Rattle.interpreter.specs.Validate.{validate_run};

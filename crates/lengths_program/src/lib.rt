@@ -1,5 +1,7 @@
 // The program `lengths` between a read and a write: from the bytes that are there of its input to the bytes of as many of its lines
 // as can be told. What is not used yet stays at the start of the input's buffer, where the next read goes on.
+#![tactic(auto)]
+
 ghost use Rattle.std.specs.Prelude.{◌≡◌, ◌+◌, ◌-◌, ◌^◌, ◌<◌, length, take, drop};
 ghost use Rattle.lengths_lines.specs.Lines.{IsLayout};
 ghost use Rattle.lengths_program.specs.Lines.{runs, left, is_ended};

@@ -1,4 +1,6 @@
 // Lookups by name in accepted bytes.
+#![tactic(auto)]
+
 ghost use Rattle.std.specs.Prelude.{◌≡◌, ◌+◌, ◌≤◌, length};
 ghost use Rattle.errors.specs.Refusal.{done};
 ghost use Rattle.blocks.specs.Bytes.{le2};

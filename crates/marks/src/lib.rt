@@ -1,5 +1,7 @@
 // Slots found by the marks of their names: a table in a slice of words. A client walks `j = last(table, mark)`, then, while 0 < j, asks
 // slot j - 1 and goes on at `j = before(table, mark, j)`.
+#![tactic(auto)]
+
 ghost use Rattle.std.specs.Prelude.{◌≡◌, ℕ, ◌+◌, ◌-◌, ◌≤◌, ◌<◌, length};
 ghost use Rattle.marks.specs.Mark.{step, mark_of};
 ghost use Rattle.marks.specs.Table.{Linked, Table, Chain, Prior};

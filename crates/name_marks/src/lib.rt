@@ -1,4 +1,6 @@
 // The mark of a name: a number by which it is told from most others.
+#![tactic(auto)]
+
 ghost use Rattle.std.specs.Prelude.{◌≡◌, ◌<◌, ◌≤◌, length};
 ghost use Rattle.name_marks.specs.Mark.{short_of, step, mark_of, sum_mark_of};
 

@@ -1,4 +1,6 @@
 // Blocks: the reader of a whole input. It goes into blocks by recursion, and along lists and parts by loops.
+#![tactic(auto)]
+
 ghost use Rattle.std.specs.Prelude.{◌≡◌, ◌+◌, ◌≤◌, length};
 ghost use Rattle.blocks.specs.declared.Part.TheVariants.{Key};
 ghost use Rattle.blocks.specs.Grammar.{parts_of};

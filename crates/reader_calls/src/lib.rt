@@ -1,5 +1,7 @@
 // The questions with which a call begins: 19, 1 for each input, then the reading of each. And the calls that put no others: they
 // read a set, a layout, values or a run, and whatever they answer, the working words are zero after.
+#![tactic(auto)]
+
 ghost use Rattle.std.specs.Prelude.{◌≡◌, List, ℕ, length};
 ghost use Rattle.errors.specs.Refusal.{words_after};
 ghost use Rattle.errors.specs.Answer.{read};

@@ -1,4 +1,6 @@
 // The parts of every kind of block as digits of its row, and back from a digit to the part.
+#![tactic(auto)]
+
 ghost use Rattle.std.specs.Prelude.{◌≡◌, ◌≤◌, ◌<◌};
 ghost use Rattle.blocks.specs.Grammar.{grammar, find_row, parts_of};
 ghost use Rattle.ir_nodes.specs.Codes.{part_of, row_of};

@@ -1,4 +1,6 @@
 // The parts of a block that hold no block, and a block's first six bytes.
+#![tactic(auto)]
+
 ghost use Rattle.std.specs.Prelude.{◌≡◌, true, false, cond, not, ◌||◌, [], ◌+◌, ◌-◌, ◌≤◌, ◌<◌, ltb, leb, length};
 ghost use Rattle.blocks.specs.declared.Part.TheVariants.{Key};
 ghost use Rattle.blocks.specs.Bytes.{le4};

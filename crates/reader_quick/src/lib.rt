@@ -1,5 +1,7 @@
 // A quick reader of layouts, values and runs. It answers with one number and says only yes; where it does not, the reader puts
 // the questions again, one by one.
+#![tactic(auto)]
+
 ghost use Rattle.std.specs.Prelude.{◌≡◌, true, [], ◌∷◌, ℕ, ◌+◌, ◌≤◌, ◌<◌, length, get_or};
 ghost use Rattle.blocks.specs.declared.Part.TheVariants.{OptText, Flag};
 ghost use Rattle.blocks.specs.Bytes.{le2};

@@ -1,4 +1,6 @@
 // The parts of the accepted types of a set.
+#![tactic(auto)]
+
 ghost use Rattle.std.specs.Prelude.{◌≡◌, ◌+◌, ◌≤◌, length};
 ghost use Rattle.blocks.specs.Bytes.{le2};
 ghost use Rattle.accepted.specs.Accepted.{Accepted, tree, name_at};

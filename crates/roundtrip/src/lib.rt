@@ -1,1 +1,2 @@
 // Theorems on the definitions of blocks; it has no code.
+#![tactic(auto)]

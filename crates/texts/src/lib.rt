@@ -1,4 +1,6 @@
 // Question 3: whether the bytes of a name or text are at most 255, valid UTF-8, and none below 0x20 or 0x7F.
+#![tactic(auto)]
+
 ghost use Rattle.std.specs.Prelude.{◌≡◌, true, ◌||◌, List, ◌∷◌, ℕ, ◌+◌, ◌-◌, ◌≤◌, ◌<◌, length};
 ghost use Rattle.blocks.specs.Utf8.{utf8_char, begun};
 ghost use Rattle.blocks.specs.Name.{well_formed, is_text};

@@ -1,5 +1,7 @@
 // The number of a parameter or of a result. Arithmetic looks inside; whoever else has a value hands it on, or asks one of the
 // functions here.
+#![tactic(auto)]
+
 ghost use Rattle.std.specs.Prelude.{◌≡◌, leb};
 ghost use Rattle.value.specs.Number.{number_of};
 

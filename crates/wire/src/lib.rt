@@ -1,4 +1,6 @@
 // Numbers, texts, names and blocks in a slice of bytes: read, compared, written, cleared.
+#![tactic(auto)]
+
 ghost use Rattle.std.specs.Prelude.{◌≡◌, cond, [], ◌∷◌, ◌+◌, ◌*◌, ◌^◌, ◌≤◌, ◌<◌, ◌-◌, length, drop, replicate};
 ghost use Rattle.blocks.specs.Bytes.{le2, le4, le8, name_at, bytes};
 ghost use Rattle.blocks.specs.Name.{same, less};

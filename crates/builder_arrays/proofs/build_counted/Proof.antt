@@ -9,19 +9,19 @@ use Rattle.builder_arrays.proofs.build_counted.Tie as tie
 
 returns : tie.Need-returns-then-c-ne0
 returns c = (
-      c.build_expr_ir-c.ensures.0,
-      λ e f. count_stops _ _ _ _ _ (c.build_expr_ir-c.ensures.1 e) c.if-c-ne0.true,
-    )
+  c.build_expr_ir-c.ensures.0,
+  λ e f. count_stops _ _ _ _ _ (c.build_expr_ir-c.ensures.1 e) c.if-c-ne0.true,
+)
 
 returns-2 : tie.Need-returns
 returns-2 c = (
-      record {
-        low = c.build_expr_ir-c.ensures.0.low;
-        high = c.build_expr_ir-c.ensures.0.high;
-        count = c.extend_with-k.ensures.0;
-      },
-      λ e f. count_goes _ _ _ _ _ (c.build_expr_ir-c.ensures.1 e) c.if-c-ne0.false (c.extend_with-k.ensures.1 f),
-    )
+  record {
+    low = c.build_expr_ir-c.ensures.0.low;
+    high = c.build_expr_ir-c.ensures.0.high;
+    count = c.extend_with-k.ensures.0;
+  },
+  λ e f. count_goes _ _ _ _ _ (c.build_expr_ir-c.ensures.1 e) c.if-c-ne0.false (c.extend_with-k.ensures.1 f),
+)
 
 build-expr-ir-requires : tie.Need-build_expr_ir-c-requires
 build-expr-ir-requires c κs = search rules

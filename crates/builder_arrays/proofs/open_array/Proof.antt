@@ -7,9 +7,9 @@ use Rattle.builder_arrays.proofs.open_array.Tie as tie
 
 returns : tie.Need-returns
 returns c = (
-      opens _ _ c.open_align-p.ensures.1 c.open_align-p.ensures.0 c.open_node.ensures.0,
-      omega (arith, c.open_align-p.ensures.1, c.open_node.ensures.1),
-    )
+  opens _ _ c.open_align-p.ensures.1 c.open_align-p.ensures.0 c.open_node.ensures.0,
+  omega (arith, c.open_align-p.ensures.1, c.open_node.ensures.1),
+)
 
 open-align-requires : tie.Need-open_align-p-requires
 open-align-requires c κs = search rules

@@ -53,9 +53,9 @@ path-here r = entry_named (start r).requires.1.list (above r.if-left-eq0.false)
 
 returns : (t : ℕ) → walk.Need-returns-then-left-eq0 (callees t) (entered t) self.Post
 returns t c = (
-      fills_none c.requires.1.room,
-      walk_none (paths_walk _) c.requires.1.room c.if-left-eq0.true,
-    )
+  fills_none c.requires.1.room,
+  walk_none (paths_walk _) c.requires.1.room c.if-left-eq0.true,
+)
 
 put-argument-requires : (t : ℕ) → walk.Need-put_argument-r-requires (callees t) (entered t) self.Post
 put-argument-requires t c κs =

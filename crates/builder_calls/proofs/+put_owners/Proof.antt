@@ -65,9 +65,9 @@ owner_at r = r.owner_paths-q.ensures (here r.before)
 
 returns : (t : ℕ) → walk.Need-returns-then-left-eq0 (callees t) (entered t) self.Post
 returns t c = (
-      fills_none c.requires.1.room,
-      walk_none owners_walk c.requires.1.room c.if-left-eq0.true,
-    )
+  fills_none c.requires.1.room,
+  walk_none owners_walk c.requires.1.room c.if-left-eq0.true,
+)
 
 owner-paths-requires : (t : ℕ) → walk.Need-owner_paths-q-requires (callees t) (entered t) self.Post
 owner-paths-requires t c κs = here c

@@ -35,9 +35,9 @@ add-at-2 c =
 
 loop-holds : tie.Need-loop-left-init invariant-loop decreases-loop
 loop-holds c = (
-      omega (arith, owners_most c.requires.0, c.read2-left.ensures.0),
-      count_begin _ c.requires.0 c.read2-left.ensures.0,
-    )
+  omega (arith, owners_most c.requires.0, c.read2-left.ensures.0),
+  count_begin _ c.requires.0 c.read2-left.ensures.0,
+)
 
 owner-paths-requires : tie.Need-owner_paths-paths-requires invariant-loop decreases-loop
 owner-paths-requires c κs =
@@ -72,26 +72,26 @@ loop-less c =
 
 loop-again : tie.Need-loop-left-preserved invariant-loop decreases-loop
 loop-again c = (
-      omega (
-        arith,
-        c.read2-n.ensures.0,
-        (c.owner_paths-paths.ensures (owner_here c.loop-left-test.true c.loop-left.invariant.1.here)).paths.few,
-        c.loop-left.invariant.0,
-        c.loop-left-test.true,
-      ),
-      count_next _
-          c.loop-left-test.true
-          c.owner_paths-paths.ensures
-          c.read2-n.ensures.0
-          c.next_block-at.ensures
-          c.loop-left.invariant.1,
-    )
+  omega (
+    arith,
+    c.read2-n.ensures.0,
+    (c.owner_paths-paths.ensures (owner_here c.loop-left-test.true c.loop-left.invariant.1.here)).paths.few,
+    c.loop-left.invariant.0,
+    c.loop-left-test.true,
+  ),
+  count_next _
+      c.loop-left-test.true
+      c.owner_paths-paths.ensures
+      c.read2-n.ensures.0
+      c.next_block-at.ensures
+      c.loop-left.invariant.1,
+)
 
 returns : tie.Need-returns invariant-loop decreases-loop
 returns c = (
-      omega (arith, c.loop-left.invariant.0),
-      count_end _ c.loop-left-test.false c.loop-left.invariant.1,
-    )
+  omega (arith, c.loop-left.invariant.0),
+  count_end _ c.loop-left-test.false c.loop-left.invariant.1,
+)
 
 pub count_paths_spec : {M : Type 1} → statement M
 count_paths_spec =

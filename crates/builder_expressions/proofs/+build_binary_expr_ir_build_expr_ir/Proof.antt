@@ -250,9 +250,9 @@ expr-same-length-2 t c = search rules
 
 expr-returns-2 : (t : ℕ) → expr-walk.Need-returns-then-k-eq65 (expr-calls t) (expr-at t) expr.Post
 expr-returns-2 t c = (
-      widened (omega arith) c.build_field_ref.ensures.0,
-      c.build_field_ref.ensures.1,
-    )
+  widened (omega arith) c.build_field_ref.ensures.0,
+  c.build_field_ref.ensures.1,
+)
 
 expr-operation-kind-requires : (t : ℕ) → expr-walk.Need-operation_kind-kind-requires (expr-calls t) (expr-at t) expr.Post
 expr-operation-kind-requires t c κs = search rules
@@ -287,9 +287,9 @@ expr-same-length-3 t c = search rules
 
 expr-returns-4 : (t : ℕ) → expr-walk.Need-returns (expr-calls t) (expr-at t) expr.Post
 expr-returns-4 t c = (
-      c.build_binary_expr_ir.ensures.0,
-      c.build_binary_expr_ir.ensures.1,
-    )
+  c.build_binary_expr_ir.ensures.0,
+  c.build_binary_expr_ir.ensures.1,
+)
 
 pub +build_binary_expr_ir_build_expr_ir_spec : {M : Type 1} → statement M
 +build_binary_expr_ir_build_expr_ir_spec =

@@ -21,30 +21,30 @@ at-start r = r.before.before.before.before.before
 
 returns : tie.Need-returns-then-is_buffer_size
 returns c = (
-      record { low = omega arith; high = omega arith; count = omega arith },
-      buffer_made
-          (at-start c.before.before.before.before.before).requires.1 _ _ _
-          c.is_buffer_size.ensures
-          (at-start c.before.before.before.before.before).requires.0.standing.index
-          c.if-is_buffer_size.true
-          c.put_buffer_size-u.ensures.0,
-    )
+  record { low = omega arith; high = omega arith; count = omega arith },
+  buffer_made
+      (at-start c.before.before.before.before.before).requires.1 _ _ _
+      c.is_buffer_size.ensures
+      (at-start c.before.before.before.before.before).requires.0.standing.index
+      c.if-is_buffer_size.true
+      c.put_buffer_size-u.ensures.0,
+)
 
 joined-length-requires : tie.Need-joined_length-requires
 joined-length-requires c κs = search rules
 
 returns-2 : tie.Need-returns-then-joined_length-gt511
 returns-2 c = (
-      record { low = omega arith; high = omega arith; count = omega arith },
-      path_stops
-          (at-start c.before.before.before).requires.1 _ _ _
-          c.is_buffer_size.ensures
-          (at-start c.before.before.before).requires.0.standing
-          (at-start c.before.before.before).requires.0.owned
-          c.if-is_buffer_size.false
-          c.joined_length.ensures
-          c.if-joined_length-gt511.true,
-    )
+  record { low = omega arith; high = omega arith; count = omega arith },
+  path_stops
+      (at-start c.before.before.before).requires.1 _ _ _
+      c.is_buffer_size.ensures
+      (at-start c.before.before.before).requires.0.standing
+      (at-start c.before.before.before).requires.0.owned
+      c.if-is_buffer_size.false
+      c.joined_length.ensures
+      c.if-joined_length-gt511.true,
+)
 
 slice-aggregate-put-joined : tie.Need-slice_bounds-put_joined-end
 slice-aggregate-put-joined c = search rules
@@ -79,16 +79,16 @@ same-length-2 c = search rules
 
 returns-3 : tie.Need-returns
 returns-3 c = (
-      c.build_path.ensures.0,
-      path_made
-          (at-start c.before.before.before.before.before.before.before.before.before.before.before).requires.1 _ _ _
-          c.is_buffer_size.ensures
-          c.if-is_buffer_size.false
-          c.joined_length.ensures
-          c.if-joined_length-gt511.false refl
-          c.put_joined-end.ensures
-          c.build_path.ensures.1,
-    )
+  c.build_path.ensures.0,
+  path_made
+      (at-start c.before.before.before.before.before.before.before.before.before.before.before).requires.1 _ _ _
+      c.is_buffer_size.ensures
+      c.if-is_buffer_size.false
+      c.joined_length.ensures
+      c.if-joined_length-gt511.false refl
+      c.put_joined-end.ensures
+      c.build_path.ensures.1,
+)
 
 pub build_field_ref_spec : {M : Type 1} → statement M
 build_field_ref_spec =

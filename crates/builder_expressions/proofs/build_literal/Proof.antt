@@ -16,9 +16,9 @@ at-start r = r.before.before.before.before
 
 returns : tie.Need-returns-then-is_negative
 returns c = (
-      record { low = omega arith; high = omega arith; count = omega arith },
-      literal_stops c.requires.1 c.is_negative.ensures c.if-is_negative.true,
-    )
+  record { low = omega arith; high = omega arith; count = omega arith },
+  literal_stops c.requires.1 c.is_negative.ensures c.if-is_negative.true,
+)
 
 add-read8 : tie.Need-overflow_add-expr
 add-read8 c = omega (
@@ -43,15 +43,15 @@ same_length c = search rules
 
 returns-2 : tie.Need-returns
 returns-2 c = (
-      record { low = omega arith; high = omega arith; count = omega arith },
-      literal_made
-          c.requires.1
-          c.is_negative.ensures
-          c.if-is_negative.false
-          c.read8-v.ensures
-          c.default_alignment.ensures
-          c.put_const-u.ensures.0,
-    )
+  record { low = omega arith; high = omega arith; count = omega arith },
+  literal_made
+      c.requires.1
+      c.is_negative.ensures
+      c.if-is_negative.false
+      c.read8-v.ensures
+      c.default_alignment.ensures
+      c.put_const-u.ensures.0,
+)
 
 pub build_literal_spec : {M : Type 1} → statement M
 build_literal_spec =

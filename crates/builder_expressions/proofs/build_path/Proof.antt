@@ -14,9 +14,9 @@ enum-known-i c = search rules
 
 returns : tie.Need-returns-then-path-gt255
 returns c = (
-      record { low = omega arith; high = omega arith; count = omega arith },
-      ref_long _ _ c.lookup_name.ensures.0 c.in-At.is c.if-path-gt255.true,
-    )
+  record { low = omega arith; high = omega arith; count = omega arith },
+  ref_long _ _ c.lookup_name.ensures.0 c.in-At.is c.if-path-gt255.true,
+)
 
 mul-put-path-ref : tie.Need-offset_bounds-words-i
 mul-put-path-ref c =
@@ -38,7 +38,7 @@ same_length c = search rules
 returns-2 : tie.Need-returns-else-path-gt255
 returns-2 c = (
   record { low = omega arith; high = omega arith; count = omega arith },
-      ref_made _ _
+  ref_made _ _
       c.lookup_name.ensures.0
       c.requires.0.index
       c.in-At.is

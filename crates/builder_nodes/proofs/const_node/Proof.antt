@@ -17,26 +17,26 @@ start-node-requires c κs = ((at-start c).requires, omega arith, omega arith)
 
 put-number-part-requires : tie.Need-put_number_part-q-requires
 put-number-part-requires c κs = (
-      omega (arith, (at-start c.before.before.before.before).requires, c.start_node-p.ensures.1),
-      omega arith,
-      omega arith,
-      omega arith,
-    )
+  omega (arith, (at-start c.before.before.before.before).requires, c.start_node-p.ensures.1),
+  omega arith,
+  omega arith,
+  omega arith,
+)
 
 close-block-requires : tie.Need-close_block-requires
 close-block-requires c κs = (
-      omega (
-        arith,
-        c.start_node-p.ensures.1,
-        c.put_number_part-q.ensures.1,
-      ),
-      omega (
-        arith,
-        (at-start c.before.before.before.before.before.before.before.before).requires,
-        c.start_node-p.ensures.1,
-        c.put_number_part-q.ensures.1,
-      ),
-    )
+  omega (
+    arith,
+    c.start_node-p.ensures.1,
+    c.put_number_part-q.ensures.1,
+  ),
+  omega (
+    arith,
+    (at-start c.before.before.before.before.before.before.before.before).requires,
+    c.start_node-p.ensures.1,
+    c.put_number_part-q.ensures.1,
+  ),
+)
 
 same_length : tie.Need-shape_of-out
 same_length c = search rules

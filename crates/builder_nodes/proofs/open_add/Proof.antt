@@ -15,11 +15,11 @@ same_length c = search rules
 
 returns : tie.Need-returns
 returns c = (
-      start_at 134
-          c.default_alignment.ensures
-          c.open_node.ensures.0,
-      c.open_node.ensures.1,
-    )
+  start_at 134
+      c.default_alignment.ensures
+      c.open_node.ensures.0,
+  c.open_node.ensures.1,
+)
 
 pub open_add_spec : {M : Type 1} → statement M
 open_add_spec =

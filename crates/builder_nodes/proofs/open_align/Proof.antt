@@ -10,11 +10,11 @@ open-node-requires c κs = (c.requires, omega arith, omega arith)
 
 put-number-part-requires : tie.Need-put_number_part-requires
 put-number-part-requires c κs = (
-      omega (arith, c.requires, c.open_node-p.ensures.1),
-      omega arith,
-      omega arith,
-      omega arith,
-    )
+  omega (arith, c.requires, c.open_node-p.ensures.1),
+  omega arith,
+  omega arith,
+  omega arith,
+)
 
 same_length : tie.Need-shape_of-out
 same_length c = search rules

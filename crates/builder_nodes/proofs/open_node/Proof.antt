@@ -17,9 +17,9 @@ same_length c = search rules
 
 returns : tie.Need-returns
 returns c = (
-      start_at _ c.aligned.ensures c.start_node.ensures.0,
-      c.start_node.ensures.1,
-    )
+  start_at _ c.aligned.ensures c.start_node.ensures.0,
+  c.start_node.ensures.1,
+)
 
 pub open_node_spec : {M : Type 1} → statement M
 open_node_spec =

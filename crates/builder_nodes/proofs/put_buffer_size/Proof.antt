@@ -17,41 +17,41 @@ open-node-requires c κs = (omega (arith, (at-start c).requires), omega arith, o
 
 put-text-part-requires : tie.Need-put_text_part-q-requires
 put-text-part-requires c κs = (
-      omega (arith, (at-start c.before.before.before.before.before.before).requires, c.open_node-p.ensures.1),
-      omega arith,
-      omega arith,
-      omega arith,
-    )
+  omega (arith, (at-start c.before.before.before.before.before.before).requires, c.open_node-p.ensures.1),
+  omega arith,
+  omega arith,
+  omega arith,
+)
 
 put-text-flag-requires : tie.Need-put_text_flag-u-requires
 put-text-flag-requires c κs = (
-      omega (
-        arith,
-        (at-start c.before.before.before.before.before.before.before.before.before.before).requires,
-        c.open_node-p.ensures.1,
-        c.put_text_part-q.ensures.1,
-      ),
-      omega arith,
-      omega arith,
-      omega arith,
-    )
+  omega (
+    arith,
+    (at-start c.before.before.before.before.before.before.before.before.before.before).requires,
+    c.open_node-p.ensures.1,
+    c.put_text_part-q.ensures.1,
+  ),
+  omega arith,
+  omega arith,
+  omega arith,
+)
 
 close-block-requires : tie.Need-close_block-requires
 close-block-requires c κs = (
-      omega (
-        arith,
-        c.open_node-p.ensures.1,
-        c.put_text_part-q.ensures.1,
-        c.put_text_flag-u.ensures.1,
-      ),
-      omega (
-        arith,
-        (at-start c.before.before.before.before.before.before.before.before.before.before.before.before.before.before).requires,
-        c.open_node-p.ensures.1,
-        c.put_text_part-q.ensures.1,
-        c.put_text_flag-u.ensures.1,
-      ),
-    )
+  omega (
+    arith,
+    c.open_node-p.ensures.1,
+    c.put_text_part-q.ensures.1,
+    c.put_text_flag-u.ensures.1,
+  ),
+  omega (
+    arith,
+    (at-start c.before.before.before.before.before.before.before.before.before.before.before.before.before.before).requires,
+    c.open_node-p.ensures.1,
+    c.put_text_part-q.ensures.1,
+    c.put_text_flag-u.ensures.1,
+  ),
+)
 
 same_length : tie.Need-shape_of-out
 same_length c = search rules

@@ -15,28 +15,28 @@ open-node-requires c κs = ((at-start c.before.before).requires, omega arith, om
 
 close-block-requires : tie.Need-close_block-requires
 close-block-requires c κs = (
-      omega (arith, c.open_node-p.ensures.1),
-      omega (
-        arith,
-        (at-start c.before.before.before.before.before.before).requires,
-        c.open_node-p.ensures.1,
-      ),
-    )
+  omega (arith, c.open_node-p.ensures.1),
+  omega (
+    arith,
+    (at-start c.before.before.before.before.before.before).requires,
+    c.open_node-p.ensures.1,
+  ),
+)
 
 same_length : tie.Need-shape_of-out-then-value-eq0
 same_length c = search rules
 
 returns : tie.Need-returns-then-value-eq0
 returns c = (
-      zero_closed _ _
-          c.if-value-eq0.true
-          c.open_node-p.ensures.0
-          c.close_block.ensures.0,
-      (
-        omega (arith, c.open_node-p.ensures.1),
-        omega (arith, c.open_node-p.ensures.1),
-      ),
-    )
+  zero_closed _ _
+      c.if-value-eq0.true
+      c.open_node-p.ensures.0
+      c.close_block.ensures.0,
+  (
+    omega (arith, c.open_node-p.ensures.1),
+    omega (arith, c.open_node-p.ensures.1),
+  ),
+)
 
 open-align-requires : tie.Need-open_align-p-requires
 open-align-requires c κs = (at-start c.before.before).requires
@@ -51,30 +51,30 @@ const-node-requires c κs =
 
 close-block-requires-2 : tie.Need-close_block-requires-2
 close-block-requires-2 c κs = (
-      omega (arith, c.open_align-p.ensures.1, c.const_node-q.ensures.1),
-      omega (
-        arith,
-        (at-start c.before.before.before.before.before.before.before.before.before.before).requires,
-        c.open_align-p.ensures.1,
-        c.const_node-q.ensures.1,
-      ),
-    )
+  omega (arith, c.open_align-p.ensures.1, c.const_node-q.ensures.1),
+  omega (
+    arith,
+    (at-start c.before.before.before.before.before.before.before.before.before.before).requires,
+    c.open_align-p.ensures.1,
+    c.const_node-q.ensures.1,
+  ),
+)
 
 same-length-2 : tie.Need-shape_of-out
 same-length-2 c = search rules
 
 returns-2 : tie.Need-returns
 returns-2 c = (
-      value_closed _ _
-          c.if-value-eq0.false
-          c.open_align-p.ensures.0
-          c.const_node-q.ensures.0
-          c.close_block-2.ensures.0,
-      (
-        omega (arith, c.open_align-p.ensures.1, c.const_node-q.ensures.1),
-        omega (arith, c.open_align-p.ensures.1, c.const_node-q.ensures.1),
-      ),
-    )
+  value_closed _ _
+      c.if-value-eq0.false
+      c.open_align-p.ensures.0
+      c.const_node-q.ensures.0
+      c.close_block-2.ensures.0,
+  (
+    omega (arith, c.open_align-p.ensures.1, c.const_node-q.ensures.1),
+    omega (arith, c.open_align-p.ensures.1, c.const_node-q.ensures.1),
+  ),
+)
 
 pub put_const_or_zero_spec : {M : Type 1} → statement M
 put_const_or_zero_spec =

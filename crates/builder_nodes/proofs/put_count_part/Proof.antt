@@ -44,9 +44,9 @@ returns-2 c =
 
 returns-3 : tie.Need-returns
 returns-3 c = (
-      count_other c.node_part-code.ensures _ c.if-code-eq-CASES.false c.if-code-eq-ARGUMENTS.false,
-      (omega arith, omega arith),
-    )
+  count_other c.node_part-code.ensures _ c.if-code-eq-CASES.false c.if-code-eq-ARGUMENTS.false,
+  (omega arith, omega arith),
+)
 
 pub put_count_part_spec : {M : Type 1} → statement M
 put_count_part_spec =

@@ -17,12 +17,12 @@ same_length c = search rules
 
 returns : tie.Need-returns-then-node_part-eq-NUMBER
 returns c = (
-      number_there
-          c.node_part.ensures _
-          c.if-node_part-eq-NUMBER.true
-          c.put_le.ensures.0,
-      (omega (arith, c.put_le.ensures.1), omega (arith, c.put_le.ensures.1)),
-    )
+  number_there
+      c.node_part.ensures _
+      c.if-node_part-eq-NUMBER.true
+      c.put_le.ensures.0,
+  (omega (arith, c.put_le.ensures.1), omega (arith, c.put_le.ensures.1)),
+)
 
 returns-2 : tie.Need-returns
 returns-2 c = (

@@ -17,42 +17,42 @@ put-ref-parts-requires c κs = search rules
 
 close-block-requires : tie.Need-close_block-requires
 close-block-requires c κs = (
-      omega (
-        arith,
-        c.open_node-p.ensures.1,
-        c.put_ref_parts-q.ensures.1,
-      ),
-      omega (
-        arith,
-        c.requires.1,
-        c.open_node-p.ensures.1,
-        c.put_ref_parts-q.ensures.1,
-      ),
-    )
+  omega (
+    arith,
+    c.open_node-p.ensures.1,
+    c.put_ref_parts-q.ensures.1,
+  ),
+  omega (
+    arith,
+    c.requires.1,
+    c.open_node-p.ensures.1,
+    c.put_ref_parts-q.ensures.1,
+  ),
+)
 
 same_length : tie.Need-shape_of-out
 same_length c = search rules
 
 returns : tie.Need-returns
 returns c = (
-      path_closed _ _
-          c.default_alignment.ensures
-          c.open_node-p.ensures.0
-          c.put_ref_parts-q.ensures.0
-          c.close_block.ensures.0,
-      (
-        omega (
-          arith,
-          c.open_node-p.ensures.1,
-          c.put_ref_parts-q.ensures.1,
-        ),
-        omega (
-          arith,
-          c.open_node-p.ensures.1,
-          c.put_ref_parts-q.ensures.1,
-        ),
-      ),
-    )
+  path_closed _ _
+      c.default_alignment.ensures
+      c.open_node-p.ensures.0
+      c.put_ref_parts-q.ensures.0
+      c.close_block.ensures.0,
+  (
+    omega (
+      arith,
+      c.open_node-p.ensures.1,
+      c.put_ref_parts-q.ensures.1,
+    ),
+    omega (
+      arith,
+      c.open_node-p.ensures.1,
+      c.put_ref_parts-q.ensures.1,
+    ),
+  ),
+)
 
 pub put_path_ref_spec : {M : Type 1} → statement M
 put_path_ref_spec =

@@ -11,17 +11,17 @@ put-text-part-requires c κs =
 
 put-entry-part-requires : tie.Need-put_entry_part-requires
 put-entry-part-requires c κs = (
-      c.requires.0,
-      omega (
-        arith,
-        c.requires.1,
-        c.requires.2,
-        c.put_text_part-p.ensures.1,
-      ),
-      omega arith,
-      omega arith,
-      omega arith,
-    )
+  c.requires.0,
+  omega (
+    arith,
+    c.requires.1,
+    c.requires.2,
+    c.put_text_part-p.ensures.1,
+  ),
+  omega arith,
+  omega arith,
+  omega arith,
+)
 
 same_length : tie.Need-shape_of-out
 same_length c = search rules

@@ -69,32 +69,32 @@ same_length c = search rules
 
 returns : tie.Need-returns
 returns c = (
-      size_text _ _ refl
-          (at-put-text-flag c.before.before.before.before.before.before.before.before.before.before.before.before.before.before.before).put_text_flag-p.ensures.0
-          c.put_le-q.ensures.0
-          c.put_from-u.ensures.0
-          c.put_byte-v.ensures.0
-          c.put_from.ensures.0,
-      (
-        omega (
-          arith,
-          (at-put-text-flag c.before.before.before.before.before.before.before.before.before.before.before.before.before.before.before).put_text_flag-p.ensures.1,
-          c.put_le-q.ensures.1,
-          c.put_from-u.ensures.1,
-          c.put_byte-v.ensures.1,
-          c.put_from.ensures.1,
-        ),
-        omega (
-          arith,
-          (at-start c.before.before.before.before.before.before.before.before.before.before.before.before.before.before.before).requires.1,
-          (at-put-text-flag c.before.before.before.before.before.before.before.before.before.before.before.before.before.before.before).put_text_flag-p.ensures.1,
-          c.put_le-q.ensures.1,
-          c.put_from-u.ensures.1,
-          c.put_byte-v.ensures.1,
-          c.put_from.ensures.1,
-        ),
-      ),
-    )
+  size_text _ _ refl
+      (at-put-text-flag c.before.before.before.before.before.before.before.before.before.before.before.before.before.before.before).put_text_flag-p.ensures.0
+      c.put_le-q.ensures.0
+      c.put_from-u.ensures.0
+      c.put_byte-v.ensures.0
+      c.put_from.ensures.0,
+  (
+    omega (
+      arith,
+      (at-put-text-flag c.before.before.before.before.before.before.before.before.before.before.before.before.before.before.before).put_text_flag-p.ensures.1,
+      c.put_le-q.ensures.1,
+      c.put_from-u.ensures.1,
+      c.put_byte-v.ensures.1,
+      c.put_from.ensures.1,
+    ),
+    omega (
+      arith,
+      (at-start c.before.before.before.before.before.before.before.before.before.before.before.before.before.before.before).requires.1,
+      (at-put-text-flag c.before.before.before.before.before.before.before.before.before.before.before.before.before.before.before).put_text_flag-p.ensures.1,
+      c.put_le-q.ensures.1,
+      c.put_from-u.ensures.1,
+      c.put_byte-v.ensures.1,
+      c.put_from.ensures.1,
+    ),
+  ),
+)
 
 pub put_size_text_spec : {M : Type 1} → statement M
 put_size_text_spec =

@@ -17,15 +17,15 @@ same_length c = search rules
 
 returns : tie.Need-returns-then-node_part-eq-OPT_TEXT
 returns c = (
-      flag_there
-          c.node_part.ensures _
-          c.if-node_part-eq-OPT_TEXT.true
-          c.put_flag.ensures.0,
-      (
-        omega (arith, c.put_flag.ensures.1),
-        omega (arith, c.put_flag.ensures.1),
-      ),
-    )
+  flag_there
+      c.node_part.ensures _
+      c.if-node_part-eq-OPT_TEXT.true
+      c.put_flag.ensures.0,
+  (
+    omega (arith, c.put_flag.ensures.1),
+    omega (arith, c.put_flag.ensures.1),
+  ),
+)
 
 returns-2 : tie.Need-returns
 returns-2 c = (

@@ -18,20 +18,20 @@ same_length c = search rules
 
 returns : tie.Need-returns
 returns c = (
-      both c.put_text_flag-p.ensures.0 c.put_name.ensures.0,
-      (
-        omega (
-          arith,
-          c.put_text_flag-p.ensures.1,
-          c.put_name.ensures.1,
-        ),
-        omega (
-          arith,
-          c.put_text_flag-p.ensures.1,
-          c.put_name.ensures.1,
-        ),
-      ),
-    )
+  both c.put_text_flag-p.ensures.0 c.put_name.ensures.0,
+  (
+    omega (
+      arith,
+      c.put_text_flag-p.ensures.1,
+      c.put_name.ensures.1,
+    ),
+    omega (
+      arith,
+      c.put_text_flag-p.ensures.1,
+      c.put_name.ensures.1,
+    ),
+  ),
+)
 
 pub put_text_part_spec : {M : Type 1} → statement M
 put_text_part_spec =

@@ -10,24 +10,24 @@ open-block-requires c κs = omega (arith, c.requires.0)
 
 put-number-part-requires : tie.Need-put_number_part-q-requires
 put-number-part-requires c κs = (
-      omega (arith, c.requires.0, c.open_block-p.ensures.1),
-      c.requires.1,
-      c.requires.2,
-      omega arith,
-    )
+  omega (arith, c.requires.0, c.open_block-p.ensures.1),
+  c.requires.1,
+  c.requires.2,
+  omega arith,
+)
 
 put-text-flag-requires : tie.Need-put_text_flag-requires
 put-text-flag-requires c κs = (
-      omega (
-        arith,
-        c.requires.0,
-        c.open_block-p.ensures.1,
-        c.put_number_part-q.ensures.1,
-      ),
-      c.requires.1,
-      c.requires.2,
-      omega arith,
-    )
+  omega (
+    arith,
+    c.requires.0,
+    c.open_block-p.ensures.1,
+    c.put_number_part-q.ensures.1,
+  ),
+  c.requires.1,
+  c.requires.2,
+  omega arith,
+)
 
 same_length : tie.Need-shape_of-out
 same_length c = search rules

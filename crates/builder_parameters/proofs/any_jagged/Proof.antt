@@ -24,12 +24,12 @@ returns c = no_struct c.read2.ensures.0 c.if-read2-ne2.true
 
 field-list-requires : tie.Need-field_list-list-requires invariant-loop decreases-loop
 field-list-requires c κs = (
-      c.requires,
-      (
-        omega (arith, c.read2.ensures.0, c.if-read2-ne2.false),
-        omega (arith, c.read2.ensures.0, c.if-read2-ne2.false),
-      ),
-    )
+  c.requires,
+  (
+    omega (arith, c.read2.ensures.0, c.if-read2-ne2.false),
+    omega (arith, c.read2.ensures.0, c.if-read2-ne2.false),
+  ),
+)
 
 loop-holds : tie.Need-loop-left-init invariant-loop decreases-loop
 loop-holds c =

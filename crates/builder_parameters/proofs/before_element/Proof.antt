@@ -43,13 +43,13 @@ returns c =
 
 loop-holds : tie.Need-loop-to-init invariant-loop decreases-loop
 loop-holds c = (
-      omega arith,
-      c.segment_end-to.ensures.1.1,
-      begins _
-          c.segment_end-to.ensures.0
-          c.same_name.ensures
-          c.if-same_name.false,
-    )
+  omega arith,
+  c.segment_end-to.ensures.1.1,
+  begins _
+      c.segment_end-to.ensures.0
+      c.same_name.ensures
+      c.if-same_name.false,
+)
 
 add-next : tie.Need-overflow_add-next invariant-loop decreases-loop
 add-next c = omega (arith, c.loop-to-test.true)
@@ -85,15 +85,15 @@ loop-less c =
 
 loop-again : tie.Need-loop-to-preserved invariant-loop decreases-loop
 loop-again c = (
-      c.segment_end-end.ensures.1.0,
-      c.segment_end-end.ensures.1.1,
-      goes_on _ _ _
-          c.loop-to.invariant.2
-          c.loop-to-test.true
-          c.segment_end-end.ensures.0
-          c.same_name-in-loop-to.ensures
-          c.if-same_name-2.false,
-    )
+  c.segment_end-end.ensures.1.0,
+  c.segment_end-end.ensures.1.1,
+  goes_on _ _ _
+      c.loop-to.invariant.2
+      c.loop-to-test.true
+      c.segment_end-end.ensures.0
+      c.same_name-in-loop-to.ensures
+      c.if-same_name-2.false,
+)
 
 returns-3 : tie.Need-returns invariant-loop decreases-loop
 returns-3 c = no_element _ _ _ c.loop-to.invariant.2 c.loop-to-test.false

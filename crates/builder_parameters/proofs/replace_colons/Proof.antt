@@ -45,16 +45,16 @@ loop-less c =
 
 loop-again : tie.Need-loop-i-preserved-then-colons_at invariant-loop decreases-loop
 loop-again c = (
-      omega (arith, c.loop-i.invariant.0, c.put_byte-p.ensures.1),
-      omega (arith, c.colons_at.ensures.1 c.if-colons_at.true),
-      search rules,
-      λ zs r g. c.loop-i.invariant.3 zs r
-          (pair_more _ _
-          c.colons_at.ensures.0
-          c.if-colons_at.true
-          (c.colons_at.ensures.1 c.if-colons_at.true)
-          c.put_byte-p.ensures.0 g),
-    )
+  omega (arith, c.loop-i.invariant.0, c.put_byte-p.ensures.1),
+  omega (arith, c.colons_at.ensures.1 c.if-colons_at.true),
+  search rules,
+  λ zs r g. c.loop-i.invariant.3 zs r
+      (pair_more _ _
+      c.colons_at.ensures.0
+      c.if-colons_at.true
+      (c.colons_at.ensures.1 c.if-colons_at.true)
+      c.put_byte-p.ensures.0 g),
+)
 
 shared-slice-read-put-byte : tie.Need-bounds-name-i invariant-loop decreases-loop
 shared-slice-read-put-byte c =
@@ -74,16 +74,16 @@ loop-less-2 c =
 
 loop-again-2 : tie.Need-loop-i-preserved invariant-loop decreases-loop
 loop-again-2 c = (
-      omega (arith, c.loop-i.invariant.0, c.put_byte-p-in-loop-i.ensures.1),
-      omega (arith, c.loop-i-test.true),
-      search rules,
-      λ zs r g. c.loop-i.invariant.3 zs r
-          (one_more _ _
-          c.colons_at.ensures.0
-          c.if-colons_at.false
-          c.loop-i-test.true
-          c.put_byte-p-in-loop-i.ensures.0 g),
-    )
+  omega (arith, c.loop-i.invariant.0, c.put_byte-p-in-loop-i.ensures.1),
+  omega (arith, c.loop-i-test.true),
+  search rules,
+  λ zs r g. c.loop-i.invariant.3 zs r
+      (one_more _ _
+      c.colons_at.ensures.0
+      c.if-colons_at.false
+      c.loop-i-test.true
+      c.put_byte-p-in-loop-i.ensures.0 g),
+)
 
 same_length : tie.Need-shape_of-out invariant-loop decreases-loop
 same_length c = search rules

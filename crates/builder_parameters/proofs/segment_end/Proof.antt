@@ -25,9 +25,9 @@ shared-slice-read-if1 c = c.loop-to-test.true
 
 returns : tie.Need-returns-then-name-to-eq46 invariant-loop decreases-loop
 returns c = (
-      dot_end _ _ c.loop-to-test.true c.if-name-to-eq46.true ∙ c.loop-to.invariant.2,
-      (c.loop-to.invariant.0, c.loop-to.invariant.1),
-    )
+  dot_end _ _ c.loop-to-test.true c.if-name-to-eq46.true ∙ c.loop-to.invariant.2,
+  (c.loop-to.invariant.0, c.loop-to.invariant.1),
+)
 
 add-to : tie.Need-overflow_add-to invariant-loop decreases-loop
 add-to c = omega (arith, c.loop-to-test.true)
@@ -37,10 +37,10 @@ loop-less c = omega (arith, c.loop-to-test.true)
 
 loop-again : tie.Need-loop-to-preserved invariant-loop decreases-loop
 loop-again c = (
-      omega (arith, c.loop-to.invariant.0),
-      omega (arith, c.loop-to-test.true),
-      sym (same_end _ _ c.loop-to-test.true c.if-name-to-eq46.false) ∙ c.loop-to.invariant.2,
-    )
+  omega (arith, c.loop-to.invariant.0),
+  omega (arith, c.loop-to-test.true),
+  sym (same_end _ _ c.loop-to-test.true c.if-name-to-eq46.false) ∙ c.loop-to.invariant.2,
+)
 
 returns-2 : tie.Need-returns invariant-loop decreases-loop
 returns-2 c = (

@@ -41,48 +41,48 @@ add-result-2 c = search rules
 
 returns-2 : tie.Need-returns-then-not-stands_at-2
 returns-2 c = (
-      dot_missed
-          (at-start c.before.before.before.before.before.before.before.before).requires.0
-          c.name_at-n.ensures _ _ _
-          {r = c.stands_at.result}
-          c.stands_at.ensures.0
-          (c.if-not-stands_at.false)
-          c.if-left-gt1.true
-          {q = c.stands_at-then-left-gt1.result}
-          c.stands_at-then-left-gt1.ensures.0
-          (c.if-not-stands_at-2.true),
-      omega arith,
-    )
+  dot_missed
+      (at-start c.before.before.before.before.before.before.before.before).requires.0
+      c.name_at-n.ensures _ _ _
+      {r = c.stands_at.result}
+      c.stands_at.ensures.0
+      (c.if-not-stands_at.false)
+      c.if-left-gt1.true
+      {q = c.stands_at-then-left-gt1.result}
+      c.stands_at-then-left-gt1.ensures.0
+      (c.if-not-stands_at-2.true),
+  omega arith,
+)
 
 add-result-3 : tie.Need-overflow_add-result-then-left-gt1
 add-result-3 c = omega (arith, c.stands_at-then-left-gt1.ensures.1 (c.if-not-stands_at-2.false))
 
 returns-3 : tie.Need-returns-then-left-gt1
 returns-3 c = (
-      dot_met
-          (at-start c.before.before.before.before.before.before.before.before).requires.0
-          c.name_at-n.ensures _ _ _
-          {r = c.stands_at.result}
-          c.stands_at.ensures.0
-          (c.if-not-stands_at.false)
-          c.if-left-gt1.true
-          {q = c.stands_at-then-left-gt1.result}
-          c.stands_at-then-left-gt1.ensures.0
-          (c.if-not-stands_at-2.false),
-      omega (arith, c.stands_at-then-left-gt1.ensures.1 (c.if-not-stands_at-2.false)),
-    )
+  dot_met
+      (at-start c.before.before.before.before.before.before.before.before).requires.0
+      c.name_at-n.ensures _ _ _
+      {r = c.stands_at.result}
+      c.stands_at.ensures.0
+      (c.if-not-stands_at.false)
+      c.if-left-gt1.true
+      {q = c.stands_at-then-left-gt1.result}
+      c.stands_at-then-left-gt1.ensures.0
+      (c.if-not-stands_at-2.false),
+  omega (arith, c.stands_at-then-left-gt1.ensures.1 (c.if-not-stands_at-2.false)),
+)
 
 returns-4 : tie.Need-returns
 returns-4 c = (
-      last_met
-          (at-start c.before.before.before.before).requires.0
-          c.name_at-n.ensures _ _ _
-          {r = c.stands_at.result}
-          c.stands_at.ensures.0
-          (c.if-not-stands_at.false)
-          c.if-left-gt1.false,
-      omega (arith, c.stands_at.ensures.1 (c.if-not-stands_at.false)),
-    )
+  last_met
+      (at-start c.before.before.before.before).requires.0
+      c.name_at-n.ensures _ _ _
+      {r = c.stands_at.result}
+      c.stands_at.ensures.0
+      (c.if-not-stands_at.false)
+      c.if-left-gt1.false,
+  omega (arith, c.stands_at.ensures.1 (c.if-not-stands_at.false)),
+)
 
 pub behind_segment_spec : {M : Type 1} → statement M
 behind_segment_spec =

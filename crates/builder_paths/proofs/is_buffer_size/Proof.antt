@@ -38,9 +38,9 @@ loop-holds c = (
 
 behind-segment-requires : tie.Need-behind_segment-i-requires invariant-loop decreases-loop
 behind-segment-requires c κs = (
-      next_one _ c.loop-left-test.true c.loop-left.invariant.0,
-      omega (arith, c.loop-left.invariant.1),
-    )
+  next_one _ c.loop-left-test.true c.loop-left.invariant.0,
+  omega (arith, c.loop-left.invariant.1),
+)
 
 next-name-requires : tie.Need-next_name-q-requires invariant-loop decreases-loop
 next-name-requires c κs =
@@ -54,13 +54,13 @@ loop-less c = omega arith
 
 loop-again : tie.Need-loop-left-preserved invariant-loop decreases-loop
 loop-again c = (
-      match_more _
-          c.loop-left-test.true
-          c.behind_segment-i.ensures.0
-          c.next_name-q.ensures
-          c.loop-left.invariant.0,
-      c.behind_segment-i.ensures.1,
-    )
+  match_more _
+      c.loop-left-test.true
+      c.behind_segment-i.ensures.0
+      c.next_name-q.ensures
+      c.loop-left.invariant.0,
+  c.behind_segment-i.ensures.1,
+)
 
 returns : tie.Need-returns invariant-loop decreases-loop
 returns c =

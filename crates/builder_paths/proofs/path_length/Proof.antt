@@ -24,14 +24,14 @@ add-q c =
 
 loop-holds : tie.Need-loop-left-init invariant-loop decreases-loop
 loop-holds c = (
-      begin
-          (λ n. record { is = omega arith })
-          c.requires.0
-          c.requires.1
-          c.read2-left.ensures.0,
-      omega arith,
-      omega (arith, inside c.requires.0 c.requires.1),
-    )
+  begin
+      (λ n. record { is = omega arith })
+      c.requires.0
+      c.requires.1
+      c.read2-left.ensures.0,
+  omega arith,
+  omega (arith, inside c.requires.0 c.requires.1),
+)
 
 segment-length-requires : tie.Need-segment_length-n-requires invariant-loop decreases-loop
 segment-length-requires c κs = (next_one _ c.loop-left-test.true c.loop-left.invariant.0).inside
@@ -57,30 +57,30 @@ loop-less c = omega arith
 
 loop-again : tie.Need-loop-left-preserved invariant-loop decreases-loop
 loop-again c = (
-      pass_more _
-          c.loop-left-test.true
-          c.segment_length-n.ensures.0
-          c.next_name-q.ensures
-          c.loop-left.invariant.0,
-      omega (
-        arith,
-        c.loop-left.invariant.1,
-        c.next_name-q.ensures,
-        c.segment_length-n.ensures.1,
-      ),
-      omega (
-        arith,
-        c.next_name-q.ensures,
-        (next_one _ c.loop-left-test.true c.loop-left.invariant.0).inside,
-      ),
-    )
+  pass_more _
+      c.loop-left-test.true
+      c.segment_length-n.ensures.0
+      c.next_name-q.ensures
+      c.loop-left.invariant.0,
+  omega (
+    arith,
+    c.loop-left.invariant.1,
+    c.next_name-q.ensures,
+    c.segment_length-n.ensures.1,
+  ),
+  omega (
+    arith,
+    c.next_name-q.ensures,
+    (next_one _ c.loop-left-test.true c.loop-left.invariant.0).inside,
+  ),
+)
 
 returns : tie.Need-returns invariant-loop decreases-loop
 returns c = (
-      λ a path e. pass_end
-          (no_more c.loop-left-test.false c.loop-left.invariant.0 c.requires.1 a path e),
-      omega (arith, c.loop-left.invariant, c.requires.2),
-    )
+  λ a path e. pass_end
+      (no_more c.loop-left-test.false c.loop-left.invariant.0 c.requires.1 a path e),
+  omega (arith, c.loop-left.invariant, c.requires.2),
+)
 
 pub path_length_spec : {M : Type 1} → statement M
 path_length_spec =

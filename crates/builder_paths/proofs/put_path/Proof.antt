@@ -43,16 +43,16 @@ loop-holds c = (
 
 put-segment-requires : tie.Need-put_segment-p-requires invariant-loop decreases-loop
 put-segment-requires c κs = (
-      next_one _ c.loop-left-test.true c.loop-left.invariant.0,
-      (at-start c.before.before.before).requires.2,
-      omega (
-        arith,
-        c.loop-left.invariant.1,
-        (at-start c.before.before.before).requires.2,
-        (at-start c.before.before.before).requires.3,
-        (next_one _ c.loop-left-test.true c.loop-left.invariant.0).inside,
-      ),
-    )
+  next_one _ c.loop-left-test.true c.loop-left.invariant.0,
+  (at-start c.before.before.before).requires.2,
+  omega (
+    arith,
+    c.loop-left.invariant.1,
+    (at-start c.before.before.before).requires.2,
+    (at-start c.before.before.before).requires.3,
+    (next_one _ c.loop-left-test.true c.loop-left.invariant.0).inside,
+  ),
+)
 
 next-name-requires : tie.Need-next_name-q-requires invariant-loop decreases-loop
 next-name-requires c κs =
@@ -66,19 +66,19 @@ loop-less c = omega arith
 
 loop-again : tie.Need-loop-left-preserved invariant-loop decreases-loop
 loop-again c = (
-      write_more _
-          c.loop-left-test.true
-          c.put_segment-p.ensures.0
-          c.next_name-q.ensures
-          c.loop-left.invariant.0,
-      omega (
-        arith,
-        c.loop-left.invariant.1,
-        c.next_name-q.ensures,
-        c.put_segment-p.ensures.1,
-      ),
-      search rules,
-    )
+  write_more _
+      c.loop-left-test.true
+      c.put_segment-p.ensures.0
+      c.next_name-q.ensures
+      c.loop-left.invariant.0,
+  omega (
+    arith,
+    c.loop-left.invariant.1,
+    c.next_name-q.ensures,
+    c.put_segment-p.ensures.1,
+  ),
+  search rules,
+)
 
 same_length : tie.Need-shape_of-out invariant-loop decreases-loop
 same_length c = search rules

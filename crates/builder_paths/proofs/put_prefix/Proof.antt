@@ -32,11 +32,11 @@ loop-less c = omega arith
 
 loop-again : tie.Need-loop-k-preserved invariant-loop decreases-loop
 loop-again c = (
-      one_more _ c.loop-k.invariant.0 c.put_from-p.ensures.0,
-      omega (arith, c.loop-k.invariant.1, c.put_from-p.ensures.1),
-      omega arith,
-      search rules,
-    )
+  one_more _ c.loop-k.invariant.0 c.put_from-p.ensures.0,
+  omega (arith, c.loop-k.invariant.1, c.put_from-p.ensures.1),
+  omega arith,
+  search rules,
+)
 
 same_length : tie.Need-shape_of-out invariant-loop decreases-loop
 same_length c = search rules

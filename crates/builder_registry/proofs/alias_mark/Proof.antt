@@ -43,12 +43,12 @@ mark-requires c κs = search rules
 
 place-requires : tie.Need-place-requires
 place-requires c κs = (
-      c.requires.0,
-      sought_at c.mark-mark.ensures
-          (c.requires.1 ∙ ap owner_mark
-          (sym (held_of _ c.held_at-o.ensures.0 c.owner_at-at.ensures.0)))
-          c.held_at-o.ensures.0,
-    )
+  c.requires.0,
+  sought_at c.mark-mark.ensures
+      (c.requires.1 ∙ ap owner_mark
+      (sym (held_of _ c.held_at-o.ensures.0 c.owner_at-at.ensures.0)))
+      c.held_at-o.ensures.0,
+)
 
 returns-3 : tie.Need-returns-then-place-n
 returns-3 c =

@@ -29,29 +29,29 @@ add_at c = omega arith
 
 loop-holds : tie.Need-loop-left-init invariant-loop decreases-loop
 loop-holds c = (
-      omega arith,
-      search rules,
-      paths_begin _ _ c.read2-left.ensures.0 c.requires.2,
-      c.requires.0.index,
-    )
+  omega arith,
+  search rules,
+  paths_begin _ _ c.read2-left.ensures.0 c.requires.2,
+  c.requires.0.index,
+)
 
 ensure-requires : tie.Need-ensure-e-requires invariant-loop decreases-loop
 ensure-requires c κs = (
-      standing c.requires.0 c.loop-left.invariant.1 c.loop-left.invariant.0 c.loop-left.invariant.3,
-      omega (arith, c.marked_owner-marked.ensures.0),
-      rw c.marked_owner-marked.ensures.0 c.marked_owner-marked.ensures.1,
-      omega (arith, entry_named c.loop-left.invariant.2.here c.loop-left-test.true),
-    )
+  standing c.requires.0 c.loop-left.invariant.1 c.loop-left.invariant.0 c.loop-left.invariant.3,
+  omega (arith, c.marked_owner-marked.ensures.0),
+  rw c.marked_owner-marked.ensures.0 c.marked_owner-marked.ensures.1,
+  omega (arith, entry_named c.loop-left.invariant.2.here c.loop-left-test.true),
+)
 
 same_length : tie.Need-shape_of-words-then-e-ne0 invariant-loop decreases-loop
 same_length c = search rules
 
 returns : tie.Need-returns-then-e-ne0 invariant-loop decreases-loop
 returns c = (
-      omega arith,
-      paths_stop _ _ _ _ c.loop-left-test.true (rw c.marked_owner-marked.ensures.0 at c.ensure-e.ensures.1)
-          c.if-e-ne0.true c.loop-left.invariant.2,
-    )
+  omega arith,
+  paths_stop _ _ _ _ c.loop-left-test.true (rw c.marked_owner-marked.ensures.0 at c.ensure-e.ensures.1)
+      c.if-e-ne0.true c.loop-left.invariant.2,
+)
 
 next-name-requires : tie.Need-next_name-at-requires invariant-loop decreases-loop
 next-name-requires c κs =
@@ -65,12 +65,12 @@ loop-less c = omega arith
 
 loop-again : tie.Need-loop-left-preserved invariant-loop decreases-loop
 loop-again c = (
-      omega arith,
-      search rules,
-      paths_more _ _ _ _ c.loop-left-test.true (rw c.marked_owner-marked.ensures.0 at c.ensure-e.ensures.1)
-          c.next_name-at.ensures c.if-e-ne0.false c.loop-left.invariant.2,
-      kept_index c.if-e-ne0.false c.ensure-e.ensures.1,
-    )
+  omega arith,
+  search rules,
+  paths_more _ _ _ _ c.loop-left-test.true (rw c.marked_owner-marked.ensures.0 at c.ensure-e.ensures.1)
+      c.next_name-at.ensures c.if-e-ne0.false c.loop-left.invariant.2,
+  kept_index c.if-e-ne0.false c.ensure-e.ensures.1,
+)
 
 same-length-2 : tie.Need-shape_of-words invariant-loop decreases-loop
 same-length-2 c = search rules

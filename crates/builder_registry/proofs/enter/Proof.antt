@@ -12,22 +12,22 @@ name-length-requires c κs = search rules
 
 returns : tie.Need-returns-then-name_length-gt255
 returns c = (
-      omega arith,
-      (
-        entered_long _ _ _ _ _ (omega arith) c.name_length.ensures.0 _ c.if-name_length-gt255.true,
-        λ z. not_seventeen z,
-      ),
-    )
+  omega arith,
+  (
+    entered_long _ _ _ _ _ (omega arith) c.name_length.ensures.0 _ c.if-name_length-gt255.true,
+    λ z. not_seventeen z,
+  ),
+)
 
 returns-2 : tie.Need-returns-then-n-ge512
 returns-2 c = (
-      omega arith,
-      (
-        entered_full _ _ _ _ _ (omega arith) c.name_length.ensures.0 _ c.if-name_length-gt255.false
-            c.if-n-ge512.true,
-        λ z. not_seventeen z,
-      ),
-    )
+  omega arith,
+  (
+    entered_full _ _ _ _ _ (omega arith) c.name_length.ensures.0 _ c.if-name_length-gt255.false
+        c.if-n-ge512.true,
+    λ z. not_seventeen z,
+  ),
+)
 
 alias-mark-requires : tie.Need-alias_mark-alias-requires
 alias-mark-requires c κs =
@@ -52,12 +52,12 @@ same_length c =
 
 returns-3 : tie.Need-returns
 returns-3 c = (
-      omega arith,
-      entered _ _ _ _ _ (omega (arith, c.requires.0)) c.name_length.ensures.0 _ _ _
-          c.if-name_length-gt255.false c.if-n-ge512.false c.requires.0.index c.link.ensures
-          (c.link.auto.words ∙ length-set c.args.words.now c.args.n
-          c.args.w) c.requires.1.key c.alias_mark-alias.ensures,
-    )
+  omega arith,
+  entered _ _ _ _ _ (omega (arith, c.requires.0)) c.name_length.ensures.0 _ _ _
+      c.if-name_length-gt255.false c.if-n-ge512.false c.requires.0.index c.link.ensures
+      (c.link.auto.words ∙ length-set c.args.words.now c.args.n
+      c.args.w) c.requires.1.key c.alias_mark-alias.ensures,
+)
 
 pub enter_spec : {M : Type 1} → statement M
 enter_spec =

@@ -73,14 +73,14 @@ same_length c = search rules
 
 returns : tie.Need-returns-then-e-ne0 invariant-loop decreases-loop
 returns c = (
-      omega arith,
-      owners_stop _ _ _
-          c.loop-left-test.true
-          c.owner_paths-paths.ensures
-          c.ensure_all-e.ensures.1
-          c.if-e-ne0.true
-          (at-loop c.before.before.before.before.before.before.before).loop-left.invariant.2,
-    )
+  omega arith,
+  owners_stop _ _ _
+      c.loop-left-test.true
+      c.owner_paths-paths.ensures
+      c.ensure_all-e.ensures.1
+      c.if-e-ne0.true
+      (at-loop c.before.before.before.before.before.before.before).loop-left.invariant.2,
+)
 
 add-at-3 : tie.Need-overflow_add-at-in-loop-left-2 invariant-loop decreases-loop
 add-at-3 c =

@@ -25,16 +25,16 @@ canonical-mark-requires c κs = search rules
 
 returns : tie.Need-returns-then-made-eq0
 returns c = (
-      mark_path _ _
-          c.made_of-made.ensures
-          c.owner_at-owner.ensures.0
-          c.mark_owner-start.ensures
-          c.held_at-o.ensures.0
-          c.path_of.ensures.0
-          c.if-made-eq0.true
-          c.canonical_mark-mark.ensures,
-      record { is = λ h. c.mark_owner-start.ensures },
-    )
+  mark_path _ _
+      c.made_of-made.ensures
+      c.owner_at-owner.ensures.0
+      c.mark_owner-start.ensures
+      c.held_at-o.ensures.0
+      c.path_of.ensures.0
+      c.if-made-eq0.true
+      c.canonical_mark-mark.ensures,
+  record { is = λ h. c.mark_owner-start.ensures },
+)
 
 pick-requires : tie.Need-pick-end-requires
 pick-requires c κs = search rules
@@ -45,15 +45,15 @@ mark-requires c κs = search rules
 returns-2 : tie.Need-returns
 unfolding made_end
 returns-2 c = (
-      mark_made _ _
-          c.made_of-made.ensures
-          c.owner_at-owner.ensures.0
-          c.mark_owner-start.ensures
-          c.pick-end.ensures
-          c.if-made-eq0.false
-          c.mark-mark.ensures,
-      record { is = λ h. c.mark_owner-start.ensures },
-    )
+  mark_made _ _
+      c.made_of-made.ensures
+      c.owner_at-owner.ensures.0
+      c.mark_owner-start.ensures
+      c.pick-end.ensures
+      c.if-made-eq0.false
+      c.mark-mark.ensures,
+  record { is = λ h. c.mark_owner-start.ensures },
+)
 
 pub mark_name_spec : {M : Type 1} → statement M
 mark_name_spec =

@@ -20,9 +20,9 @@ place-requires c κs =
 
 returns : tie.Need-returns
 returns c = (
-      path_place _ _ _ _ _ c.normalize_path-key.ensures c.place.ensures.0,
-      c.place.ensures.1,
-    )
+  path_place _ _ _ _ _ c.normalize_path-key.ensures c.place.ensures.0,
+  c.place.ensures.1,
+)
 
 pub path_place_spec : {M : Type 1} → statement M
 path_place_spec =

@@ -66,8 +66,8 @@ loop-again : tie.Need-loop-j-preserved invariant-loop decreases-loop
 loop-again c =
     let prior = c.before-j.ensures (walk_chain c.loop-j.invariant.walk (index_linked (from-loop c.before.before.before.before.before).requires.0.index)) in
     elim c.if-is_keyed.branch [
-      then-is_keyed w ↦ rw w.found-is (searching_hit c.loop-j.invariant c.loop-j-test.true prior c.is_keyed.ensures w.if-is_keyed.true)
-    | else-is_keyed w ↦ rw w.found-is (searching_miss c.loop-j.invariant c.loop-j-test.true prior c.is_keyed.ensures w.if-is_keyed.false)
+      | then-is_keyed w ↦ rw w.found-is (searching_hit c.loop-j.invariant c.loop-j-test.true prior c.is_keyed.ensures w.if-is_keyed.true)
+      | else-is_keyed w ↦ rw w.found-is (searching_miss c.loop-j.invariant c.loop-j-test.true prior c.is_keyed.ensures w.if-is_keyed.false)
     ]
 
 returns : tie.Need-returns invariant-loop decreases-loop

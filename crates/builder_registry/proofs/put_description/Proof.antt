@@ -14,9 +14,9 @@ same_length c = search rules
 
 returns : tie.Need-returns-then-made-eq0
 returns c = (
-      puts_none _ c.if-made-eq0.true c.put_flag.ensures.0,
-      (omega arith, omega arith),
-    )
+  puts_none _ c.if-made-eq0.true c.put_flag.ensures.0,
+  (omega arith, omega arith),
+)
 
 pick-requires : tie.Need-pick-text-requires
 pick-requires c κs = search rules
@@ -39,17 +39,17 @@ same-length-2 c = search rules
 returns-2 : tie.Need-returns
 unfolding made_text
 returns-2 c = (
-      puts_some _ _
-          c.if-made-eq0.false
-          c.pick-text.ensures
-          c.put_flag-p.ensures.0
-          c.put_name.ensures.0,
-      some_bound
-          c.args.made _
-          c.pick-text.ensures
-          c.put_flag-p.ensures.1
-          c.put_name.ensures.1,
-    )
+  puts_some _ _
+      c.if-made-eq0.false
+      c.pick-text.ensures
+      c.put_flag-p.ensures.0
+      c.put_name.ensures.0,
+  some_bound
+      c.args.made _
+      c.pick-text.ensures
+      c.put_flag-p.ensures.1
+      c.put_name.ensures.1,
+)
 
 pub put_description_spec : {M : Type 1} → statement M
 put_description_spec =

@@ -16,9 +16,9 @@ same_length c = search rules
 
 returns : tie.Need-returns-then-mine
 returns c = (
-      puts_yes _ _ _ c.if-mine.true c.put_parameter-end.ensures.0,
-      (counts_yes _ _ _ _ c.if-mine.true, (omega arith, omega arith, omega arith)),
-    )
+  puts_yes _ _ _ c.if-mine.true c.put_parameter-end.ensures.0,
+  (counts_yes _ _ _ _ c.if-mine.true, (omega arith, omega arith, omega arith)),
+)
 
 returns-2 : tie.Need-returns
 returns-2 c = (

@@ -89,9 +89,9 @@ same_length c = search rules
 
 returns : tie.Need-returns invariant-loop decreases-loop
 returns c = (
-      c.loop-i.invariant.7 _ _ (put_end _ _ _ (omega arith) _ _ _ _ c.loop-i-test.false),
-      (count_end _ _ _ (omega arith) _ _ _ _ c.loop-i-test.false c.loop-i.invariant.6, (omega arith, omega arith)),
-    )
+  c.loop-i.invariant.7 _ _ (put_end _ _ _ (omega arith) _ _ _ _ c.loop-i-test.false),
+  (count_end _ _ _ (omega arith) _ _ _ _ c.loop-i-test.false c.loop-i.invariant.6, (omega arith, omega arith)),
+)
 
 pub put_owned_spec : {M : Type 1} → statement M
 put_owned_spec =

@@ -19,12 +19,12 @@ same_length c = search rules
 
 returns : tie.Need-returns
 returns c = (
-      counted_last _
-          c.put_owned-listed.ensures.0
-          c.put_le.ensures.0
-          c.put_owned-listed.ensures.1.0,
-      (omega arith, omega arith),
-    )
+  counted_last _
+      c.put_owned-listed.ensures.0
+      c.put_le.ensures.0
+      c.put_owned-listed.ensures.1.0,
+  (omega arith, omega arith),
+)
 
 pub put_owner_parameters_spec : {M : Type 1} → statement M
 put_owner_parameters_spec =

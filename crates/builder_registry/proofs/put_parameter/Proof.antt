@@ -31,16 +31,16 @@ same_length c = search rules
 
 returns : tie.Need-returns
 returns c = (
-      puts_parameter _ _ _ _
-          c.made_of.ensures
-          c.is_derived.ensures
-          c.open_block-p.ensures.0
-          c.put_entry_name-q.ensures.0
-          c.put_description-u.ensures.0
-          c.put_flag-e.ensures.0
-          c.close_block.ensures.0,
-      (omega arith, omega arith),
-    )
+  puts_parameter _ _ _ _
+      c.made_of.ensures
+      c.is_derived.ensures
+      c.open_block-p.ensures.0
+      c.put_entry_name-q.ensures.0
+      c.put_description-u.ensures.0
+      c.put_flag-e.ensures.0
+      c.close_block.ensures.0,
+  (omega arith, omega arith),
+)
 
 pub put_parameter_spec : {M : Type 1} → statement M
 put_parameter_spec =

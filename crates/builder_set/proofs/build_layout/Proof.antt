@@ -31,9 +31,9 @@ put-le-requires c κs = search rules
 
 build-types-requires : tie.Need-build_types-r-requires
 build-types-requires c κs = (
-      c.requires,
-      omega (arith, c.open_block-p.ensures.1, c.put_le-q.ensures.1),
-    )
+  c.requires,
+  omega (arith, c.open_block-p.ensures.1, c.put_le-q.ensures.1),
+)
 
 of-requires : tie.Need-of-requires
 of-requires c κs = search rules
@@ -56,19 +56,19 @@ returns c =
 
 close-block-requires : tie.Need-close_block-requires
 close-block-requires c κs = (
-      omega (
-        arith,
-        (at-open-block c.before.before.before.before).open_block-p.ensures.1,
-        (at-put-le c.before.before.before.before).put_le-q.ensures.1,
-        (at-build-types c.before.before.before.before).build_types-r.ensures.0,
-      ),
-      omega (
-        arith,
-        (at-open-block c.before.before.before.before).open_block-p.ensures.1,
-        (at-put-le c.before.before.before.before).put_le-q.ensures.1,
-        (at-build-types c.before.before.before.before).build_types-r.ensures.0,
-      ),
-    )
+  omega (
+    arith,
+    (at-open-block c.before.before.before.before).open_block-p.ensures.1,
+    (at-put-le c.before.before.before.before).put_le-q.ensures.1,
+    (at-build-types c.before.before.before.before).build_types-r.ensures.0,
+  ),
+  omega (
+    arith,
+    (at-open-block c.before.before.before.before).open_block-p.ensures.1,
+    (at-put-le c.before.before.before.before).put_le-q.ensures.1,
+    (at-build-types c.before.before.before.before).build_types-r.ensures.0,
+  ),
+)
 
 holds-requires : tie.Need-holds-requires
 holds-requires c κs = search rules

@@ -26,15 +26,15 @@ read2-requires c κs =
 
 loop-holds : tie.Need-loop-left-init invariant-loop decreases-loop
 loop-holds c = record {
-      types = omega (arith, (set_counts c.requires.0).1, c.read2-left.ensures.0);
-      low = omega arith;
-      high = omega arith;
-      inside = omega arith;
-      ready = c.requires.0;
-      loop = begin c.read2-left.ensures.0;
-      words = refl;
-      out = refl;
-    }
+  types = omega (arith, (set_counts c.requires.0).1, c.read2-left.ensures.0);
+  low = omega arith;
+  high = omega arith;
+  inside = omega arith;
+  ready = c.requires.0;
+  loop = begin c.read2-left.ensures.0;
+  words = refl;
+  out = refl;
+}
 
 build-type-requires : tie.Need-build_type-b-requires invariant-loop decreases-loop
 build-type-requires c κs =
@@ -52,13 +52,13 @@ same-length-2 c = search rules
 
 returns : tie.Need-returns-then-b-ne0 invariant-loop decreases-loop
 returns c = (
-      (omega arith, omega arith),
-      stopped
-          c.loop-left-test.true
-          c.build_type-b.ensures.1
-          c.if-b-ne0.true refl
-          c.loop-left.invariant.loop,
-    )
+  (omega arith, omega arith),
+  stopped
+      c.loop-left-test.true
+      c.build_type-b.ensures.1
+      c.if-b-ne0.true refl
+      c.loop-left.invariant.loop,
+)
 
 read4-requires : tie.Need-read4-length-requires invariant-loop decreases-loop
 read4-requires c κs = omega (
@@ -99,24 +99,24 @@ loop-less c = omega arith
 
 loop-again : tie.Need-loop-left-preserved invariant-loop decreases-loop
 loop-again c = record {
-      types = omega arith;
-      low = omega (arith, c.build_type-b.ensures.0.0);
-      high = omega (arith, c.build_type-b.ensures.0.1);
-      inside = omega (
-        arith,
-        next_end c.loop-left.invariant.ready c.loop-left-test.true c.loop-left.invariant.loop,
-        c.read4-length.ensures.0,
-      );
-      ready = ready_again c.loop-left.invariant.ready (omega arith);
-      loop = go_on _
-          c.loop-left-test.true
-          c.build_type-b.ensures.1
-          c.if-b-ne0.false
-          c.read4-length.ensures.0
-          c.loop-left.invariant.loop;
-      words = omega (arith, c.loop-left.invariant.words);
-      out = omega (arith, c.loop-left.invariant.out);
-    }
+  types = omega arith;
+  low = omega (arith, c.build_type-b.ensures.0.0);
+  high = omega (arith, c.build_type-b.ensures.0.1);
+  inside = omega (
+    arith,
+    next_end c.loop-left.invariant.ready c.loop-left-test.true c.loop-left.invariant.loop,
+    c.read4-length.ensures.0,
+  );
+  ready = ready_again c.loop-left.invariant.ready (omega arith);
+  loop = go_on _
+      c.loop-left-test.true
+      c.build_type-b.ensures.1
+      c.if-b-ne0.false
+      c.read4-length.ensures.0
+      c.loop-left.invariant.loop;
+  words = omega (arith, c.loop-left.invariant.words);
+  out = omega (arith, c.loop-left.invariant.out);
+}
 
 same-length-3 : tie.Need-shape_of-words invariant-loop decreases-loop
 same-length-3 c = search rules

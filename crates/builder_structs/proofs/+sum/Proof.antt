@@ -67,14 +67,14 @@ child-requires t c κs =
 
 returns : (t : ℕ) → lts.Need-returns-then-k-eq1 (calls t) (within t) reads.Post
 returns t c = (
-      record {
-        low = c.child.ensures.0.low;
-        high = omega (arith, c.child.ensures.0.high, c.if-k-eq1.true);
-        count = c.child.ensures.0.count;
-        list = c.child.ensures.0.list;
-      },
-      λ t b l q. sum_one _ _ c.if-k-eq1.true (c.child.ensures.1 t b l q),
-    )
+  record {
+    low = c.child.ensures.0.low;
+    high = omega (arith, c.child.ensures.0.high, c.if-k-eq1.true);
+    count = c.child.ensures.0.count;
+    list = c.child.ensures.0.list;
+  },
+  λ t b l q. sum_one _ _ c.if-k-eq1.true (c.child.ensures.1 t b l q),
+)
 
 open-add-requires : (t : ℕ) → lts.Need-open_add-p-requires (calls t) (within t) reads.Post
 open-add-requires t c κs =

@@ -16,12 +16,12 @@ variable-field-requires c κs =
 
 returns : tie.Need-returns-then-t
 returns c = (
-      c.variable_field.ensures.0,
-      field_variable _ _ _
-          c.type_head-t.ensures
-          c.if-t.true
-          c.variable_field.ensures.1,
-    )
+  c.variable_field.ensures.0,
+  field_variable _ _ _
+      c.type_head-t.ensures
+      c.if-t.true
+      c.variable_field.ensures.1,
+)
 
 enter-own-requires : tie.Need-enter_own-h-requires
 enter-own-requires c κs =
@@ -29,27 +29,27 @@ enter-own-requires c κs =
 
 returns-2 : tie.Need-returns-then-h-ne0
 returns-2 c = (
-      stopped c.requires.field.base.standing.count,
-      field_stops _ _ _
-          c.type_head-t.ensures
-          c.if-t.false
-          c.enter_own-h.ensures.1
-          c.if-h-ne0.true,
-    )
+  stopped c.requires.field.base.standing.count,
+  field_stops _ _ _
+      c.type_head-t.ensures
+      c.if-t.false
+      c.enter_own-h.ensures.1
+      c.if-h-ne0.true,
+)
 
 returns-3 : tie.Need-returns
 returns-3 c = (
-      ends_at
-          (omega (arith, c.put_const_or_zero-u.ensures.1))
-          (omega (arith, c.put_const_or_zero-u.ensures.1))
-          c.enter_own-h.ensures.0,
-      field_done _ _ _
-          c.type_head-t.ensures
-          c.if-t.false
-          c.enter_own-h.ensures.1
-          c.if-h-ne0.false
-          c.put_const_or_zero-u.ensures.0,
-    )
+  ends_at
+      (omega (arith, c.put_const_or_zero-u.ensures.1))
+      (omega (arith, c.put_const_or_zero-u.ensures.1))
+      c.enter_own-h.ensures.0,
+  field_done _ _ _
+      c.type_head-t.ensures
+      c.if-t.false
+      c.enter_own-h.ensures.1
+      c.if-h-ne0.false
+      c.put_const_or_zero-u.ensures.0,
+)
 
 pub build_field_spec : {M : Type 1} → statement M
 build_field_spec =

@@ -20,9 +20,9 @@ type-head-requires c κs =
 
 field-list-requires : tie.Need-field_list-list-requires
 field-list-requires c κs = (
-      c.requires.0.type_at,
-      (omega (arith, c.requires.0.kind_is), omega (arith, c.requires.0.kind_is)),
-    )
+  c.requires.0.type_at,
+  (omega (arith, c.requires.0.kind_is), omega (arith, c.requires.0.kind_is)),
+)
 
 count-nodes-requires : tie.Need-count_nodes-k-requires
 count-nodes-requires c κs = (
@@ -32,74 +32,74 @@ count-nodes-requires c κs = (
 
 returns : tie.Need-returns-then-k-eq0
 returns c = (
-      stopped (at-start c.before.before).requires.0.standing.count,
-      struct_none _
-          (at-start c.before.before).requires.0.kind_is
-          (at-type-head c.before.before).type_head-h.ensures
-          c.field_list-list.ensures
-          c.count_nodes-k.ensures.1
-          c.if-k-eq0.true,
-    )
+  stopped (at-start c.before.before).requires.0.standing.count,
+  struct_none _
+      (at-start c.before.before).requires.0.kind_is
+      (at-type-head c.before.before).type_head-h.ensures
+      c.field_list-list.ensures
+      c.count_nodes-k.ensures.1
+      c.if-k-eq0.true,
+)
 
 sum-requires : tie.Need-sum-r-requires
 sum-requires c κs = record {
-      standing = (at-start c.before.before.before.before.before.before.before.before).requires.0.standing;
-      set = (at-start c.before.before.before.before.before.before.before.before).requires.0.set;
-      refs = ((at-type-head c.before.before.before.before.before.before.before.before).type_head-h.ensures
-          (at-start c.before.before.before.before.before.before.before.before).requires.0.type_at).references;
-      list = (c.field_list-list.ensures (at-start c.before.before.before.before.before.before.before.before).requires.0.type_at).list;
-      some = omega (arith, c.if-k-eq0.false);
-      room = omega (
-        arith,
-        c.open_align-p.ensures.1,
-        c.count_nodes-k.ensures.0,
-        (at-start c.before.before.before.before.before.before.before.before).requires.1,
-      );
-    }
+  standing = (at-start c.before.before.before.before.before.before.before.before).requires.0.standing;
+  set = (at-start c.before.before.before.before.before.before.before.before).requires.0.set;
+  refs = ((at-type-head c.before.before.before.before.before.before.before.before).type_head-h.ensures
+      (at-start c.before.before.before.before.before.before.before.before).requires.0.type_at).references;
+  list = (c.field_list-list.ensures (at-start c.before.before.before.before.before.before.before.before).requires.0.type_at).list;
+  some = omega (arith, c.if-k-eq0.false);
+  room = omega (
+    arith,
+    c.open_align-p.ensures.1,
+    c.count_nodes-k.ensures.0,
+    (at-start c.before.before.before.before.before.before.before.before).requires.1,
+  );
+}
 
 close-aligned-requires : tie.Need-close_aligned-requires
 close-aligned-requires c κs = (
-      omega (arith, c.open_align-p.ensures.1, c.sum-r.ensures.0.low),
-      omega (
-        arith,
-        c.open_align-p.ensures.1,
-        c.sum-r.ensures.0.high,
-        c.count_nodes-k.ensures.0,
-        (at-start c.before.before.before.before.before.before.before.before.before.before.before.before.before.before).requires.1,
-      ),
-    )
+  omega (arith, c.open_align-p.ensures.1, c.sum-r.ensures.0.low),
+  omega (
+    arith,
+    c.open_align-p.ensures.1,
+    c.sum-r.ensures.0.high,
+    c.count_nodes-k.ensures.0,
+    (at-start c.before.before.before.before.before.before.before.before.before.before.before.before.before.before).requires.1,
+  ),
+)
 
 returns-2 : tie.Need-returns
 returns-2 c = (
-      record {
-        low = omega (
-          arith,
-          c.open_align-p.ensures.1,
-          c.sum-r.ensures.0.low,
-          c.close_aligned.ensures.0,
-        );
-        high = omega (
-          arith,
-          c.open_align-p.ensures.1,
-          c.sum-r.ensures.0.high,
-          c.count_nodes-k.ensures.0,
-          c.close_aligned.ensures.0,
-        );
-        count = omega (
-          arith,
-          c.sum-r.ensures.0.count,
-          c.close_aligned.ensures.0,
-        );
-      },
-      struct_built _
-          (at-start c.before.before.before.before.before.before.before.before.before.before.before.before.before.before.before.before.before).requires.0.kind_is
-          (at-type-head c.before.before.before.before.before.before.before.before.before.before.before.before.before.before.before.before.before).type_head-h.ensures
-          c.field_list-list.ensures
-          c.count_nodes-k.ensures.1
-          c.sum-r.ensures.1
-          c.open_align-p.ensures.0
-          c.close_aligned.ensures.1,
-    )
+  record {
+    low = omega (
+      arith,
+      c.open_align-p.ensures.1,
+      c.sum-r.ensures.0.low,
+      c.close_aligned.ensures.0,
+    );
+    high = omega (
+      arith,
+      c.open_align-p.ensures.1,
+      c.sum-r.ensures.0.high,
+      c.count_nodes-k.ensures.0,
+      c.close_aligned.ensures.0,
+    );
+    count = omega (
+      arith,
+      c.sum-r.ensures.0.count,
+      c.close_aligned.ensures.0,
+    );
+  },
+  struct_built _
+      (at-start c.before.before.before.before.before.before.before.before.before.before.before.before.before.before.before.before.before).requires.0.kind_is
+      (at-type-head c.before.before.before.before.before.before.before.before.before.before.before.before.before.before.before.before.before).type_head-h.ensures
+      c.field_list-list.ensures
+      c.count_nodes-k.ensures.1
+      c.sum-r.ensures.1
+      c.open_align-p.ensures.0
+      c.close_aligned.ensures.1,
+)
 
 pub build_variable_struct_spec : {M : Type 1} → statement M
 build_variable_struct_spec =

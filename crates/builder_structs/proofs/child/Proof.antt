@@ -12,14 +12,14 @@ at-start r = r.before.before.before.before.before
 
 returns : tie.Need-returns-then-from-eq0
 returns c = (
-      record {
-        low = omega arith;
-        high = omega arith;
-        count = c.requires.standing.count;
-        list = c.requires.list;
-      },
-      child_none _ _ _ c.if-from-eq0.true,
-    )
+  record {
+    low = omega arith;
+    high = omega arith;
+    count = c.requires.standing.count;
+    list = c.requires.list;
+  },
+  child_none _ _ _ c.if-from-eq0.true,
+)
 
 field-node-requires : tie.Need-field_node-requires
 field-node-requires c κs =
@@ -27,9 +27,9 @@ field-node-requires c κs =
 
 returns-2 : tie.Need-returns-then-from
 returns-2 c = (
-      c.field_node.ensures.0,
-      child_half _ _ _ c.field_node.ensures.1 c.if-from.true,
-    )
+  c.field_node.ensures.0,
+  child_half _ _ _ c.field_node.ensures.1 c.if-from.true,
+)
 
 field-parts-requires : tie.Need-field_parts-f-requires
 field-parts-requires c κs =
@@ -41,33 +41,33 @@ field-node-requires-2 c κs =
 
 returns-3 : tie.Need-returns-then-pad-eq0
 returns-3 c = (
-      c.field_node-then-pad-eq0.ensures.0,
-      child_plain _ _ _
-          c.field_node-then-pad-eq0.ensures.1
-          c.if-from.false
-          (omega (arith, c.if-from-eq0.false))
-          c.field_parts-f.ensures
-          c.padding-pad.ensures
-          c.if-pad-eq0.true,
-    )
+  c.field_node-then-pad-eq0.ensures.0,
+  child_plain _ _ _
+      c.field_node-then-pad-eq0.ensures.1
+      c.if-from.false
+      (omega (arith, c.if-from-eq0.false))
+      c.field_parts-f.ensures
+      c.padding-pad.ensures
+      c.if-pad-eq0.true,
+)
 
 returns-4 : tie.Need-returns
 returns-4 c = (
-      record {
-        low = omega (arith, c.put_const_or_zero-u.ensures.1);
-        high = omega (arith, c.put_const_or_zero-u.ensures.1);
-        count = c.requires.standing.count;
-        list = c.requires.list;
-      },
-      child_pad
-          c.requires.standing.index
-          c.if-from.false
-          (omega (arith, c.if-from-eq0.false))
-          c.field_parts-f.ensures
-          c.padding-pad.ensures
-          c.if-pad-eq0.false
-          c.put_const_or_zero-u.ensures.0,
-    )
+  record {
+    low = omega (arith, c.put_const_or_zero-u.ensures.1);
+    high = omega (arith, c.put_const_or_zero-u.ensures.1);
+    count = c.requires.standing.count;
+    list = c.requires.list;
+  },
+  child_pad
+      c.requires.standing.index
+      c.if-from.false
+      (omega (arith, c.if-from-eq0.false))
+      c.field_parts-f.ensures
+      c.padding-pad.ensures
+      c.if-pad-eq0.false
+      c.put_const_or_zero-u.ensures.0,
+)
 
 pub child_spec : {M : Type 1} → statement M
 child_spec =

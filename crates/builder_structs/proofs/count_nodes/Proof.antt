@@ -35,20 +35,20 @@ prefix-after-requires c κs =
 
 returns : tie.Need-returns-in-Over invariant-loop decreases-loop
 returns c = (
-      omega (
-        arith,
-        c.nodes_of-n.ensures.0,
-        (at-loop c.before.before.before.before).loop-rest.invariant.0,
-        c.loop-rest-test.true,
-      ),
-      count_over _
-          c.field_parts-f.ensures
-          c.nodes_of-n.ensures.1
-          c.prefix_after.ensures
-          c.loop-rest-test.true
-          c.in-Over.is
-          (at-loop c.before.before.before.before).loop-rest.invariant.1,
-    )
+  omega (
+    arith,
+    c.nodes_of-n.ensures.0,
+    (at-loop c.before.before.before.before).loop-rest.invariant.0,
+    c.loop-rest-test.true,
+  ),
+  count_over _
+      c.field_parts-f.ensures
+      c.nodes_of-n.ensures.1
+      c.prefix_after.ensures
+      c.loop-rest-test.true
+      c.in-Over.is
+      (at-loop c.before.before.before.before).loop-rest.invariant.1,
+)
 
 add_at : tie.Need-overflow_add-at invariant-loop decreases-loop
 add_at c =
@@ -76,21 +76,21 @@ loop-less c =
 
 loop-again : tie.Need-loop-rest-preserved invariant-loop decreases-loop
 loop-again c = (
-      omega (
-        arith,
-        c.nodes_of-n.ensures.0,
-        (at-loop c.before.before.before.before.before).loop-rest.invariant.0,
-        c.loop-rest-test.true,
-      ),
-      count_next _
-          c.field_parts-f.ensures
-          c.nodes_of-n.ensures.1
-          c.prefix_after.ensures
-          c.loop-rest-test.true
-          c.in-At.is
-          c.read4.ensures.0
-          (at-loop c.before.before.before.before.before).loop-rest.invariant.1,
-    )
+  omega (
+    arith,
+    c.nodes_of-n.ensures.0,
+    (at-loop c.before.before.before.before.before).loop-rest.invariant.0,
+    c.loop-rest-test.true,
+  ),
+  count_next _
+      c.field_parts-f.ensures
+      c.nodes_of-n.ensures.1
+      c.prefix_after.ensures
+      c.loop-rest-test.true
+      c.in-At.is
+      c.read4.ensures.0
+      (at-loop c.before.before.before.before.before).loop-rest.invariant.1,
+)
 
 returns-2 : tie.Need-returns invariant-loop decreases-loop
 returns-2 c = (

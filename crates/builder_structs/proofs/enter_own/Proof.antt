@@ -13,9 +13,9 @@ extend-with-requires c κs =
 
 returns : tie.Need-returns
 returns c = (
-      c.extend_with.ensures.0,
-      own_entered _ c.type_head-references.ensures c.extend_with.ensures.1,
-    )
+  c.extend_with.ensures.0,
+  own_entered _ c.type_head-references.ensures c.extend_with.ensures.1,
+)
 
 pub enter_own_spec : {M : Type 1} → statement M
 enter_own_spec = tie.close (tie.spec type-head-requires extend-with-requires (λ c. search rules) returns)

@@ -11,14 +11,14 @@ type-head-requires c κs =
 
 inner-node-requires : tie.Need-inner_node-r-requires
 inner-node-requires c κs = record {
-      standing = c.requires.standing;
-      set = c.requires.set;
-      type_at = c.requires.type_at;
-      kind_is = c.requires.kind_is;
-      from_enum = c.requires.from_enum;
-      no_array = c.requires.no_array;
-      cursor = omega (arith, c.open_align-p.ensures.1, c.requires.cursor);
-    }
+  standing = c.requires.standing;
+  set = c.requires.set;
+  type_at = c.requires.type_at;
+  kind_is = c.requires.kind_is;
+  from_enum = c.requires.from_enum;
+  no_array = c.requires.no_array;
+  cursor = omega (arith, c.open_align-p.ensures.1, c.requires.cursor);
+}
 
 close-aligned-requires : tie.Need-close_aligned-requires
 close-aligned-requires c κs =
@@ -29,17 +29,17 @@ close-aligned-requires c κs =
 
 returns : tie.Need-returns
 returns c = (
-      aligned_within
-          c.open_align-p.ensures.1
-          c.inner_node-r.ensures.0
-          c.close_aligned.ensures.0
-          (omega arith),
-      inner_aligned _
-          c.type_head-alignment.ensures
-          c.open_align-p.ensures.0
-          c.close_aligned.ensures.1
-          c.inner_node-r.ensures.1,
-    )
+  aligned_within
+      c.open_align-p.ensures.1
+      c.inner_node-r.ensures.0
+      c.close_aligned.ensures.0
+      (omega arith),
+  inner_aligned _
+      c.type_head-alignment.ensures
+      c.open_align-p.ensures.0
+      c.close_aligned.ensures.1
+      c.inner_node-r.ensures.1,
+)
 
 pub field_aligned_spec : {M : Type 1} → statement M
 field_aligned_spec =

@@ -13,44 +13,44 @@ name-at-requires c κs =
 
 build-array-node-with-prefix-requires : tie.Need-build_array_node_with_prefix-r-requires
 build-array-node-with-prefix-requires c κs = record {
-      ready = record {
-        standing = c.requires.field.base.standing;
-        type = c.requires.field.base.type_at;
-        kind = c.requires.kind_is;
-        cursor = omega (
-          arith,
-          inside c.requires.field.base.type_at,
-          c.requires.field.base.standing.size,
-          c.requires.field.base.cursor,
-        );
-      };
-      owned = named_short c.requires.field.named c.name_at-owner.ensures;
-      deep = omega (
-        arith,
-        inside c.requires.field.base.type_at,
-        c.requires.field.base.standing.size,
-      );
-    }
+  ready = record {
+    standing = c.requires.field.base.standing;
+    type = c.requires.field.base.type_at;
+    kind = c.requires.kind_is;
+    cursor = omega (
+      arith,
+      inside c.requires.field.base.type_at,
+      c.requires.field.base.standing.size,
+      c.requires.field.base.cursor,
+    );
+  };
+  owned = named_short c.requires.field.named c.name_at-owner.ensures;
+  deep = omega (
+    arith,
+    inside c.requires.field.base.type_at,
+    c.requires.field.base.standing.size,
+  );
+}
 
 enter-behind-requires : tie.Need-enter_behind-requires
 enter-behind-requires c κs = (
-      behind_ready c.requires.field.base.standing (search rules)
-          c.build_array_node_with_prefix-r.ensures.0
-          (λ z. builds_index z (c.build_array_node_with_prefix-r.ensures.1 c.requires.field.base.type_at)),
-      c.requires.field.base.type_at,
-    )
+  behind_ready c.requires.field.base.standing (search rules)
+      c.build_array_node_with_prefix-r.ensures.0
+      (λ z. builds_index z (c.build_array_node_with_prefix-r.ensures.1 c.requires.field.base.type_at)),
+  c.requires.field.base.type_at,
+)
 
 returns : tie.Need-returns
 returns c = (
-      widened
-          (omega (arith, inside c.requires.field.base.type_at, c.requires.field.base.standing.size))
-          (own_within c.build_array_node_with_prefix-r.ensures.0 c.enter_behind.ensures.0),
-      array_built _ _
-          c.requires.kind_is
-          c.name_at-owner.ensures
-          c.build_array_node_with_prefix-r.ensures.1
-          c.enter_behind.ensures.1,
-    )
+  widened
+      (omega (arith, inside c.requires.field.base.type_at, c.requires.field.base.standing.size))
+      (own_within c.build_array_node_with_prefix-r.ensures.0 c.enter_behind.ensures.0),
+  array_built _ _
+      c.requires.kind_is
+      c.name_at-owner.ensures
+      c.build_array_node_with_prefix-r.ensures.1
+      c.enter_behind.ensures.1,
+)
 
 pub field_array_spec : {M : Type 1} → statement M
 field_array_spec =

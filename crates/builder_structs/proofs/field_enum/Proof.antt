@@ -30,25 +30,25 @@ has-payload-requires c κs =
 
 put-payload-requires : tie.Need-put_payload-requires
 put-payload-requires c κs = record {
-      field = (at-start c.before.before.before.before).requires.field.field;
-      list = paths_found
-          c.in-At.is
-          c.get.ensures.0
-          (at-start c.before.before.before.before).requires.field.refs;
-    }
+  field = (at-start c.before.before.before.before).requires.field.field;
+  list = paths_found
+      c.in-At.is
+      c.get.ensures.0
+      (at-start c.before.before.before.before).requires.field.refs;
+}
 
 returns : tie.Need-returns-then-has_payload
 returns c = (
-      c.put_payload.ensures.0,
-      enum_payload _ _ _
-          (at-name-at c.before.before.before.before.before.before.before).name_at-owner.ensures
-          c.get.ensures.0
-          (at-start c.before.before.before.before.before.before.before).requires.kind_is
-          c.in-At.is
-          c.has_payload.ensures
-          c.if-has_payload.true
-          c.put_payload.ensures.1,
-    )
+  c.put_payload.ensures.0,
+  enum_payload _ _ _
+      (at-name-at c.before.before.before.before.before.before.before).name_at-owner.ensures
+      c.get.ensures.0
+      (at-start c.before.before.before.before.before.before.before).requires.kind_is
+      c.in-At.is
+      c.has_payload.ensures
+      c.if-has_payload.true
+      c.put_payload.ensures.1,
+)
 
 field-aligned-requires : tie.Need-field_aligned-requires
 field-aligned-requires c κs =
@@ -60,27 +60,27 @@ field-aligned-requires-2 c κs =
 
 returns-2 : tie.Need-returns-else-has_payload
 returns-2 c = (
-      c.field_aligned.ensures.0,
-      enum_plain _ _ _
-          (at-name-at c.before.before.before.before.before.before.before.before.before.before).name_at-owner.ensures
-          c.get.ensures.0
-          (at-start c.before.before.before.before.before.before.before.before.before.before).requires.kind_is
-          c.in-At.is
-          c.has_payload.ensures
-          c.if-has_payload.false
-          c.field_aligned.ensures.1,
-    )
+  c.field_aligned.ensures.0,
+  enum_plain _ _ _
+      (at-name-at c.before.before.before.before.before.before.before.before.before.before).name_at-owner.ensures
+      c.get.ensures.0
+      (at-start c.before.before.before.before.before.before.before.before.before.before).requires.kind_is
+      c.in-At.is
+      c.has_payload.ensures
+      c.if-has_payload.false
+      c.field_aligned.ensures.1,
+)
 
 returns-3 : tie.Need-returns-in-Missing
 returns-3 c = (
-      c.field_aligned-in-Missing.ensures.0,
-      enum_missing _ _ _
-          (at-name-at c.before.before.before.before.before.before.before.before).name_at-owner.ensures
-          c.get.ensures.0
-          (at-start c.before.before.before.before.before.before.before.before).requires.kind_is
-          c.in-Missing.is
-          c.field_aligned-in-Missing.ensures.1,
-    )
+  c.field_aligned-in-Missing.ensures.0,
+  enum_missing _ _ _
+      (at-name-at c.before.before.before.before.before.before.before.before).name_at-owner.ensures
+      c.get.ensures.0
+      (at-start c.before.before.before.before.before.before.before.before).requires.kind_is
+      c.in-Missing.is
+      c.field_aligned-in-Missing.ensures.1,
+)
 
 pub field_enum_spec : {M : Type 1} → statement M
 field_enum_spec =

@@ -17,31 +17,31 @@ get-requires c κs = (at-start c.before).requires.refs
 
 put-sum-requires : tie.Need-put_sum-requires
 put-sum-requires c κs = record {
-      field = (at-start c.before.before.before.before.before).requires.field;
-      list = paths_found
-          c.in-At.is
-          c.get.ensures.0
-          (at-start c.before.before.before.before.before).requires.refs;
-    }
+  field = (at-start c.before.before.before.before.before).requires.field;
+  list = paths_found
+      c.in-At.is
+      c.get.ensures.0
+      (at-start c.before.before.before.before.before).requires.refs;
+}
 
 returns : tie.Need-returns-in-At
 returns c = (
-      c.put_sum.ensures.0,
-      refs_found _ _ _
-          c.name_at-owner.ensures
-          c.get.ensures.0
-          c.in-At.is
-          c.put_sum.ensures.1,
-    )
+  c.put_sum.ensures.0,
+  refs_found _ _ _
+      c.name_at-owner.ensures
+      c.get.ensures.0
+      c.in-At.is
+      c.put_sum.ensures.1,
+)
 
 returns-2 : tie.Need-returns-in-Missing
 returns-2 c = (
-      stopped (at-start c.before.before.before).requires.field.base.standing.count,
-      refs_missing _ _ _
-          c.name_at-owner.ensures
-          c.get.ensures.0
-          c.in-Missing.is,
-    )
+  stopped (at-start c.before.before.before).requires.field.base.standing.count,
+  refs_missing _ _ _
+      c.name_at-owner.ensures
+      c.get.ensures.0
+      c.in-Missing.is,
+)
 
 pub field_refs_spec : {M : Type 1} → statement M
 field_refs_spec =

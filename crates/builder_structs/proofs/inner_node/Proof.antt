@@ -35,12 +35,12 @@ enter-behind-requires c κs =
 
 returns : tie.Need-returns-then-k-eq4
 returns c = (
-      own_within c.build_enum_node-r.ensures.0 c.enter_behind.ensures.0,
-      enum_inner _
-          ((start-of-then c.before.before.before.before.before.before.before.before.before.before.before).requires.kind_is ∙ c.if-k-eq4.true)
-          c.build_enum_node-r.ensures.1
-          c.enter_behind.ensures.1,
-    )
+  own_within c.build_enum_node-r.ensures.0 c.enter_behind.ensures.0,
+  enum_inner _
+      ((start-of-then c.before.before.before.before.before.before.before.before.before.before.before).requires.kind_is ∙ c.if-k-eq4.true)
+      c.build_enum_node-r.ensures.1
+      c.enter_behind.ensures.1,
+)
 
 build-size-discriminated-union-node-requires : tie.Need-build_size_discriminated_union_node-r-requires
 build-size-discriminated-union-node-requires c κs =
@@ -65,12 +65,12 @@ enter-behind-requires-2 c κs =
 
 returns-2 : tie.Need-returns-then-k-eq6
 returns-2 c = (
-      own_within c.build_size_discriminated_union_node-r.ensures.0 c.enter_behind-then-k-eq6.ensures.0,
-      sized_inner _
-          ((start-of-else c.before.before.before.before.before.before.before.before.before.before.before.before).requires.kind_is ∙ c.if-k-eq6.true)
-          c.build_size_discriminated_union_node-r.ensures.1
-          c.enter_behind-then-k-eq6.ensures.1,
-    )
+  own_within c.build_size_discriminated_union_node-r.ensures.0 c.enter_behind-then-k-eq6.ensures.0,
+  sized_inner _
+      ((start-of-else c.before.before.before.before.before.before.before.before.before.before.before.before).requires.kind_is ∙ c.if-k-eq6.true)
+      c.build_size_discriminated_union_node-r.ensures.1
+      c.enter_behind-then-k-eq6.ensures.1,
+)
 
 -- of the kinds that are left only that of a type reference has no switch
 a_call : (r : tie.Else-k-eq6) → (start-of-else r.before).args.k ≡ 7
@@ -90,9 +90,9 @@ build-typeref-node-requires c κs =
 
 returns-3 : tie.Need-returns
 returns-3 c = (
-      widened (omega arith) c.build_typeref_node.ensures.0,
-      call_inner _ ((start-of-else c.before.before.before.before.before.before.before.before).requires.kind_is ∙ a_call c.before.before.before.before.before.before.before) c.build_typeref_node.ensures.1,
-    )
+  widened (omega arith) c.build_typeref_node.ensures.0,
+  call_inner _ ((start-of-else c.before.before.before.before.before.before.before.before).requires.kind_is ∙ a_call c.before.before.before.before.before.before.before) c.build_typeref_node.ensures.1,
+)
 
 pub inner_node_spec : {M : Type 1} → statement M
 inner_node_spec =

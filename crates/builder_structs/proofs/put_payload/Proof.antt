@@ -16,11 +16,11 @@ type-head-requires c κs =
 
 sum-refs-requires : tie.Need-sum_refs-r-requires
 sum-refs-requires c κs = record {
-      standing = c.requires.field.base.standing;
-      owned = named_short c.requires.field.named c.name_at-owner.ensures;
-      list = c.requires.list;
-      cursor = omega (arith, c.open_align-p.ensures.1, c.requires.field.base.cursor);
-    }
+  standing = c.requires.field.base.standing;
+  owned = named_short c.requires.field.named c.name_at-owner.ensures;
+  list = c.requires.list;
+  cursor = omega (arith, c.open_align-p.ensures.1, c.requires.field.base.cursor);
+}
 
 close-aligned-requires : tie.Need-close_aligned-requires
 close-aligned-requires c κs =
@@ -28,18 +28,18 @@ close-aligned-requires c κs =
 
 returns : tie.Need-returns
 returns c = (
-      aligned_within
-          c.open_align-p.ensures.1
-          c.sum_refs-r.ensures.0
-          c.close_aligned.ensures.0
-          (omega arith),
-      payload_built _ _
-          c.name_at-owner.ensures
-          c.sum_refs-r.ensures.1
-          c.type_head-alignment.ensures
-          c.open_align-p.ensures.0
-          c.close_aligned.ensures.1,
-    )
+  aligned_within
+      c.open_align-p.ensures.1
+      c.sum_refs-r.ensures.0
+      c.close_aligned.ensures.0
+      (omega arith),
+  payload_built _ _
+      c.name_at-owner.ensures
+      c.sum_refs-r.ensures.1
+      c.type_head-alignment.ensures
+      c.open_align-p.ensures.0
+      c.close_aligned.ensures.1,
+)
 
 pub put_payload_spec : {M : Type 1} → statement M
 put_payload_spec =

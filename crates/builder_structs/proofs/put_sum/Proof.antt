@@ -13,28 +13,28 @@ name-at-requires c κs =
 
 sum-refs-requires : tie.Need-sum_refs-r-requires
 sum-refs-requires c κs = record {
-      standing = c.requires.field.base.standing;
-      owned = named_short c.requires.field.named c.name_at-owner.ensures;
-      list = c.requires.list;
-      cursor = omega (arith, c.requires.field.base.cursor);
-    }
+  standing = c.requires.field.base.standing;
+  owned = named_short c.requires.field.named c.name_at-owner.ensures;
+  list = c.requires.list;
+  cursor = omega (arith, c.requires.field.base.cursor);
+}
 
 enter-behind-requires : tie.Need-enter_behind-requires
 enter-behind-requires c κs = (
-      behind_ready c.requires.field.base.standing (search rules)
-          c.sum_refs-r.ensures.0
-          (λ z. builds_index z (c.sum_refs-r.ensures.1 c.requires.list)),
-      c.requires.field.base.type_at,
-    )
+  behind_ready c.requires.field.base.standing (search rules)
+      c.sum_refs-r.ensures.0
+      (λ z. builds_index z (c.sum_refs-r.ensures.1 c.requires.list)),
+  c.requires.field.base.type_at,
+)
 
 returns : tie.Need-returns
 returns c = (
-      widened (omega arith) (own_within c.sum_refs-r.ensures.0 c.enter_behind.ensures.0),
-      sum_built _ _
-          c.name_at-owner.ensures
-          c.sum_refs-r.ensures.1
-          c.enter_behind.ensures.1,
-    )
+  widened (omega arith) (own_within c.sum_refs-r.ensures.0 c.enter_behind.ensures.0),
+  sum_built _ _
+      c.name_at-owner.ensures
+      c.sum_refs-r.ensures.1
+      c.enter_behind.ensures.1,
+)
 
 pub put_sum_spec : {M : Type 1} → statement M
 put_sum_spec =

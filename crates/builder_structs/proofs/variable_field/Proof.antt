@@ -27,9 +27,9 @@ field-refs-requires c κs =
 
 returns : tie.Need-returns-then-k-lt4
 returns c = (
-      c.field_refs.ensures.0,
-      refs_kind _ _ c.read2-k.ensures.0 c.if-k-lt4.true c.field_refs.ensures.1,
-    )
+  c.field_refs.ensures.0,
+  refs_kind _ _ c.read2-k.ensures.0 c.if-k-lt4.true c.field_refs.ensures.1,
+)
 
 field-enum-requires : tie.Need-field_enum-requires
 field-enum-requires c κs =
@@ -51,9 +51,9 @@ field-array-requires c κs =
 
 returns-3 : tie.Need-returns-then-k-eq5
 returns-3 c = (
-      c.field_array.ensures.0,
-      λ t b a q. c.field_array.ensures.1 t (owners_of (tree b)) a q,
-    )
+  c.field_array.ensures.0,
+  λ t b a q. c.field_array.ensures.1 t (owners_of (tree b)) a q,
+)
 
 field-aligned-requires : tie.Need-field_aligned-requires
 field-aligned-requires c κs =
@@ -65,14 +65,14 @@ field-aligned-requires c κs =
 
 returns-4 : tie.Need-returns
 returns-4 c = (
-      c.field_aligned.ensures.0,
-      aligned_kind _ _
-          (at-read2 c.before.before.before.before.before.before.before.before.before).read2-k.ensures.0
-          c.if-k-lt4.false
-          c.if-k-eq4.false
-          c.if-k-eq5.false
-          c.field_aligned.ensures.1,
-    )
+  c.field_aligned.ensures.0,
+  aligned_kind _ _
+      (at-read2 c.before.before.before.before.before.before.before.before.before).read2-k.ensures.0
+      c.if-k-lt4.false
+      c.if-k-eq4.false
+      c.if-k-eq5.false
+      c.field_aligned.ensures.1,
+)
 
 pub variable_field_spec : {M : Type 1} → statement M
 variable_field_spec =

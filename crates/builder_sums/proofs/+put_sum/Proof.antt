@@ -58,22 +58,22 @@ at-start r = (at-else1 r).before.before.before.before.before
 
 put-ref-requires : (t : ℕ) → walk.Need-put_ref-requires (callees t) (entered t) self.Post
 put-ref-requires t c κs = (
-      c.requires.1.0,
-      omega (arith, c.requires.1.1, c.requires.1.2),
-      omega (arith, c.requires.1.3),
-    )
+  c.requires.1.0,
+  omega (arith, c.requires.1.1, c.requires.1.2),
+  omega (arith, c.requires.1.3),
+)
 
 same_length : (t : ℕ) → walk.Need-shape_of-out-then-k-eq1 (callees t) (entered t) self.Post
 same_length t c = search rules
 
 returns : (t : ℕ) → walk.Need-returns-then-k-eq1 (callees t) (entered t) self.Post
 returns t c = (
-      widened (omega (arith, c.if-k-eq1.true)) c.put_ref.ensures.0,
-      sum_first _ _ _
-          c.if-k-eq1.true
-          (omega (arith, c.requires.1.1, c.requires.1.2))
-          c.put_ref.ensures.1,
-    )
+  widened (omega (arith, c.if-k-eq1.true)) c.put_ref.ensures.0,
+  sum_first _ _ _
+      c.if-k-eq1.true
+      (omega (arith, c.requires.1.1, c.requires.1.2))
+      c.put_ref.ensures.1,
+)
 
 open-add-requires : (t : ℕ) → walk.Need-open_add-p-requires (callees t) (entered t) self.Post
 open-add-requires t c κs = search rules
@@ -83,34 +83,34 @@ sub-put-sum t c = omega (arith, (at-start c.before.before).requires.1.2)
 
 put-sum-requires : (t : ℕ) → walk.Need-put_sum-l-requires (callees t) (entered t) self.Post
 put-sum-requires t c κs = (
-      omega (arith, (at-start c.before.before.before).requires.0, (at-start c.before.before.before).requires.1.2),
-      (
-        (at-start c.before.before.before).requires.1.0,
-        omega (arith, (at-start c.before.before.before).requires.1.1),
-        omega (arith, (at-start c.before.before.before).requires.1.2, (at-else1 c.before.before.before).if-k-eq1.false),
-        omega (
-          arith,
-          (at-start c.before.before.before).requires.1.3,
-          c.open_add-p.ensures.1,
-          (at-start c.before.before.before).requires.1.2,
-        ),
-      ),
-    )
+  omega (arith, (at-start c.before.before.before).requires.0, (at-start c.before.before.before).requires.1.2),
+  (
+    (at-start c.before.before.before).requires.1.0,
+    omega (arith, (at-start c.before.before.before).requires.1.1),
+    omega (arith, (at-start c.before.before.before).requires.1.2, (at-else1 c.before.before.before).if-k-eq1.false),
+    omega (
+      arith,
+      (at-start c.before.before.before).requires.1.3,
+      c.open_add-p.ensures.1,
+      (at-start c.before.before.before).requires.1.2,
+    ),
+  ),
+)
 
 same-length-2 : (t : ℕ) → walk.Need-shape_of-out-then-l-ne0 (callees t) (entered t) self.Post
 same-length-2 t c = search rules
 
 returns-2 : (t : ℕ) → walk.Need-returns-then-l-ne0 (callees t) (entered t) self.Post
 returns-2 t c = (
-      stopped (at-start c.before.before.before.before.before.before.before.before).requires.1.0.standing.count,
-      sum_stops _ _ _
-          (at-start c.before.before.before.before.before.before.before.before).requires.1.2
-          (at-else1 c.before.before.before.before.before.before.before.before).if-k-eq1.false
-          (at-start c.before.before.before.before.before.before.before.before).requires.1.1
-          c.open_add-p.ensures.0
-          c.put_sum-l.ensures.1
-          c.if-l-ne0.true,
-    )
+  stopped (at-start c.before.before.before.before.before.before.before.before).requires.1.0.standing.count,
+  sum_stops _ _ _
+      (at-start c.before.before.before.before.before.before.before.before).requires.1.2
+      (at-else1 c.before.before.before.before.before.before.before.before).if-k-eq1.false
+      (at-start c.before.before.before.before.before.before.before.before).requires.1.1
+      c.open_add-p.ensures.0
+      c.put_sum-l.ensures.1
+      c.if-l-ne0.true,
+)
 
 sub-put-ref : (t : ℕ) → walk.Need-overflow_sub-k-2 (callees t) (entered t) self.Post
 sub-put-ref t c =
@@ -141,57 +141,57 @@ same-length-3 t c = search rules
 
 returns-3 : (t : ℕ) → walk.Need-returns-then-m-ne0 (callees t) (entered t) self.Post
 returns-3 t c = (
-      stopped (at-start c.before.before.before.before.before.before.before.before.before.before.before.before.before.before).requires.1.0.standing.count,
-      sum_stops_last _ _ _
-          (at-start c.before.before.before.before.before.before.before.before.before.before.before.before.before.before).requires.1.2
-          (at-else1 c.before.before.before.before.before.before.before.before.before.before.before.before.before.before).if-k-eq1.false
-          (at-start c.before.before.before.before.before.before.before.before.before.before.before.before.before.before).requires.1.1
-          c.open_add-p.ensures.0
-          c.put_sum-l.ensures.1
-          c.if-l-ne0.false
-          c.put_ref-m.ensures.1
-          c.if-m-ne0.true,
-    )
+  stopped (at-start c.before.before.before.before.before.before.before.before.before.before.before.before.before.before).requires.1.0.standing.count,
+  sum_stops_last _ _ _
+      (at-start c.before.before.before.before.before.before.before.before.before.before.before.before.before.before).requires.1.2
+      (at-else1 c.before.before.before.before.before.before.before.before.before.before.before.before.before.before).if-k-eq1.false
+      (at-start c.before.before.before.before.before.before.before.before.before.before.before.before.before.before).requires.1.1
+      c.open_add-p.ensures.0
+      c.put_sum-l.ensures.1
+      c.if-l-ne0.false
+      c.put_ref-m.ensures.1
+      c.if-m-ne0.true,
+)
 
 close-block-requires : (t : ℕ) → walk.Need-close_block-requires (callees t) (entered t) self.Post
 close-block-requires t c κs = (
-      omega (
-        arith,
-        c.open_add-p.ensures.1,
-        c.put_sum-l.ensures.0.low,
-        c.put_ref-m.ensures.0.low,
-      ),
-      omega (
-        arith,
-        (at-start c.before.before.before.before.before.before.before.before.before.before.before.before.before.before.before).requires.1.3,
-        c.open_add-p.ensures.1,
-        c.put_sum-l.ensures.0.high,
-        c.put_ref-m.ensures.0.high,
-        (at-start c.before.before.before.before.before.before.before.before.before.before.before.before.before.before.before).requires.1.2,
-      ),
-    )
+  omega (
+    arith,
+    c.open_add-p.ensures.1,
+    c.put_sum-l.ensures.0.low,
+    c.put_ref-m.ensures.0.low,
+  ),
+  omega (
+    arith,
+    (at-start c.before.before.before.before.before.before.before.before.before.before.before.before.before.before.before).requires.1.3,
+    c.open_add-p.ensures.1,
+    c.put_sum-l.ensures.0.high,
+    c.put_ref-m.ensures.0.high,
+    (at-start c.before.before.before.before.before.before.before.before.before.before.before.before.before.before.before).requires.1.2,
+  ),
+)
 
 same-length-4 : (t : ℕ) → walk.Need-shape_of-out (callees t) (entered t) self.Post
 same-length-4 t c = search rules
 
 returns-4 : (t : ℕ) → walk.Need-returns (callees t) (entered t) self.Post
 returns-4 t c = (
-      sum_within
-          (at-start c.before.before.before.before.before.before.before.before.before.before.before.before.before.before.before.before.before.before).requires.1.2
-          c.open_add-p.ensures.1
-          c.put_sum-l.ensures.0
-          c.put_ref-m.ensures.0,
-      sum_done _ _ _
-          (at-start c.before.before.before.before.before.before.before.before.before.before.before.before.before.before.before.before.before.before).requires.1.2
-          (at-else1 c.before.before.before.before.before.before.before.before.before.before.before.before.before.before.before.before.before.before).if-k-eq1.false
-          (at-start c.before.before.before.before.before.before.before.before.before.before.before.before.before.before.before.before.before.before).requires.1.1
-          c.open_add-p.ensures.0
-          c.put_sum-l.ensures.1
-          c.if-l-ne0.false
-          c.put_ref-m.ensures.1
-          c.if-m-ne0.false
-          c.close_block.ensures.0,
-    )
+  sum_within
+      (at-start c.before.before.before.before.before.before.before.before.before.before.before.before.before.before.before.before.before.before).requires.1.2
+      c.open_add-p.ensures.1
+      c.put_sum-l.ensures.0
+      c.put_ref-m.ensures.0,
+  sum_done _ _ _
+      (at-start c.before.before.before.before.before.before.before.before.before.before.before.before.before.before.before.before.before.before).requires.1.2
+      (at-else1 c.before.before.before.before.before.before.before.before.before.before.before.before.before.before.before.before.before.before).if-k-eq1.false
+      (at-start c.before.before.before.before.before.before.before.before.before.before.before.before.before.before.before.before.before.before).requires.1.1
+      c.open_add-p.ensures.0
+      c.put_sum-l.ensures.1
+      c.if-l-ne0.false
+      c.put_ref-m.ensures.1
+      c.if-m-ne0.false
+      c.close_block.ensures.0,
+)
 
 pub +put_sum_spec : {M : Type 1} → statement M
 +put_sum_spec =

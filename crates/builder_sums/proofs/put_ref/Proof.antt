@@ -82,12 +82,12 @@ returns-2 c =
 
 returns-3 : tie.Need-returns-in-Missing
 returns-3 c = (
-      stopped c.requires.0.standing.count,
-      ref_missing _
-          (c.name_at-path.ensures ∙ c.chosen_path-q.ensures.1)
-          c.lookup_name.ensures.0
-          c.in-Missing.is,
-    )
+  stopped c.requires.0.standing.count,
+  ref_missing _
+      (c.name_at-path.ensures ∙ c.chosen_path-q.ensures.1)
+      c.lookup_name.ensures.0
+      c.in-Missing.is,
+)
 
 pub put_ref_spec : {M : Type 1} → statement M
 put_ref_spec =

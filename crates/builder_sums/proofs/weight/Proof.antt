@@ -13,23 +13,23 @@ ends-with-requires c κs = search rules
 
 returns : tie.Need-returns-then-ends_with
 returns c = (
-      weighs
-          c.if-only.true
-          c.name_at.ensures
-          c.ends_with.ensures 1
-          (rw c.if-ends_with.true),
-      omega arith,
-    )
+  weighs
+      c.if-only.true
+      c.name_at.ensures
+      c.ends_with.ensures 1
+      (rw c.if-ends_with.true),
+  omega arith,
+)
 
 returns-2 : tie.Need-returns-then-only
 returns-2 c = (
-      weighs
-          c.if-only.true
-          c.name_at.ensures
-          c.ends_with.ensures 0
-          (rw c.if-ends_with.false),
-      omega arith,
-    )
+  weighs
+      c.if-only.true
+      c.name_at.ensures
+      c.ends_with.ensures 0
+      (rw c.if-ends_with.false),
+  omega arith,
+)
 
 returns-3 : tie.Need-returns
 returns-3 c = search rules

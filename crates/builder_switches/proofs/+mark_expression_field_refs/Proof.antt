@@ -105,18 +105,18 @@ returns t c = c.mark_path.ensures
 
 returns-2 : (t : ℕ) → walk.Need-returns-then-k-lt68 (callees t) (entered t) self.Post
 returns-2 t c = (
-      λ a. low_marks _ _ _
-          c.read2-k.ensures.0
-          c.if-k-eq65.false
-          c.if-k-lt68.true a,
-      c.requires.1.standing.index,
-    )
+  λ a. low_marks _ _ _
+      c.read2-k.ensures.0
+      c.if-k-eq65.false
+      c.if-k-lt68.true a,
+  c.requires.1.standing.index,
+)
 
 returns-3 : (t : ℕ) → walk.Need-returns-then-k-gt82 (callees t) (entered t) self.Post
 returns-3 t c = (
-      λ a. high_marks _ _ _ c.read2-k.ensures.0 (omega (arith, c.if-k-gt82.true)) a,
-      c.requires.1.standing.index,
-    )
+  λ a. high_marks _ _ _ c.read2-k.ensures.0 (omega (arith, c.if-k-gt82.true)) a,
+  c.requires.1.standing.index,
+)
 
 add-mark-expression-field-refs : (t : ℕ) → walk.Need-overflow_add-e-2 (callees t) (entered t) self.Post
 add-mark-expression-field-refs t c =
@@ -134,13 +134,13 @@ same-length-2 t c = search rules
 
 returns-4 : (t : ℕ) → walk.Need-returns-then-k-gt78 (callees t) (entered t) self.Post
 returns-4 t c = (
-      λ a. unary_marks _ _ _
-          (at-read2 c.before.before.before.before.before).read2-k.ensures.0
-          c.if-k-gt78.true
-          c.if-k-gt82.false
-          c.mark_expression_field_refs.ensures.0 a,
-      c.mark_expression_field_refs.ensures.1,
-    )
+  λ a. unary_marks _ _ _
+      (at-read2 c.before.before.before.before.before).read2-k.ensures.0
+      c.if-k-gt78.true
+      c.if-k-gt82.false
+      c.mark_expression_field_refs.ensures.0 a,
+  c.mark_expression_field_refs.ensures.1,
+)
 
 add-read4 : (t : ℕ) → walk.Need-overflow_add-e-3 (callees t) (entered t) self.Post
 add-read4 t c =
@@ -172,15 +172,15 @@ same-length-3 t c = search rules
 
 returns-5 : (t : ℕ) → walk.Need-returns (callees t) (entered t) self.Post
 returns-5 t c = (
-      λ a. binary_marks _ _ _ _
-          (at-read2 (at-else3 c.before.before.before.before)).read2-k.ensures.0
-          (at-else3 c.before.before.before.before).if-k-lt68.false
-          c.if-k-gt78.false
-          c.read4-u.ensures.0
-          c.mark_expression_field_refs.ensures.0
-          c.mark_expression_field_refs-2.ensures.0 a,
-      c.mark_expression_field_refs-2.ensures.1,
-    )
+  λ a. binary_marks _ _ _ _
+      (at-read2 (at-else3 c.before.before.before.before)).read2-k.ensures.0
+      (at-else3 c.before.before.before.before).if-k-lt68.false
+      c.if-k-gt78.false
+      c.read4-u.ensures.0
+      c.mark_expression_field_refs.ensures.0
+      c.mark_expression_field_refs-2.ensures.0 a,
+  c.mark_expression_field_refs-2.ensures.1,
+)
 
 pub +mark_expression_field_refs_spec : {M : Type 1} → statement M
 +mark_expression_field_refs_spec =

@@ -29,28 +29,28 @@ same_length c = search rules
 returns : tie.Need-returns-then-x-ne0
 unfolding build_enum_node
 returns c = (
-      stopped (at-start c.before.before.before.before).requires.standing.count,
-      λ a e vs q. refs_stop _
-          (at-type-head c.before.before.before.before).type_head-h.ensures
-          c.extend_with-x.ensures.1 _
-          c.if-x-ne0.true a,
-    )
+  stopped (at-start c.before.before.before.before).requires.standing.count,
+  λ a e vs q. refs_stop _
+      (at-type-head c.before.before.before.before).type_head-h.ensures
+      c.extend_with-x.ensures.1 _
+      c.if-x-ne0.true a,
+)
 
 enum-parts-requires : tie.Need-enum_parts-p-requires
 enum-parts-requires c κs = search rules
 
 enum-tag-parameter-requires : tie.Need-enum_tag_parameter-t-requires
 enum-tag-parameter-requires c κs = record {
-      standing = refs_standing _
-          c.requires
-          c.type_head-h.ensures
-          (omega arith)
-          c.extend_with-x.ensures.0
-          c.extend_with-x.ensures.1
-          c.if-x-ne0.false;
-      named = (c.type_head-h.ensures c.requires.type_at).named;
-      expr = (c.enum_parts-p.ensures c.requires.type_at).tag;
-    }
+  standing = refs_standing _
+      c.requires
+      c.type_head-h.ensures
+      (omega arith)
+      c.extend_with-x.ensures.0
+      c.extend_with-x.ensures.1
+      c.if-x-ne0.false;
+  named = (c.type_head-h.ensures c.requires.type_at).named;
+  expr = (c.enum_parts-p.ensures c.requires.type_at).tag;
+}
 
 put-switch-requires : tie.Need-put_switch-requires
 put-switch-requires c κs =
@@ -73,15 +73,15 @@ same-length-3 c = search rules
 
 returns-2 : tie.Need-returns
 returns-2 c = (
-      c.put_switch.ensures.0,
-      λ a e vs q. enum_done _
-          (at-type-head c.before.before.before.before.before.before.before.before.before.before.before.before.before).type_head-h.ensures
-          c.extend_with-x.ensures.1
-          c.if-x-ne0.false
-          c.enum_parts-p.ensures
-          c.enum_tag_parameter-t.ensures.1
-          c.put_switch.ensures.1 a e vs q,
-    )
+  c.put_switch.ensures.0,
+  λ a e vs q. enum_done _
+      (at-type-head c.before.before.before.before.before.before.before.before.before.before.before.before.before).type_head-h.ensures
+      c.extend_with-x.ensures.1
+      c.if-x-ne0.false
+      c.enum_parts-p.ensures
+      c.enum_tag_parameter-t.ensures.1
+      c.put_switch.ensures.1 a e vs q,
+)
 
 pub build_enum_node_spec : {M : Type 1} → statement M
 build_enum_node_spec =

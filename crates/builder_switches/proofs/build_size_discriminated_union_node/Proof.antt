@@ -33,12 +33,12 @@ same_length c = search rules
 returns : tie.Need-returns-then-x-ne0
 unfolding build_size_discriminated_union_node
 returns c = (
-      stopped c.requires.standing.count,
-      λ a vs q. refs_stop _
-          c.type_head-h.ensures
-          c.extend_with-x.ensures.1 _
-          c.if-x-ne0.true a,
-    )
+  stopped c.requires.standing.count,
+  λ a vs q. refs_stop _
+      c.type_head-h.ensures
+      c.extend_with-x.ensures.1 _
+      c.if-x-ne0.true a,
+)
 
 sized-list-requires : tie.Need-sized_list-p-requires
 sized-list-requires c κs = search rules
@@ -48,14 +48,14 @@ same-length-2 c = search rules
 
 returns-2 : tie.Need-returns-then-p-eq0
 returns-2 c = (
-      stopped (at-start c.before.before.before).requires.standing.count,
-      λ a vs q. sized_none _
-          (at-type-head c.before.before.before).type_head-h.ensures
-          (at-extend-with c.before.before.before).extend_with-x.ensures.1
-          c.if-x-ne0.false
-          c.sized_list-p.ensures
-          c.if-p-eq0.true a vs q,
-    )
+  stopped (at-start c.before.before.before).requires.standing.count,
+  λ a vs q. sized_none _
+      (at-type-head c.before.before.before).type_head-h.ensures
+      (at-extend-with c.before.before.before).extend_with-x.ensures.1
+      c.if-x-ne0.false
+      c.sized_list-p.ensures
+      c.if-p-eq0.true a vs q,
+)
 
 add-add-synthetic : tie.Need-overflow_add-kind
 add-add-synthetic c =
@@ -67,20 +67,20 @@ add-add-synthetic c =
 
 add-synthetic-requires : tie.Need-add_synthetic-t-requires
 add-synthetic-requires c κs = (
-      refs_standing _
-          c.requires
-          c.type_head-h.ensures
-          (omega arith)
-          c.extend_with-x.ensures.0
-          c.extend_with-x.ensures.1
-          c.if-x-ne0.false,
-      omega (
-        arith,
-        (c.type_head-h.ensures c.requires.type_at).named.inside,
-        c.requires.standing.size,
-      ),
-      (omega arith, omega arith),
-    )
+  refs_standing _
+      c.requires
+      c.type_head-h.ensures
+      (omega arith)
+      c.extend_with-x.ensures.0
+      c.extend_with-x.ensures.1
+      c.if-x-ne0.false,
+  omega (
+    arith,
+    (c.type_head-h.ensures c.requires.type_at).named.inside,
+    c.requires.standing.size,
+  ),
+  (omega arith, omega arith),
+)
 
 put-switch-requires : tie.Need-put_switch-requires
 put-switch-requires c κs =
@@ -103,16 +103,16 @@ same-length-4 c = search rules
 
 returns-3 : tie.Need-returns
 returns-3 c = (
-      c.put_switch.ensures.0,
-      λ a vs q. sized_done _
-          (at-type-head c.before.before.before.before.before.before.before.before.before.before.before).type_head-h.ensures
-          (at-extend-with c.before.before.before.before.before.before.before.before.before.before.before).extend_with-x.ensures.1
-          c.if-x-ne0.false
-          c.sized_list-p.ensures
-          c.if-p-eq0.false
-          c.add_synthetic-t.ensures.1.0
-          c.put_switch.ensures.1 a vs q,
-    )
+  c.put_switch.ensures.0,
+  λ a vs q. sized_done _
+      (at-type-head c.before.before.before.before.before.before.before.before.before.before.before).type_head-h.ensures
+      (at-extend-with c.before.before.before.before.before.before.before.before.before.before.before).extend_with-x.ensures.1
+      c.if-x-ne0.false
+      c.sized_list-p.ensures
+      c.if-p-eq0.false
+      c.add_synthetic-t.ensures.1.0
+      c.put_switch.ensures.1 a vs q,
+)
 
 pub build_size_discriminated_union_node_spec : {M : Type 1} → statement M
 build_size_discriminated_union_node_spec =

@@ -29,12 +29,12 @@ same_length c = search rules
 returns : tie.Need-returns-then-x-ne0
 unfolding build_union_node
 returns c = (
-      stopped (at-start c.before.before.before.before).requires.standing.count,
-      λ a fs q. refs_stop _
-          (at-type-head c.before.before.before.before).type_head-h.ensures
-          c.extend_with-x.ensures.1 _
-          c.if-x-ne0.true a,
-    )
+  stopped (at-start c.before.before.before.before).requires.standing.count,
+  λ a fs q. refs_stop _
+      (at-type-head c.before.before.before.before).type_head-h.ensures
+      c.extend_with-x.ensures.1 _
+      c.if-x-ne0.true a,
+)
 
 add-add-synthetic : tie.Need-overflow_add-kind
 add-add-synthetic c =
@@ -47,20 +47,20 @@ add-add-synthetic c =
 
 add-synthetic-requires : tie.Need-add_synthetic-t-requires
 add-synthetic-requires c κs = (
-      refs_standing _
-          c.requires
-          c.type_head-h.ensures
-          (omega arith)
-          c.extend_with-x.ensures.0
-          c.extend_with-x.ensures.1
-          c.if-x-ne0.false,
-      omega (
-        arith,
-        (c.type_head-h.ensures c.requires.type_at).named.inside,
-        c.requires.standing.size,
-      ),
-      (omega arith, omega arith),
-    )
+  refs_standing _
+      c.requires
+      c.type_head-h.ensures
+      (omega arith)
+      c.extend_with-x.ensures.0
+      c.extend_with-x.ensures.1
+      c.if-x-ne0.false,
+  omega (
+    arith,
+    (c.type_head-h.ensures c.requires.type_at).named.inside,
+    c.requires.standing.size,
+  ),
+  (omega arith, omega arith),
+)
 
 field-list-requires : tie.Need-field_list-p-requires
 field-list-requires c κs =
@@ -92,16 +92,16 @@ same-length-3 c = search rules
 
 returns-2 : tie.Need-returns
 returns-2 c = (
-      c.put_switch.ensures.0,
-      λ a fs q. union_done _
-          (at-type-head c.before.before.before.before.before.before.before.before.before.before.before.before.before).type_head-h.ensures
-          c.extend_with-x.ensures.1
-          c.if-x-ne0.false
-          (at-start c.before.before.before.before.before.before.before.before.before.before.before.before.before).requires.kind_is
-          c.field_list-p.ensures
-          c.add_synthetic-t.ensures.1.0
-          c.put_switch.ensures.1 a fs q,
-    )
+  c.put_switch.ensures.0,
+  λ a fs q. union_done _
+      (at-type-head c.before.before.before.before.before.before.before.before.before.before.before.before.before).type_head-h.ensures
+      c.extend_with-x.ensures.1
+      c.if-x-ne0.false
+      (at-start c.before.before.before.before.before.before.before.before.before.before.before.before.before).requires.kind_is
+      c.field_list-p.ensures
+      c.add_synthetic-t.ensures.1.0
+      c.put_switch.ensures.1 a fs q,
+)
 
 pub build_union_node_spec : {M : Type 1} → statement M
 build_union_node_spec =

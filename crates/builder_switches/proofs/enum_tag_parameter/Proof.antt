@@ -29,13 +29,13 @@ read2-requires c κs = omega (arith, header_inside (at-start c).requires.expr)
 
 tag-lookup-requires : tie.Need-tag_lookup-requires
 tag-lookup-requires c κs = (
-      record {
-        standing = (at-start c.before.before).requires.standing;
-        owned = named_short (at-start c.before.before).requires.named c.name_at-owner.ensures;
-        expr = (at-start c.before.before).requires.expr;
-      },
-      sym c.read2.ensures.0 ∙ c.if-read2-eq65.true,
-    )
+  record {
+    standing = (at-start c.before.before).requires.standing;
+    owned = named_short (at-start c.before.before).requires.named c.name_at-owner.ensures;
+    expr = (at-start c.before.before).requires.expr;
+  },
+  sym c.read2.ensures.0 ∙ c.if-read2-eq65.true,
+)
 
 enum-known-i : tie.Need-enum_known-i
 enum-known-i c = search rules
@@ -45,14 +45,14 @@ same_length c = search rules
 
 returns : tie.Need-returns-in-At
 returns c = (
-      (at-start c.before.before.before.before).requires.standing.count,
-      λ a. tag_known _ _
-          c.name_at-owner.ensures
-          (sym c.read2.ensures.0 ∙ c.if-read2-eq65.true)
-          c.tag_lookup.ensures
-          (at-start c.before.before.before.before).requires.standing.index
-          c.in-At.is a,
-    )
+  (at-start c.before.before.before.before).requires.standing.count,
+  λ a. tag_known _ _
+      c.name_at-owner.ensures
+      (sym c.read2.ensures.0 ∙ c.if-read2-eq65.true)
+      c.tag_lookup.ensures
+      (at-start c.before.before.before.before).requires.standing.index
+      c.in-At.is a,
+)
 
 enum_told : tie.Need-enum_told-1
 enum_told c = search rules
@@ -62,20 +62,20 @@ same-length-2 c = search rules
 
 returns-2 : tie.Need-returns-in-Missing
 returns-2 c = (
-      (at-start c.before.before.before.before).requires.standing.count,
-      λ a. tag_unknown _ _
-          c.name_at-owner.ensures
-          (sym c.read2.ensures.0 ∙ c.if-read2-eq65.true)
-          c.tag_lookup.ensures
-          c.in-Missing.is a,
-    )
+  (at-start c.before.before.before.before).requires.standing.count,
+  λ a. tag_unknown _ _
+      c.name_at-owner.ensures
+      (sym c.read2.ensures.0 ∙ c.if-read2-eq65.true)
+      c.tag_lookup.ensures
+      c.in-Missing.is a,
+)
 
 mark-expression-field-refs-requires : tie.Need-mark_expression_field_refs-requires
 mark-expression-field-refs-requires c κs = record {
-      standing = (at-start c.before.before.before).requires.standing;
-      owned = named_short (at-start c.before.before.before).requires.named c.name_at-owner.ensures;
-      expr = (at-start c.before.before.before).requires.expr;
-    }
+  standing = (at-start c.before.before.before).requires.standing;
+  owned = named_short (at-start c.before.before.before).requires.named c.name_at-owner.ensures;
+  expr = (at-start c.before.before.before).requires.expr;
+}
 
 add-add-synthetic : tie.Need-overflow_add-kind-2
 add-add-synthetic c =
@@ -83,27 +83,27 @@ add-add-synthetic c =
 
 add-synthetic-requires : tie.Need-add_synthetic-requires
 add-synthetic-requires c κs = (
-      standing c.requires.standing (omega arith)
-          c.requires.standing.count
-          c.mark_expression_field_refs.ensures.1,
-      omega (arith, c.requires.named.inside, c.requires.standing.size),
-      (omega arith, omega arith),
-    )
+  standing c.requires.standing (omega arith)
+      c.requires.standing.count
+      c.mark_expression_field_refs.ensures.1,
+  omega (arith, c.requires.named.inside, c.requires.standing.size),
+  (omega arith, omega arith),
+)
 
 same-length-3 : tie.Need-shape_of-words
 same-length-3 c = search rules
 
 returns-3 : tie.Need-returns
 returns-3 c = (
-      c.add_synthetic.ensures.0,
-      λ a. tag_made _ _ _ _ _ _
-          c.name_at-owner.ensures
-          (at-start c.before.before.before.before.before.before.before.before.before.before).requires.named
-          c.read2.ensures.0
-          c.if-read2-eq65.false
-          c.mark_expression_field_refs.ensures.0
-          c.add_synthetic.ensures.1.0 a,
-    )
+  c.add_synthetic.ensures.0,
+  λ a. tag_made _ _ _ _ _ _
+      c.name_at-owner.ensures
+      (at-start c.before.before.before.before.before.before.before.before.before.before).requires.named
+      c.read2.ensures.0
+      c.if-read2-eq65.false
+      c.mark_expression_field_refs.ensures.0
+      c.add_synthetic.ensures.1.0 a,
+)
 
 pub enum_tag_parameter_spec : {M : Type 1} → statement M
 enum_tag_parameter_spec =

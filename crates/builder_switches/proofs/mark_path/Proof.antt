@@ -12,25 +12,25 @@ no-segments-requires c κs = search rules
 
 returns : tie.Need-returns-then-no_segments
 returns c = (
-      λ a. mark_none _ _ c.requires.1 c.no_segments.ensures c.if-no_segments.true a,
-      c.requires.0.standing.index,
-    )
+  λ a. mark_none _ _ c.requires.1 c.no_segments.ensures c.if-no_segments.true a,
+  c.requires.0.standing.index,
+)
 
 joined-length-requires : tie.Need-joined_length-m-requires
 joined-length-requires c κs = search rules
 
 returns-2 : tie.Need-returns-then-m-gt511
 returns-2 c = (
-      λ a. mark_long _ _
-          c.requires.1
-          c.no_segments.ensures
-          c.joined_length-m.ensures
-          c.if-no_segments.false
-          c.if-m-gt511.true
-          c.requires.0.standing
-          c.requires.0.owned refl a,
-      c.requires.0.standing.index,
-    )
+  λ a. mark_long _ _
+      c.requires.1
+      c.no_segments.ensures
+      c.joined_length-m.ensures
+      c.if-no_segments.false
+      c.if-m-gt511.true
+      c.requires.0.standing
+      c.requires.0.owned refl a,
+  c.requires.0.standing.index,
+)
 
 slice-aggregate-put-joined : tie.Need-slice_bounds-put_joined-end
 slice-aggregate-put-joined c = search rules
@@ -55,16 +55,16 @@ same_length c = search rules
 
 returns-3 : tie.Need-returns
 returns-3 c = (
-      λ a. mark_path _ _
-          c.requires.1
-          c.no_segments.ensures
-          c.joined_length-m.ensures
-          c.if-no_segments.false
-          c.if-m-gt511.false refl
-          c.put_joined.ensures
-          c.mark_derived.ensures.0 a,
-      c.mark_derived.ensures.1,
-    )
+  λ a. mark_path _ _
+      c.requires.1
+      c.no_segments.ensures
+      c.joined_length-m.ensures
+      c.if-no_segments.false
+      c.if-m-gt511.false refl
+      c.put_joined.ensures
+      c.mark_derived.ensures.0 a,
+  c.mark_derived.ensures.1,
+)
 
 pub mark_path_spec : {M : Type 1} → statement M
 mark_path_spec =

@@ -47,31 +47,31 @@ put-le-requires c κs =
 
 put-node-requires : tie.Need-put_node-r-requires
 put-node-requires c κs = record {
-      standing = (at-start c.before.before.before).requires.standing;
-      references_at = (at-start c.before.before.before).requires.references_at;
-      named = ((at-alternative c.before.before.before).alternative-x.ensures
-          (at-start c.before.before.before).requires.block).named;
-      cursor = omega (
-        arith,
-        (at-start c.before.before.before).requires.cursor,
-        (at-open-block c.before.before.before).open_block-b.ensures.1,
-        c.put_le-p.ensures.1,
-      );
-    }
+  standing = (at-start c.before.before.before).requires.standing;
+  references_at = (at-start c.before.before.before).requires.references_at;
+  named = ((at-alternative c.before.before.before).alternative-x.ensures
+      (at-start c.before.before.before).requires.block).named;
+  cursor = omega (
+    arith,
+    (at-start c.before.before.before).requires.cursor,
+    (at-open-block c.before.before.before).open_block-b.ensures.1,
+    c.put_le-p.ensures.1,
+  );
+}
 
 same_length : tie.Need-shape_of-out-then-r-ne0
 same_length c = search rules
 
 returns : tie.Need-returns-then-r-ne0
 returns c = (
-      stopped (at-start c.before.before.before.before.before.before.before.before).requires.standing.count,
-      λ d a. case_stops _
-          (at-alternative c.before.before.before.before.before.before.before.before).alternative-x.ensures
-          (at-open-block c.before.before.before.before.before.before.before.before).open_block-b.ensures.0
-          c.put_le-p.ensures.0
-          c.put_node-r.ensures.1
-          c.if-r-ne0.true d a,
-    )
+  stopped (at-start c.before.before.before.before.before.before.before.before).requires.standing.count,
+  λ d a. case_stops _
+      (at-alternative c.before.before.before.before.before.before.before.before).alternative-x.ensures
+      (at-open-block c.before.before.before.before.before.before.before.before).open_block-b.ensures.0
+      c.put_le-p.ensures.0
+      c.put_node-r.ensures.1
+      c.if-r-ne0.true d a,
+)
 
 name-at-requires : tie.Need-name_at-requires
 name-at-requires c κs =
@@ -83,23 +83,23 @@ name-at-requires c κs =
 
 put-owner-parameters-requires : tie.Need-put_owner_parameters-u-requires
 put-owner-parameters-requires c κs = (
-      standing (at-start c.before.before.before.before.before.before.before.before.before.before).requires.standing refl
-          c.put_node-r.ensures.0.count
-          (builds_index c.if-r-ne0.false (c.put_node-r.ensures.1 (at-start c.before.before.before.before.before.before.before.before.before.before).requires.references_at)),
-      omega (
-        arith,
-        (at-start c.before.before.before.before.before.before.before.before.before.before).requires.cursor,
-        (at-open-block c.before.before.before.before.before.before.before.before.before.before).open_block-b.ensures.1,
-        c.put_le-p.ensures.1,
-        c.put_node-r.ensures.0.high,
-      ),
-    )
+  standing (at-start c.before.before.before.before.before.before.before.before.before.before).requires.standing refl
+      c.put_node-r.ensures.0.count
+      (builds_index c.if-r-ne0.false (c.put_node-r.ensures.1 (at-start c.before.before.before.before.before.before.before.before.before.before).requires.references_at)),
+  omega (
+    arith,
+    (at-start c.before.before.before.before.before.before.before.before.before.before).requires.cursor,
+    (at-open-block c.before.before.before.before.before.before.before.before.before.before).open_block-b.ensures.1,
+    c.put_le-p.ensures.1,
+    c.put_node-r.ensures.0.high,
+  ),
+)
 
 close-block-requires : tie.Need-close_block-requires
 close-block-requires c κs = (
-      (ends c.before.before.before).low,
-      omega (arith, (ends c.before.before.before).high, (at-start (at-put-le c.before.before.before)).requires.cursor),
-    )
+  (ends c.before.before.before).low,
+  omega (arith, (ends c.before.before.before).high, (at-start (at-put-le c.before.before.before)).requires.cursor),
+)
 
 same-length-2 : tie.Need-shape_of-out
 same-length-2 c = search rules

@@ -30,31 +30,31 @@ loop-holds c =
 
 put-case-requires : tie.Need-put_case-r-requires invariant-loop decreases-loop
 put-case-requires c κs = record {
-      standing = standing c.requires.standing refl c.loop-i.invariant.entries c.loop-i.invariant.index;
-      references_at = c.requires.references_at;
-      kind = c.requires.kind;
-      block = next_block c.loop-i-test.true c.loop-i.invariant;
-      cursor = omega (
-        arith,
-        c.requires.cursor,
-        c.requires.most,
-        c.loop-i.invariant.high,
-        c.loop-i-test.true,
-      );
-    }
+  standing = standing c.requires.standing refl c.loop-i.invariant.entries c.loop-i.invariant.index;
+  references_at = c.requires.references_at;
+  kind = c.requires.kind;
+  block = next_block c.loop-i-test.true c.loop-i.invariant;
+  cursor = omega (
+    arith,
+    c.requires.cursor,
+    c.requires.most,
+    c.loop-i.invariant.high,
+    c.loop-i-test.true,
+  );
+}
 
 same_length : tie.Need-shape_of-out-then-r-ne0 invariant-loop decreases-loop
 same_length c = search rules
 
 returns : tie.Need-returns-then-r-ne0 invariant-loop decreases-loop
 returns c = (
-      stopped c.requires.standing.count,
-      λ l a. cases_stop
-          c.loop-i-test.true
-          c.loop-i.invariant
-          c.put_case-r.ensures.1
-          c.if-r-ne0.true refl l a,
-    )
+  stopped c.requires.standing.count,
+  λ l a. cases_stop
+      c.loop-i-test.true
+      c.loop-i.invariant
+      c.put_case-r.ensures.1
+      c.if-r-ne0.true refl l a,
+)
 
 add-q : tie.Need-overflow_add-q invariant-loop decreases-loop
 add-q c = omega (arith, next_low (in-loop c).loop-i-test.true (at-loop c).loop-i.invariant)

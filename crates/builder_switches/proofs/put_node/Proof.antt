@@ -33,78 +33,78 @@ open-align-requires c κs =
 
 sum-refs-requires : tie.Need-sum_refs-r-requires
 sum-refs-requires c κs = record {
-      standing = (at-start c.before.before.before.before.before.before).requires.standing;
-      owned = named_short (at-start c.before.before.before.before.before.before).requires.named (at-name-at c.before.before.before.before.before.before).name_at-name.ensures;
-      list = paths_at _
-          (at-name-at c.before.before.before.before.before.before).name_at-name.ensures
-          c.get.ensures.0
-          c.in-At.is
-          (at-start c.before.before.before.before.before.before).requires.references_at;
-      cursor = omega (arith, (at-start c.before.before.before.before.before.before).requires.cursor, c.open_align-p.ensures.1);
-    }
+  standing = (at-start c.before.before.before.before.before.before).requires.standing;
+  owned = named_short (at-start c.before.before.before.before.before.before).requires.named (at-name-at c.before.before.before.before.before.before).name_at-name.ensures;
+  list = paths_at _
+      (at-name-at c.before.before.before.before.before.before).name_at-name.ensures
+      c.get.ensures.0
+      c.in-At.is
+      (at-start c.before.before.before.before.before.before).requires.references_at;
+  cursor = omega (arith, (at-start c.before.before.before.before.before.before).requires.cursor, c.open_align-p.ensures.1);
+}
 
 same_length : tie.Need-shape_of-out-then-r-ne0
 same_length c = search rules
 
 returns : tie.Need-returns-then-r-ne0
 returns c = (
-      stopped (at-start c.before.before.before.before.before.before.before.before.before.before.before).requires.standing.count,
-      λ a. node_stops _
-          (at-start c.before.before.before.before.before.before.before.before.before.before.before).args.x
-          (at-then1 c.before.before.before.before.before.before.before.before.before.before.before).if-x.true
-          (at-name-at c.before.before.before.before.before.before.before.before.before.before.before).name_at-name.ensures
-          c.get.ensures.0
-          c.in-At.is
-          c.open_align-p.ensures.0
-          c.sum_refs-r.ensures.1
-          c.if-r-ne0.true a,
-    )
+  stopped (at-start c.before.before.before.before.before.before.before.before.before.before.before).requires.standing.count,
+  λ a. node_stops _
+      (at-start c.before.before.before.before.before.before.before.before.before.before.before).args.x
+      (at-then1 c.before.before.before.before.before.before.before.before.before.before.before).if-x.true
+      (at-name-at c.before.before.before.before.before.before.before.before.before.before.before).name_at-name.ensures
+      c.get.ensures.0
+      c.in-At.is
+      c.open_align-p.ensures.0
+      c.sum_refs-r.ensures.1
+      c.if-r-ne0.true a,
+)
 
 close-block-requires : tie.Need-close_block-requires
 close-block-requires c κs = (
-      omega (arith, c.open_align-p.ensures.1, c.sum_refs-r.ensures.0.low),
-      omega (
-        arith,
-        (at-start c.before.before.before.before.before.before.before.before.before.before.before.before).requires.cursor,
-        c.open_align-p.ensures.1,
-        c.sum_refs-r.ensures.0.high,
-      ),
-    )
+  omega (arith, c.open_align-p.ensures.1, c.sum_refs-r.ensures.0.low),
+  omega (
+    arith,
+    (at-start c.before.before.before.before.before.before.before.before.before.before.before.before).requires.cursor,
+    c.open_align-p.ensures.1,
+    c.sum_refs-r.ensures.0.high,
+  ),
+)
 
 same-length-2 : tie.Need-shape_of-out-in-At
 same-length-2 c = search rules
 
 returns-2 : tie.Need-returns-in-At
 returns-2 c = (
-      behind 23
-          c.open_align-p.ensures.1
-          (omega arith)
-          c.sum_refs-r.ensures.0,
-      λ a. node_done _
-          c.args.x
-          c.if-x.true
-          c.name_at-name.ensures
-          c.get.ensures.0
-          c.in-At.is
-          c.open_align-p.ensures.0
-          c.sum_refs-r.ensures.1
-          c.if-r-ne0.false
-          c.close_block.ensures.0 a,
-    )
+  behind 23
+      c.open_align-p.ensures.1
+      (omega arith)
+      c.sum_refs-r.ensures.0,
+  λ a. node_done _
+      c.args.x
+      c.if-x.true
+      c.name_at-name.ensures
+      c.get.ensures.0
+      c.in-At.is
+      c.open_align-p.ensures.0
+      c.sum_refs-r.ensures.1
+      c.if-r-ne0.false
+      c.close_block.ensures.0 a,
+)
 
 enum_told : tie.Need-enum_told-1
 enum_told c = search rules
 
 returns-3 : tie.Need-returns-in-Missing
 returns-3 c = (
-      stopped (at-start c.before).requires.standing.count,
-      λ a. node_missing _
-          (at-start c.before).args.x
-          (at-then1 c.before).if-x.true
-          (at-name-at c.before).name_at-name.ensures
-          c.get.ensures.0
-          c.in-Missing.is a,
-    )
+  stopped (at-start c.before).requires.standing.count,
+  λ a. node_missing _
+      (at-start c.before).args.x
+      (at-then1 c.before).if-x.true
+      (at-name-at c.before).name_at-name.ensures
+      c.get.ensures.0
+      c.in-Missing.is a,
+)
 
 put-const-or-zero-requires : tie.Need-put_const_or_zero-p-requires
 put-const-or-zero-requires c κs =
@@ -115,16 +115,16 @@ same-length-3 c = search rules
 
 returns-4 : tie.Need-returns
 returns-4 c = (
-      ends_at
-          c.put_const_or_zero-p.ensures.1.0
-          (omega (arith, c.put_const_or_zero-p.ensures.1.1))
-          c.requires.standing.count,
-      λ a. node_const _
-          c.args.x
-          c.requires.standing.index
-          c.if-x.false
-          c.put_const_or_zero-p.ensures.0 a,
-    )
+  ends_at
+      c.put_const_or_zero-p.ensures.1.0
+      (omega (arith, c.put_const_or_zero-p.ensures.1.1))
+      c.requires.standing.count,
+  λ a. node_const _
+      c.args.x
+      c.requires.standing.index
+      c.if-x.false
+      c.put_const_or_zero-p.ensures.0 a,
+)
 
 pub put_node_spec : {M : Type 1} → statement M
 put_node_spec =

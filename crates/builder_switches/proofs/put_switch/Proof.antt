@@ -88,16 +88,16 @@ same_length c = search rules
 
 returns-2 : tie.Need-returns-then-r-ne0
 returns-2 c = (
-      stopped (at-start (at-else1 c.before.before.before.before.before.before.before.before)).requires.entries,
-      λ a l m g t. switch_stops _
-          (at-else1 c.before.before.before.before.before.before.before.before).if-tag-ne0.false
-          (at-type-head c.before.before.before.before.before.before.before.before).type_head-h.ensures
-          (at-open-node c.before.before.before.before.before.before.before.before).open_node-b.ensures.0
-          (at-put-entry-part c.before.before.before.before.before.before.before.before).put_entry_part-c.ensures.0
-          c.put_count_part-d.ensures.0
-          c.put_cases-r.ensures.1
-          c.if-r-ne0.true a l m g t,
-    )
+  stopped (at-start (at-else1 c.before.before.before.before.before.before.before.before)).requires.entries,
+  λ a l m g t. switch_stops _
+      (at-else1 c.before.before.before.before.before.before.before.before).if-tag-ne0.false
+      (at-type-head c.before.before.before.before.before.before.before.before).type_head-h.ensures
+      (at-open-node c.before.before.before.before.before.before.before.before).open_node-b.ensures.0
+      (at-put-entry-part c.before.before.before.before.before.before.before.before).put_entry_part-c.ensures.0
+      c.put_count_part-d.ensures.0
+      c.put_cases-r.ensures.1
+      c.if-r-ne0.true a l m g t,
+)
 
 put-no-node-requires : tie.Need-put_no_node-u-requires
 put-no-node-requires c κs =

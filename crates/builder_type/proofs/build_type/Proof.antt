@@ -49,18 +49,18 @@ begin-requires c κs =
 
 extend-with-requires : tie.Need-extend_with-held-requires
 extend-with-requires c κs = (
-      words_ready c.requires c.begin.auto.words (omega arith) (c.begin.ensures _),
-      (c.type_head-head.ensures c.requires.type_at).references,
-    )
+  words_ready c.requires c.begin.auto.words (omega arith) (c.begin.ensures _),
+  (c.type_head-head.ensures c.requires.type_at).references,
+)
 
 returns : tie.Need-returns-then-held-ne0
 returns c = (
-      (omega arith, omega arith, λ z. refl),
-      not_entered
-          c.type_head-head.ensures _
-          c.extend_with-held.ensures.1
-          c.if-held-ne0.true refl,
-    )
+  (omega arith, omega arith, λ z. refl),
+  not_entered
+      c.type_head-head.ensures _
+      c.extend_with-held.ensures.1
+      c.if-held-ne0.true refl,
+)
 
 add-name-at : tie.Need-overflow_add-kind
 add-name-at c = omega (arith, (short_type (at-start c).requires.type_at (at-start c).requires.size).0)
@@ -149,14 +149,14 @@ same-length-2 c =
 
 returns-2 : tie.Need-returns-then-root-ne0
 returns-2 c = (
-      (omega arith, omega arith, λ z. refl),
-      no_root
-          (at-type-head (entered c.before.before.before.before.before.before)).type_head-head.ensures _
-          (at-extend-with (entered c.before.before.before.before.before.before)).extend_with-held.ensures.1
-          (entered c.before.before.before.before.before.before).if-held-ne0.false
-          c.node_from_resolved-root.ensures.1
-          c.if-root-ne0.true refl,
-    )
+  (omega arith, omega arith, λ z. refl),
+  no_root
+      (at-type-head (entered c.before.before.before.before.before.before)).type_head-head.ensures _
+      (at-extend-with (entered c.before.before.before.before.before.before)).extend_with-held.ensures.1
+      (entered c.before.before.before.before.before.before).if-held-ne0.false
+      c.node_from_resolved-root.ensures.1
+      c.if-root-ne0.true refl,
+)
 
 put-parameters-requires : tie.Need-put_parameters-end-requires
 put-parameters-requires c κs =

@@ -37,9 +37,9 @@ build-typeref-node-requires c κs =
 
 returns : tie.Need-returns-then-k-eq7
 returns c = (
-      widened (omega arith) c.build_typeref_node.ensures.0,
-      call_built _ c.read2-k.ensures.0 c.if-k-eq7.true c.build_typeref_node.ensures.1,
-    )
+  widened (omega arith) c.build_typeref_node.ensures.0,
+  call_built _ c.read2-k.ensures.0 c.if-k-eq7.true c.build_typeref_node.ensures.1,
+)
 
 type-head-requires : tie.Need-type_head-head-requires
 type-head-requires c κs = (at-start c.before).requires.type_at
@@ -47,7 +47,7 @@ type-head-requires c κs = (at-start c.before).requires.type_at
 returns-2 : tie.Need-returns-then-not-head
 returns-2 c = (
   search rules,
-      const_built _
+  const_built _
       c.read2-k.ensures.0
       c.type_head-head.ensures
       c.if-not-head.true
@@ -78,58 +78,58 @@ build-size-discriminated-union-node-requires c κs =
 
 returns-3 : tie.Need-returns-in-2
 returns-3 c = (
-      widened (omega arith) c.build_variable_struct.ensures.0,
-      struct_built _
-          (at-read2 c.before.before.before.before.before.before.before.before).read2-k.ensures.0
-          (at-type-head c.before.before.before.before.before.before.before.before).type_head-head.ensures
-          c.if-not-head.false
-          c.in-2.is
-          c.build_variable_struct.ensures.1,
-    )
+  widened (omega arith) c.build_variable_struct.ensures.0,
+  struct_built _
+      (at-read2 c.before.before.before.before.before.before.before.before).read2-k.ensures.0
+      (at-type-head c.before.before.before.before.before.before.before.before).type_head-head.ensures
+      c.if-not-head.false
+      c.in-2.is
+      c.build_variable_struct.ensures.1,
+)
 
 returns-4 : tie.Need-returns-in-3
 returns-4 c = (
-      widened (omega arith) c.build_union_node.ensures.0,
-      union_built _
-          (at-read2 c.before.before.before.before.before.before.before.before).read2-k.ensures.0
-          (at-type-head c.before.before.before.before.before.before.before.before).type_head-head.ensures
-          c.if-not-head.false
-          c.in-3.is
-          c.build_union_node.ensures.1,
-    )
+  widened (omega arith) c.build_union_node.ensures.0,
+  union_built _
+      (at-read2 c.before.before.before.before.before.before.before.before).read2-k.ensures.0
+      (at-type-head c.before.before.before.before.before.before.before.before).type_head-head.ensures
+      c.if-not-head.false
+      c.in-3.is
+      c.build_union_node.ensures.1,
+)
 
 returns-5 : tie.Need-returns-in-4
 returns-5 c = (
-      widened (omega arith) c.build_enum_node.ensures.0,
-      enum_built _
-          (at-read2 c.before.before.before.before.before.before.before.before).read2-k.ensures.0
-          (at-type-head c.before.before.before.before.before.before.before.before).type_head-head.ensures
-          c.if-not-head.false
-          c.in-4.is
-          c.build_enum_node.ensures.1,
-    )
+  widened (omega arith) c.build_enum_node.ensures.0,
+  enum_built _
+      (at-read2 c.before.before.before.before.before.before.before.before).read2-k.ensures.0
+      (at-type-head c.before.before.before.before.before.before.before.before).type_head-head.ensures
+      c.if-not-head.false
+      c.in-4.is
+      c.build_enum_node.ensures.1,
+)
 
 returns-6 : tie.Need-returns-in-5
 returns-6 c = (
-      array_wide (begun c.before.before.before.before.before.before.before.before).requires c.build_array_node.ensures.0,
-      array_built _
-          (at-read2 c.before.before.before.before.before.before.before.before).read2-k.ensures.0
-          (at-type-head c.before.before.before.before.before.before.before.before).type_head-head.ensures
-          c.if-not-head.false
-          c.in-5.is
-          c.build_array_node.ensures.1,
-    )
+  array_wide (begun c.before.before.before.before.before.before.before.before).requires c.build_array_node.ensures.0,
+  array_built _
+      (at-read2 c.before.before.before.before.before.before.before.before).read2-k.ensures.0
+      (at-type-head c.before.before.before.before.before.before.before.before).type_head-head.ensures
+      c.if-not-head.false
+      c.in-5.is
+      c.build_array_node.ensures.1,
+)
 
 returns-7 : tie.Need-returns-in-6
 returns-7 c = (
-      widened (omega arith) c.build_size_discriminated_union_node.ensures.0,
-      sized_built _
-          (at-read2 c.before.before.before.before.before.before.before.before).read2-k.ensures.0
-          (at-type-head c.before.before.before.before.before.before.before.before).type_head-head.ensures
-          c.if-not-head.false
-          c.in-6.is
-          c.build_size_discriminated_union_node.ensures.1,
-    )
+  widened (omega arith) c.build_size_discriminated_union_node.ensures.0,
+  sized_built _
+      (at-read2 c.before.before.before.before.before.before.before.before).read2-k.ensures.0
+      (at-type-head c.before.before.before.before.before.before.before.before).type_head-head.ensures
+      c.if-not-head.false
+      c.in-6.is
+      c.build_size_discriminated_union_node.ensures.1,
+)
 
 returns-8 : tie.Need-returns-in_default
 returns-8 c =

@@ -42,9 +42,9 @@ loop-less c = omega (arith, c.loop-i-test.true)
 
 loop-again : tie.Need-loop-i-preserved invariant-loop decreases-loop
 loop-again c = (
-      omega (arith, c.loop-i-test.true),
-      moved_more c.loop-i.invariant.1 (omega (arith, c.loop-i-test.true, c.requires.order, c.requires.inside)),
-    )
+  omega (arith, c.loop-i-test.true),
+  moved_more c.loop-i.invariant.1 (omega (arith, c.loop-i-test.true, c.requires.order, c.requires.inside)),
+)
 
 same_length : tie.Need-shape_of-input invariant-loop decreases-loop
 same_length c = c.loop-i.invariant.1.same

@@ -34,10 +34,10 @@ slice-aggregate-go-on c = sym (length-take-le _ _ (ready_read (at-start c).requi
 
 go-on-requires : tie.Need-go_on-requires
 go-on-requires c κs = (
-      (ready_read (at-start c.before.before).requires.ready c.in-Runs.is).1,
-      (at-start c.before.before).requires.room,
-      record { order = omega arith; inside = (at-start c.before.before).requires.held; few = (at-start c.before.before).requires.few },
-    )
+  (ready_read (at-start c.before.before).requires.ready c.in-Runs.is).1,
+  (at-start c.before.before).requires.room,
+  record { order = omega arith; inside = (at-start c.before.before).requires.held; few = (at-start c.before.before).requires.few },
+)
 
 enum-told-2 : tie.Need-enum_told-in-Set
 enum-told-2 c = search rules

@@ -36,13 +36,13 @@ add-i c = omega arith
 
 loop-holds : tie.Need-loop-left-init invariant-loop decreases-loop
 loop-holds c = (
-      omega arith,
-      rw c.in-Of.is at c.counted.ensures.1,
-      (λ z. absurd (omega arith)),
-      going
-          (entry_named _ _ _ _)
-          (list_of _ _ _ _ _ _ _ (sym c.counted.ensures.0 ∙ c.in-Of.is)),
-    )
+  omega arith,
+  rw c.in-Of.is at c.counted.ensures.1,
+  (λ z. absurd (omega arith)),
+  going
+      (entry_named _ _ _ _)
+      (list_of _ _ _ _ _ _ _ (sym c.counted.ensures.0 ∙ c.in-Of.is)),
+)
 
 next-entry-requires : tie.Need-next_entry-requires invariant-loop decreases-loop
 next-entry-requires c κs = (c.loop-left.invariant.1, omega arith, c.loop-left.invariant.2)
@@ -55,14 +55,14 @@ enum-known-q-2 c = search rules
 
 returns : tie.Need-returns-in-Refused invariant-loop decreases-loop
 returns c = (
-      sym
-          (going_stop
-          (entry_named _ _ _ _)
-          c.loop-left.invariant.3
-          c.loop-left-test.true
-          (sym c.next_entry.ensures.0 ∙ c.in-Refused.is)),
-      tt,
-    )
+  sym
+      (going_stop
+      (entry_named _ _ _ _)
+      c.loop-left.invariant.3
+      c.loop-left-test.true
+      (sym c.next_entry.ensures.0 ∙ c.in-Refused.is)),
+  tt,
+)
 
 sub-left : tie.Need-overflow_sub-left invariant-loop decreases-loop
 sub-left c = omega arith
@@ -86,9 +86,9 @@ loop-again c =
 
 returns-2 : tie.Need-returns-in-Bad invariant-loop decreases-loop
 returns-2 c = (
-      sym (list_bad _ _ _ _ _ _ _ (sym c.counted.ensures.0 ∙ c.in-Bad.is)),
-      tt,
-    )
+  sym (list_bad _ _ _ _ _ _ _ (sym c.counted.ensures.0 ∙ c.in-Bad.is)),
+  tt,
+)
 
 returns-3 : tie.Need-returns-after-loop-left invariant-loop decreases-loop
 returns-3 c = (

@@ -41,13 +41,13 @@ loop-less c = omega arith
 
 loop-again : tie.Need-loop-count-preserved invariant-loop decreases-loop
 loop-again c = (
-      known_more _ _
-          c.loop-count.invariant.0
-          (c.behind_block-next.ensures.0 (omega (arith, c.if-next-eq0.false)))
-          (told _ _ c.differs.ensures (c.if-not-differs.false)),
-      c.behind_block-next.ensures.1,
-      omega arith,
-    )
+  known_more _ _
+      c.loop-count.invariant.0
+      (c.behind_block-next.ensures.0 (omega (arith, c.if-next-eq0.false)))
+      (told _ _ c.differs.ensures (c.if-not-differs.false)),
+  c.behind_block-next.ensures.1,
+  omega arith,
+)
 
 returns-3 : tie.Need-returns invariant-loop decreases-loop
 returns-3 c = c.loop-count.invariant.0.fresh

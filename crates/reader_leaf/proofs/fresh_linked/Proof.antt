@@ -38,14 +38,14 @@ add-is-new c =
 
 is-new-requires : tie.Need-is_new-requires invariant-loop decreases-loop
 is-new-requires c κs = (
-      c.loop-count.invariant.0.stand,
-      (c.behind_block-next.ensures.0 (omega (arith, c.if-next-eq0.false))).0,
-      omega arith,
-      omega arith,
-      omega arith,
-      c.loop-count.invariant.1,
-      omega (arith, c.loop-count.invariant.4),
-    )
+  c.loop-count.invariant.0.stand,
+  (c.behind_block-next.ensures.0 (omega (arith, c.if-next-eq0.false))).0,
+  omega arith,
+  omega arith,
+  omega arith,
+  c.loop-count.invariant.1,
+  omega (arith, c.loop-count.invariant.4),
+)
 
 same-length-2 : tie.Need-shape_of-table-then-not-is_new invariant-loop decreases-loop
 same-length-2 c =
@@ -63,15 +63,15 @@ loop-less c = omega arith
 
 loop-again : tie.Need-loop-count-preserved invariant-loop decreases-loop
 loop-again c = (
-      known_more _ _
-          c.loop-count.invariant.0
-          (c.behind_block-next.ensures.0 (omega (arith, c.if-next-eq0.false)))
-          (c.is_new.ensures.0 (c.if-not-is_new.false)),
-      c.is_new.ensures.1 (ap (λ i. i + 6) c.loop-count.invariant.0.here),
-      c.behind_block-next.ensures.1,
-      omega arith,
-      c.is_new.auto.table ∙ c.loop-count.invariant.4,
-    )
+  known_more _ _
+      c.loop-count.invariant.0
+      (c.behind_block-next.ensures.0 (omega (arith, c.if-next-eq0.false)))
+      (c.is_new.ensures.0 (c.if-not-is_new.false)),
+  c.is_new.ensures.1 (ap (λ i. i + 6) c.loop-count.invariant.0.here),
+  c.behind_block-next.ensures.1,
+  omega arith,
+  c.is_new.auto.table ∙ c.loop-count.invariant.4,
+)
 
 same-length-3 : tie.Need-shape_of-table invariant-loop decreases-loop
 same-length-3 c = c.loop-count.invariant.4

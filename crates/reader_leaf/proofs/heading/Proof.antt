@@ -38,14 +38,14 @@ add-if3-2 c = search rules
 returns-3 : tie.Need-returns-then-end-at-2
 unfolding head_of read_header ◌>>=◌ ask
 returns-3 c = (
-      rw (
-        ← c.read4-n.ensures.0,
-        le-leb _ _ c.if-end-at.false,
-        le-leb _ _ c.if-n-lt2.false,
-        lt-leb _ _ c.if-end-at-2.true,
-      ),
-      tt,
-    )
+  rw (
+    ← c.read4-n.ensures.0,
+    le-leb _ _ c.if-end-at.false,
+    le-leb _ _ c.if-n-lt2.false,
+    lt-leb _ _ c.if-end-at-2.true,
+  ),
+  tt,
+)
 
 add-read2 : tie.Need-overflow_add-at-4
 add-read2 c = search rules
@@ -56,31 +56,31 @@ read2-requires c κs = search rules
 returns-4 : tie.Need-returns-then-k-lo
 unfolding head_of read_header ◌>>=◌ ask
 returns-4 c = (
-      rw (
-        ← c.read4-n.ensures.0,
-        ← c.read2-k.ensures.0,
-        le-leb _ _ c.if-end-at.false,
-        le-leb _ _ c.if-n-lt2.false,
-        le-leb _ _ c.if-end-at-2.false,
-        lt-leb _ _ c.if-k-lo.true,
-      ),
-      tt,
-    )
+  rw (
+    ← c.read4-n.ensures.0,
+    ← c.read2-k.ensures.0,
+    le-leb _ _ c.if-end-at.false,
+    le-leb _ _ c.if-n-lt2.false,
+    le-leb _ _ c.if-end-at-2.false,
+    lt-leb _ _ c.if-k-lo.true,
+  ),
+  tt,
+)
 
 returns-5 : tie.Need-returns-then-hi-k
 unfolding head_of read_header ◌>>=◌ ask
 returns-5 c = (
-      rw (
-        ← c.read4-n.ensures.0,
-        ← c.read2-k.ensures.0,
-        le-leb _ _ c.if-end-at.false,
-        le-leb _ _ c.if-n-lt2.false,
-        le-leb _ _ c.if-end-at-2.false,
-        le-leb _ _ c.if-k-lo.false,
-        lt-leb _ _ c.if-hi-k.true,
-      ),
-      tt,
-    )
+  rw (
+    ← c.read4-n.ensures.0,
+    ← c.read2-k.ensures.0,
+    le-leb _ _ c.if-end-at.false,
+    le-leb _ _ c.if-n-lt2.false,
+    le-leb _ _ c.if-end-at-2.false,
+    le-leb _ _ c.if-k-lo.false,
+    lt-leb _ _ c.if-hi-k.true,
+  ),
+  tt,
+)
 
 add-t8 : tie.Need-overflow_add-result
 add-t8 c = search rules
@@ -91,17 +91,17 @@ add-t10 c = search rules
 returns-6 : tie.Need-returns
 unfolding head_of read_header ◌>>=◌ ask
 returns-6 c = (
-      rw (
-        ← c.read4-n.ensures.0,
-        ← c.read2-k.ensures.0,
-        le-leb _ _ c.if-end-at.false,
-        le-leb _ _ c.if-n-lt2.false,
-        le-leb _ _ c.if-end-at-2.false,
-        le-leb _ _ c.if-k-lo.false,
-        le-leb _ _ c.if-hi-k.false,
-      ),
-      omega arith,
-    )
+  rw (
+    ← c.read4-n.ensures.0,
+    ← c.read2-k.ensures.0,
+    le-leb _ _ c.if-end-at.false,
+    le-leb _ _ c.if-n-lt2.false,
+    le-leb _ _ c.if-end-at-2.false,
+    le-leb _ _ c.if-k-lo.false,
+    le-leb _ _ c.if-hi-k.false,
+  ),
+  omega arith,
+)
 
 pub heading_spec : {M : Type 1} → statement M
 heading_spec =

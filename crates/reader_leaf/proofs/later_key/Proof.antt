@@ -29,11 +29,11 @@ returns c =
 
 returns-2 : tie.Need-returns-in-Ok
 returns-2 c = (
-      rw (c.settled.ensures, c.ascends.ensures)
-          (sym (key_settled _ _ _ _ _ (sym c.text.ensures.0 ∙ c.in-Ok.is))),
-      text_settled c.args.s.now c.args.at c.args.end _ c.ascends.result _ c.args.start c.settled.ensures
-          (rw c.in-Ok.is at c.text.ensures.1),
-    )
+  rw (c.settled.ensures, c.ascends.ensures)
+      (sym (key_settled _ _ _ _ _ (sym c.text.ensures.0 ∙ c.in-Ok.is))),
+  text_settled c.args.s.now c.args.at c.args.end _ c.ascends.result _ c.args.start c.settled.ensures
+      (rw c.in-Ok.is at c.text.ensures.1),
+)
 
 pub later_key_spec : {M : Type 1} → statement M
 later_key_spec =

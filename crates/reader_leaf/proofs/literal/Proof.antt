@@ -31,13 +31,13 @@ add-if3-2 c = search rules
 returns-3 : tie.Need-returns-then-end-at-2
 unfolding forget read_literal read_number ◌>>=◌ ask
 returns-3 c = (
-      rw (
-        le-leb _ _ c.if-end-at.false,
-        le-leb _ _ c.if-code-gt7.false,
-        lt-leb _ _ c.if-end-at-2.true,
-      ),
-      tt,
-    )
+  rw (
+    le-leb _ _ c.if-end-at.false,
+    le-leb _ _ c.if-code-gt7.false,
+    lt-leb _ _ c.if-end-at-2.true,
+  ),
+  tt,
+)
 
 add-read8 : tie.Need-overflow_add-at-4
 add-read8 c = search rules
@@ -57,30 +57,30 @@ add-t15 c = search rules
 returns-4 : tie.Need-returns-then-in_type
 unfolding forget read_literal read_number ◌>>=◌ ask
 returns-4 c = (
-      rw (
-        ← c.read8-v.ensures,
-        le-leb _ _ c.if-end-at.false,
-        le-leb _ _ c.if-code-gt7.false,
-        le-leb _ _ c.if-end-at-2.false,
-        ← c.in_type.ensures,
-        c.if-in_type.true,
-      ),
-      omega arith,
-    )
+  rw (
+    ← c.read8-v.ensures,
+    le-leb _ _ c.if-end-at.false,
+    le-leb _ _ c.if-code-gt7.false,
+    le-leb _ _ c.if-end-at-2.false,
+    ← c.in_type.ensures,
+    c.if-in_type.true,
+  ),
+  omega arith,
+)
 
 returns-5 : tie.Need-returns-else-in_type
 unfolding forget read_literal read_number ◌>>=◌ ask
 returns-5 c = (
-      rw (
-        ← c.read8-v.ensures,
-        le-leb _ _ c.if-end-at.false,
-        le-leb _ _ c.if-code-gt7.false,
-        le-leb _ _ c.if-end-at-2.false,
-        ← c.in_type.ensures,
-        c.if-in_type.false,
-      ),
-      tt,
-    )
+  rw (
+    ← c.read8-v.ensures,
+    le-leb _ _ c.if-end-at.false,
+    le-leb _ _ c.if-code-gt7.false,
+    le-leb _ _ c.if-end-at-2.false,
+    ← c.in_type.ensures,
+    c.if-in_type.false,
+  ),
+  tt,
+)
 
 pub literal_spec : {M : Type 1} → statement M
 literal_spec =

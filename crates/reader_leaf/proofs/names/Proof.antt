@@ -33,9 +33,9 @@ add-i c = omega arith
 
 loop-holds : tie.Need-loop-left-init invariant-loop decreases-loop
 loop-holds c = (
-      rw c.in-Of.is at c.counted.ensures.1,
-      list_of _ _ _ _ _ _ _ (sym c.counted.ensures.0 ∙ c.in-Of.is),
-    )
+  rw c.in-Of.is at c.counted.ensures.1,
+  list_of _ _ _ _ _ _ _ (sym c.counted.ensures.0 ∙ c.in-Of.is),
+)
 
 text-requires : tie.Need-text-requires invariant-loop decreases-loop
 text-requires c κs = omega arith
@@ -48,13 +48,13 @@ enum-known-q-2 c = search rules
 
 returns : tie.Need-returns-in-Refused invariant-loop decreases-loop
 returns c = (
-      sym
-          (c.loop-left.invariant.1
-          ∙ entries_stop _ _ _ _
-          c.loop-left-test.true
-          (key_any _ _ _ _ ∙ sym c.text.ensures.0 ∙ c.in-Refused.is)),
-      tt,
-    )
+  sym
+      (c.loop-left.invariant.1
+      ∙ entries_stop _ _ _ _
+      c.loop-left-test.true
+      (key_any _ _ _ _ ∙ sym c.text.ensures.0 ∙ c.in-Refused.is)),
+  tt,
+)
 
 sub-left : tie.Need-overflow_sub-left invariant-loop decreases-loop
 sub-left c = omega arith
@@ -64,18 +64,18 @@ loop-less c = omega arith
 
 loop-again : tie.Need-loop-left-preserved invariant-loop decreases-loop
 loop-again c = (
-      (rw c.in-Ok.is at c.text.ensures.1).1,
-      c.loop-left.invariant.1
-          ∙ any_go _ _ _
-          c.loop-left-test.true
-          (key_any _ _ _ _ ∙ sym c.text.ensures.0 ∙ c.in-Ok.is),
-    )
+  (rw c.in-Ok.is at c.text.ensures.1).1,
+  c.loop-left.invariant.1
+      ∙ any_go _ _ _
+      c.loop-left-test.true
+      (key_any _ _ _ _ ∙ sym c.text.ensures.0 ∙ c.in-Ok.is),
+)
 
 returns-2 : tie.Need-returns-in-Bad invariant-loop decreases-loop
 returns-2 c = (
-      sym (list_bad _ _ _ _ _ _ _ (sym c.counted.ensures.0 ∙ c.in-Bad.is)),
-      tt,
-    )
+  sym (list_bad _ _ _ _ _ _ _ (sym c.counted.ensures.0 ∙ c.in-Bad.is)),
+  tt,
+)
 
 returns-3 : tie.Need-returns-after-loop-left invariant-loop decreases-loop
 returns-3 c = (

@@ -29,15 +29,15 @@ returns c =
 returns-2 : tie.Need-returns-then-pairs
 unfolding read_entry
 returns-2 c = (
-      rw
-          c.if-pairs.true
-          (c.number.ensures.0
-          ∙ sym (value_then _ _ _ _ _ (sym c.later_key.ensures.0 ∙ c.in-Ok.is))),
-      pair_inside
-          c.number.result _ _ _ _
-          (rw c.in-Ok.is at c.later_key.ensures.1)
-          c.number.ensures.1,
-    )
+  rw
+      c.if-pairs.true
+      (c.number.ensures.0
+      ∙ sym (value_then _ _ _ _ _ (sym c.later_key.ensures.0 ∙ c.in-Ok.is))),
+  pair_inside
+      c.number.result _ _ _ _
+      (rw c.in-Ok.is at c.later_key.ensures.1)
+      c.number.ensures.1,
+)
 
 returns-3 : tie.Need-returns-else-pairs
 unfolding read_entry

@@ -22,12 +22,12 @@ shared-slice-read-if1 c =
 
 returns : tie.Need-returns-then-s-at
 returns c = (
-      sym
-          (optional_off _ _ _ _ _ _
-          (sym c.flag.ensures.0 ∙ c.in-Ok.is)
-          c.if-s-at.true),
-      (rw c.in-Ok.is at c.flag.ensures.1).1,
-    )
+  sym
+      (optional_off _ _ _ _ _ _
+      (sym c.flag.ensures.0 ∙ c.in-Ok.is)
+      c.if-s-at.true),
+  (rw c.in-Ok.is at c.flag.ensures.1).1,
+)
 
 number-requires : tie.Need-number-requires
 number-requires c κs =
@@ -45,27 +45,27 @@ returns-2 c =
 
 returns-3 : tie.Need-returns-then-numeric
 returns-3 c = (
-      rw
-          c.if-numeric.true
-          (c.number.ensures.0
-          ∙ sym
-          (optional_on _ _ _ _ _ _
-          (sym c.flag.ensures.0 ∙ c.in-Ok.is)
-          c.if-s-at.false)),
-      wide_inside c.number.result _ _ _ c.number.ensures.1,
-    )
+  rw
+      c.if-numeric.true
+      (c.number.ensures.0
+      ∙ sym
+      (optional_on _ _ _ _ _ _
+      (sym c.flag.ensures.0 ∙ c.in-Ok.is)
+      c.if-s-at.false)),
+  wide_inside c.number.result _ _ _ c.number.ensures.1,
+)
 
 returns-4 : tie.Need-returns-else-numeric
 returns-4 c = (
-      rw
-          c.if-numeric.false
-          (c.text.ensures.0
-          ∙ sym
-          (optional_on _ _ _ _ _ _
-          (sym c.flag.ensures.0 ∙ c.in-Ok.is)
-          c.if-s-at.false)),
-      text_inside c.text.result _ _ _ c.text.ensures.1,
-    )
+  rw
+      c.if-numeric.false
+      (c.text.ensures.0
+      ∙ sym
+      (optional_on _ _ _ _ _ _
+      (sym c.flag.ensures.0 ∙ c.in-Ok.is)
+      c.if-s-at.false)),
+  text_inside c.text.result _ _ _ c.text.ensures.1,
+)
 
 pub optional_spec : {M : Type 1} → statement M
 optional_spec =

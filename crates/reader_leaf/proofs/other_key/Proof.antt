@@ -31,11 +31,11 @@ returns c =
 returns-2 : tie.Need-returns-in-Ok
 unfolding in_order
 returns-2 c = (
-      rw (c.settled.ensures, c.differs.ensures)
-          (sym (key_settled _ _ _ _ _ (sym c.text.ensures.0 ∙ c.in-Ok.is))),
-      text_settled c.args.s.now c.args.at c.args.end _ c.differs.result _ c.args.start c.settled.ensures
-          (rw c.in-Ok.is at c.text.ensures.1),
-    )
+  rw (c.settled.ensures, c.differs.ensures)
+      (sym (key_settled _ _ _ _ _ (sym c.text.ensures.0 ∙ c.in-Ok.is))),
+  text_settled c.args.s.now c.args.at c.args.end _ c.differs.result _ c.args.start c.settled.ensures
+      (rw c.in-Ok.is at c.text.ensures.1),
+)
 
 pub other_key_spec : {M : Type 1} → statement M
 other_key_spec =

@@ -133,11 +133,11 @@ returns-8 c = (
 returns-9 : tie.Need-returns-in-Paths
 unfolding read_part read_entry
 returns-9 c = (
-      (λ rb. rw
-          (c.in-Paths.is, paths_before_lem, ← c.remaining.ensures)
-          c.entries.ensures.0),
-      c.entries.ensures.1,
-    )
+  (λ rb. rw
+      (c.in-Paths.is, paths_before_lem, ← c.remaining.ensures)
+      c.entries.ensures.0),
+  c.entries.ensures.1,
+)
 
 returns-10 : tie.Need-returns-in-Values
 unfolding read_part read_entry
@@ -149,11 +149,11 @@ returns-10 c = (
 returns-11 : tie.Need-returns-in_default
 unfolding read_part
 returns-11 c = (
-      (λ rb. rw
-          (last_plain _ c.in_default.in_default-own.keys11 c.requires.3)
-          c.number.ensures.0),
-      wide_inside c.number.result _ _ _ c.number.ensures.1,
-    )
+  (λ rb. rw
+      (last_plain _ c.in_default.in_default-own.keys11 c.requires.3)
+      c.number.ensures.0),
+  wide_inside c.number.result _ _ _ c.number.ensures.1,
+)
 
 pub plain_spec : {M : Type 1} → statement M
 plain_spec =

@@ -61,28 +61,28 @@ is-text-requires c κs = search rules
 returns-3 : tie.Need-returns-then-is_text
 unfolding forget ◌>>=◌ ask
 returns-3 c = (
-      sym
-          (text_is _ _ _ _ _
-          c.read2-n.ensures.0
-          c.if-end-at.false
-          c.if-end-at-2.false _
-          c.is_text.ensures
-          ∙ rw c.if-is_text.true),
-      (omega arith, omega arith),
-    )
+  sym
+      (text_is _ _ _ _ _
+      c.read2-n.ensures.0
+      c.if-end-at.false
+      c.if-end-at-2.false _
+      c.is_text.ensures
+      ∙ rw c.if-is_text.true),
+  (omega arith, omega arith),
+)
 
 returns-4 : tie.Need-returns-else-is_text
 unfolding forget ◌>>=◌ ask
 returns-4 c = (
-      sym
-          (text_is _ _ _ _ _
-          c.read2-n.ensures.0
-          c.if-end-at.false
-          c.if-end-at-2.false _
-          c.is_text.ensures
-          ∙ rw c.if-is_text.false),
-      tt,
-    )
+  sym
+      (text_is _ _ _ _ _
+      c.read2-n.ensures.0
+      c.if-end-at.false
+      c.if-end-at-2.false _
+      c.is_text.ensures
+      ∙ rw c.if-is_text.false),
+  tt,
+)
 
 pub text_spec : {M : Type 1} → statement M
 text_spec =
