@@ -4,7 +4,7 @@ use mathlib.Core.Bool.{Bool, true, false, ◌&&◌, ◌||◌, cond, or-false}
 use mathlib.Core.List.{List, [], ◌∷◌}
 use Prim.Native.Nat.{ℕ, zero, suc, ◌+◌, ◌-◌, ◌*◌, ◌/◌, ◌%◌, ◌^◌, ◌<◌, ◌≤◌}
 use native.Mathlib.Numerals.{add-one}
-use native.Mathlib.Nat.{add-zero, zero-add, zero-mul, suc-add, suc-mul, add-mul, mul_assoc, mul-le-mul_right, pow-succ', one-le-pow, mod-eq_of_lt, div-eq_of_lt, add-mul-mod_self_left, add-mul-div_left}
+use native.Mathlib.Nat.{add-zero, zero-add, suc-add, suc-mul, add-mul, mul_assoc, mul-le-mul_right, pow-succ', one-le-pow, mod-eq_of_lt, div-eq_of_lt, add-mul-mod_self_left, add-mul-div_left}
 use native.Mathlib.Omega.{arith}
 use lib.Dec.{leb, ltb, eqb}
 use lib.Pow.{pow-add}
@@ -14,7 +14,7 @@ use borrow.Author.Tests.{lt-ltb, le-ltb, eq-eqb, ne_eqb, ltb-true, ltb-false, eq
 use Rattle.blocks.specs.Bytes.{le}
 use Rattle.blocks.specs.Name.{less}
 use Rattle.blocks.proofs.Bytes.{le_one, le_join, below}
-use Rattle.wire.specs.Order.{be, Turned, ends, first_bytes, Lesser, Shorter}
+use Rattle.wire.specs.Order.{be, Turned, ends, first_bytes, Shorter}
 
 -- ---- numbers in two parts
 

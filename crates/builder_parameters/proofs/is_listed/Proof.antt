@@ -4,7 +4,6 @@ use mathlib.Core.Bool.{not}
 use mathlib.Core.Path.{sym, ap}
 use Rattle.resolved.specs.Set.{type_of}
 use Rattle.accepted.specs.Accepted.{tree}
-use borrow.Author.Tests.{not-true, not-false}
 use Rattle.builder_parameters.proofs.Listed.{not_first, first_listed}
 use native.Mathlib.Omega.{arith}
 use borrow.Author.Rules.{rules}

@@ -1,7 +1,6 @@
 -- `builder_paths::behind_segment` meets its contract: a segment, and its dot unless it is the last. Assumes nothing.
 use borrow.Author.Rules.{rules}
 use native.Mathlib.Omega.{arith}
-use borrow.Author.Tests.{not-true, not-false}
 use Rattle.builder_paths.proofs.Segments.{segment_missed, last_met, dot_missed, dot_met}
 use Rattle.builder_paths.proofs.behind_segment.Statement.{statement}
 use Rattle.builder_paths.proofs.behind_segment.Tie as tie

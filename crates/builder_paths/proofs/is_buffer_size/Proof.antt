@@ -1,5 +1,4 @@
 -- `builder_paths::is_buffer_size` meets its contract. The invariant: the name has been matched as far as i. The measure is the segments that are left.
-use borrow.Author.Rules.{rules}
 use native.Mathlib.Omega.{arith}
 use mathlib.Core.Path.{refl}
 use Prim.Native.Nat.{◌≤◌}

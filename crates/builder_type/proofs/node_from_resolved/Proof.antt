@@ -1,9 +1,8 @@
 -- `node_from_resolved` meets its contract: a type reference is a call, any other type of constant size a constant, and one of
 -- variable size what the builder of its kind leaves; a primitive type is refused.
-use mathlib.Core.Bool.{not}
 use native.Mathlib.Omega.{arith}
 use borrow.Author.Rules.{rules}
-use mathlib.Core.Path.{refl, ap}
+use mathlib.Core.Path.{refl}
 use Rattle.builder_nodes.proofs.Laws.{stopped, widened}
 use Rattle.builder_type.proofs.Root.{call_ready, switch_ready, array_ready, short_type, array_wide, only_one}
 use Rattle.builder_type.proofs.Root.{call_built, const_built, struct_built, union_built, enum_built, array_built, sized_built, primitive_built}

@@ -5,7 +5,7 @@ use Prim.Native.Nat.{ℕ}
 use Rattle.blocks.specs.Name.{Name}
 use Rattle.interpreter.specs.Eval.{ParamMap, find}
 use Rattle.interpreter.specs.Validate.{with_buffer_size, values_of}
-use Rattle.accepted.specs.Accepted.{name_at, tree}
+use Rattle.accepted.specs.Accepted.{tree}
 use Rattle.interpreter_context.proofs.Calls.{block_at, held_value, held_length, held_absent}
 use borrow.Author.Rules.{rules}
 use Rattle.interpreter_context.proofs.at_root.Statement.{statement}

@@ -2,7 +2,7 @@
 -- Assumes nothing.
 use Prim.Native.Nat.{◌-◌, ◌≤◌}
 use native.Mathlib.Omega.{arith}
-use Rattle.reader_leaf.proofs.Distinct.{Known, known_none, known_more, told, not_not}
+use Rattle.reader_leaf.proofs.Distinct.{Known, known_none, known_more, told}
 use Rattle.reader_leaf.proofs.fresh_compared.Statement.{statement}
 use Rattle.reader_leaf.proofs.fresh_compared.Tie as tie
 

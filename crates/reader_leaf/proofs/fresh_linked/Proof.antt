@@ -6,7 +6,7 @@ use native.Mathlib.Omega.{arith}
 use lib.ListN.{length}
 use Rattle.marks.specs.Table.{Linked}
 use Rattle.reader_leaf.specs.Mark.{mark_in}
-use Rattle.reader_leaf.proofs.Distinct.{Known, known_none, known_more, not_not}
+use Rattle.reader_leaf.proofs.Distinct.{Known, known_none, known_more}
 use Rattle.reader_leaf.proofs.fresh_linked.Statement.{statement}
 use Rattle.reader_leaf.proofs.fresh_linked.Tie as tie
 

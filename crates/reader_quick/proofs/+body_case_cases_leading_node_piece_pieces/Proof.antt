@@ -9,7 +9,6 @@ use Rattle.blocks.specs.Read.{Earlier, read_block}
 use Rattle.reader_leaf.specs.declared.Read.TheVariants.{Ok}
 use Rattle.reader_leaf.specs.Answer.{forget}
 use Rattle.reader_quick.specs.Quick.{Body}
-use Rattle.reader_leaf.proofs.Distinct.{not_not}
 use Rattle.reader_quick.proofs.Laws.{ends, Rest, rest_all, rest_next, rest_none, case_yes, node_yes, row_none, row_go, row_child, const_row, call_row, field_row, number_part, text_part, optional_part, node_part, cases_part, arguments_part, default_off, default_on}
 use borrow.Fn.Kinds.{In}
 use borrow.Fn.PlainCycle.{Measures, is, falls, and}

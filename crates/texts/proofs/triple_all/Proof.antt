@@ -5,7 +5,6 @@ use mathlib.Core.Path.{◌≡◌, sym, ◌∙◌}
 use mathlib.Core.Bool.{true}
 use mathlib.Core.List.{List}
 use lib.ListN.{length}
-use borrow.Author.Tests.{not-false}
 use Rattle.blocks.specs.Name.{well_formed}
 use Rattle.blocks.proofs.Name.{false_true}
 use Rattle.texts.specs.Triples.{Tripled}

@@ -1,7 +1,6 @@
 -- `texts::triple_long` meets its contract. The loop's invariant: the bytes behind two of which the first stands before i go with them. Assumes nothing.
 use Prim.Native.Nat.{◌+◌, ◌-◌, ◌<◌}
 use native.Mathlib.Omega.{arith}
-use borrow.Author.Tests.{not-false}
 use Rattle.blocks.proofs.Name.{false_true}
 use Rattle.texts.specs.Triples.{triple1}
 use Rattle.texts.proofs.Steps.{Each, none_yet, joined}

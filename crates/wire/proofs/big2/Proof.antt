@@ -1,5 +1,4 @@
 -- `wire::big2` meets its contract: the number that is read is turned. Assumes nothing.
-use Prim.Native.Nat.{ℕ, ◌<◌}
 use native.Mathlib.Omega.{arith}
 use borrow.Author.Rules.{rules}
 use Rattle.wire.proofs.big2.Statement.{statement}

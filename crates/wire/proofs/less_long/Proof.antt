@@ -1,8 +1,8 @@
 -- `wire::less_long` meets its contract. The loop's invariant: the bytes before `i` are alike. Assumes nothing.
-use Prim.Native.Nat.{ℕ, ◌+◌, ◌≤◌, ◌<◌, ◌-◌}
+use Prim.Native.Nat.{ℕ, ◌+◌, ◌<◌, ◌-◌}
 use mathlib.Core.Path.{◌≡◌}
 use native.Mathlib.Omega.{arith}
-use lib.ListN.{length, get_or}
+use lib.ListN.{get_or}
 use Rattle.wire.specs.Order.{Shorter}
 use Rattle.wire.proofs.Order.{Alike, alike_none, alike_step, alike_decide, alike_end}
 use Rattle.wire.proofs.less_long.Statement.{statement}

@@ -1,5 +1,4 @@
 -- `wire::swap8` meets its contract: eight bytes are turned as four and four. Assumes nothing.
-use native.Mathlib.Omega.{arith}
 use borrow.Author.Rules.{rules}
 use Rattle.wire.proofs.Order.{turn_halves}
 use Rattle.wire.proofs.swap8.Statement.{statement}
