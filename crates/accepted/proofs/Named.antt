@@ -47,8 +47,8 @@ headed {s} {at} a h =
 pub stand : {s : List ℕ} {lo hi n at : ℕ} → Keys lo hi → Listed s lo hi n at → Stand s at n
 unfolding Stand block_at
 stand h l zero k = (headed (block_entry l k).child h).inside
-stand {s} {at} h l (suc j) k =
-    subst (λ (o : ℕ). NameIn s (o + 6)) (sym (behind_first s at j)) (stand h (block_entry l (omega arith)).after.rest j (omega arith))
+stand {s} {n = n} {at = at} h l (suc j) k =
+    subst (λ (o : ℕ). NameIn s (o + 6)) (sym (behind_first s at j)) (stand {n = n - 1} h (block_entry l (omega arith)).after.rest j (omega arith))
 
 -- ---- the first entry of a name
 
