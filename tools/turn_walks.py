@@ -22,6 +22,7 @@ def plain(name):
     """A name of a goal or a place, whichever way its words are joined."""
     name = re.sub(r"^(?:Need-)?", "", name)
     name = re.sub(r"^(overflow|no-overflow)-", "", name)
+    name = re.sub(r"^slice-bounds-", "part-", name)
     return name.replace("-", "_").replace("_", "").lower()
 
 
@@ -66,28 +67,55 @@ class Walk:
             self.place[old] = (parent, step[0], step[1], callee)
             self.new_place[old] = new
         self.by_plain = {plain(k): k for k in self.place}
-        self.deepest = {}
-        for p in self.arms:
-            first, arm = p, self.arms[p]
-            for _ in range(arm[1] - 1):
-                first = self.place[first][0]
-            self.deepest[first, arm[0]] = max(arm[1], self.deepest.get((first, arm[0]), 0))
+        # places within an arm that goes on
+        self.mid = set()
+        for p, arm in self.arms.items():
+            above = self.arms.get(self.place[p][0])
+            if above and above[0] == arm[0] and above[1] + 1 == arm[1]:
+                self.mid.add(self.place[p][0])
         self.needs = {}
         for (old, new), (at, _) in zip(names["needs"], names["asked_at"]):
             self.needs.setdefault(plain(old), (new, at))
-        for (old, new), (at, _) in zip(names["needs"], names["asked_at"]):
-            self.needs.setdefault(plain(new), (new, at))
-        # an answer whose goal's name says nothing goes by its place among the answers
-        spec = re.search(r"\(tie\.spec\s([^()]*)\)", text)
-        given = spec[1].split() if spec else []
-        given = given[len(given) - len(names["needs"]) :] if len(given) >= len(names["needs"]) else []
-        for g, (old, new), (at, _) in zip(given, names["needs"], names["asked_at"]):
-            m = re.search(rf"(?m)^{re.escape(g)} : tie\.(Need-{NAME})", text)
-            if m and plain(m[1]) not in self.needs:
-                self.needs[plain(m[1])] = (new, at)
         self.loops = {}
         for l in names["loops"]:
             self.loops[plain(l[0][0])] = l[0][1]
+        self.order()
+
+    def order(self):
+        """The answers in the order in which they are asked for today; one that is not asked for any more goes."""
+        m = re.search(r"\(tie\.spec((?:\s+[^\s()]+)*)\s*\)", self.text)
+        if not m:
+            return
+        args = m[1].split()
+        needs = [plain(n[0]) for n in self.n["needs"]]
+        asked = {}
+        for a in args:
+            t = re.search(rf"(?m)^{re.escape(a)} : tie\.Need-({NAME})", self.text)
+            if t:
+                asked[a] = plain(t[1])
+        head = [a for a in args if a not in asked]
+        # the invariants and measures come first
+        if args[: len(head)] != head:
+            return
+        gone = [a for a in args if a in asked and asked[a] not in needs]
+        left = [n for n in needs if n not in asked.values()]
+        if len(gone) == 1 and len(left) == 1:
+            self.say(f"goal {asked[gone[0]]} taken for {left[0]}")
+            i = needs.index(left[0])
+            self.needs[asked[gone[0]]] = (self.n["needs"][i][1], self.n["asked_at"][i][0])
+            asked[gone[0]] = left[0]
+            gone, left = [], []
+        if left:
+            self.say(f"no answer to {', '.join(left)}; no goal for {', '.join(gone)}")
+            return
+        for a in gone:
+            self.say(f"goal {a} is not asked for any more")
+            self.text = re.sub(rf"(?ms)^(?:--[^\n]*\n)*{re.escape(a)} : tie\.Need-.*?\n(?=\n|\Z)\n?", "", self.text, count=1)
+        want = head + sorted((a for a in args if a in asked and a not in gone), key=lambda a: needs.index(asked[a]))
+        if want != args:
+            m = re.search(r"\(tie\.spec((?:\s+[^\s()]+)*)\s*\)", self.text)
+            sep = "\n    " if "\n" in m[1] else " "
+            self.text = self.text[: m.start(1)] + sep + sep.join(want) + self.text[m.end(1) :]
 
     def say(self, what):
         self.said.append(f"{self.path}: {what}")
@@ -119,12 +147,11 @@ class Walk:
     def parent(self, at):
         """The place before this one, as the walk has it: an arm's places are one."""
         arm = self.arms.get(at)
-        if arm:
+        if arm and at not in self.mid:
             first = at
             for _ in range(arm[1] - 1):
                 first = self.place[first][0]
-            if arm[1] == self.deepest.get((first, arm[0]), 0):
-                return self.place[first][0]
+            return self.place[first][0]
         return self.place[at][0]
 
     def steps(self, at, to):
@@ -182,31 +209,108 @@ class Walk:
         if rest[0] in FLAT and plain(rest[0]) != "wellformed":
             return ".".join([root] + rest)
         k = plain(rest[0])
-        for begin in (cur, start):
+        exact = lambda o: plain(o) == k
+        alike = lambda o: not k.startswith("if") and plain(o).rstrip("0123456789") == k.rstrip("0123456789")
+        for same in (exact, alike):
             # what an arm's pattern says
-            at, best = begin, None
+            at, best = start, None
             while at is not None:
                 arm = self.arms.get(at)
-                for field, step, fields in arm[2] if arm else ():
-                    if fields and plain(step) == k and rest[1 : 1 + len(fields)] == fields and (best is None or len(fields) > len(best[2])):
+                for field, step, fields in arm[2] if arm and at not in self.mid else ():
+                    if same(step) and rest[1 : 1 + len(fields)] == fields and (best is None or len(fields) > len(best[2])):
                         best = (arm[0], field, fields)
                 at = self.place[at][0]
             if best:
-                return ".".join([root, best[0], best[1]] + rest[1 + len(best[2]) :])
-            for same in (lambda o: plain(o) == k, lambda o: plain(o).rstrip("0123456789") == k.rstrip("0123456789")):
-                at = begin
+                tail = rest[1 + len(best[2]) :]
+                if not best[2] and tail and tail[0] in ("taken", "left"):
+                    tail[0] = {"taken": "true", "left": "false"}[tail[0]]
+                return ".".join([root, best[0], best[1]] + tail)
+            for at in (cur, start):
                 while at is not None:
                     parent, old, new, callee = self.place[at]
                     if old and same(old):
                         rest = [new] + rest[1:]
                         if len(rest) > 1 and rest[1] in ("taken", "left") and (new.startswith("if") or "test" in new):
                             rest[1] = {"taken": "true", "left": "false"}[rest[1]]
+                        if len(rest) > 1 and rest[1] == "inv":
+                            rest[1] = "invariant"
+                        params = self.n["params"].get(callee or "", [])
+                        if len(rest) > 2 and rest[1] in ("auto", "new", "kept") and re.fullmatch("[01]", rest[2]):
+                            ones = 0
+                            while 2 + ones < len(rest) and rest[2 + ones] == "1":
+                                ones += 1
+                            if ones < len(params):
+                                # the length that a parameter keeps
+                                rest = [new, rest[1].replace("kept", "auto"), params[ones]] + rest[3 + ones :]
                         return ".".join([root] + rest)
                     at = parent
         self.say(f"no step {rest[0]} at {cur}: {m[0]}")
         return ".".join([var] + segs)
 
+    def given(self, text):
+        """The answers that stand in the call of tie.spec itself: each function of a place, with its place."""
+        at = text.find("(tie.spec")
+        if at < 0:
+            return text
+        k, args, depth, cur = at + len("(tie.spec"), [], 0, None
+        while k < len(text):
+            ch = text[k]
+            if depth == 0 and (ch.isspace() or ch == ")"):
+                if cur is not None:
+                    args.append((cur, k))
+                    cur = None
+                if ch == ")":
+                    break
+            else:
+                if cur is None:
+                    cur = k
+                depth += (ch in "({") - (ch in ")}")
+            k += 1
+        n = len(self.n["needs"])
+        out, done = [], 0
+        for (a, b), (place, _) in zip(args[len(args) - n :] if len(args) >= n else [], self.n["asked_at"]):
+            m = re.match(rf"\(λ ({NAME})", text[a:b])
+            if m:
+                out.append(text[done:a])
+                env = {m[1]: (m[1], place, place)}
+                part = text[a:b]
+                self.lets(part, env)
+                out.append(self.paths(part, env))
+                done = b
+        return "".join(out) + text[done:]
+
+    def ways(self, text):
+        """A function from a place to an earlier one: so many steps as there are now."""
+        m = re.match(rf"(?:--[^\n]*\n)*(?:pub |abbrev )*({NAME}) : tie\.({NAME})[^→\n]*→ tie\.({NAME})[^→\n]*\n\1 (\w+) = (\(({NAME}) \4\)|\4)((?:\.before)+)\s*$", text)
+        if not m:
+            return text
+        at, to = self.by_plain.get(plain(m[2])), self.by_plain.get(plain(m[3]))
+        if m[6]:
+            at = self.gives.get(m[6])
+        n = self.steps(at, to) if at and to else None
+        if n is None:
+            self.say(f"no way from {m[2]} to {m[3]}")
+            return text
+        # in the old walk's steps, which the paths are turned from
+        k = 0
+        while at != to:
+            at, k = self.place[at][0], k + 1
+        return text[: m.start(7)] + ".before" * k + text[m.end(7) :]
+
+    def lets(self, text, env):
+        for m in re.finditer(rf"\blet ({NAME})(?: : [^=\n]*)? = ({NAME})((?:\.before)*)(?![.])( [^=]*?)??\s+in(?=[\s(])", text):
+            if m[2] in self.gives and m[4] and not m[3]:
+                place = self.gives[m[2]]
+                env[m[1]] = (m[1], place, place)
+            elif m[2] in env and not m[4]:
+                root, start, cur = env[m[2]]
+                for _ in range(m[3].count(".")):
+                    cur = self.place[cur][0] if cur else None
+                if cur is not None:
+                    env[m[1]] = (root, start, cur)
+
     def item(self, text):
+        text = self.given(text)
         env = {}
         sig = re.search(rf"(?m)^(?:pub |abbrev |unfoldable )*({NAME})(?: \{{[^{{}}\n]*\}})* :", text)
         if sig:
@@ -240,22 +344,14 @@ class Walk:
             if old:
                 env[m[1]] = (m[1], old, old)
         # names that a let gives to a place
-        for m in re.finditer(rf"\blet ({NAME})(?: : [^=\n]*)? = ({NAME})((?:\.before)*)( [^=]*?)?\s+in\b", text):
-            if m[2] in self.gives and m[4] and not m[3]:
-                place = self.gives[m[2]]
-                env[m[1]] = (m[1], place, place)
-            elif m[2] in env and not m[4]:
-                root, start, cur = env[m[2]]
-                for _ in range(m[3].count(".")):
-                    cur = self.place[cur][0] if cur else None
-                if cur is not None:
-                    env[m[1]] = (root, start, cur)
+        self.lets(text, env)
+        text = self.ways(text)
         text = self.types(self.paths(text, env))
         # what a negated test says is said without the negation now
-        text = re.sub(r"not-false _ (\S*?\.if-not-\S+?\.false)(?![^\s()])", r"\1", text)
+        text = re.sub(r"(?<![^\s(])(?:not-false|not_false|not_not|not-not) _ (\S*?\.if-not-\S+?\.false)(?![^\s()])", r"\1", text)
         # a place that is named and no longer used
         while True:
-            for m in re.finditer(rf"[ \n]*\blet ({NAME})(?: : [^=\n]*)? = {NAME}(?:\.before)*\s+in\b", text):
+            for m in re.finditer(rf"[ \n]*\blet ({NAME})(?: : [^=\n]*)? = {NAME}(?:\.before)*\s+in(?=[\s(])", text):
                 if m[1] in env and not re.search(rf"(?<![^\s(){{}};.,]){re.escape(m[1])}(?![^\s(){{}};.,])", text[m.end() :]):
                     text = text[: m.start()] + text[m.end() :]
                     break

@@ -223,4 +223,4 @@ unfolding parts_of find_row grammar node_table type_of view thing_of make_thing 
 target_at {s} {at} eq ek a =
     let h : Headed 7 (Text ∷ []) a = headed a ek refl in
     let t = text_part h.rest in
-    subst (TargetAt a) (sym eq) (record { named = named (omega (arith, t.1.inside, h.rest.fits)) t.0; is = kind_is h t.1.tree; name_at = refl })
+    subst (TargetAt a) (sym eq) (record { named = named (omega (arith, t.1.inside, h.rest.fits)) t.0; is = kind_is h t.1.tree; name_place = refl })

@@ -8,7 +8,7 @@ use native.Mathlib.Omega.{arith}
 use lib.ListN.{length}
 use Rattle.blocks.specs.declared.Part.{Part}
 use Rattle.blocks.specs.declared.Part.TheVariants.{Key}
-use Rattle.blocks.specs.Bytes.{le2, name_at}
+use Rattle.blocks.specs.Bytes.{le2, le4, name_at}
 use Rattle.blocks.specs.Name.{Name, same}
 use Rattle.blocks.specs.Blocks.{Stand, Passed}
 use Rattle.blocks.specs.Grammar.{parts_of, find_row, grammar, node_table}
@@ -83,7 +83,7 @@ module _ {s : List ℕ} {n : Name} where
   unfolding paths_from
   paths_at zero p h t = absurd (omega arith)
   paths_at (suc m) Passed.none h t = rw t
-  paths_at (suc m) (Passed.one e p) h t = rw e (paths_at m p (omega arith) t)
+  paths_at {at = at} (suc m) (Passed.one e p) h t = rw e (paths_at {at = at + 4 + le4 s at} m p (omega arith) t)
 
   -- or nowhere
   paths_none : {at m q : ℕ} → Passed s n at m q → paths_from s n m at ≡ Missing

@@ -7,22 +7,22 @@ use borrow.Author.Rules.{rules}
 use Rattle.builder_names.proofs.begins_with_owner.Statement.{statement}
 use Rattle.builder_names.proofs.begins_with_owner.Tie as tie
 
-returns : tie.Need-returns
+returns : tie.Need-returns-then-path-n
 returns c = search begins
 
-shared-slice-read-if2 : tie.Need-shared-slice-read-if2
+shared-slice-read-if2 : tie.Need-bounds-path-n
 shared-slice-read-if2 c = search rules
 
-returns-2 : tie.Need-returns-2
+returns-2 : tie.Need-returns-then-path-n-ne46
 returns-2 c = search begins
 
-slice-aggregate-same-name : tie.Need-slice-aggregate-same-name
+slice-aggregate-same-name : tie.Need-slice_bounds-same_name-end
 slice-aggregate-same-name c = sym (length-take-le _ _ (omega arith))
 
-same-name-requires : tie.Need-same-name-requires
+same-name-requires : tie.Need-same_name-requires
 same-name-requires c κs = search rules
 
-returns-3 : tie.Need-returns-3
+returns-3 : tie.Need-returns
 returns-3 c = search begins
 
 pub begins_with_owner_spec : {M : Type 1} → statement M

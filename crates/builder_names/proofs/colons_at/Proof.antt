@@ -5,25 +5,24 @@ use native.Mathlib.Omega.{arith}
 use Rattle.builder_names.proofs.colons_at.Statement.{statement}
 use Rattle.builder_names.proofs.colons_at.Tie as tie
 
-add-j : tie.Need-overflow-add-j
+add-j : tie.Need-overflow_add-j
 add-j c = omega arith
 
-returns : tie.Need-returns
-returns c = (no_room _ _ c.before.requires c.if1.true, λ e. false_true e)
+returns : tie.Need-returns-then-s-j
+returns c = (no_room _ _ c.requires c.if-s-j.true, λ e. false_true e)
 
-shared-slice-read-if2 : tie.Need-shared-slice-read-if2
+shared-slice-read-if2 : tie.Need-bounds-s-i
 shared-slice-read-if2 c = omega arith
 
-returns-2 : tie.Need-returns-2
-returns-2 c = (no_colon _ _ c.before.before.if1.false c.if2.true, λ e. false_true e)
+returns-2 : tie.Need-returns-then-s-i-ne58
+returns-2 c = (no_colon _ _ c.if-s-j.false c.if-s-i-ne58.true, λ e. false_true e)
 
-shared-slice-read-result : tie.Need-shared-slice-read-result
+shared-slice-read-result : tie.Need-bounds-s-j
 shared-slice-read-result c = omega arith
 
-returns-3 : tie.Need-returns-3
+returns-3 : tie.Need-returns
 returns-3 c =
-    let at-else1 = c.before.before.before in
-    (colon _ _ at-else1.if1.false c.before.if2.false, λ e. omega arith)
+    (colon _ _ c.if-s-j.false c.if-s-i-ne58.false, λ e. omega arith)
 
 pub colons_at_spec : {M : Type 1} → statement M
 colons_at_spec =

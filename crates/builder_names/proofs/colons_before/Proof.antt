@@ -5,25 +5,25 @@ use borrow.Author.Rules.{rules}
 use Rattle.builder_names.proofs.colons_before.Statement.{statement}
 use Rattle.builder_names.proofs.colons_before.Tie as tie
 
-returns : tie.Need-returns
+returns : tie.Need-returns-then-path-rest
 returns c = search befores
 
-sub-a : tie.Need-overflow-sub-a
+sub-a : tie.Need-overflow_sub-a
 sub-a c = search rules
 
-returns-2 : tie.Need-returns-2
+returns-2 : tie.Need-returns-then-a-head
 returns-2 c = search befores
 
-sub-b : tie.Need-overflow-sub-b
+sub-b : tie.Need-overflow_sub-b
 sub-b c = search rules
 
-returns-3 : tie.Need-returns-3
+returns-3 : tie.Need-returns-then-b-lt2
 returns-3 c = search befores
 
-colons-at-requires : tie.Need-colons-at-requires
+colons-at-requires : tie.Need-colons_at-requires
 colons-at-requires c κs = omega arith
 
-returns-4 : tie.Need-returns-4
+returns-4 : tie.Need-returns
 returns-4 c = search befores
 
 pub colons_before_spec : {M : Type 1} → statement M

@@ -4,25 +4,25 @@ use borrow.Author.Rules.{rules}
 use Rattle.builder_names.proofs.ends_with.Statement.{statement}
 use Rattle.builder_names.proofs.ends_with.Tie as tie
 
-returns : tie.Need-returns
+returns : tie.Need-returns-then-name-end
 returns c = search ends_short
 
-sub-a : tie.Need-overflow-sub-a
+sub-a : tie.Need-overflow_sub-a
 sub-a c = search rules
 
-sub-same-name : tie.Need-overflow-sub-same-name
+sub-same-name : tie.Need-slice_bounds-same_name-count
 sub-same-name c = search rules
 
-part-same-name-start : tie.Need-slice-bounds-same-name-start
+part-same-name-start : tie.Need-slice_bounds-same_name-start
 part-same-name-start c = search rules
 
-part-same-name-end : tie.Need-slice-bounds-same-name-end
+part-same-name-end : tie.Need-slice_bounds-same_name-end
 part-same-name-end c = search rules
 
-same-name-requires : tie.Need-same-name-requires
+same-name-requires : tie.Need-same_name-requires
 same-name-requires c κs = search rules
 
-returns-2 : tie.Need-returns-2
+returns-2 : tie.Need-returns
 returns-2 c = search ends_rest
 
 pub ends_with_spec : {M : Type 1} → statement M

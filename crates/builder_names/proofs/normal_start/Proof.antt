@@ -5,16 +5,16 @@ use borrow.Author.Rules.{rules}
 use Rattle.builder_names.proofs.normal_start.Statement.{statement}
 use Rattle.builder_names.proofs.normal_start.Tie as tie
 
-is-apart-requires : tie.Need-is-apart-requires
+is-apart-requires : tie.Need-is_apart-requires
 is-apart-requires c κs = search rules
 
-returns : tie.Need-returns
-returns c = (omega arith, normal_apart _ _ (c.before.is-apart.ensures c.if1.true))
+returns : tie.Need-returns-then-is_apart
+returns c = (omega arith, normal_apart _ _ (c.is_apart.ensures c.if-is_apart.true))
 
-compared-start-requires : tie.Need-compared-start-requires
+compared-start-requires : tie.Need-compared_start-requires
 compared-start-requires c κs = search rules
 
-returns-2 : tie.Need-returns-2
+returns-2 : tie.Need-returns
 returns-2 c = search rules
 
 pub normal_start_spec : {M : Type 1} → statement M

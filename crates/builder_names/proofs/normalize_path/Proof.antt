@@ -4,16 +4,16 @@ use borrow.Author.Rules.{rules}
 use Rattle.builder_names.proofs.normalize_path.Statement.{statement}
 use Rattle.builder_names.proofs.normalize_path.Tie as tie
 
-normal-start-requires : tie.Need-normal-start-requires
+normal-start-requires : tie.Need-normal_start-a-requires
 normal-start-requires c κs = search rules
 
-sub-result : tie.Need-overflow-sub-result
+sub-result : tie.Need-slice_bounds-result-count
 sub-result c = search rules
 
-part-result-start : tie.Need-slice-bounds-result-start
+part-result-start : tie.Need-slice_bounds-result-start
 part-result-start c = search rules
 
-part-result-end : tie.Need-slice-bounds-result-end
+part-result-end : tie.Need-slice_bounds-result-end
 part-result-end c = search rules
 
 returns : tie.Need-returns

@@ -8,50 +8,49 @@ use borrow.Author.Rules.{rules}
 use Rattle.builder_names.proofs.qualified_key.Statement.{statement}
 use Rattle.builder_names.proofs.qualified_key.Tie as tie
 
-last-colons-requires : tie.Need-last-colons-requires
+last-colons-requires : tie.Need-last_colons-requires
 last-colons-requires c κs = search rules
 
-enum-known-i : tie.Need-enum-known-i
+enum-known-i : tie.Need-enum_known-i
 enum-known-i c = search rules
 
-add_a : tie.Need-overflow-add-a
+add_a : tie.Need-overflow_add-a
 add_a c =
-    let at-start = c.before.before.before.before.before.before in
-    let h : c.before.i.given.0.0 + 2 ≤ length at-start.args.owner.now = search
+    let h : c.in-At.i + 2 ≤ length c.args.owner.now = search
     parts_fit in
     omega arith
 
-sub-rest : tie.Need-overflow-sub-rest
+sub-rest : tie.Need-slice_bounds-rest-count
 sub-rest c = search parts_fit
 
-part-rest-start : tie.Need-slice-bounds-rest-start
+part-rest-start : tie.Need-slice_bounds-rest-start
 part-rest-start c = search parts_fit
 
-part-rest-end : tie.Need-slice-bounds-rest-end
+part-rest-end : tie.Need-slice_bounds-rest-end
 part-rest-end c = search rules
 
-same-name-requires : tie.Need-same-name-requires
+same-name-requires : tie.Need-same_name-requires
 same-name-requires c κs = search rules
 
-returns : tie.Need-returns
+returns : tie.Need-returns-then-same_name
 returns c = search qualifies
 
-begins-with-owner-requires : tie.Need-begins-with-owner-requires
+begins-with-owner-requires : tie.Need-begins_with_owner-requires
 begins-with-owner-requires c κs = search rules
 
-add-t15 : tie.Need-overflow-add-t15
+add-t15 : tie.Need-overflow_add-result
 add-t15 c = search rules
 
-returns-2 : tie.Need-returns-2
+returns-2 : tie.Need-returns-then-begins_with_owner
 returns-2 c = search qualifies
 
-enum_told : tie.Need-enum-told
+enum_told : tie.Need-enum_told-1
 enum_told c = search rules
 
-returns-3 : tie.Need-returns-3
+returns-3 : tie.Need-returns-else-begins_with_owner
 returns-3 c = search qualifies
 
-returns-4 : tie.Need-returns-4
+returns-4 : tie.Need-returns-in-Missing
 returns-4 c = search qualifies
 
 pub qualified_key_spec : {M : Type 1} → statement M

@@ -6,40 +6,40 @@ use Rattle.builder_names.proofs.rest_of.Statement.{statement}
 use Rattle.builder_names.proofs.rest_of.Tie as tie
 
 -- The places, each seen from a later one: what was known there.
-abbrev at-else1 : tie.After-compared-start → tie.Else1
+abbrev at-else1 : tie.After-compared_start-a → tie.Else-n-eq0
 at-else1 r = r.before.before.before
 
-returns : tie.Need-returns
-returns c = rest_empty _ _ c.if1.true
+returns : tie.Need-returns-then-n-eq0
+returns c = rest_empty _ _ c.if-n-eq0.true
 
-is-apart-requires : tie.Need-is-apart-requires
+is-apart-requires : tie.Need-is_apart-requires
 is-apart-requires c κs = search rules
 
-returns-2 : tie.Need-returns-2
-returns-2 c = rest_apart _ _ c.before.before.if1.false (c.before.is-apart.ensures c.if2.true)
+returns-2 : tie.Need-returns-then-is_apart
+returns-2 c = rest_apart _ _ c.if-n-eq0.false (c.is_apart.ensures c.if-is_apart.true)
 
-compared-start-requires : tie.Need-compared-start-requires
+compared-start-requires : tie.Need-compared_start-a-requires
 compared-start-requires c κs = search rules
 
-returns-3 : tie.Need-returns-3
+returns-3 : tie.Need-returns-then-n-owner
 returns-3 c =
     let at-start = c.before in
-    rest_long _ _ (at-else1 at-start).if1.false _ at-start.compared-start.ensures.0 at-start.compared-start.ensures.1 c.if3.true
+    rest_long _ _ (at-else1 at-start).if-n-eq0.false _ c.compared_start-a.ensures.0 c.compared_start-a.ensures.1 c.if-n-owner.true
 
-returns-4 : tie.Need-returns-4
+returns-4 : tie.Need-returns-then-a-n
 returns-4 c =
     let at-start = c.before.before in
-    rest_other _ _ (at-else1 at-start).if1.false _ at-start.compared-start.ensures.0 at-start.compared-start.ensures.1 c.if4.true
+    rest_other _ _ (at-else1 at-start).if-n-eq0.false _ c.compared_start-a.ensures.0 c.compared_start-a.ensures.1 c.if-a-n.true
 
-returns-5 : tie.Need-returns-5
+returns-5 : tie.Need-returns
 returns-5 c =
     let at-start = c.before.before in
     rest_same _ _
-    (at-else1 at-start).if1.false _
-    at-start.compared-start.ensures.0
-    at-start.compared-start.ensures.1
-    c.before.if3.false
-    c.if4.false
+    (at-else1 at-start).if-n-eq0.false _
+    c.compared_start-a.ensures.0
+    c.compared_start-a.ensures.1
+    c.if-n-owner.false
+    c.if-a-n.false
 
 pub rest_of_spec : {M : Type 1} → statement M
 rest_of_spec =

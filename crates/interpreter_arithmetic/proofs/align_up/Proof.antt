@@ -8,28 +8,28 @@ use Rattle.interpreter.specs.Arithmetic.{checked_add, align_up}
 use Rattle.interpreter_arithmetic.proofs.align_up.Statement.{statement}
 use Rattle.interpreter_arithmetic.proofs.align_up.Tie as tie
 
-returns : tie.Need-returns
+returns : tie.Need-returns-then-alignment-le1
 unfolding align_up number_of
-returns c = rw (le-leb _ _ c.if1.true)
+returns c = rw (le-leb _ _ c.if-alignment-le1.true)
 
-rem-remainder : tie.Need-nonzero-rem-remainder
+rem-remainder : tie.Need-nonzero_rem-remainder
 rem-remainder c = search rules
 
-returns-2 : tie.Need-returns-2
+returns-2 : tie.Need-returns-then-remainder-eq0
 unfolding align_up number_of
-returns-2 c = rw (lt-leb _ _ c.before.if1.false, eq-eqb _ _ c.if2.true)
+returns-2 c = rw (lt-leb _ _ c.if-alignment-le1.false, eq-eqb _ _ c.if-remainder-eq0.true)
 
-sub-checked-add : tie.Need-overflow-sub-checked-add
+sub-checked-add : tie.Need-overflow_sub-alignment
 sub-checked-add c = le_of_lt (mod-lt _ (omega arith))
 
-checked-add-requires : tie.Need-checked-add-requires
+checked-add-requires : tie.Need-checked_add-requires
 checked-add-requires c κs = search rules
 
-returns-3 : tie.Need-returns-3
+returns-3 : tie.Need-returns
 unfolding align_up checked_add number_of
 returns-3 c =
     rw
-    (lt-leb _ _ c.before.before.if1.false, ne_eqb _ _ c.before.if2.false)
+    (lt-leb _ _ c.if-alignment-le1.false, ne_eqb _ _ c.if-remainder-eq0.false)
     c.checked_add.ensures
 
 pub align_up_spec : {M : Type 1} → statement M

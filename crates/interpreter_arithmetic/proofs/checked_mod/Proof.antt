@@ -12,5 +12,5 @@ checked_mod_spec =
     tie.close
     (tie.spec
     (λ c. search rules)
-    (λ c. rw (eq-eqb _ _ c.if1.true))
-    (λ c. rw (ne_eqb _ _ c.if1.false)))
+    (λ c. rw (eq-eqb _ _ c.if-right-eq0.true))
+    (λ c. rw (ne_eqb _ _ c.if-right-eq0.false)))

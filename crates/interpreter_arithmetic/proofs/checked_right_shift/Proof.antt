@@ -7,23 +7,23 @@ use Rattle.interpreter.proofs.Arithmetic.{shift_out}
 use Rattle.interpreter_arithmetic.proofs.checked_right_shift.Statement.{statement}
 use Rattle.interpreter_arithmetic.proofs.checked_right_shift.Tie as tie
 
-shr-t8 : tie.Need-overflow-shr-t8
+shr-t8 : tie.Need-overflow_shr-result
 shr-t8 c = omega arith
 
-returns : tie.Need-returns
+returns : tie.Need-returns-then-right-ge128
 unfolding checked_right_shift number_of
-returns c = rw (le-leb _ _ c.if1.true)
+returns c = rw (le-leb _ _ c.if-right-ge128.true)
 
-returns-2 : tie.Need-returns-2
+returns-2 : tie.Need-returns-then-right-ge64
 unfolding checked_right_shift number_of
 returns-2 c = rw (
-  lt-leb _ _ c.before.if1.false,
-  shift_out 64 _ _ c.before.before.ranges.left.fits c.if2.true,
+  lt-leb _ _ c.if-right-ge128.false,
+  shift_out 64 _ _ c.ranges.left.fits c.if-right-ge64.true,
 )
 
-returns-3 : tie.Need-returns-3
+returns-3 : tie.Need-returns-else-right-ge64
 unfolding checked_right_shift number_of
-returns-3 c = rw (lt-leb _ _ c.before.if1.false)
+returns-3 c = rw (lt-leb _ _ c.if-right-ge128.false)
 
 pub checked_right_shift_spec : {M : Type 1} → statement M
 checked_right_shift_spec = tie.close (tie.spec shr-t8 returns returns-2 returns-3)

@@ -14,15 +14,14 @@ above : {N : Type 0} {m k : ℕ} → (N → m ≤ k) → N × (k ≡ m → ⊥) 
 above f t = let h = f t.0 in let n = t.1 in omega arith
 
 -- the last arm: the kind is none of 134 to 142
-last : tie.Need-returns-10
+last : tie.Need-returns-in_default
 unfolding operations operation number_of
 last c =
-    let at-start = c.before.before in
-    let e : at-start.args.kind ≡ 143 = le_antisymm
-    at-start.requires.1
+    let e : c.args.kind ≡ 143 = le_antisymm
+    c.requires.1
     (above
-    (above (above (above (above (above (above (above (above (λ u. at-start.requires.0)))))))))
-    c.before.match.rest) in
+    (above (above (above (above (above (above (above (above (λ u. c.requires.0)))))))))
+    c.in_default.in_default-own.rest) in
     rw e c.checked_right_shift.ensures
 
 pub operate_spec : {M : Type 1} → statement M
@@ -37,13 +36,13 @@ operate_spec =
     (λ c κs. tt)
     (λ c κs. tt)
     (λ c κs. tt)
-    (λ c. rw c.before.match.keys1 c.checked_add.ensures)
-    (λ c. rw c.before.match.keys2 c.checked_sub.ensures)
-    (λ c. rw c.before.match.keys3 c.checked_mul.ensures)
-    (λ c. rw c.before.match.keys4 c.checked_div.ensures)
-    (λ c. rw c.before.match.keys5 c.checked_mod.ensures)
-    (λ c. rw c.match.keys6)
-    (λ c. rw c.match.keys7)
-    (λ c. rw c.match.keys8)
-    (λ c. rw c.before.match.keys9 c.checked_left_shift.ensures)
+    (λ c. rw c.in-134.is c.checked_add.ensures)
+    (λ c. rw c.in-135.is c.checked_sub.ensures)
+    (λ c. rw c.in-136.is c.checked_mul.ensures)
+    (λ c. rw c.in-137.is c.checked_div.ensures)
+    (λ c. rw c.in-138.is c.checked_mod.ensures)
+    (λ c. rw c.in-139.is)
+    (λ c. rw c.in-140.is)
+    (λ c. rw c.in-141.is)
+    (λ c. rw c.in-142.is c.checked_left_shift.ensures)
     last)

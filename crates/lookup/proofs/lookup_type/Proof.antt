@@ -6,18 +6,17 @@ use Rattle.lookup.proofs.lookup_type.Statement.{statement}
 use Rattle.lookup.proofs.lookup_type.Tie as tie
 
 read2-requires : tie.Need-read2-requires
-read2-requires c κs = (whole c.before.before.requires.1).inside
+read2-requires c κs = (whole c.requires.1).inside
 
-block-named-requires : tie.Need-block-named-requires
-block-named-requires c κs = layout_stands _ _ c.before.before.before.requires.1 c.read2.ensures.0
+block-named-requires : tie.Need-block_named-requires
+block-named-requires c κs = layout_stands _ _ c.requires.1 c.read2.ensures.0
 
 placed-requires : tie.Need-placed-requires
 placed-requires c κs = search rules
 
 returns : tie.Need-returns
 returns c =
-    let at-search = c.before in
-    tree_found at-search.before.read2.ensures.0 at-search.block-named.ensures c.placed.ensures
+    tree_found c.read2.ensures.0 c.block_named.ensures c.placed.ensures
 
 pub lookup_type_spec : {M : Type 1} → statement M
 lookup_type_spec = tie.close (tie.spec read2-requires block-named-requires placed-requires returns)

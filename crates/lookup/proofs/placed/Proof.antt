@@ -5,16 +5,16 @@ use Rattle.lookup.specs.Named.{place_of}
 use Rattle.lookup.proofs.placed.Statement.{statement}
 use Rattle.lookup.proofs.placed.Tie as tie
 
-enum-known-b : tie.Need-enum-known-b
+enum-known-b : tie.Need-enum_known-b
 enum-known-b c = search rules
 
-enum_told : tie.Need-enum-told
+enum_told : tie.Need-enum_told-1
 enum_told c = search rules
 
-returns : tie.Need-returns
-returns c = sym (ap place_of c.before.b.given.1)
+returns : tie.Need-returns-in-At
+returns c = sym (ap place_of c.in-At.is)
 
-returns-2 : tie.Need-returns-2
+returns-2 : tie.Need-returns-in-Missing
 returns-2 c = search rules
 
 pub placed_spec : {M : Type 1} → statement M

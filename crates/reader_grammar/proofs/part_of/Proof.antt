@@ -7,23 +7,23 @@ use Rattle.reader_grammar.proofs.part_of.Statement.{statement}
 use Rattle.reader_grammar.proofs.part_of.Tie as tie
 
 -- no arm names the number
-others : tie.Need-returns-26
+others : tie.Need-returns-in_default
 unfolding part_of
 others c =
     text
     (26 ∷ 25 ∷ 24 ∷ 23 ∷ 22 ∷ 21 ∷ 20 ∷ 19 ∷ 18 ∷ 17 ∷ 16 ∷ 15 ∷ 14 ∷ 13 ∷ 12 ∷ 11 ∷ 10 ∷ 9 ∷ 8 ∷ 7 ∷ 6 ∷ 5 ∷ 4 ∷ 3 ∷ 2 ∷ []) _ refl
-    c.match.rest
+    c.in_default.in_default-own.rest
 
 pub part_of_spec : {M : Type 1} → statement M
 unfolding part_of
 part_of_spec =
     tie.close
     (tie.spec
-    (λ c. rw c.match.keys1) (λ c. rw c.match.keys2) (λ c. rw c.match.keys3) (λ c. rw c.match.keys4)
-    (λ c. rw c.match.keys5) (λ c. rw c.match.keys6) (λ c. rw c.match.keys7) (λ c. rw c.match.keys8)
-    (λ c. rw c.match.keys9) (λ c. rw c.match.keys10) (λ c. rw c.match.keys11) (λ c. rw c.match.keys12)
-    (λ c. rw c.match.keys13) (λ c. rw c.match.keys14) (λ c. rw c.match.keys15) (λ c. rw c.match.keys16)
-    (λ c. rw c.match.keys17) (λ c. rw c.match.keys18) (λ c. rw c.match.keys19) (λ c. rw c.match.keys20)
-    (λ c. rw c.match.keys21) (λ c. rw c.match.keys22) (λ c. rw c.match.keys23) (λ c. rw c.match.keys24)
-    (λ c. rw c.match.keys25)
+    (λ c. rw c.in-2.is) (λ c. rw c.in-3.is) (λ c. rw c.in-4.is) (λ c. rw c.in-5.is)
+    (λ c. rw c.in-6.is) (λ c. rw c.in-7.is) (λ c. rw c.in-8.is) (λ c. rw c.in-9.is)
+    (λ c. rw c.in-10.is) (λ c. rw c.in-11.is) (λ c. rw c.in-12.is) (λ c. rw c.in-13.is)
+    (λ c. rw c.in-14.is) (λ c. rw c.in-15.is) (λ c. rw c.in-16.is) (λ c. rw c.in-17.is)
+    (λ c. rw c.in-18.is) (λ c. rw c.in-19.is) (λ c. rw c.in-20.is) (λ c. rw c.in-21.is)
+    (λ c. rw c.in-22.is) (λ c. rw c.in-23.is) (λ c. rw c.in-24.is) (λ c. rw c.in-25.is)
+    (λ c. rw c.in-26.is)
     others)

@@ -9,12 +9,12 @@ use Rattle.reader_grammar.proofs.type_row.Statement.{statement}
 use Rattle.reader_grammar.proofs.type_row.Tie as tie
 
 -- no arm names the kind
-others : tie.Need-returns-14
+others : tie.Need-returns-in_default
 unfolding find_row grammar row_of
 others c =
     missing
     (37 ∷ 36 ∷ 35 ∷ 34 ∷ 33 ∷ 32 ∷ 7 ∷ 6 ∷ 5 ∷ 4 ∷ 3 ∷ 2 ∷ 1 ∷ []) 0 64 refl
-    c.match.rest
+    c.in_default.in_default-own.rest
     (omega arith)
     (omega arith)
 
@@ -23,8 +23,8 @@ unfolding find_row grammar row_of
 type_row_spec =
     tie.close
     (tie.spec
-    (λ c. rw c.match.keys1) (λ c. rw c.match.keys2) (λ c. rw c.match.keys3) (λ c. rw c.match.keys4)
-    (λ c. rw c.match.keys5) (λ c. rw c.match.keys6) (λ c. rw c.match.keys7) (λ c. rw c.match.keys8)
-    (λ c. rw c.match.keys9) (λ c. rw c.match.keys10) (λ c. rw c.match.keys11) (λ c. rw c.match.keys12)
-    (λ c. rw c.match.keys13)
+    (λ c. rw c.in-1.is) (λ c. rw c.in-2.is) (λ c. rw c.in-3.is) (λ c. rw c.in-4.is)
+    (λ c. rw c.in-5.is) (λ c. rw c.in-6.is) (λ c. rw c.in-7.is) (λ c. rw c.in-32.is)
+    (λ c. rw c.in-33.is) (λ c. rw c.in-34.is) (λ c. rw c.in-35.is) (λ c. rw c.in-36.is)
+    (λ c. rw c.in-37.is)
     others)

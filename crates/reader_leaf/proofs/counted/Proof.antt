@@ -8,34 +8,34 @@ use Rattle.reader_leaf.specs.Answer.{count_of}
 use Rattle.reader_leaf.proofs.counted.Statement.{statement}
 use Rattle.reader_leaf.proofs.counted.Tie as tie
 
-add-if1 : tie.Need-overflow-add-if1
+add-if1 : tie.Need-overflow_add-at
 add-if1 c = search rules
 
-returns : tie.Need-returns
+returns : tie.Need-returns-then-end-at
 unfolding count_of read_count ◌>>=◌ ask
-returns c = (rw (lt-leb _ _ c.if1.true), tt)
+returns c = (rw (lt-leb _ _ c.if-end-at.true), tt)
 
-read2-requires : tie.Need-read2-requires
+read2-requires : tie.Need-read2-n-requires
 read2-requires c κs = search rules
 
-returns-2 : tie.Need-returns-2
+returns-2 : tie.Need-returns-then-limit-n
 unfolding count_of read_count ◌>>=◌ ask
 returns-2 c = (
   rw (
-    ← c.before.read2.ensures.0,
-    le-leb _ _ c.before.before.if1.false,
-    lt-leb _ _ c.if2.true,
+    ← c.read2-n.ensures.0,
+    le-leb _ _ c.if-end-at.false,
+    lt-leb _ _ c.if-limit-n.true,
   ),
   tt,
 )
 
-returns-3 : tie.Need-returns-3
+returns-3 : tie.Need-returns
 unfolding count_of read_count ◌>>=◌ ask
 returns-3 c = (
   rw (
-    ← c.before.read2.ensures.0,
-    le-leb _ _ c.before.before.if1.false,
-    le-leb _ _ c.if2.false,
+    ← c.read2-n.ensures.0,
+    le-leb _ _ c.if-end-at.false,
+    le-leb _ _ c.if-limit-n.false,
   ),
   omega arith,
 )

@@ -4,27 +4,25 @@ use Rattle.reader_leaf.proofs.Laws.{differs_is}
 use Rattle.reader_leaf.proofs.differs.Statement.{statement}
 use Rattle.reader_leaf.proofs.differs.Tie as tie
 
-name-at-requires : tie.Need-name-at-requires
-name-at-requires c κs = c.before.requires.1
+name-at-requires : tie.Need-name_at-requires
+name-at-requires c κs = c.requires.1
 
-block-named-requires : tie.Need-block-named-requires
-block-named-requires c κs = c.before.before.requires.0
+block-named-requires : tie.Need-block_named-requires
+block-named-requires c κs = c.requires.0
 
-enum_told : tie.Need-enum-told
+enum_told : tie.Need-enum_told-1
 enum_told c = search rules
 
-enum-told-2 : tie.Need-enum-told-2
+enum-told-2 : tie.Need-enum_told-in-Missing
 enum-told-2 c = search rules
 
-returns : tie.Need-returns
+returns : tie.Need-returns-in-At
 returns c =
-    let at-search = c.before.before in
-    differs_is _ at-search.block-named.ensures at-search.before.name_at.ensures c.enum_told.given.1
+    differs_is _ c.block_named.ensures c.name_at.ensures c.in-At.is
 
-returns-2 : tie.Need-returns-2
+returns-2 : tie.Need-returns-in-Missing
 returns-2 c =
-    let at-search = c.before.before in
-    differs_is _ at-search.block-named.ensures at-search.before.name_at.ensures c.enum-told2.given.1
+    differs_is _ c.block_named.ensures c.name_at.ensures c.in-Missing.is
 
 pub differs_spec : {M : Type 1} → statement M
 differs_spec =

@@ -11,7 +11,7 @@ use Rattle.reader_leaf.proofs.Lists.{list_of, list_bad, Going, entry_named, goin
 use Rattle.reader_leaf.proofs.entries.Statement.{statement}
 use Rattle.reader_leaf.proofs.entries.Tie as tie
 
-abbrev invariant-loop : tie.invariant-loop
+abbrev invariant-loop : tie.invariant-loop-left
 invariant-loop s pairs limit start at end n i₀ last₀ left₀ i last left =
     (0 < i) ×
     (i ≤ end) × LastIn s last × Going s
@@ -19,89 +19,81 @@ invariant-loop s pairs limit start at end n i₀ last₀ left₀ i last left =
     (forget (read_list (read_entry pairs s start end) (Earlier.ascending [] 0) limit s start end at))
     last left i
 
-abbrev decreases-loop : tie.decreases-loop
+abbrev decreases-loop : tie.decreases-loop-left
 decreases-loop s pairs limit start at end n i₀ last₀ left₀ i last left = left
 
 counted-requires : tie.Need-counted-requires invariant-loop decreases-loop
 counted-requires c κs = omega arith
 
-enum-known-q : tie.Need-enum-known-q invariant-loop decreases-loop
+enum-known-q : tie.Need-enum_known-q invariant-loop decreases-loop
 enum-known-q c = search rules
 
-enum-known-n : tie.Need-enum-known-n invariant-loop decreases-loop
+enum-known-n : tie.Need-enum_known-n invariant-loop decreases-loop
 enum-known-n c = search rules
 
-add-i : tie.Need-overflow-add-i invariant-loop decreases-loop
+add-i : tie.Need-overflow_add-i invariant-loop decreases-loop
 add-i c = omega arith
 
-loop-holds : tie.Need-loop-init invariant-loop decreases-loop
-loop-holds c =
-    let at-counted = c.before.before.before in (
+loop-holds : tie.Need-loop-left-init invariant-loop decreases-loop
+loop-holds c = (
       omega arith,
-      rw c.before.n.given.1 at at-counted.counted.ensures.1,
+      rw c.in-Of.is at c.counted.ensures.1,
       (λ z. absurd (omega arith)),
       going
           (entry_named _ _ _ _)
-          (list_of _ _ _ _ _ _ _ (sym at-counted.counted.ensures.0 ∙ c.before.n.given.1)),
+          (list_of _ _ _ _ _ _ _ (sym c.counted.ensures.0 ∙ c.in-Of.is)),
     )
 
-next-entry-requires : tie.Need-next-entry-requires invariant-loop decreases-loop
-next-entry-requires c κs = (c.before.loop.invariant.1, omega arith, c.before.loop.invariant.2)
+next-entry-requires : tie.Need-next_entry-requires invariant-loop decreases-loop
+next-entry-requires c κs = (c.loop-left.invariant.1, omega arith, c.loop-left.invariant.2)
 
-enum-known-next : tie.Need-enum-known-next invariant-loop decreases-loop
+enum-known-next : tie.Need-enum_known-next invariant-loop decreases-loop
 enum-known-next c = search rules
 
-enum-known-q-2 : tie.Need-enum-known-q-2 invariant-loop decreases-loop
+enum-known-q-2 : tie.Need-enum_known-q-in-Refused-1 invariant-loop decreases-loop
 enum-known-q-2 c = search rules
 
-returns : tie.Need-returns invariant-loop decreases-loop
-returns c =
-    let at-next-entry = c.before.before.before in
-    let in-loop = at-next-entry.before in
-    let at-loop = in-loop.before in (
+returns : tie.Need-returns-in-Refused invariant-loop decreases-loop
+returns c = (
       sym
           (going_stop
           (entry_named _ _ _ _)
-          at-loop.loop.invariant.3
-          in-loop.loop-test.true
-          (sym at-next-entry.next-entry.ensures.0 ∙ c.before.q2.given.1)),
+          c.loop-left.invariant.3
+          c.loop-left-test.true
+          (sym c.next_entry.ensures.0 ∙ c.in-Refused.is)),
       tt,
     )
 
-sub-left : tie.Need-overflow-sub-left invariant-loop decreases-loop
+sub-left : tie.Need-overflow_sub-left invariant-loop decreases-loop
 sub-left c = omega arith
 
-loop-less : tie.Need-loop-smaller invariant-loop decreases-loop
+loop-less : tie.Need-loop-left-smaller invariant-loop decreases-loop
 loop-less c = omega arith
 
-loop-again : tie.Need-loop-preserved invariant-loop decreases-loop
+loop-again : tie.Need-loop-left-preserved invariant-loop decreases-loop
 loop-again c =
-    let at-next-entry = c.before.before.before in
-    let in-loop = at-next-entry.before in
-    let at-loop = in-loop.before in
-    let h = rw c.before.next.given.1 at at-next-entry.next-entry.ensures.1 in (
+    let h = rw c.in-Ok.is at c.next_entry.ensures.1 in (
       omega arith,
       h.1,
       (λ z. omega arith),
       going_go
           (entry_named _ _ _ _)
-          at-loop.loop.invariant.3
-          in-loop.loop-test.true
-          at-loop.loop.invariant.0
-          (sym at-next-entry.next-entry.ensures.0 ∙ c.before.next.given.1),
+          c.loop-left.invariant.3
+          c.loop-left-test.true
+          c.loop-left.invariant.0
+          (sym c.next_entry.ensures.0 ∙ c.in-Ok.is),
     )
 
-returns-2 : tie.Need-returns-2 invariant-loop decreases-loop
-returns-2 c =
-    let at-counted = c.before.before.before in (
-      sym (list_bad _ _ _ _ _ _ _ (sym at-counted.counted.ensures.0 ∙ c.before.q.given.1)),
+returns-2 : tie.Need-returns-in-Bad invariant-loop decreases-loop
+returns-2 c = (
+      sym (list_bad _ _ _ _ _ _ _ (sym c.counted.ensures.0 ∙ c.in-Bad.is)),
       tt,
     )
 
-returns-3 : tie.Need-returns-3 invariant-loop decreases-loop
+returns-3 : tie.Need-returns-after-loop-left invariant-loop decreases-loop
 returns-3 c = (
-  sym (going_none (entry_named _ _ _ _) c.before.loop.invariant.3 c.loop-test.false),
-  c.before.loop.invariant.1,
+  sym (going_none (entry_named _ _ _ _) c.loop-left.invariant.3 c.loop-left-test.false),
+  c.loop-left.invariant.1,
 )
 
 pub entries_spec : {M : Type 1} → statement M

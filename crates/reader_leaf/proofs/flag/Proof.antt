@@ -9,27 +9,27 @@ use Rattle.reader_leaf.specs.Answer.{forget}
 use Rattle.reader_leaf.proofs.flag.Statement.{statement}
 use Rattle.reader_leaf.proofs.flag.Tie as tie
 
-add-if1 : tie.Need-overflow-add-if1
+add-if1 : tie.Need-overflow_add-at
 add-if1 c = search rules
 
-returns : tie.Need-returns
+returns : tie.Need-returns-then-end-at
 unfolding forget read_flag ◌>>=◌ ask
-returns c = (rw (lt-leb _ _ c.if1.true), tt)
+returns c = (rw (lt-leb _ _ c.if-end-at.true), tt)
 
-shared-slice-read-b : tie.Need-shared-slice-read-b
+shared-slice-read-b : tie.Need-bounds-s-at
 shared-slice-read-b c = search rules
 
-returns-2 : tie.Need-returns-2
+returns-2 : tie.Need-returns-then-b-gt1
 unfolding forget read_flag ◌>>=◌ ask
-returns-2 c = (rw (le-leb _ _ c.before.before.if1.false, lt-leb _ _ c.if2.true), tt)
+returns-2 c = (rw (le-leb _ _ c.if-end-at.false, lt-leb _ _ c.if-b-gt1.true), tt)
 
-add-t6 : tie.Need-overflow-add-t6
+add-t6 : tie.Need-overflow_add-result
 add-t6 c = search rules
 
-returns-3 : tie.Need-returns-3
+returns-3 : tie.Need-returns
 unfolding forget read_flag ◌>>=◌ ask
 returns-3 c = (
-  rw (le-leb _ _ c.before.before.if1.false, le-leb _ _ c.if2.false),
+  rw (le-leb _ _ c.if-end-at.false, le-leb _ _ c.if-b-gt1.false),
   (refl, omega arith),
 )
 

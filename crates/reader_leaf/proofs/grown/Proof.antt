@@ -5,73 +5,63 @@ use Rattle.reader_leaf.specs.Seen.{Grows, grown_of}
 use Rattle.reader_leaf.proofs.grown.Statement.{statement}
 use Rattle.reader_leaf.proofs.grown.Tie as tie
 
-enum_told : tie.Need-enum-told
+enum_told : tie.Need-enum_told-1
 enum_told c = search rules
 
-enum-known-seen : tie.Need-enum-known-seen
+enum-known-seen : tie.Need-enum_known-seen
 enum-known-seen c = search rules
 
-add-name : tie.Need-overflow-add-name
+add-name : tie.Need-overflow_add-name
 unfolding Grows
 add-name c =
-    let at-start = c.before.before.before.before in
-    let g = rw c.before.seen.given.1 at at-start.requires in
+    let g = rw c.in-Owners.is at c.requires in
     omega arith
 
-behind-name-requires : tie.Need-behind-name-requires
+behind-name-requires : tie.Need-behind_name-requires
 unfolding Grows
 behind-name-requires c κs =
-    let at-start = c.before.before.before.before in
-    let g = rw c.before.seen.given.1 at at-start.requires in
+    let g = rw c.in-Owners.is at c.requires in
     omega arith
 
-read2-requires : tie.Need-read2-requires
+read2-requires : tie.Need-read2-m-requires
 unfolding Grows
 read2-requires c κs =
-    let at_seen = c.before.before in
-    let at-start = at_seen.before.before.before in
-    let g = rw at_seen.seen.given.1 at at-start.requires in
+    let g = rw c.in-Owners.is at c.requires in
     omega arith
 
-add-more : tie.Need-overflow-add-more
+add-more : tie.Need-overflow_add-more
 unfolding Grows
 add-more c =
-    let at_seen = c.before.before.before in
-    let at-start = at_seen.before.before.before in
-    let g = rw at_seen.seen.given.1 at at-start.requires in
+    let g = rw c.in-Owners.is at c.requires in
     omega arith
 
-add-all : tie.Need-overflow-add-all
+add-all : tie.Need-overflow_add-all
 unfolding Grows
 add-all c =
-    let at_seen = c.before.before.before in
-    let at-start = at_seen.before.before.before in
-    let g = rw at_seen.seen.given.1 at at-start.requires in
+    let g = rw c.in-Owners.is at c.requires in
     omega arith
 
-enum-known-seen-2 : tie.Need-enum-known-seen-2
+enum-known-seen-2 : tie.Need-enum_known-seen-in-Types-1
 enum-known-seen-2 c = search rules
 
-add-more-2 : tie.Need-overflow-add-more-2
+add-more-2 : tie.Need-overflow_add-more-in-Types
 unfolding Grows
 add-more-2 c =
-    let at-start = c.before.before.before.before in
-    let g = rw c.before.seen2.given.1 at at-start.requires in
+    let g = rw c.in-Types.is at c.requires in
     omega arith
 
-returns : tie.Need-returns
+returns : tie.Need-returns-in-Nothing
 unfolding grown_of
-returns c = rw c.enum_told.given.1
+returns c = rw c.in-Nothing.is
 
-returns-2 : tie.Need-returns-2
+returns-2 : tie.Need-returns-in-Owners
 unfolding grown_of
 returns-2 c =
-    let at_seen = c.before.before.before in
-    rw (at_seen.seen.given.1, ← c.before.behind_name.ensures, ← c.read2.ensures.0)
+    rw (c.in-Owners.is, ← c.behind_name.ensures, ← c.read2-m.ensures.0)
 
-returns-3 : tie.Need-returns-3
+returns-3 : tie.Need-returns-in-Types
 unfolding grown_of
-returns-3 c = rw c.before.seen2.given.1
+returns-3 c = rw c.in-Types.is
 
 pub grown_spec : {M : Type 1} → statement M
 grown_spec =

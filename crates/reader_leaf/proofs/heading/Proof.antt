@@ -8,113 +8,97 @@ use Rattle.reader_leaf.specs.Answer.{head_of}
 use Rattle.reader_leaf.proofs.heading.Statement.{statement}
 use Rattle.reader_leaf.proofs.heading.Tie as tie
 
-add-if1 : tie.Need-overflow-add-if1
+add-if1 : tie.Need-overflow_add-at
 add-if1 c = search rules
 
-returns : tie.Need-returns
+returns : tie.Need-returns-then-end-at
 unfolding head_of read_header ◌>>=◌ ask
-returns c = (rw (lt-leb _ _ c.if1.true), tt)
+returns c = (rw (lt-leb _ _ c.if-end-at.true), tt)
 
-read4-requires : tie.Need-read4-requires
+read4-requires : tie.Need-read4-n-requires
 read4-requires c κs = search rules
 
-returns-2 : tie.Need-returns-2
+returns-2 : tie.Need-returns-then-n-lt2
 unfolding head_of read_header ◌>>=◌ ask
 returns-2 c = (
   rw (
-    ← c.before.read4.ensures.0,
-    le-leb _ _ c.before.before.if1.false,
-    lt-leb _ _ c.if2.true,
+    ← c.read4-n.ensures.0,
+    le-leb _ _ c.if-end-at.false,
+    lt-leb _ _ c.if-n-lt2.true,
   ),
   tt,
 )
 
-add-if3 : tie.Need-overflow-add-if3
+add-if3 : tie.Need-overflow_add-at-2
 add-if3 c = search rules
 
-add-if3-2 : tie.Need-overflow-add-if3-2
+add-if3-2 : tie.Need-overflow_add-at-3
 add-if3-2 c = search rules
 
-returns-3 : tie.Need-returns-3
+returns-3 : tie.Need-returns-then-end-at-2
 unfolding head_of read_header ◌>>=◌ ask
-returns-3 c =
-    let at-read4 = c.before.before in
-    let at-else1 = at-read4.before in (
+returns-3 c = (
       rw (
-        ← at-read4.read4.ensures.0,
-        le-leb _ _ at-else1.if1.false,
-        le-leb _ _ c.before.if2.false,
-        lt-leb _ _ c.if3.true,
+        ← c.read4-n.ensures.0,
+        le-leb _ _ c.if-end-at.false,
+        le-leb _ _ c.if-n-lt2.false,
+        lt-leb _ _ c.if-end-at-2.true,
       ),
       tt,
     )
 
-add-read2 : tie.Need-overflow-add-read2
+add-read2 : tie.Need-overflow_add-at-4
 add-read2 c = search rules
 
-read2-requires : tie.Need-read2-requires
+read2-requires : tie.Need-read2-k-requires
 read2-requires c κs = search rules
 
-returns-4 : tie.Need-returns-4
+returns-4 : tie.Need-returns-then-k-lo
 unfolding head_of read_header ◌>>=◌ ask
-returns-4 c =
-    let at-else3 = c.before.before in
-    let at-else2 = at-else3.before in
-    let at-read4 = at-else2.before in
-    let at-else1 = at-read4.before in (
+returns-4 c = (
       rw (
-        ← at-read4.read4.ensures.0,
-        ← c.before.read2.ensures.0,
-        le-leb _ _ at-else1.if1.false,
-        le-leb _ _ at-else2.if2.false,
-        le-leb _ _ at-else3.if3.false,
-        lt-leb _ _ c.if4.true,
+        ← c.read4-n.ensures.0,
+        ← c.read2-k.ensures.0,
+        le-leb _ _ c.if-end-at.false,
+        le-leb _ _ c.if-n-lt2.false,
+        le-leb _ _ c.if-end-at-2.false,
+        lt-leb _ _ c.if-k-lo.true,
       ),
       tt,
     )
 
-returns-5 : tie.Need-returns-5
+returns-5 : tie.Need-returns-then-hi-k
 unfolding head_of read_header ◌>>=◌ ask
-returns-5 c =
-    let at-read2 = c.before.before in
-    let at-else3 = at-read2.before in
-    let at-else2 = at-else3.before in
-    let at-read4 = at-else2.before in
-    let at-else1 = at-read4.before in (
+returns-5 c = (
       rw (
-        ← at-read4.read4.ensures.0,
-        ← at-read2.read2.ensures.0,
-        le-leb _ _ at-else1.if1.false,
-        le-leb _ _ at-else2.if2.false,
-        le-leb _ _ at-else3.if3.false,
-        le-leb _ _ c.before.if4.false,
-        lt-leb _ _ c.if5.true,
+        ← c.read4-n.ensures.0,
+        ← c.read2-k.ensures.0,
+        le-leb _ _ c.if-end-at.false,
+        le-leb _ _ c.if-n-lt2.false,
+        le-leb _ _ c.if-end-at-2.false,
+        le-leb _ _ c.if-k-lo.false,
+        lt-leb _ _ c.if-hi-k.true,
       ),
       tt,
     )
 
-add-t8 : tie.Need-overflow-add-t8
+add-t8 : tie.Need-overflow_add-result
 add-t8 c = search rules
 
-add-t10 : tie.Need-overflow-add-t10
+add-t10 : tie.Need-overflow_add-result-2
 add-t10 c = search rules
 
-returns-6 : tie.Need-returns-6
+returns-6 : tie.Need-returns
 unfolding head_of read_header ◌>>=◌ ask
-returns-6 c =
-    let at-read2 = c.before.before in
-    let at-else3 = at-read2.before in
-    let at-else2 = at-else3.before in
-    let at-read4 = at-else2.before in
-    let at-else1 = at-read4.before in (
+returns-6 c = (
       rw (
-        ← at-read4.read4.ensures.0,
-        ← at-read2.read2.ensures.0,
-        le-leb _ _ at-else1.if1.false,
-        le-leb _ _ at-else2.if2.false,
-        le-leb _ _ at-else3.if3.false,
-        le-leb _ _ c.before.if4.false,
-        le-leb _ _ c.if5.false,
+        ← c.read4-n.ensures.0,
+        ← c.read2-k.ensures.0,
+        le-leb _ _ c.if-end-at.false,
+        le-leb _ _ c.if-n-lt2.false,
+        le-leb _ _ c.if-end-at-2.false,
+        le-leb _ _ c.if-k-lo.false,
+        le-leb _ _ c.if-hi-k.false,
       ),
       omega arith,
     )

@@ -9,37 +9,30 @@ use Rattle.reader_leaf.proofs.later_key.Tie as tie
 text-requires : tie.Need-text-requires
 text-requires c κs = search rules
 
-enum-known-q : tie.Need-enum-known-q
+enum-known-q : tie.Need-enum_known-q
 enum-known-q c = search rules
 
-enum-known-next : tie.Need-enum-known-next
+enum-known-next : tie.Need-enum_known-next
 enum-known-next c = search rules
 
 ascends-requires : tie.Need-ascends-requires
 ascends-requires c κs =
-    let at-text = c.before.before.before in
-    let at-start = at-text.before.before in
-    let h = rw c.before.next.given.1 at at-text.text.ensures.1 in
-    (at-start.requires.2, omega arith)
+    let h = rw c.in-Ok.is at c.text.ensures.1 in
+    (c.requires.2, omega arith)
 
 settled-requires : tie.Need-settled-requires
 settled-requires c κs = search rules
 
-returns : tie.Need-returns
+returns : tie.Need-returns-in-Refused
 returns c =
-    let at-text = c.before.before.before in
-    (sym (key_stop _ _ _ _ _ (sym at-text.text.ensures.0 ∙ c.before.q.given.1)), tt)
+    (sym (key_stop _ _ _ _ _ (sym c.text.ensures.0 ∙ c.in-Refused.is)), tt)
 
-returns-2 : tie.Need-returns-2
-returns-2 c =
-    let at-order = c.before in
-    let at_next = at-order.before.before in
-    let at-text = at_next.before.before in
-    let at-start = at-text.before.before in (
-      rw (c.settled.ensures, at-order.ascends.ensures)
-          (sym (key_settled _ _ _ _ _ (sym at-text.text.ensures.0 ∙ at_next.next.given.1))),
-      text_settled at-start.args.s.now at-start.args.at at-start.args.end _ at-order.ascends.result _ at-start.args.start c.settled.ensures
-          (rw at_next.next.given.1 at at-text.text.ensures.1),
+returns-2 : tie.Need-returns-in-Ok
+returns-2 c = (
+      rw (c.settled.ensures, c.ascends.ensures)
+          (sym (key_settled _ _ _ _ _ (sym c.text.ensures.0 ∙ c.in-Ok.is))),
+      text_settled c.args.s.now c.args.at c.args.end _ c.ascends.result _ c.args.start c.settled.ensures
+          (rw c.in-Ok.is at c.text.ensures.1),
     )
 
 pub later_key_spec : {M : Type 1} → statement M

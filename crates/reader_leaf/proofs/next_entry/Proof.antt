@@ -8,49 +8,42 @@ use Rattle.reader_leaf.proofs.Laws.{pair_inside}
 use Rattle.reader_leaf.proofs.next_entry.Statement.{statement}
 use Rattle.reader_leaf.proofs.next_entry.Tie as tie
 
-later-key-requires : tie.Need-later-key-requires
+later-key-requires : tie.Need-later_key-requires
 later-key-requires c κs = search rules
 
-enum-known-q : tie.Need-enum-known-q
+enum-known-q : tie.Need-enum_known-q
 enum-known-q c = search rules
 
-enum-known-next : tie.Need-enum-known-next
+enum-known-next : tie.Need-enum_known-next
 enum-known-next c = search rules
 
 number-requires : tie.Need-number-requires
 number-requires c κs =
-    let at_next = c.before.before in
-    let at_key = at_next.before.before in
-    let h = rw at_next.next.given.1 at at_key.later-key.ensures.1 in
+    let h = rw c.in-Ok.is at c.later_key.ensures.1 in
     omega arith
 
-returns : tie.Need-returns
+returns : tie.Need-returns-in-Refused
 returns c =
-    let at_key = c.before.before.before in
-    (sym (entry_stop _ _ _ _ _ _ (sym at_key.later-key.ensures.0 ∙ c.before.q.given.1)), tt)
+    (sym (entry_stop _ _ _ _ _ _ (sym c.later_key.ensures.0 ∙ c.in-Refused.is)), tt)
 
-returns-2 : tie.Need-returns-2
+returns-2 : tie.Need-returns-then-pairs
 unfolding read_entry
-returns-2 c =
-    let at_next = c.before.before.before in
-    let at_key = at_next.before.before in (
+returns-2 c = (
       rw
-          c.before.if1.true
+          c.if-pairs.true
           (c.number.ensures.0
-          ∙ sym (value_then _ _ _ _ _ (sym at_key.later-key.ensures.0 ∙ at_next.next.given.1))),
+          ∙ sym (value_then _ _ _ _ _ (sym c.later_key.ensures.0 ∙ c.in-Ok.is))),
       pair_inside
           c.number.result _ _ _ _
-          (rw at_next.next.given.1 at at_key.later-key.ensures.1)
+          (rw c.in-Ok.is at c.later_key.ensures.1)
           c.number.ensures.1,
     )
 
-returns-3 : tie.Need-returns-3
+returns-3 : tie.Need-returns-else-pairs
 unfolding read_entry
 returns-3 c =
-    let at_next = c.before.before in
-    let at_key = at_next.before.before in
-    let h = rw at_next.next.given.1 at at_key.later-key.ensures.1 in (
-      rw c.if1.false (sym (sym at_key.later-key.ensures.0 ∙ at_next.next.given.1)),
+    let h = rw c.in-Ok.is at c.later_key.ensures.1 in (
+      rw c.if-pairs.false (sym (sym c.later_key.ensures.0 ∙ c.in-Ok.is)),
       (omega arith, h.1),
     )
 

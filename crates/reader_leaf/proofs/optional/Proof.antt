@@ -9,76 +9,61 @@ use Rattle.reader_leaf.proofs.optional.Tie as tie
 flag-requires : tie.Need-flag-requires
 flag-requires c κs = search rules
 
-enum-known-q : tie.Need-enum-known-q
+enum-known-q : tie.Need-enum_known-q
 enum-known-q c = search rules
 
-enum-known-next : tie.Need-enum-known-next
+enum-known-next : tie.Need-enum_known-next
 enum-known-next c = search rules
 
-shared-slice-read-if1 : tie.Need-shared-slice-read-if1
+shared-slice-read-if1 : tie.Need-bounds-s-at
 shared-slice-read-if1 c =
-    let at_next = c.before.before in
-    let at_flag = at_next.before.before in
-    let h = rw at_next.next.given.1 at at_flag.flag.ensures.1 in
+    let h = rw c.in-Ok.is at c.flag.ensures.1 in
     omega arith
 
-returns : tie.Need-returns
-returns c =
-    let at_next = c.before.before.before in
-    let at_flag = at_next.before.before in (
+returns : tie.Need-returns-then-s-at
+returns c = (
       sym
           (optional_off _ _ _ _ _ _
-          (sym at_flag.flag.ensures.0 ∙ at_next.next.given.1)
-          c.if1.true),
-      (rw at_next.next.given.1 at at_flag.flag.ensures.1).1,
+          (sym c.flag.ensures.0 ∙ c.in-Ok.is)
+          c.if-s-at.true),
+      (rw c.in-Ok.is at c.flag.ensures.1).1,
     )
 
 number-requires : tie.Need-number-requires
 number-requires c κs =
-    let at_next = c.before.before.before.before in
-    let at_flag = at_next.before.before in
-    let h = rw at_next.next.given.1 at at_flag.flag.ensures.1 in
+    let h = rw c.in-Ok.is at c.flag.ensures.1 in
     omega arith
 
 text-requires : tie.Need-text-requires
 text-requires c κs =
-    let at_next = c.before.before.before.before in
-    let at_flag = at_next.before.before in
-    let h = rw at_next.next.given.1 at at_flag.flag.ensures.1 in
+    let h = rw c.in-Ok.is at c.flag.ensures.1 in
     omega arith
 
-returns-2 : tie.Need-returns-2
+returns-2 : tie.Need-returns-in-Refused
 returns-2 c =
-    let at_flag = c.before.before.before in
-    (sym (optional_stop _ _ _ _ _ _ (sym at_flag.flag.ensures.0 ∙ c.before.q.given.1)), tt)
+    (sym (optional_stop _ _ _ _ _ _ (sym c.flag.ensures.0 ∙ c.in-Refused.is)), tt)
 
-returns-3 : tie.Need-returns-3
-returns-3 c =
-    let at-else1 = c.before.before in
-    let at_next = at-else1.before.before.before in
-    let at_flag = at_next.before.before in (
+returns-3 : tie.Need-returns-then-numeric
+returns-3 c = (
       rw
-          c.before.if2.true
+          c.if-numeric.true
           (c.number.ensures.0
           ∙ sym
           (optional_on _ _ _ _ _ _
-          (sym at_flag.flag.ensures.0 ∙ at_next.next.given.1)
-          at-else1.if1.false)),
+          (sym c.flag.ensures.0 ∙ c.in-Ok.is)
+          c.if-s-at.false)),
       wide_inside c.number.result _ _ _ c.number.ensures.1,
     )
 
-returns-4 : tie.Need-returns-4
-returns-4 c =
-    let at-else1 = c.before.before in
-    let at_next = at-else1.before.before.before in
-    let at_flag = at_next.before.before in (
+returns-4 : tie.Need-returns-else-numeric
+returns-4 c = (
       rw
-          c.before.if2.false
+          c.if-numeric.false
           (c.text.ensures.0
           ∙ sym
           (optional_on _ _ _ _ _ _
-          (sym at_flag.flag.ensures.0 ∙ at_next.next.given.1)
-          at-else1.if1.false)),
+          (sym c.flag.ensures.0 ∙ c.in-Ok.is)
+          c.if-s-at.false)),
       text_inside c.text.result _ _ _ c.text.ensures.1,
     )
 

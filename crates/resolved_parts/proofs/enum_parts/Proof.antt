@@ -5,55 +5,47 @@ use Rattle.resolved_parts.proofs.Each.{enum_inside, enum_at}
 use Rattle.resolved_parts.proofs.enum_parts.Statement.{statement}
 use Rattle.resolved_parts.proofs.enum_parts.Tie as tie
 
-behind-head-requires : tie.Need-behind-head-requires
+behind-head-requires : tie.Need-behind_head-tag-requires
 behind-head-requires c κs = search rules
 
-add-list : tie.Need-overflow-add-list
+add-list : tie.Need-overflow_add-list
 add-list c =
-    let at-start = c.before.before in
-    omega (arith, enum_inside at-start.requires.0 at-start.requires.1 c.behind-head.ensures)
+    omega (arith, enum_inside c.requires.0 c.requires.1 c.behind_head-tag.ensures)
 
 read4-requires : tie.Need-read4-requires
 read4-requires c κs =
-    let at-start = c.before.before in
-    omega (arith, enum_inside at-start.requires.0 at-start.requires.1 c.behind-head.ensures)
+    omega (arith, enum_inside c.requires.0 c.requires.1 c.behind_head-tag.ensures)
 
-add-list-2 : tie.Need-overflow-add-list-2
+add-list-2 : tie.Need-overflow_add-list-2
 add-list-2 c =
-    let at-start = c.before.before.before in
     omega (
       arith,
-      enum_inside at-start.requires.0 at-start.requires.1 c.before.behind-head.ensures,
+      enum_inside c.requires.0 c.requires.1 c.behind_head-tag.ensures,
       c.read4.ensures.0,
     )
 
 read2-requires : tie.Need-read2-requires
 read2-requires c κs =
-    let at-start = c.before.before.before in
     omega (
       arith,
-      enum_inside at-start.requires.0 at-start.requires.1 c.before.behind-head.ensures,
+      enum_inside c.requires.0 c.requires.1 c.behind_head-tag.ensures,
       c.read4.ensures.0,
     )
 
-add-t6 : tie.Need-overflow-add-t6
+add-t6 : tie.Need-overflow_add-result
 add-t6 c =
-    let at-behind-head = c.before.before in
-    let at-start = at-behind-head.before.before in
     omega (
       arith,
-      enum_inside at-start.requires.0 at-start.requires.1 at-behind-head.behind-head.ensures,
-      c.before.read4.ensures.0,
+      enum_inside c.requires.0 c.requires.1 c.behind_head-tag.ensures,
+      c.read4.ensures.0,
     )
 
 returns : tie.Need-returns
 returns c =
-    let at-behind-head = c.before.before in
-    let at-start = at-behind-head.before.before in
     enum_at
-    at-start.requires.1
-    at-behind-head.behind-head.ensures
-    c.before.read4.ensures.0
+    c.requires.1
+    c.behind_head-tag.ensures
+    c.read4.ensures.0
     c.read2.ensures.0
 
 pub enum_parts_spec : {M : Type 1} → statement M

@@ -5,60 +5,48 @@ use Rattle.resolved_parts.proofs.Fields.{field_inside, field_some, field_none}
 use Rattle.resolved_parts.proofs.field_parts.Statement.{statement}
 use Rattle.resolved_parts.proofs.field_parts.Tie as tie
 
-behind-name-requires : tie.Need-behind-name-requires
-behind-name-requires c κs = omega (arith, (field_inside refl c.before.requires).0)
+behind-name-requires : tie.Need-behind_name-p-requires
+behind-name-requires c κs = omega (arith, (field_inside refl c.requires).0)
 
-shared-slice-read-b : tie.Need-shared-slice-read-b
+shared-slice-read-b : tie.Need-bounds-s-p
 shared-slice-read-b c =
-    let at-start = c.before.before.before in
-    omega (arith, (field_inside c.before.behind_name.ensures at-start.requires).0)
+    omega (arith, (field_inside c.behind_name-p.ensures c.requires).0)
 
-add-read8 : tie.Need-overflow-add-read8
+add-read8 : tie.Need-overflow_add-p
 add-read8 c =
-    let at-behind-name = c.before.before in
-    let at-start = at-behind-name.before.before in
-    omega (arith, (field_inside at-behind-name.behind_name.ensures at-start.requires).0)
+    omega (arith, (field_inside c.behind_name-p.ensures c.requires).0)
 
-read8-requires : tie.Need-read8-requires
+read8-requires : tie.Need-read8-offset-requires
 read8-requires c κs =
-    let at-behind-name = c.before.before in
-    let at-start = at-behind-name.before.before in
     omega (
       arith,
-      (field_inside at-behind-name.behind_name.ensures at-start.requires).1 c.if1.true,
+      (field_inside c.behind_name-p.ensures c.requires).1 c.if-b-eq1.true,
     )
 
-add-t9 : tie.Need-overflow-add-t9
+add-t9 : tie.Need-overflow_add-result
 add-t9 c =
-    let at-behind-name = c.before.before.before in
-    let at-start = at-behind-name.before.before in
-    omega (arith, (field_inside at-behind-name.behind_name.ensures at-start.requires).0)
+    omega (arith, (field_inside c.behind_name-p.ensures c.requires).0)
 
-add-t10 : tie.Need-overflow-add-t10
+add-t10 : tie.Need-overflow_add-result-then-b-eq1
 add-t10 c =
-    let at-behind-name = c.before.before.before in
-    let at-start = at-behind-name.before.before in
     omega (
       arith,
       (field_inside
-          at-behind-name.behind_name.ensures
-          at-start.requires).1
-          c.before.if1.true,
+          c.behind_name-p.ensures
+          c.requires).1
+          c.if-b-eq1.true,
     )
 
-returns : tie.Need-returns
+returns : tie.Need-returns-then-b-eq1
 returns c =
-    let at-behind-name = c.before.before.before in
-    field_some at-behind-name.behind_name.ensures c.before.if1.true c.read8.ensures
+    field_some c.behind_name-p.ensures c.if-b-eq1.true c.read8-offset.ensures
 
-add-t11 : tie.Need-overflow-add-t11
+add-t11 : tie.Need-overflow_add-result-2
 add-t11 c =
-    let at-behind-name = c.before.before in
-    let at-start = at-behind-name.before.before in
-    omega (arith, (field_inside at-behind-name.behind_name.ensures at-start.requires).0)
+    omega (arith, (field_inside c.behind_name-p.ensures c.requires).0)
 
-returns-2 : tie.Need-returns-2
-returns-2 c = field_none c.before.before.behind_name.ensures c.if1.false
+returns-2 : tie.Need-returns
+returns-2 c = field_none c.behind_name-p.ensures c.if-b-eq1.false
 
 pub field_parts_spec : {M : Type 1} → statement M
 field_parts_spec =

@@ -3,8 +3,8 @@ use Rattle.resolved_parts.proofs.Fields.{owner_named, owner_at}
 use Rattle.resolved_parts.proofs.owner_paths.Statement.{statement}
 use Rattle.resolved_parts.proofs.owner_paths.Tie as tie
 
-behind-name-requires : tie.Need-behind-name-requires
-behind-name-requires c κs = (owner_named c.before.requires).inside
+behind-name-requires : tie.Need-behind_name-requires
+behind-name-requires c κs = (owner_named c.requires).inside
 
 returns : tie.Need-returns
 returns c = owner_at c.behind_name.ensures

@@ -4,37 +4,34 @@ use Rattle.resolved_parts.proofs.Fields.{variant_inside, variant_at}
 use Rattle.resolved_parts.proofs.variant_parts.Statement.{statement}
 use Rattle.resolved_parts.proofs.variant_parts.Tie as tie
 
-behind-name-requires : tie.Need-behind-name-requires
+behind-name-requires : tie.Need-behind_name-p-requires
 behind-name-requires c κs = omega (
   arith,
-  variant_inside c.before.requires.1.0 c.before.requires.1.1 c.before.requires.0,
+  variant_inside c.requires.1.0 c.requires.1.1 c.requires.0,
 )
 
 read8-requires : tie.Need-read8-requires
 read8-requires c κs =
-    let at-start = c.before.before in
     omega (
       arith,
-      variant_inside at-start.requires.1.0 at-start.requires.1.1 at-start.requires.0,
-      c.behind_name.ensures,
+      variant_inside c.requires.1.0 c.requires.1.1 c.requires.0,
+      c.behind_name-p.ensures,
     )
 
-add-t7 : tie.Need-overflow-add-t7
+add-t7 : tie.Need-overflow_add-result
 add-t7 c =
-    let at-start = c.before.before.before in
     omega (
       arith,
-      variant_inside at-start.requires.1.0 at-start.requires.1.1 at-start.requires.0,
-      c.before.behind_name.ensures,
+      variant_inside c.requires.1.0 c.requires.1.1 c.requires.0,
+      c.behind_name-p.ensures,
     )
 
 returns : tie.Need-returns
 returns c =
-    let at-start = c.before.before.before in
     variant_at
-    at-start.requires.1.0
-    at-start.requires.1.1
-    c.before.behind_name.ensures
+    c.requires.1.0
+    c.requires.1.1
+    c.behind_name-p.ensures
     c.read8.ensures
 
 pub variant_parts_spec : {M : Type 1} → statement M
