@@ -92,6 +92,9 @@ def main():
                 m = DECLARED.match(line)
                 if m and not line.lstrip().startswith("--"):
                     declared[m[1]].add(p)
+                m = re.match(r" *(?:pub )?ruleset (\S+)", line)
+                if m:
+                    declared[m[1]].add(p)
     # names declared somewhere but as answers
     turns = {n for n, ps in declared.items() if odd(n) and any(not walk(p) for p in ps)}
     met = 0

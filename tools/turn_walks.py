@@ -58,8 +58,9 @@ def arrows(typ):
 
 
 class Walk:
-    def __init__(self, path, text, names, said):
-        self.path, self.text, self.n, self.said = path, text, names, said
+    def __init__(self, path, text, names, said, alias="tie"):
+        self.path, self.text, self.n, self.said, self.alias = path, text, names, said, alias
+        self.a = re.escape(alias)
         self.place, self.new_place = {}, {}
         self.arms = {p[0]: a for p, a in zip(names["places"], names["arms"]) if a}
         for p, new in zip(names["places"], names["places_by_name"]):
@@ -81,21 +82,43 @@ class Walk:
             self.loops[plain(l[0][0])] = l[0][1]
         self.order()
 
+    def terms(self):
+        """Where the answers stand in the call of spec: from and to of each term."""
+        at = self.text.find(self.alias + ".spec")
+        while at >= 0 and not re.match(r"\s", self.text[at + len(self.alias) + 5 :]):
+            at = self.text.find(self.alias + ".spec", at + 1)
+        if at < 0:
+            return []
+        k, args, depth, cur = at + len(self.alias) + 5, [], 0, None
+        while k < len(self.text):
+            ch = self.text[k]
+            if depth == 0 and (ch.isspace() or ch == ")"):
+                if cur is not None:
+                    args.append((cur, k))
+                    cur = None
+                if ch == ")":
+                    break
+            else:
+                if cur is None:
+                    cur = k
+                depth += (ch in "({") - (ch in ")}")
+            k += 1
+        return args
+
     def order(self):
         """The answers in the order in which they are asked for today; one that is not asked for any more goes."""
-        m = re.search(r"\(tie\.spec((?:\s+[^\s()]+)*)\s*\)", self.text)
-        if not m:
-            return
-        args = m[1].split()
+        spans = self.terms()
+        args = [self.text[a:b] for a, b in spans]
         needs = [plain(n[0]) for n in self.n["needs"]]
         asked = {}
         for a in args:
-            t = re.search(rf"(?m)^{re.escape(a)} : tie\.Need-({NAME})", self.text)
+            name = re.fullmatch(rf"\(?({NAME})(?: t)?\)?", a)
+            t = name and re.search(rf"(?m)^{re.escape(name[1])} : (?:\(t : [^()]*\) → )?{self.a}\.Need-({NAME})", self.text)
             if t:
                 asked[a] = plain(t[1])
         head = [a for a in args if a not in asked]
         # the invariants and measures come first
-        if args[: len(head)] != head:
+        if not args or args[: len(head)] != head:
             return
         gone = [a for a in args if a in asked and asked[a] not in needs]
         left = [n for n in needs if n not in asked.values()]
@@ -108,14 +131,15 @@ class Walk:
         if left:
             self.say(f"no answer to {', '.join(left)}; no goal for {', '.join(gone)}")
             return
-        for a in gone:
-            self.say(f"goal {a} is not asked for any more")
-            self.text = re.sub(rf"(?ms)^(?:--[^\n]*\n)*{re.escape(a)} : tie\.Need-.*?\n(?=\n|\Z)\n?", "", self.text, count=1)
         want = head + sorted((a for a in args if a in asked and a not in gone), key=lambda a: needs.index(asked[a]))
         if want != args:
-            m = re.search(r"\(tie\.spec((?:\s+[^\s()]+)*)\s*\)", self.text)
-            sep = "\n    " if "\n" in m[1] else " "
-            self.text = self.text[: m.start(1)] + sep + sep.join(want) + self.text[m.end(1) :]
+            a, b = spans[0][0], spans[-1][1]
+            sep = "\n    " if "\n" in self.text[a:b] else " "
+            self.text = self.text[:a] + sep.join(want) + self.text[b:]
+        for a in gone:
+            a = a.strip("()").split()[0]
+            self.say(f"goal {a} is not asked for any more")
+            self.text = re.sub(rf"(?ms)^(?:--[^\n]*\n)*{re.escape(a)} : [^\n]*{self.a}\.Need-.*?\n(?=\n|\Z)\n?", "", self.text, count=1)
 
     def say(self, what):
         self.said.append(f"{self.path}: {what}")
@@ -126,23 +150,23 @@ class Walk:
             if w.startswith("Need-"):
                 k = plain(w)
                 if k in self.needs:
-                    return "tie.Need-" + self.needs[k][0]
+                    return self.alias + ".Need-" + self.needs[k][0]
                 self.say(f"no goal {w}")
                 return m[0]
             for head in ("invariant-", "decreases-"):
                 if w.startswith(head):
                     k = plain(w[len(head) :])
                     if k in self.loops:
-                        return f"tie.{head}{self.loops[k]}"
+                        return f"{self.alias}.{head}{self.loops[k]}"
                     return m[0]
             k = plain(w)
             if k in self.by_plain:
-                return "tie." + self.new_place[self.by_plain[k]]
-            if w not in ("spec", "close") and not w.startswith("the-"):
+                return self.alias + "." + self.new_place[self.by_plain[k]]
+            if w not in ("spec", "close") and w != "Claims" and not w.startswith("the-"):
                 self.say(f"no place {w}")
             return m[0]
 
-        return re.sub(rf"(?<![^\s(){{}};,])tie\.({NAME})", turn, text)
+        return re.sub(rf"(?<![^\s(){{}};,]){self.a}\.({NAME})", turn, text)
 
     def parent(self, at):
         """The place before this one, as the walk has it: an arm's places are one."""
@@ -193,11 +217,9 @@ class Walk:
     def turn(self, known, var, segs, m):
         root, start, cur = known
         rest = list(segs)
-        while cur is not None and rest and rest[0] == "before":
-            cur, rest = self.place[cur][0], rest[1:]
-        if cur is None:
-            self.say(f"too many steps back: {m[0]}")
-            return ".".join([var] + segs)
+        while rest and rest[0] == "before":
+            # the old walk may have had a step more
+            cur, rest = self.place[cur][0] or cur, rest[1:]
         if not rest:
             n = self.steps(start, cur)
             if n is None:
@@ -249,10 +271,10 @@ class Walk:
 
     def given(self, text):
         """The answers that stand in the call of tie.spec itself: each function of a place, with its place."""
-        at = text.find("(tie.spec")
+        at = text.find("(" + self.alias + ".spec")
         if at < 0:
             return text
-        k, args, depth, cur = at + len("(tie.spec"), [], 0, None
+        k, args, depth, cur = at + len(self.alias) + 6, [], 0, None
         while k < len(text):
             ch = text[k]
             if depth == 0 and (ch.isspace() or ch == ")"):
@@ -279,9 +301,44 @@ class Walk:
                 done = b
         return "".join(out) + text[done:]
 
+    def handed(self, text, env):
+        """Places that are handed to a function: so many steps back as its type says."""
+        heads = "|".join(sorted((re.escape(f) for f in self.takes), key=len, reverse=True))
+        if not heads:
+            return text
+        out, at = [], 0
+        for m in re.finditer(rf"(?<![^\s(){{}};,])({heads})(?=\s)", text):
+            if m.start() < at:
+                continue
+            k = m.end()
+            for place in self.takes[m[1]]:
+                a = re.match(rf"[ ]+(?:\(|({NAME}(?:\.{NAME})*)(?=[\s)(,;]|$))", text[k:])
+                if not a or re.match(r"\s*[=:]\s", text[k:]):
+                    break
+                if a[1]:
+                    root, *segs = a[1].split(".")
+                    if place and root in env and all(x == "before" for x in segs):
+                        known = env[root]
+                        n = self.steps(known[1], place)
+                        if n is not None:
+                            out.append(text[at : k + a.start(1)])
+                            # marked, so that it is not turned once more
+                            out.append("\0".join([known[0]] + ["before"] * n))
+                            at = k + a.end(1)
+                    k += a.end()
+                else:
+                    depth, j = 0, k + a.end() - 1
+                    while j < len(text):
+                        depth += (text[j] == "(") - (text[j] == ")")
+                        j += 1
+                        if depth == 0:
+                            break
+                    k = j
+        return "".join(out) + text[at:]
+
     def ways(self, text):
         """A function from a place to an earlier one: so many steps as there are now."""
-        m = re.match(rf"(?:--[^\n]*\n)*(?:pub |abbrev )*({NAME}) : tie\.({NAME})[^→\n]*→ tie\.({NAME})[^→\n]*\n\1 (\w+) = (\(({NAME}) \4\)|\4)((?:\.before)+)\s*$", text)
+        m = re.match(rf"(?:--[^\n]*\n)*(?:pub |abbrev )*({NAME}) : (?:\{{[^{{}}]*\}} → )?{self.a}\.({NAME})[^→\n]*→ {self.a}\.({NAME})[^→\n]*\n\1 (\w+) = (\(({NAME}) \4\)|\4)((?:\.before)+)\s*$", text)
         if not m:
             return text
         at, to = self.by_plain.get(plain(m[2])), self.by_plain.get(plain(m[3]))
@@ -305,9 +362,8 @@ class Walk:
             elif m[2] in env and not m[4]:
                 root, start, cur = env[m[2]]
                 for _ in range(m[3].count(".")):
-                    cur = self.place[cur][0] if cur else None
-                if cur is not None:
-                    env[m[1]] = (root, start, cur)
+                    cur = self.place[cur][0] or cur
+                env[m[1]] = (root, start, cur)
 
     def item(self, text):
         text = self.given(text)
@@ -319,16 +375,16 @@ class Walk:
             end = re.search(rf"(?m)^{re.escape(name)}(?=[ \n])(?! *:)(?! \{{[^}}]*\}} :)", text[sig.end() :])
             typ = text[sig.end() : sig.end() + end.start()] if end else text[sig.end() :]
             binders = []
-            m = re.match(rf"\s*tie\.(Need-{NAME})", typ)
+            m = re.match(rf"\s*(?:\([^():]+ : [^()]*\) → )*{self.a}\.(Need-{NAME})", typ)
             if m:
                 k = plain(m[1])
                 if k in self.needs:
-                    binders = [self.needs[k][1]]
+                    binders = [None] * m[0].count("→") + [self.needs[k][1]]
             else:
                 parts = arrows(typ)
                 for part in parts[:-1]:
                     b = re.match(rf"\s*\(([^():]+) : ", part)
-                    t = re.match(rf"\s*(?:\([^():]+ : )?tie\.({NAME})", part)
+                    t = re.match(rf"\s*(?:\([^():]+ : )?{self.a}\.({NAME})", part)
                     old = self.by_plain.get(plain(t[1])) if t else None
                     for one in b[1].split() if b else [""]:
                         binders.append(old)
@@ -339,16 +395,32 @@ class Walk:
                 for a, b in zip(args, binders):
                     if b and re.fullmatch(NAME, a):
                         env[a] = (a, b, b)
-        for m in re.finditer(rf"\((?:λ )?({NAME}) : tie\.({NAME})", text):
+        for m in re.finditer(rf"\((?:λ )?({NAME}) : {self.a}\.({NAME})", text):
             old = self.by_plain.get(plain(m[2]))
             if old:
                 env[m[1]] = (m[1], old, old)
         # names that a let gives to a place
         self.lets(text, env)
         text = self.ways(text)
-        text = self.types(self.paths(text, env))
+        m = re.search(rf"(?m)^abbrev ({NAME}) : {self.a}\.(?:invariant|decreases)-({NAME})\n\1((?: \S+)*) =", text)
+        if m:
+            for l, changed in zip(self.n["loops"], self.n["changed"]):
+                if plain(l[0][0]) == plain(m[2]):
+                    old = m[3].split()
+                    want = len(l[1]) + sum(changed)
+                    # temporaries that are not live any more
+                    new = [a for a in old if not re.fullmatch(r"t\d+₀?", a)] if len(old) != want else old
+                    if len(new) != want:
+                        self.say(f"{m[1]} takes {' '.join(l[1])} and what changes of them, {want} in all, not {len(old)}")
+                    else:
+                        text = text[: m.start(3)] + "".join(" " + a for a in new) + text[m.end(3) :]
+        head = re.search(rf"(?m)^{re.escape(sig[1])}(?=[ \n])[^=]*=", text[sig.end() :]) if sig else None
+        if head:
+            k = sig.end() + head.end()
+            text = text[:k] + self.handed(text[k:], env)
+        text = self.types(self.paths(text, env)).replace("\0", ".")
         # what a negated test says is said without the negation now
-        text = re.sub(r"(?<![^\s(])(?:not-false|not_false|not_not|not-not) _ (\S*?\.if-not-\S+?\.false)(?![^\s()])", r"\1", text)
+        text = re.sub(r"(?<![^\s(])(?:not-false|not_false|not_not|not-not|not-true|not_true) _ (\S*?\.if-not-\S+?\.(?:false|true))(?![^\s()])", r"\1", text)
         # a place that is named and no longer used
         while True:
             for m in re.finditer(rf"[ \n]*\blet ({NAME})(?: : [^=\n]*)? = {NAME}(?:\.before)*\s+in(?=[\s(])", text):
@@ -363,11 +435,22 @@ class Walk:
         self.gives = {}
         for m in re.finditer(rf"(?m)^(?:pub |abbrev |unfoldable )*({NAME}) : ([^\n]*(?:\n +[^\n]*)*)", self.text):
             last = arrows(m[2])[-1]
-            t = re.match(rf"\s*tie\.({NAME})", last)
+            t = re.match(rf"\s*{self.a}\.({NAME})", last)
             if t and not t[1].startswith("Need-") and plain(t[1]) in self.by_plain and "→" in m[2]:
                 self.gives[m[1]] = self.by_plain[plain(t[1])]
+        self.takes = {}
+        for m in re.finditer(rf"(?m)^(?:pub |abbrev |unfoldable )*({NAME}) : ([^\n]*(?:\n +[^\n]*)*)", self.text):
+            if self.alias + ".Need-" in m[2]:
+                continue
+            takes = []
+            for part in arrows(m[2])[:-1]:
+                b = re.match(r"\s*\(([^():]+) : ", part)
+                t = re.match(rf"\s*(?:\([^():]+ : )?{self.a}\.({NAME})", part)
+                takes += [self.by_plain.get(plain(t[1])) if t else None] * (len(b[1].split()) if b else 1)
+            if any(takes):
+                self.takes[m[1]] = takes
         items = re.split(r"(?<=\n)\n(?=\S)", self.text)
-        return "\n".join(self.item(t) for t in items)
+        return "\n".join(self.item(t) if self.alias + "." in t else t for t in items)
 
 
 def main():
@@ -383,12 +466,18 @@ def main():
                 continue
             p = os.path.join(d, "Proof.antt")
             key = f"Rattle-{crate}-proofs.{os.path.relpath(d, folder).replace('/', '.')}.Lts"
-            if key not in names:
-                said.append(f"{os.path.relpath(p, top)}: rt gave no names for {key}")
-                continue
             with open(p, encoding="utf-8") as f:
-                t = f.read()
-            new = Walk(os.path.relpath(p, top), t, names[key], said).turned()
+                t = new = f.read()
+            new = re.sub(r"(?<![^\s(])(\+[a-z0-9_-]+)-spec(?![^\s)])", lambda m: m[1].replace("-", "_") + "_spec", new)
+            walks = [("tie", key)] if key in names else []
+            walks += [(m[2], f"{key}-{m[1]}") for m in re.finditer(rf"(?m)^use \S+\.Lts-({NAME}) as ({NAME})", t)]
+            if not walks:
+                said.append(f"{os.path.relpath(p, top)}: rt gave no names for {key}")
+            for alias, key in walks:
+                if key in names:
+                    new = Walk(os.path.relpath(p, top), new, names[key], said, alias).turned()
+                else:
+                    said.append(f"{os.path.relpath(p, top)}: rt gave no names for {key}")
             if new != t:
                 with open(p, "w", encoding="utf-8") as f:
                     f.write(new)

@@ -1,5 +1,5 @@
 // The parts of a block, as document 01's section "Blocks" names them. Kinds lo to hi may stand where a block is a part.
-#[derive(Drop)]
+#[derive(Clone, Copy)]
 pub enum Part {
     // a name or a text
     Text,

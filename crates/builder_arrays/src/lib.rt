@@ -26,7 +26,7 @@ use resolved_parts::Paths;
 // An array: inside how many arrays it stands, whether it is a jagged one of variable elements, its alignment, the offset of its
 // size expression, and the offset of its element. Of the element: whether its size is variable, the constant size (0 where
 // variable), the alignment, and the offset of its references block.
-#[derive(Drop)]
+#[derive(Clone, Copy)]
 pub struct Shape {
     pub depth: usize,
     pub sums: bool,

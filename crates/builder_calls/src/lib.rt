@@ -21,7 +21,7 @@ use builder_registry::Owner;
 
 // Where collecting stands: the next cursor, how many entries the registry has, how many arguments are there, and the number
 // of a refusal or 0.
-#[derive(Drop)]
+#[derive(Clone, Copy)]
 pub struct Collected {
     pub at: usize,
     pub count: usize,
@@ -30,7 +30,7 @@ pub struct Collected {
 }
 
 // An owner, how many of its paths are left, and where the next stands.
-#[derive(Drop)]
+#[derive(Clone, Copy)]
 struct OwnerPaths {
     owner: Owner,
     left: usize,
@@ -38,7 +38,7 @@ struct OwnerPaths {
 }
 
 // The type that is called: where it stands; and the alignment of the reference to it.
-#[derive(Drop)]
+#[derive(Clone, Copy)]
 struct Callee {
     offset: usize,
     alignment: u64,

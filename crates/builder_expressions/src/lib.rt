@@ -17,14 +17,14 @@ use builder_registry::Found;
 use ir_nodes::NodeMetadata;
 
 // What stands at an offset of the set, inside so many arrays.
-#[derive(Drop)]
+#[derive(Clone, Copy)]
 pub struct Nested {
     pub offset: usize,
     pub depth: usize,
 }
 
 // An expression of two operands, with the kind of its node.
-#[derive(Drop)]
+#[derive(Clone, Copy)]
 struct Binary {
     kind: usize,
     offset: usize,

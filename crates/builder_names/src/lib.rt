@@ -9,21 +9,21 @@ ghost use Rattle.builder.specs.Names.{is_some, strip_owner, normalize_path, cano
 ghost use Rattle.builder_names.specs.Views.{Apart, RestIs, colons, colons_before, place, Parts, alias_of, KeyIs};
 
 // The place of a `::`, if there is one.
-#[derive(Drop)]
+#[derive(Clone, Copy)]
 pub enum Split {
     At(usize),
     Missing,
 }
 
 // What stands behind the owner in a canonical name: nothing, or a dot and the path from a place on.
-#[derive(Drop)]
+#[derive(Clone, Copy)]
 enum Rest {
     Nothing,
     From(usize),
 }
 
 // The key of a qualified path: so many bytes of its owner, and the path from a place on; none where the owner has no parent.
-#[derive(Drop)]
+#[derive(Clone, Copy)]
 pub enum Key {
     Joined(usize, usize),
     NoParent,

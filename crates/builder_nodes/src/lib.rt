@@ -14,7 +14,7 @@ ghost use Rattle.builder_nodes.specs.Built.{node_start, number_part, text_flag, 
 use ir_nodes::NodeMetadata;
 
 // The next cursor, how many entries the registry has, and the number of a refusal or 0.
-#[derive(Drop)]
+#[derive(Clone, Copy)]
 pub struct Built {
     pub at: usize,
     pub count: usize,

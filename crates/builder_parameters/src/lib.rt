@@ -21,7 +21,7 @@ ghost use Rattle.builder_parameters.specs.Listed.{name_in, names, lists, marks_o
 use builder_registry::NameMark;
 
 // A segment of a name: where it begins and ends.
-#[derive(Drop)]
+#[derive(Clone, Copy)]
 enum Segment {
     Part(usize, usize),
     Missing,
@@ -195,7 +195,7 @@ fn is_new(s: &[u8], words: &[u64], table: &[u64], i: usize, mark: u64) -> bool
 }
 
 // What is listed: how many entries there are, the type, and whether it is a struct with a jagged array.
-#[derive(Drop)]
+#[derive(Clone, Copy)]
 struct Listing {
     n: usize,
     kind: usize,

@@ -24,14 +24,14 @@ use builder_names::Key;
 pub const WORDS: usize = 1663;
 
 // How many entries the registry has, and the number of a refusal or 0. Of a refusal, a count of at most 512.
-#[derive(Drop)]
+#[derive(Clone, Copy)]
 pub struct Held {
     pub count: usize,
     pub number: u64,
 }
 
 // The same, and the entry whose name is meant.
-#[derive(Drop)]
+#[derive(Clone, Copy)]
 pub struct Tagged {
     pub at: usize,
     pub count: usize,
@@ -39,14 +39,14 @@ pub struct Tagged {
 }
 
 // An entry's place.
-#[derive(Drop)]
+#[derive(Clone, Copy)]
 pub enum Found {
     At(usize),
     Missing,
 }
 
 // What is searched for: among how many entries, the mark of the key, and the offset of the owner's name; 65,536 where none is known.
-#[derive(Drop)]
+#[derive(Clone, Copy)]
 struct Search {
     count: usize,
     mark: u64,
@@ -54,21 +54,21 @@ struct Search {
 }
 
 // An owner: the offset of its name, and its mark.
-#[derive(Drop)]
+#[derive(Clone, Copy)]
 pub struct Owner {
     pub at: usize,
     pub mark: u64,
 }
 
 // By what an entry is linked: the mark of its owner, and that of its first key.
-#[derive(Drop)]
+#[derive(Clone, Copy)]
 struct Marks {
     owner: u64,
     key: u64,
 }
 
 // The mark of an alias, if its slot is linked.
-#[derive(Drop)]
+#[derive(Clone, Copy)]
 enum Alias {
     Mark(u64),
     LeftOut,
@@ -616,7 +616,7 @@ pub fn put_parameter(s: &[u8], w: u64, out: &mut [u8], at: usize) -> usize
 
 // The mark of an entry's name. With it go the offset of its owner's name, and that name's mark, from which it starts: mostly the
 // next entry has the same owner. At the offset 65,536 nothing is known.
-#[derive(Drop)]
+#[derive(Clone, Copy)]
 pub struct NameMark {
     pub mark: u64,
     pub owner: usize,
@@ -654,7 +654,7 @@ pub fn mark_name(s: &[u8], w: u64, known: NameMark) -> NameMark
 }
 
 // Where the parameters of an owner that were written end, and how many they are.
-#[derive(Drop)]
+#[derive(Clone, Copy)]
 struct Listed {
     end: usize,
     count: u64,

@@ -16,7 +16,7 @@ use reader_leaf::Read;
 use value::Value;
 
 // The next cursor; the number of a refusal or 0, and the place of the type that it is of.
-#[derive(Drop)]
+#[derive(Clone, Copy)]
 pub struct Types {
     pub at: usize,
     pub number: u64,

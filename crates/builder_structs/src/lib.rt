@@ -22,14 +22,14 @@ use builder_nodes::Built;
 use builder_registry::Held;
 
 // The end of the prefix behind a field, unless it is 2^64 or more.
-#[derive(Drop)]
+#[derive(Clone, Copy)]
 pub enum End {
     At(u64),
     Over,
 }
 
 // A field: where the struct's references, the field's name and its type stand.
-#[derive(Drop)]
+#[derive(Clone, Copy)]
 struct Member {
     references: usize,
     name: usize,
@@ -38,7 +38,7 @@ struct Member {
 
 // What is left of a struct: how many entries the registry has, the next field and how many are left, the end of the prefix,
 // and whether that field's padding is made.
-#[derive(Drop)]
+#[derive(Clone, Copy)]
 pub struct Rest {
     pub count: usize,
     pub field: usize,
@@ -48,7 +48,7 @@ pub struct Rest {
 }
 
 // The next cursor, what is left behind it, and the number of a refusal or 0.
-#[derive(Drop)]
+#[derive(Clone, Copy)]
 pub struct Run {
     pub at: usize,
     pub rest: Rest,

@@ -12,7 +12,7 @@ use builder_nodes::Built;
 use builder_registry::Found;
 
 // The paths that a sum takes: those of the list at `paths`, or only those of them that end in `.payload_size`.
-#[derive(Drop)]
+#[derive(Clone, Copy)]
 struct PathChoice {
     only: bool,
     paths: usize,

@@ -21,7 +21,7 @@ use resolved_parts::Paths;
 
 // A variant: where its name stands, its tag, whether its size is variable, the constant size (0 where variable), and the
 // alignment.
-#[derive(Drop)]
+#[derive(Clone, Copy)]
 pub struct Choice {
     pub name: usize,
     pub tag: u64,
@@ -31,7 +31,7 @@ pub struct Choice {
 }
 
 // An alternative: the kind of its block, where that stands, and its place in the list.
-#[derive(Drop)]
+#[derive(Clone, Copy)]
 struct Place {
     kind: usize,
     block: usize,
@@ -39,7 +39,7 @@ struct Place {
 }
 
 // A list of alternatives: the kind of its blocks, how many there are, and where the first stands.
-#[derive(Drop)]
+#[derive(Clone, Copy)]
 struct Alternatives {
     kind: usize,
     count: usize,

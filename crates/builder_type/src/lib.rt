@@ -14,7 +14,7 @@ ghost use Rattle.builder_type.specs.Built.{Ready, ReadyWords, BuildsType};
 use builder_nodes::Built;
 
 // The cursor behind a type tree, and the number of a refusal or 0.
-#[derive(Drop)]
+#[derive(Clone, Copy)]
 pub struct TypeTree {
     pub at: usize,
     pub number: u64,

@@ -59,7 +59,7 @@ types_read s small t e = found t (accepted 32 36 s small t e).1
     listed (both (both {a} c q) nothing) = (number a, q)
 
     found : (t : Tree) → BlockFits 32 Earlier.any 36 36 t → (n : ℕ) × Types (Earlier.distinct []) n (rest (part 0 (body t)))
-    found t (inside {k} w _ _ p) = listed (rw (only 36 k w) at p)
+    found t (inside {k} {t = u} w _ _ p) = listed {t = u} (rw (only 36 k w) at p)
 
 -- a type of the set is within the limits
 entry_fits : (n : ℕ) (e : Earlier) {t b : Tree} → Types e n t → Entry b t → (f : Earlier) × BlockFits 31 f 1 7 b

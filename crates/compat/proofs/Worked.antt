@@ -191,9 +191,11 @@ extends = record { kept = kept; apart = apart }
   where
     kept : (b : Tree) → TypeOf b (set old_fare) → (b' : Tree) × TypeOf b' (set new_fare) × Grown b b'
     kept b Entry.here = (new_fare, Entry.here, fare_grown)
+    kept b (Rattle.compat.specs.Grown.there x3) = elim x3 [ ]
 
     apart : (b' : Tree) → TypeOf b' (set new_fare) → ((b : Tree) → TypeOf b (set old_fare) → name_of b ≡ name_of b' → ⊥) → Refers (name_of b') (set old_fare) → ⊥
     apart b' Entry.here h r = h old_fare Entry.here refl
+    apart b' (Rattle.compat.specs.Grown.there x5) h r = elim x5 [ ]
 
 -- ---- the answers
 

@@ -7,7 +7,7 @@ ghost use Rattle.errors.specs.Meaning.{refusal_of, outcome_of, length_of};
 use value::Value;
 
 // The place and the offset are 65,535 and 0 where there is none, the value is 0.
-#[derive(Drop)]
+#[derive(Clone, Copy)]
 pub struct Refusal {
     pub number: u64,
     pub place: usize,
@@ -16,14 +16,14 @@ pub struct Refusal {
 }
 
 // A count, or a refusal. A reading that is accepted has the count 0.
-#[derive(Drop)]
+#[derive(Clone, Copy)]
 pub enum Answer {
     Count(Value),
     Refused(Refusal),
 }
 
 // The length of what was made, or a refusal.
-#[derive(Drop)]
+#[derive(Clone, Copy)]
 pub enum Length {
     Bytes(usize),
     Refused(Refusal),

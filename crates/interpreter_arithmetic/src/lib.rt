@@ -14,7 +14,7 @@ const ARITHMETIC_OVERFLOW: u64 = 23;
 // The exact result is 2^64 or more.
 const BEYOND_64_BITS: u64 = 26;
 
-#[derive(Drop)]
+#[derive(Clone, Copy)]
 pub enum Num {
     Value(Value),
     Fault(u64),

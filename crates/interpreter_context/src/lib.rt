@@ -95,20 +95,20 @@ pub fn third_part(s: &[u8], at: usize) -> usize
 // to the root, whose values are those of a block 192.
 
 // The offset of a name in the layout.
-#[derive(Drop)]
+#[derive(Clone, Copy)]
 pub enum Found {
     At(usize),
     Missing,
 }
 
-#[derive(Drop)]
+#[derive(Clone, Copy)]
 pub enum Held {
     Value(Value),
     Absent,
 }
 
 // What the root's context is made of, which no call changes: the offset of the block of values, and the buffer length.
-#[derive(Drop)]
+#[derive(Clone, Copy)]
 pub struct Root {
     pub block: usize,
     pub len: u64,

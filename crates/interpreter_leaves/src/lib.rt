@@ -23,14 +23,14 @@ use lookup::Place;
 use value::Value;
 
 // The node that a switch selects.
-#[derive(Drop)]
+#[derive(Clone, Copy)]
 pub enum Choice {
     Node(usize),
     Nothing,
 }
 
 // Whether every argument was found, or the offset of the first that was not.
-#[derive(Drop)]
+#[derive(Clone, Copy)]
 pub enum Arguments {
     All,
     Lacking(usize),
@@ -38,7 +38,7 @@ pub enum Arguments {
 
 // What a call changes for the nodes inside: how many calls are open, and the place of the type whose tree holds the node. It stands
 // apart from `Root`, since a struct is handed on by the address of a copy: two words are copied at once, and `Root` is not made anew.
-#[derive(Drop)]
+#[derive(Clone, Copy)]
 pub struct Frame {
     pub depth: usize,
     pub place: usize,

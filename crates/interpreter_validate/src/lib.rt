@@ -35,7 +35,7 @@ const ASKED: usize = 40;
 
 // What is asked of a layout: the count of a type whose name is handed over, with values and a buffer length; or that of a run, which
 // has all three.
-#[derive(Drop)]
+#[derive(Clone, Copy)]
 pub enum Ask {
     Values(u64),
     Run,
@@ -83,7 +83,7 @@ fn outcome(ok: bool, out: &[u64; 4], place: usize, len: u64) -> Answer
 
 // The tree of a type that is asked for, by its place in the layout and its offset there, and with what it is evaluated: the values at an
 // offset and the buffer length.
-#[derive(Drop)]
+#[derive(Clone, Copy)]
 struct Target {
     place: usize,
     at: usize,

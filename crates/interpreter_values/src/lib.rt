@@ -30,7 +30,7 @@ const OFFSETS: usize = 656;
 const STEP: usize = 16;
 
 // Entries of a block: from which place on, up to which, and the offset of the first of them.
-#[derive(Drop)]
+#[derive(Clone, Copy)]
 struct Span {
     from: usize,
     to: usize,
@@ -38,7 +38,7 @@ struct Span {
 }
 
 // A value's offset, or the entries among which it is yet to be sought: the offset of the first, and how many.
-#[derive(Drop)]
+#[derive(Clone, Copy)]
 enum Sought {
     At(usize),
     Among(usize, usize),

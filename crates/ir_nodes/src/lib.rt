@@ -6,7 +6,7 @@ ghost use Rattle.ir_nodes.specs.Codes.{code_at, row_of};
 
 // What a node begins with. The size text is no field: where a node has one, it is written from its parts, straight into
 // the output.
-#[derive(Drop)]
+#[derive(Clone, Copy)]
 pub struct NodeMetadata {
     pub alignment: u64,
 }

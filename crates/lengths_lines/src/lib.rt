@@ -11,7 +11,7 @@ use errors::Answer;
 use reader_leaf::Read;
 
 // What was printed for a run block, and the cursor behind it.
-#[derive(Drop)]
+#[derive(Clone, Copy)]
 pub enum Printed {
     // the run's line: what follows it is read
     Line(usize),

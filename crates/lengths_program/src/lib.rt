@@ -10,7 +10,7 @@ use errors::Length;
 use lengths_lines::Printed;
 
 // What stands at the start of the input that is there.
-#[derive(Drop)]
+#[derive(Clone, Copy)]
 enum Next {
     // a block of this length
     Block(usize),
@@ -21,7 +21,7 @@ enum Next {
 }
 
 // How far the program has come.
-#[derive(Drop)]
+#[derive(Clone, Copy)]
 pub enum Stage {
     // the set comes next
     Set,
@@ -32,7 +32,7 @@ pub enum Stage {
 }
 
 // What the program keeps between two calls.
-#[derive(Drop)]
+#[derive(Clone, Copy)]
 pub struct State {
     pub stage: Stage,
     // so many bytes at the start of the input's buffer are yet to be used
@@ -46,7 +46,7 @@ pub struct State {
 }
 
 // The bytes of the input's buffer that are yet to be used, and whether the input ends with them.
-#[derive(Drop)]
+#[derive(Clone, Copy)]
 struct Span {
     from: usize,
     to: usize,
@@ -54,7 +54,7 @@ struct Span {
 }
 
 // What the set came to.
-#[derive(Drop)]
+#[derive(Clone, Copy)]
 enum Begun {
     // its last bytes are not there
     Part,
@@ -65,7 +65,7 @@ enum Begun {
 }
 
 // What runs came to.
-#[derive(Drop)]
+#[derive(Clone, Copy)]
 enum Passed {
     // the last line was printed: so many bytes in all
     Ended(usize),

@@ -14,14 +14,14 @@ ghost use Rattle.lookup.specs.Found.{TypeFound, TreeFound, first_value};
 use wire::Block;
 
 // The offset of a type's block, or of a value's number.
-#[derive(Drop)]
+#[derive(Clone, Copy)]
 pub enum Found {
     At(usize),
     Missing,
 }
 
 // A type's place in the layout, and the offset of its block.
-#[derive(Drop)]
+#[derive(Clone, Copy)]
 pub enum Place {
     At(usize, usize),
     Missing,

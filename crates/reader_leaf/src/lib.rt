@@ -14,27 +14,27 @@ use blocks::Part;
 use wire::Block;
 
 // The offset behind what was read, or number and offset of a refusal.
-#[derive(Drop)]
+#[derive(Clone, Copy)]
 pub enum Read {
     Ok(usize),
     Refused(u64, usize),
 }
 
 // A block's kind and end.
-#[derive(Drop)]
+#[derive(Clone, Copy)]
 pub enum Head {
     Found(usize, usize),
     No(u64, usize),
 }
 
-#[derive(Drop)]
+#[derive(Clone, Copy)]
 pub enum Count {
     Of(usize),
     Bad(u64, usize),
 }
 
 // What question 6 asks of a block's name, and the blocks of its list before it.
-#[derive(Drop)]
+#[derive(Clone, Copy)]
 pub enum Seen {
     // nothing is asked
     Nothing,

@@ -10,7 +10,7 @@ use lengths_program::State;
 use libc::{STDIN_FILENO, STDOUT_FILENO};
 
 // What one record came to.
-#[derive(Drop)]
+#[derive(Clone, Copy)]
 enum Held {
     Same,
     Differs,
@@ -19,7 +19,7 @@ enum Held {
 }
 
 // What one turn of the main loop came to.
-#[derive(Drop)]
+#[derive(Clone, Copy)]
 enum Turn {
     More,
     End,

@@ -9,7 +9,7 @@ use wire::Block;
 
 // What every type begins with: whether its size is variable, the constant size (0 where variable), the alignment, and the
 // offset of its references block. Its name stands 6 bytes behind the type's start.
-#[derive(Drop)]
+#[derive(Clone, Copy)]
 pub struct TypeHead {
     pub variable: bool,
     pub size: u64,
@@ -18,7 +18,7 @@ pub struct TypeHead {
 }
 
 // The jagged flag, and the offsets of the element type and of the size expression.
-#[derive(Drop)]
+#[derive(Clone, Copy)]
 pub struct ArrayParts {
     pub jagged: bool,
     pub element: usize,
@@ -26,7 +26,7 @@ pub struct ArrayParts {
 }
 
 // The offset of the tag expression; how many variants, and the offset of the first.
-#[derive(Drop)]
+#[derive(Clone, Copy)]
 pub struct EnumParts {
     pub tag: usize,
     pub count: usize,
@@ -34,14 +34,14 @@ pub struct EnumParts {
 }
 
 // How many fields or variants, and the offset of the first.
-#[derive(Drop)]
+#[derive(Clone, Copy)]
 pub struct ListParts {
     pub count: usize,
     pub first: usize,
 }
 
 // Whether a field has an offset, that offset (0 where not), and where its type stands. Its name stands 6 bytes behind its start.
-#[derive(Drop)]
+#[derive(Clone, Copy)]
 pub struct FieldParts {
     pub placed: bool,
     pub offset: u64,
@@ -49,14 +49,14 @@ pub struct FieldParts {
 }
 
 // The tag or the expected size of a variant, and where its type stands. Its name stands 6 bytes behind its start.
-#[derive(Drop)]
+#[derive(Clone, Copy)]
 pub struct VariantParts {
     pub number: u64,
     pub kind: usize,
 }
 
 // The offset of the count of an owner's paths.
-#[derive(Drop)]
+#[derive(Clone, Copy)]
 pub enum Paths {
     At(usize),
     Missing,

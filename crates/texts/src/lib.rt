@@ -9,7 +9,7 @@ ghost use Rattle.texts.specs.declared.Left.TheVariants.{Bytes};
 
 // Of a character that was begun: how many bytes must follow, and from where to where the next lies; those behind it lie from 0x80 to
 // 0xBF. Or that nothing makes it a character.
-#[derive(Drop)]
+#[derive(Clone, Copy)]
 pub enum Left {
     Bytes(usize, u8, u8),
     Never,

@@ -10,7 +10,7 @@ ghost use Rattle.wire.specs.Order.{Turned, be, first_bytes, Lesser, Shorter};
 ghost use Rattle.wire.specs.Poke.{Wrote, opened};
 
 // Among blocks that stand one behind the other: how many stand before this one, and its offset.
-#[derive(Drop)]
+#[derive(Clone, Copy)]
 pub enum Block {
     At(usize, usize),
     Missing,

@@ -41,99 +41,87 @@ callees t = (
 )
 
 -- The places, each seen from a later one: what was known there.
-abbrev start : {t : ℕ} → walk.Else1 (callees t) (entered t) self.Post → walk.Start (callees t) (entered t) self.Post
+abbrev start : {t : ℕ} → walk.Else-left-eq0 (callees t) (entered t) self.Post → walk.Start (callees t) (entered t) self.Post
 start r = r.before.before.before.before.before
 
-abbrev left : {t : ℕ} → walk.After-put-argument (callees t) (entered t) self.Post → walk.Else1 (callees t) (entered t) self.Post
+abbrev left : {t : ℕ} → walk.After-put_argument-r (callees t) (entered t) self.Post → walk.Else-left-eq0 (callees t) (entered t) self.Post
 left r = r.before.before.before
 
 -- the first of the paths that are left
-path-here : {t : ℕ} (r : walk.Else1 (callees t) (entered t) self.Post) → Named (start r).args.s.now (start r).args.paths.path
-path-here r = entry_named (start r).pre.1.list (above r.if1.left)
+path-here : {t : ℕ} (r : walk.Else-left-eq0 (callees t) (entered t) self.Post) → Named (start r).args.s.now (start r).args.paths.path
+path-here r = entry_named (start r).requires.1.list (above r.if-left-eq0.false)
 
-returns : (t : ℕ) → walk.Need-returns (callees t) (entered t) self.Post
-returns t c =
-    let at-start = c.before.before.before.before.before in (
-      fills_none at-start.requires.1.room,
-      walk_none (paths_walk _) at-start.requires.1.room c.if1.true,
+returns : (t : ℕ) → walk.Need-returns-then-left-eq0 (callees t) (entered t) self.Post
+returns t c = (
+      fills_none c.requires.1.room,
+      walk_none (paths_walk _) c.requires.1.room c.if-left-eq0.true,
     )
 
-put-argument-requires : (t : ℕ) → walk.Need-put-argument-requires (callees t) (entered t) self.Post
+put-argument-requires : (t : ℕ) → walk.Need-put_argument-r-requires (callees t) (entered t) self.Post
 put-argument-requires t c κs =
-    let at-else1 = c.before.before in
-    let at-start = start at-else1 in
-    record { room = at-start.pre.1.room; owned = at-start.pre.1.owned; marked = at-start.pre.1.marked; named = path-here at-else1 }
+    let at-start = start c.before.before in
+    record { room = at-start.requires.1.room; owned = at-start.requires.1.owned; marked = at-start.requires.1.marked; named = path-here c.before.before }
 
-returns-2 : (t : ℕ) → walk.Need-returns-2 (callees t) (entered t) self.Post
+returns-2 : (t : ℕ) → walk.Need-returns-then-r-ne0 (callees t) (entered t) self.Post
 returns-2 t c =
-    let at-put-argument = c.before.before.before.before.before.before in
-    let at-else1 = left at-put-argument in (
-      at-put-argument.put-argument.ensures.0,
-      paths_stop _ (above at-else1.if1.left) at-put-argument.put-argument.ensures.1 c.if2.true,
+    let at-else1 = left c.before.before.before.before.before.before in (
+      c.put_argument-r.ensures.0,
+      paths_stop _ (above at-else1.if-left-eq0.false) c.put_argument-r.ensures.1 c.if-r-ne0.true,
     )
 
-next-name-requires : (t : ℕ) → walk.Need-next-name-requires (callees t) (entered t) self.Post
+next-name-requires : (t : ℕ) → walk.Need-next_name-next-requires (callees t) (entered t) self.Post
 next-name-requires t c κs =
-    let at-put-argument = c.before.before.before.before.before.before in
-    let at-else1 = left at-put-argument in
+    let at-else1 = left c.before.before.before.before.before.before in
     (path-here at-else1).inside
 
-sub-others : (t : ℕ) → walk.Need-sub-others (callees t) (entered t) self.Post
+sub-others : (t : ℕ) → walk.Need-overflow_sub-others (callees t) (entered t) self.Post
 sub-others t c =
-    let at-put-argument = c.before.before.before.before.before.before.before in
-    let at-else1 = left at-put-argument in
-    omega (arith, at-else1.if1.left)
+    let at-else1 = left c.before.before.before.before.before.before.before in
+    omega (arith, at-else1.if-left-eq0.false)
 
-put-arguments-requires : (t : ℕ) → walk.Need-put-arguments-requires (callees t) (entered t) self.Post
+put-arguments-requires : (t : ℕ) → walk.Need-put_arguments-requires (callees t) (entered t) self.Post
 put-arguments-requires t c κs =
-    let at-next-name = c.before.before in
-    let at-else2 = at-next-name.before in
-    let at-put-argument = at-else2.before.before.before.before.before.before in
-    let at-else1 = left at-put-argument in
+    let at-else1 = left c.before.before.before.before.before.before.before.before.before in
     let at-start = start at-else1 in (
-      omega (arith, at-start.pre.0, at-else1.if1.left),
+      omega (arith, at-start.requires.0, at-else1.if-left-eq0.false),
       record {
         room = room_more
-            at-start.pre.1.room (search rules)
-            at-else2.if2.false
-            at-put-argument.put-argument.ensures.0
-            (behind_index at-else2.if2.false at-put-argument.put-argument.ensures.1);
-        owned = at-start.pre.1.owned;
-        marked = at-start.pre.1.marked;
-        list = rw at-next-name.next-name.ensures (next_path (above at-else1.if1.left) at-start.pre.1.list).rest;
+            at-start.requires.1.room (search rules)
+            c.if-r-ne0.false
+            c.put_argument-r.ensures.0
+            (behind_index c.if-r-ne0.false c.put_argument-r.ensures.1);
+        owned = at-start.requires.1.owned;
+        marked = at-start.requires.1.marked;
+        list = rw c.next_name-next.ensures (next_path (above at-else1.if-left-eq0.false) at-start.requires.1.list).rest;
       },
     )
 
-returns-3 : (t : ℕ) → walk.Need-returns-3 (callees t) (entered t) self.Post
+returns-3 : (t : ℕ) → walk.Need-returns (callees t) (entered t) self.Post
 returns-3 t c =
-    let at-put-arguments = c.before.before.before.before in
-    let at-next-name = at-put-arguments.before.before.before in
-    let at-else2 = at-next-name.before in
-    let at-put-argument = at-else2.before.before.before.before.before.before in
-    let at-else1 = left at-put-argument in (
-      fills_both at-put-argument.put-argument.ensures.0 at-put-arguments.put-arguments.ensures.0,
+    let at-else1 = left c.before.before.before.before.before.before.before.before.before.before.before.before.before.before in (
+      fills_both c.put_argument-r.ensures.0 c.put_arguments.ensures.0,
       paths_go _
-          (above at-else1.if1.left)
-          at-put-argument.put-argument.ensures.1
-          at-else2.if2.false
-          at-next-name.next-name.ensures
-          at-put-arguments.put-arguments.ensures.1,
+          (above at-else1.if-left-eq0.false)
+          c.put_argument-r.ensures.1
+          c.if-r-ne0.false
+          c.next_name-next.ensures
+          c.put_arguments.ensures.1,
     )
 
-same_length : (t : ℕ) → walk.Need-same-length (callees t) (entered t) self.Post
+same_length : (t : ℕ) → walk.Need-shape_of-words-then-r-ne0 (callees t) (entered t) self.Post
 same_length t c = search rules
 
-same-length-2 : (t : ℕ) → walk.Need-same-length-2 (callees t) (entered t) self.Post
+same-length-2 : (t : ℕ) → walk.Need-shape_of-out-then-r-ne0 (callees t) (entered t) self.Post
 same-length-2 t c = search rules
 
-same-length-3 : (t : ℕ) → walk.Need-same-length-3 (callees t) (entered t) self.Post
+same-length-3 : (t : ℕ) → walk.Need-shape_of-words (callees t) (entered t) self.Post
 same-length-3 t c = search rules
 
-same-length-4 : (t : ℕ) → walk.Need-same-length-4 (callees t) (entered t) self.Post
+same-length-4 : (t : ℕ) → walk.Need-shape_of-out (callees t) (entered t) self.Post
 same-length-4 t c = search rules
 
-pub +put-arguments-spec : {M : Type 1} → statement M
-+put-arguments-spec =
+pub +put_arguments_spec : {M : Type 1} → statement M
++put_arguments_spec =
     close μ
     (λ t. walk.spec (callees t) (entered t) self.Post (returns t) (put-argument-requires t) (same_length t)
     (same-length-2 t) (returns-2 t) (next-name-requires t) (sub-others t) (put-arguments-requires t)

@@ -50,149 +50,122 @@ callees t = (
 )
 
 -- The places, each seen from a later one: what was known there.
-abbrev start : {t : ℕ} → walk.Else1 (callees t) (entered t) self.Post → walk.Start (callees t) (entered t) self.Post
+abbrev start : {t : ℕ} → walk.Else-left-eq0 (callees t) (entered t) self.Post → walk.Start (callees t) (entered t) self.Post
 start r = r.before.before.before.before
 
-abbrev owner-marked : {t : ℕ} → walk.After-put-arguments (callees t) (entered t) self.Post → walk.After-marked-owner (callees t) (entered t) self.Post
+abbrev owner-marked : {t : ℕ} → walk.After-put_arguments-r (callees t) (entered t) self.Post → walk.After-marked_owner-marked (callees t) (entered t) self.Post
 owner-marked r = r.before.before.before
 
 -- the first of the owners that are left, and its paths
-here : {t : ℕ} (r : walk.Else1 (callees t) (entered t) self.Post) → Accepted (start r).args.s.now 37 37 (start r).args.owner
-here r = owner_here (above r.if1.left) (start r).pre.1.list
+here : {t : ℕ} (r : walk.Else-left-eq0 (callees t) (entered t) self.Post) → Accepted (start r).args.s.now 37 37 (start r).args.owner
+here r = owner_here (above r.if-left-eq0.false) (start r).requires.1.list
 
-owner_at : {t : ℕ} (r : walk.After-owner-paths (callees t) (entered t) self.Post) → OwnerAt (here r.before) r.owner-paths.result
-owner_at r = r.owner-paths.ensures (here r.before)
+owner_at : {t : ℕ} (r : walk.After-owner_paths-q (callees t) (entered t) self.Post) → OwnerAt (here r.before) r.owner_paths-q.result
+owner_at r = r.owner_paths-q.ensures (here r.before)
 
-returns : (t : ℕ) → walk.Need-returns (callees t) (entered t) self.Post
-returns t c =
-    let at-start = c.before.before.before.before in (
-      fills_none at-start.requires.1.room,
-      walk_none owners_walk at-start.requires.1.room c.if1.true,
+returns : (t : ℕ) → walk.Need-returns-then-left-eq0 (callees t) (entered t) self.Post
+returns t c = (
+      fills_none c.requires.1.room,
+      walk_none owners_walk c.requires.1.room c.if-left-eq0.true,
     )
 
-owner-paths-requires : (t : ℕ) → walk.Need-owner-paths-requires (callees t) (entered t) self.Post
+owner-paths-requires : (t : ℕ) → walk.Need-owner_paths-q-requires (callees t) (entered t) self.Post
 owner-paths-requires t c κs = here c
 
-read2-requires : (t : ℕ) → walk.Need-read2-requires (callees t) (entered t) self.Post
+read2-requires : (t : ℕ) → walk.Need-read2-count-requires (callees t) (entered t) self.Post
 read2-requires t c κs = (owner_at c).paths.inside
 
-add-marked-owner : (t : ℕ) → walk.Need-add-marked-owner (callees t) (entered t) self.Post
+add-marked-owner : (t : ℕ) → walk.Need-overflow_add-owner (callees t) (entered t) self.Post
 add-marked-owner t c =
-    let at-else1 = c.before.before in
-    let at-start = start at-else1 in
-    omega (arith, owner_inside (above at-else1.if1.false) at-start.pre.1.list, at-start.pre.1.room.standing.size)
+    let at-start = start c.before.before in
+    omega (arith, owner_inside (above c.if-left-eq0.false) at-start.requires.1.list, at-start.requires.1.room.standing.size)
 
-marked-owner-requires : (t : ℕ) → walk.Need-marked-owner-requires (callees t) (entered t) self.Post
+marked-owner-requires : (t : ℕ) → walk.Need-marked_owner-marked-requires (callees t) (entered t) self.Post
 marked-owner-requires t c κs =
-    let at-owner-paths = c.before in
-    let at-start = start at-owner-paths.before in
-    omega (arith, (owner_at at-owner-paths).named.inside, at-start.pre.1.room.standing.size)
+    let at-start = start c.before.before in
+    omega (arith, (owner_at c.before).named.inside, at-start.requires.1.room.standing.size)
 
-add-first : (t : ℕ) → walk.Need-add-first (callees t) (entered t) self.Post
+add-first : (t : ℕ) → walk.Need-overflow_add-first (callees t) (entered t) self.Post
 add-first t c =
-    let at-owner-paths = c.before.before in
-    omega (arith, (owner_at at-owner-paths).paths.inside)
+    omega (arith, (owner_at c.before.before).paths.inside)
 
-put-arguments-requires : (t : ℕ) → walk.Need-put-arguments-requires (callees t) (entered t) self.Post
+put-arguments-requires : (t : ℕ) → walk.Need-put_arguments-r-requires (callees t) (entered t) self.Post
 put-arguments-requires t c κs =
-    let at-marked-owner = c.before.before in
-    let at-read2 = at-marked-owner.before in
-    let at-owner-paths = at-read2.before in
-    let at-else1 = at-owner-paths.before in
-    let at-start = start at-else1 in
+    let at-start = start c.before.before.before.before.before in
     record {
-      room = at-start.pre.1.room;
-      owned = rw at-marked-owner.marked-owner.ensures.0 (owner_at at-owner-paths).named;
-      marked = rw at-marked-owner.marked-owner.ensures.0 at-marked-owner.marked-owner.ensures.1;
-      list = paths_list at-read2.read2.ensures.0 (owner_at at-owner-paths).paths;
+      room = at-start.requires.1.room;
+      owned = rw c.marked_owner-marked.ensures.0 (owner_at c.before.before.before.before).named;
+      marked = rw c.marked_owner-marked.ensures.0 c.marked_owner-marked.ensures.1;
+      list = paths_list c.read2-count.ensures.0 (owner_at c.before.before.before.before).paths;
     }
 
-returns-2 : (t : ℕ) → walk.Need-returns-2 (callees t) (entered t) self.Post
+returns-2 : (t : ℕ) → walk.Need-returns-then-r-ne0 (callees t) (entered t) self.Post
 returns-2 t c =
-    let at-put-arguments = c.before.before.before.before.before.before in
-    let at-marked-owner = owner-marked at-put-arguments in
-    let at-read2 = at-marked-owner.before in
-    let at-owner-paths = at-read2.before in
-    let at-else1 = at-owner-paths.before in (
-      at-put-arguments.put-arguments.ensures.0,
+    let at-marked-owner = owner-marked c.before.before.before.before.before.before in (
+      c.put_arguments-r.ensures.0,
       owners_stop
-          (above at-else1.if1.left)
-          at-owner-paths.owner-paths.ensures
-          at-read2.read2.ensures.0
-          at-marked-owner.marked-owner.ensures.0
-          at-put-arguments.put-arguments.ensures.1
-          c.if2.true,
+          (above at-marked-owner.if-left-eq0.false)
+          at-marked-owner.owner_paths-q.ensures
+          at-marked-owner.read2-count.ensures.0
+          at-marked-owner.marked_owner-marked.ensures.0
+          c.put_arguments-r.ensures.1
+          c.if-r-ne0.true,
     )
 
-next-block-requires : (t : ℕ) → walk.Need-next-block-requires (callees t) (entered t) self.Post
+next-block-requires : (t : ℕ) → walk.Need-next_block-next-requires (callees t) (entered t) self.Post
 next-block-requires t c κs =
-    let at-else1 = c.before.before.before.before.before.before.before.before.before.before.before.before in
-    let at-start = start at-else1 in
-    (owner_inside (above at-else1.if1.false) at-start.pre.1.list, at-start.pre.1.room.standing.size)
+    let at-start = start c.before.before.before.before.before.before.before.before.before.before.before.before in
+    (owner_inside (above c.if-left-eq0.false) at-start.requires.1.list, at-start.requires.1.room.standing.size)
 
-sub-put-owners : (t : ℕ) → walk.Need-sub-put-owners (callees t) (entered t) self.Post
+sub-put-owners : (t : ℕ) → walk.Need-overflow_sub-left (callees t) (entered t) self.Post
 sub-put-owners t c =
-    let at-else1 = c.before.before.before.before.before.before.before.before.before.before.before.before.before.before in
-    omega (arith, at-else1.if1.false)
+    omega (arith, c.if-left-eq0.false)
 
-put-owners-requires : (t : ℕ) → walk.Need-put-owners-requires (callees t) (entered t) self.Post
+put-owners-requires : (t : ℕ) → walk.Need-put_owners-requires (callees t) (entered t) self.Post
 put-owners-requires t c κs =
-    let at-next-block = c.before.before in
-    let at-else2 = at-next-block.before in
-    let at-put-arguments = at-else2.before.before.before.before.before.before in
-    let at-marked-owner = owner-marked at-put-arguments in
-    let at-read2 = at-marked-owner.before in
-    let at-owner-paths = at-read2.before in
-    let at-else1 = at-owner-paths.before in
-    let at-start = start at-else1 in
-    let paths = paths_list at-read2.read2.ensures.0 (owner_at at-owner-paths).paths in (
-      omega (arith, at-start.pre.0, at-else1.if1.left),
+    let at-marked-owner = owner-marked c.before.before.before.before.before.before.before.before.before in
+    let at-start = start at-marked-owner.before.before.before in
+    let paths = paths_list at-marked-owner.read2-count.ensures.0 (owner_at at-marked-owner.before.before).paths in (
+      omega (arith, at-start.requires.0, at-marked-owner.if-left-eq0.false),
       record {
         room = room_more
-            at-start.pre.1.room (search rules)
-            at-else2.if2.false
-            at-put-arguments.put-arguments.ensures.0
-            (behind_index at-else2.if2.false (at-put-arguments.put-arguments.ensures.1 paths));
-        list = rw at-next-block.next_block.ensures (next_owner (above at-else1.if1.left) at-start.pre.1.list).rest;
+            at-start.requires.1.room (search rules)
+            c.if-r-ne0.false
+            c.put_arguments-r.ensures.0
+            (behind_index c.if-r-ne0.false (c.put_arguments-r.ensures.1 paths));
+        list = rw c.next_block-next.ensures (next_owner (above at-marked-owner.if-left-eq0.false) at-start.requires.1.list).rest;
       },
     )
 
-returns-3 : (t : ℕ) → walk.Need-returns-3 (callees t) (entered t) self.Post
+returns-3 : (t : ℕ) → walk.Need-returns (callees t) (entered t) self.Post
 returns-3 t c =
-    let at-put-owners = c.before.before.before.before in
-    let at-next-block = at-put-owners.before.before.before in
-    let at-else2 = at-next-block.before in
-    let at-put-arguments = at-else2.before.before.before.before.before.before in
-    let at-marked-owner = owner-marked at-put-arguments in
-    let at-read2 = at-marked-owner.before in
-    let at-owner-paths = at-read2.before in
-    let at-else1 = at-owner-paths.before in (
-      fills_both at-put-arguments.put-arguments.ensures.0 at-put-owners.put-owners.ensures.0,
+    let at-marked-owner = owner-marked c.before.before.before.before.before.before.before.before.before.before.before.before.before.before in (
+      fills_both c.put_arguments-r.ensures.0 c.put_owners.ensures.0,
       owners_go
-          (above at-else1.if1.left)
-          at-owner-paths.owner-paths.ensures
-          at-read2.read2.ensures.0
-          at-marked-owner.marked-owner.ensures.0
-          at-put-arguments.put-arguments.ensures.1
-          at-else2.if2.false
-          at-next-block.next_block.ensures
-          at-put-owners.put-owners.ensures.1,
+          (above at-marked-owner.if-left-eq0.false)
+          at-marked-owner.owner_paths-q.ensures
+          at-marked-owner.read2-count.ensures.0
+          at-marked-owner.marked_owner-marked.ensures.0
+          c.put_arguments-r.ensures.1
+          c.if-r-ne0.false
+          c.next_block-next.ensures
+          c.put_owners.ensures.1,
     )
 
-same_length : (t : ℕ) → walk.Need-same-length (callees t) (entered t) self.Post
+same_length : (t : ℕ) → walk.Need-shape_of-words-then-r-ne0 (callees t) (entered t) self.Post
 same_length t c = search rules
 
-same-length-2 : (t : ℕ) → walk.Need-same-length-2 (callees t) (entered t) self.Post
+same-length-2 : (t : ℕ) → walk.Need-shape_of-out-then-r-ne0 (callees t) (entered t) self.Post
 same-length-2 t c = search rules
 
-same-length-3 : (t : ℕ) → walk.Need-same-length-3 (callees t) (entered t) self.Post
+same-length-3 : (t : ℕ) → walk.Need-shape_of-words (callees t) (entered t) self.Post
 same-length-3 t c = search rules
 
-same-length-4 : (t : ℕ) → walk.Need-same-length-4 (callees t) (entered t) self.Post
+same-length-4 : (t : ℕ) → walk.Need-shape_of-out (callees t) (entered t) self.Post
 same-length-4 t c = search rules
 
-pub +put-owners-spec : {M : Type 1} → statement M
-+put-owners-spec =
+pub +put_owners_spec : {M : Type 1} → statement M
++put_owners_spec =
     close μ
     (λ t. walk.spec (callees t) (entered t) self.Post (returns t) (owner-paths-requires t) (read2-requires t)
     (add-marked-owner t) (marked-owner-requires t) (add-first t) (put-arguments-requires t) (same_length t) (same-length-2 t) (returns-2 t)

@@ -3,20 +3,17 @@ use native.Mathlib.Omega.{arith}
 use Rattle.builder_calls.proofs.next_block.Statement.{statement}
 use Rattle.builder_calls.proofs.next_block.Tie as tie
 
-add-result : tie.Need-overflow-add-result
+add-result : tie.Need-overflow_add-result
 add-result c =
-    let at-start = c.before in
-    omega (arith, at-start.requires.0, at-start.requires.1)
+    omega (arith, c.requires.0, c.requires.1)
 
 read4-requires : tie.Need-read4-requires
 read4-requires c κs =
-    let at-start = c.before in
-    omega (arith, at-start.requires.0)
+    omega (arith, c.requires.0)
 
-add-result-2 : tie.Need-overflow-add-result-2
+add-result-2 : tie.Need-overflow_add-result-2
 add-result-2 c =
-    let at-start = c.before.before in
-    omega (arith, c.read4.ensures.0, at-start.requires.0, at-start.requires.1)
+    omega (arith, c.read4.ensures.0, c.requires.0, c.requires.1)
 
 returns : tie.Need-returns
 returns c = omega (arith, c.read4.ensures.0)

@@ -10,214 +10,190 @@ use Rattle.builder_calls.proofs.put_argument.Statement.{statement}
 use Rattle.builder_calls.proofs.put_argument.Tie as tie
 
 -- The places, each seen from a later one: what was known there.
-abbrev start : tie.After-name-at → tie.Start
+abbrev start : tie.After-name_at-o → tie.Start
 start r = r.before.before.before.before
 
-abbrev first-name : tie.After-canonical-length → tie.After-name-at
+abbrev first-name : tie.After-canonical_length → tie.After-name_at-o
 first-name r = r.before.before
 
-abbrev measured : tie.After-ensure → tie.Else1
+abbrev measured : tie.After-ensure-h → tie.Else-canonical_length-gt255
 measured r = r.before.before
 
-abbrev entered : tie.After-open-block → tie.After-ensure
+abbrev entered : tie.After-open_block-b → tie.After-ensure-h
 entered r = r.before.before.before.before.before.before.before.before
 
-abbrev name-put : tie.After-put-canonical-name2 → tie.After-put-canonical-name
+abbrev name-put : tie.After-put_canonical_name-v → tie.After-put_canonical_name-u
 name-put r = r.before.before.before.before
 
-abbrev block-open : tie.After-put-canonical-name → tie.After-open-block
+abbrev block-open : tie.After-put_canonical_name-u → tie.After-open_block-b
 block-open r = r.before.before.before.before
 
 -- the two names, once they were found short enough
-names : (r : tie.Else1) → Names
+names : (r : tie.Else-canonical_length-gt255) → Names
     (start (first-name r.before)).args.s.now
     (start (first-name r.before)).args.owner.at
     (start (first-name r.before)).args.path
-    (first-name r.before).name_at.result.now
-    r.before.before.name-at2.result.now
+    (first-name r.before).name_at-o.result.now
+    r.name_at-p.result.now
 names r =
     let at-name-at = first-name r.before in record {
-      owner_is = at-name-at.name_at.ensures;
-      path_is = r.before.before.name-at2.ensures;
-      owned = (start at-name-at).pre.owned;
-      named = (start at-name-at).pre.named;
-      short = omega (arith, r.before.canonical-length.ensures, r.if1.false);
+      owner_is = at-name-at.name_at-o.ensures;
+      path_is = r.name_at-p.ensures;
+      owned = (start at-name-at).requires.owned;
+      named = (start at-name-at).requires.named;
+      short = omega (arith, r.canonical_length.ensures, r.if-canonical_length-gt255.false);
     }
 
-returns : tie.Need-returns
+returns : tie.Need-returns-then-canonical_length-gt255
 returns c =
-    let at-canonical-length = c.before in
-    let at-name-at2 = at-canonical-length.before in
-    let at-name-at = first-name at-canonical-length in
+    let at-name-at = first-name c.before in
     let at-start = start at-name-at in (
-      fills_none at-start.pre.room,
+      fills_none at-start.requires.room,
       argument_long _ _ _ _
-          at-name-at.name_at.ensures
-          at-name-at2.name-at2.ensures
-          at-canonical-length.canonical-length.ensures
-          c.if1.true,
+          at-name-at.name_at-o.ensures
+          c.name_at-p.ensures
+          c.canonical_length.ensures
+          c.if-canonical_length-gt255.true,
     )
 
-ensure-requires : tie.Need-ensure-requires
+ensure-requires : tie.Need-ensure-h-requires
 ensure-requires c κs =
-    let at-canonical-length = c.before.before in
-    let at-name-at = first-name at-canonical-length in
+    let at-name-at = first-name c.before.before in
     let at-start = start at-name-at in (
-      at-start.pre.room.standing,
-      omega (arith, at-start.pre.owned.inside, at-start.pre.room.standing.size),
-      at-start.pre.marked,
-      omega (arith, at-start.pre.named.inside, at-start.pre.room.standing.size),
+      at-start.requires.room.standing,
+      omega (arith, at-start.requires.owned.inside, at-start.requires.room.standing.size),
+      at-start.requires.marked,
+      omega (arith, at-start.requires.named.inside, at-start.requires.room.standing.size),
     )
 
-returns-2 : tie.Need-returns-2
+returns-2 : tie.Need-returns-then-h-ne0
 returns-2 c =
-    let at-ensure = c.before.before.before.before in
-    let at-else1 = measured at-ensure in
-    let at-canonical-length = at-else1.before in
-    let at-name-at = first-name at-canonical-length in
+    let at-else1 = measured c.before.before.before.before in
+    let at-name-at = first-name at-else1.before in
     let at-start = start at-name-at in (
-      fills_none at-start.pre.room,
-      argument_full (names at-else1) at-ensure.ensure.ensures.1 c.if2.true,
+      fills_none at-start.requires.room,
+      argument_full (names at-else1) c.ensure-h.ensures.1 c.if-h-ne0.true,
     )
 
-returns-3 : tie.Need-returns-3
+returns-3 : tie.Need-returns-then-c-ge512
 returns-3 c =
-    let at-else2 = c.before.before in
-    let at-ensure = at-else2.before.before.before.before in
-    let at-else1 = measured at-ensure in
-    let at-canonical-length = at-else1.before in
-    let at-name-at = first-name at-canonical-length in
+    let at-else1 = measured c.before.before.before.before.before.before in
+    let at-name-at = first-name at-else1.before in
     let at-start = start at-name-at in (
-      fills_none at-start.pre.room,
-      argument_many (names at-else1) at-ensure.ensure.ensures.1 at-else2.if2.false c.if3.true,
+      fills_none at-start.requires.room,
+      argument_many (names at-else1) c.ensure-h.ensures.1 c.if-h-ne0.false c.if-c-ge512.true,
     )
 
-open-block-requires : tie.Need-open-block-requires
+open-block-requires : tie.Need-open_block-b-requires
 open-block-requires c κs =
-    let at-canonical-length = c.before.before.before.before.before.before.before.before.before.before in
-    let at-name-at = first-name at-canonical-length in
+    let at-name-at = first-name c.before.before.before.before.before.before.before.before.before.before in
     let at-start = start at-name-at in
-    omega (arith, at-start.pre.room.cursor, at-start.pre.room.most)
+    omega (arith, at-start.requires.room.cursor, at-start.requires.room.most)
 
-put-canonical-name-requires : tie.Need-put-canonical-name-requires
+put-canonical-name-requires : tie.Need-put_canonical_name-u-requires
 put-canonical-name-requires c κs =
-    let at-open-block = c.before.before.before in
-    let at-canonical-length = at-open-block.before.before.before.before.before.before.before.before.before.before.before in
-    let at-name-at2 = at-canonical-length.before in
-    let at-name-at = first-name at-canonical-length in
+    let at-name-at = first-name c.before.before.before.before.before.before.before.before.before.before.before.before.before.before in
     let at-start = start at-name-at in
     omega (
       arith,
-      at-open-block.open_block.ensures.1,
-      at-start.pre.room.cursor,
-      at-start.pre.room.most,
-      named_short at-start.pre.owned at-name-at.name_at.ensures,
-      named_short at-start.pre.named at-name-at2.name-at2.ensures,
+      c.open_block-b.ensures.1,
+      at-start.requires.room.cursor,
+      at-start.requires.room.most,
+      named_short at-start.requires.owned at-name-at.name_at-o.ensures,
+      named_short at-start.requires.named c.name_at-p.ensures,
     )
 
-put-canonical-name-requires-2 : tie.Need-put-canonical-name-requires-2
+put-canonical-name-requires-2 : tie.Need-put_canonical_name-v-requires
 put-canonical-name-requires-2 c κs =
-    let at-put-canonical-name = c.before.before.before in
-    let at-open-block = block-open at-put-canonical-name in
+    let at-open-block = block-open c.before.before.before in
     let at-ensure = entered at-open-block in
     let at-else1 = measured at-ensure in
-    let at-canonical-length = at-else1.before in
-    let at-name-at2 = at-canonical-length.before in
-    let at-name-at = first-name at-canonical-length in
+    let at-name-at = first-name at-else1.before in
     let at-start = start at-name-at in
     omega (
       arith,
-      at-put-canonical-name.put-canonical-name.ensures.1,
-      at-canonical-length.canonical-length.ensures,
-      at-else1.if1.left,
-      at-open-block.open_block.ensures.1,
-      at-start.pre.room.cursor,
-      at-start.pre.room.most,
-      named_short at-start.pre.owned at-name-at.name_at.ensures,
-      named_short at-start.pre.named at-name-at2.name-at2.ensures,
+      c.put_canonical_name-u.ensures.1,
+      at-else1.canonical_length.ensures,
+      at-else1.if-canonical_length-gt255.false,
+      at-open-block.open_block-b.ensures.1,
+      at-start.requires.room.cursor,
+      at-start.requires.room.most,
+      named_short at-start.requires.owned at-name-at.name_at-o.ensures,
+      named_short at-start.requires.named at-else1.name_at-p.ensures,
     )
 
-close-block-requires : tie.Need-close-block-requires
+close-block-requires : tie.Need-close_block-requires
 close-block-requires c κs =
-    let at-put-canonical-name2 = c.before.before.before in
-    let at-put-canonical-name = name-put at-put-canonical-name2 in
+    let at-put-canonical-name = name-put c.before.before.before in
     let at-open-block = block-open at-put-canonical-name in
-    let at-else3 = at-open-block.before.before in
     let at-ensure = entered at-open-block in
     let at-else1 = measured at-ensure in
-    let at-canonical-length = at-else1.before in
-    let at-name-at = first-name at-canonical-length in
+    let at-name-at = first-name at-else1.before in
     let at-start = start at-name-at in
     let ends = argument_ends at-start.args.c
-    at-open-block.open_block.ensures.1
-    at-put-canonical-name.put-canonical-name.ensures.1
-    at-put-canonical-name2.put-canonical-name2.ensures.1
-    at-canonical-length.canonical-length.ensures
-    at-else1.if1.left
-    at-else3.if3.left
-    at-ensure.ensure.ensures.0 in (
+    at-open-block.open_block-b.ensures.1
+    at-put-canonical-name.put_canonical_name-u.ensures.1
+    c.put_canonical_name-v.ensures.1
+    at-else1.canonical_length.ensures
+    at-else1.if-canonical_length-gt255.false
+    at-open-block.if-c-ge512.false
+    at-ensure.ensure-h.ensures.0 in (
       omega (
         arith,
-        at-put-canonical-name2.put-canonical-name2.ensures.1,
-        at-put-canonical-name.put-canonical-name.ensures.1,
-        at-open-block.open_block.ensures.1,
+        c.put_canonical_name-v.ensures.1,
+        at-put-canonical-name.put_canonical_name-u.ensures.1,
+        at-open-block.open_block-b.ensures.1,
       ),
-      omega (arith, ends.high, at-start.pre.room.cursor, at-start.pre.room.most),
+      omega (arith, ends.high, at-start.requires.room.cursor, at-start.requires.room.most),
     )
 
-add-t13 : tie.Need-overflow-add-t13
+add-t13 : tie.Need-overflow_add-result
 add-t13 c =
-    let at-else3 = c.before.before.before.before.before.before.before.before.before.before.before.before.before.before.before.before.before in
-    omega (arith, at-else3.if3.false)
+    omega (arith, c.if-c-ge512.false)
 
-returns-4 : tie.Need-returns-4
+returns-4 : tie.Need-returns
 returns-4 c =
-    let at-close-block = c.before.before.before in
-    let at-put-canonical-name2 = at-close-block.before.before.before.before in
-    let at-put-canonical-name = name-put at-put-canonical-name2 in
+    let at-put-canonical-name = name-put c.before.before.before.before.before.before.before in
     let at-open-block = block-open at-put-canonical-name in
-    let at-else3 = at-open-block.before.before in
-    let at-else2 = at-else3.before.before in
     let at-ensure = entered at-open-block in
-    let at-else1 = measured at-ensure in
-    let at-canonical-length = at-else1.before in (
+    let at-else1 = measured at-ensure in (
       argument_ends _
-          at-open-block.open_block.ensures.1
-          at-put-canonical-name.put-canonical-name.ensures.1
-          at-put-canonical-name2.put-canonical-name2.ensures.1
-          at-canonical-length.canonical-length.ensures
-          at-else1.if1.left
-          at-else3.if3.left
-          at-ensure.ensure.ensures.0,
+          at-open-block.open_block-b.ensures.1
+          at-put-canonical-name.put_canonical_name-u.ensures.1
+          c.put_canonical_name-v.ensures.1
+          at-else1.canonical_length.ensures
+          at-else1.if-canonical_length-gt255.false
+          at-open-block.if-c-ge512.false
+          at-ensure.ensure-h.ensures.0,
       argument_done
-          (names at-else1) at-ensure.ensure.ensures.1
-          at-else2.if2.left
-          at-else3.if3.left
-          at-open-block.open_block.ensures.0
-          at-put-canonical-name.put-canonical-name.ensures.0
-          at-put-canonical-name2.put-canonical-name2.ensures.0
-          at-close-block.close_block.ensures.0,
+          (names at-else1) at-ensure.ensure-h.ensures.1
+          at-open-block.if-h-ne0.false
+          at-open-block.if-c-ge512.false
+          at-open-block.open_block-b.ensures.0
+          at-put-canonical-name.put_canonical_name-u.ensures.0
+          c.put_canonical_name-v.ensures.0
+          c.close_block.ensures.0,
     )
 
-name-at-requires : tie.Need-name-at-requires
+name-at-requires : tie.Need-name_at-o-requires
 name-at-requires c κs = search rules
 
-name-at-requires-2 : tie.Need-name-at-requires-2
+name-at-requires-2 : tie.Need-name_at-p-requires
 name-at-requires-2 c κs = search rules
 
-canonical-length-requires : tie.Need-canonical-length-requires
+canonical-length-requires : tie.Need-canonical_length-requires
 canonical-length-requires c κs = search rules
 
-same_length : tie.Need-same-length
+same_length : tie.Need-shape_of-words-then-h-ne0
 same_length c = search rules
 
-same-length-2 : tie.Need-same-length-2
+same-length-2 : tie.Need-shape_of-words-then-c-ge512
 same-length-2 c = search rules
 
-same-length-3 : tie.Need-same-length-3
+same-length-3 : tie.Need-shape_of-words
 same-length-3 c = search rules
 
-same-length-4 : tie.Need-same-length-4
+same-length-4 : tie.Need-shape_of-out
 same-length-4 c = search rules
 
 pub put_argument_spec : {M : Type 1} → statement M

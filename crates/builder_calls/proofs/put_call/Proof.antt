@@ -11,199 +11,183 @@ use Rattle.builder_calls.proofs.put_call.Statement.{statement}
 use Rattle.builder_calls.proofs.put_call.Tie as tie
 
 -- The places, each seen from a later one: what was known there.
-abbrev start : tie.After-type-head → tie.Start
+abbrev start : tie.After-type_head-references → tie.Start
 start r = r.before.before.before.before.before
 
-abbrev head_read : tie.After-open-node → tie.After-type-head
+abbrev head_read : tie.After-open_node-p → tie.After-type_head-references
 head_read r = r.before.before.before.before
 
-abbrev node-open : tie.After-put-text-part → tie.After-open-node
+abbrev node-open : tie.After-put_text_part-u → tie.After-open_node-p
 node-open r = r.before.before.before.before
 
-abbrev name-put : tie.After-put-count-part → tie.After-put-text-part
+abbrev name-put : tie.After-put_count_part-v → tie.After-put_text_part-u
 name-put r = r.before.before.before.before
 
-abbrev count-put : tie.After-put-owners → tie.After-put-count-part
+abbrev count-put : tie.After-put_owners-r → tie.After-put_count_part-v
 count-put r = r.before.before.before.before.before
 
 -- the references of the type that is called
-references : (r : tie.After-type-head) → Accepted (start r).args.s.now 32 32 r.type_head.result.references
-references r = (r.type_head.ensures (start r).requires.type_at).references
+references : (r : tie.After-type_head-references) → Accepted (start r).args.s.now 32 32 r.type_head-references.result.references
+references r = (r.type_head-references.ensures (start r).requires.type_at).references
 
-count-paths-requires : tie.Need-count-paths-requires
+count-paths-requires : tie.Need-count_paths-path_count-requires
 count-paths-requires c κs =
     let at-start = start c in
-    (references c, at-start.pre.standing.size)
+    (references c, at-start.requires.standing.size)
 
-add-read2 : tie.Need-overflow-add-read2
+add-read2 : tie.Need-overflow_add-references
 add-read2 c =
-    let at-type-head = c.before in
-    omega (arith, references_inside (references at-type-head))
+    omega (arith, references_inside (references c.before))
 
-read2-requires : tie.Need-read2-requires
+read2-requires : tie.Need-read2-left-requires
 read2-requires c κs =
-    let at-type-head = c.before in
-    omega (arith, references_inside (references at-type-head))
+    omega (arith, references_inside (references c.before))
 
-put-text-part-requires : tie.Need-put-text-part-requires
+put-text-part-requires : tie.Need-put_text_part-u-requires
 put-text-part-requires c κs =
-    let at-open-node = c.before.before.before in
-    let at-type-head = head_read at-open-node in
+    let at-type-head = head_read c.before.before.before in
     let at-start = start at-type-head in (
-      omega (arith, at-open-node.open-node.ensures.1, at-start.pre.cursor, at-start.pre.short),
+      omega (arith, c.open_node-p.ensures.1, at-start.requires.cursor, at-start.requires.short),
       omega arith,
       omega arith,
       omega arith,
     )
 
-put-count-part-requires : tie.Need-put-count-part-requires
+put-count-part-requires : tie.Need-put_count_part-v-requires
 put-count-part-requires c κs =
-    let at-put-text-part = c.before.before.before in
-    let at-open-node = node-open at-put-text-part in
+    let at-open-node = node-open c.before.before.before in
     let at-type-head = head_read at-open-node in
     let at-start = start at-type-head in (
       omega (
         arith,
-        at-put-text-part.put-text-part.ensures.1.1,
-        at-open-node.open-node.ensures.1,
-        at-start.pre.cursor,
-        at-start.pre.short,
+        c.put_text_part-u.ensures.1.1,
+        at-open-node.open_node-p.ensures.1,
+        at-start.requires.cursor,
+        at-start.requires.short,
       ),
       omega arith,
       omega arith,
       omega arith,
     )
 
-add-put-owners : tie.Need-overflow-add-put-owners
+add-put-owners : tie.Need-overflow_add-references-2
 add-put-owners c =
-    let at-put-count-part = c.before.before.before in
-    let at-put-text-part = name-put at-put-count-part in
+    let at-put-text-part = name-put c.before.before.before in
     let at-open-node = node-open at-put-text-part in
     let at-type-head = head_read at-open-node in
     let at-start = start at-type-head in
-    omega (arith, references_inside (references at-type-head), at-start.pre.standing.size)
+    omega (arith, references_inside (references at-type-head), at-start.requires.standing.size)
 
-add-put-owners-2 : tie.Need-overflow-add-put-owners-2
+add-put-owners-2 : tie.Need-overflow_add-references-3
 add-put-owners-2 c =
-    let at-put-count-part = c.before.before.before in
-    let at-put-text-part = name-put at-put-count-part in
+    let at-put-text-part = name-put c.before.before.before in
     let at-open-node = node-open at-put-text-part in
     let at-type-head = head_read at-open-node in
     let at-start = start at-type-head in
-    omega (arith, references_inside (references at-type-head), at-start.pre.standing.size)
+    omega (arith, references_inside (references at-type-head), at-start.requires.standing.size)
 
-put-owners-requires : tie.Need-put-owners-requires
+put-owners-requires : tie.Need-put_owners-r-requires
 put-owners-requires c κs =
-    let at-put-count-part = c.before.before.before.before in
-    let at-put-text-part = name-put at-put-count-part in
+    let at-put-text-part = name-put c.before.before.before.before in
     let at-open-node = node-open at-put-text-part in
-    let at-read2 = at-open-node.before.before in
     let at-type-head = head_read at-open-node in
     let at-start = start at-type-head in
     record {
       room = record {
-        standing = at-start.pre.standing;
+        standing = at-start.requires.standing;
         most = omega arith;
         cursor = omega (
           arith,
-          at-put-count-part.put-count-part.ensures.1.1,
-          at-put-text-part.put-text-part.ensures.1.1,
-          at-open-node.open-node.ensures.1,
-          at-start.pre.cursor,
-          at-start.pre.short,
+          c.put_count_part-v.ensures.1.1,
+          at-put-text-part.put_text_part-u.ensures.1.1,
+          at-open-node.open_node-p.ensures.1,
+          at-start.requires.cursor,
+          at-start.requires.short,
         );
         goes = refl;
       };
-      list = owners_at at-read2.read2.ensures.0 (references at-type-head);
+      list = owners_at at-open-node.read2-left.ensures.0 (references at-type-head);
     }
 
-returns : tie.Need-returns
+returns : tie.Need-returns-then-r-ne0
 returns c =
-    let at-put-owners = c.before.before.before.before.before.before in
-    let at-put-count-part = count-put at-put-owners in
+    let at-put-count-part = count-put c.before.before.before.before.before.before in
     let at-put-text-part = name-put at-put-count-part in
     let at-open-node = node-open at-put-text-part in
-    let at-read2 = at-open-node.before.before in
     let at-type-head = head_read at-open-node in
     let at-start = start at-type-head in (
-      stopped at-start.pre.standing.count,
+      stopped at-start.requires.standing.count,
       call_stop refl
-          at-type-head.type_head.ensures
-          at-read2.read2.ensures.0
-          at-put-owners.put-owners.ensures.1 _ _
-          c.if1.true,
+          at-type-head.type_head-references.ensures
+          at-open-node.read2-left.ensures.0
+          c.put_owners-r.ensures.1 _ _
+          c.if-r-ne0.true,
     )
 
-close-block-requires : tie.Need-close-block-requires
+close-block-requires : tie.Need-close_block-requires
 close-block-requires c κs =
-    let at-put-owners = c.before.before.before.before.before.before.before in
-    let at-put-count-part = count-put at-put-owners in
+    let at-put-count-part = count-put c.before.before.before.before.before.before.before in
     let at-put-text-part = name-put at-put-count-part in
     let at-open-node = node-open at-put-text-part in
     let at-type-head = head_read at-open-node in
     let at-start = start at-type-head in
     let ends = call_ends
-    at-open-node.open-node.ensures.1
-    at-put-text-part.put-text-part.ensures.1
-    at-put-count-part.put-count-part.ensures.1
-    at-start.pre.short refl
-    at-put-owners.put-owners.ensures.0 in (
+    at-open-node.open_node-p.ensures.1
+    at-put-text-part.put_text_part-u.ensures.1
+    at-put-count-part.put_count_part-v.ensures.1
+    at-start.requires.short refl
+    c.put_owners-r.ensures.0 in (
       omega (
         arith,
-        at-put-owners.put-owners.ensures.0.low,
-        at-put-count-part.put-count-part.ensures.1.0,
-        at-put-text-part.put-text-part.ensures.1.0,
-        at-open-node.open-node.ensures.1,
+        c.put_owners-r.ensures.0.low,
+        at-put-count-part.put_count_part-v.ensures.1.0,
+        at-put-text-part.put_text_part-u.ensures.1.0,
+        at-open-node.open_node-p.ensures.1,
       ),
-      omega (arith, ends.high, at-start.pre.cursor),
+      omega (arith, ends.high, at-start.requires.cursor),
     )
 
-returns-2 : tie.Need-returns-2
+returns-2 : tie.Need-returns
 returns-2 c =
-    let at-close-block = c.before.before in
-    let at-else1 = at-close-block.before.before in
-    let at-put-owners = at-else1.before.before.before.before.before.before in
-    let at-put-count-part = count-put at-put-owners in
+    let at-put-count-part = count-put c.before.before.before.before.before.before.before.before.before.before in
     let at-put-text-part = name-put at-put-count-part in
     let at-open-node = node-open at-put-text-part in
-    let at-read2 = at-open-node.before.before in
-    let at-count-paths = at-read2.before in
     let at-type-head = head_read at-open-node in
     let at-start = start at-type-head in (
       call_ends
-          at-open-node.open-node.ensures.1
-          at-put-text-part.put-text-part.ensures.1
-          at-put-count-part.put-count-part.ensures.1
-          at-start.pre.short refl
-          at-put-owners.put-owners.ensures.0,
+          at-open-node.open_node-p.ensures.1
+          at-put-text-part.put_text_part-u.ensures.1
+          at-put-count-part.put_count_part-v.ensures.1
+          at-start.requires.short refl
+          c.put_owners-r.ensures.0,
       call_done refl
-          at-type-head.type_head.ensures
-          at-read2.read2.ensures.0
-          at-put-owners.put-owners.ensures.1 _ _ _
-          at-count-paths.count-paths.ensures.1
-          at-open-node.open-node.ensures.0
-          at-put-text-part.put-text-part.ensures.0
-          at-put-count-part.put-count-part.ensures.0
-          at-else1.if1.false
-          at-close-block.close_block.ensures.0,
+          at-type-head.type_head-references.ensures
+          at-open-node.read2-left.ensures.0
+          c.put_owners-r.ensures.1 _ _ _
+          at-open-node.count_paths-path_count.ensures.1
+          at-open-node.open_node-p.ensures.0
+          at-put-text-part.put_text_part-u.ensures.0
+          at-put-count-part.put_count_part-v.ensures.0
+          c.if-r-ne0.false
+          c.close_block.ensures.0,
     )
 
-type-head-requires : tie.Need-type-head-requires
+type-head-requires : tie.Need-type_head-references-requires
 type-head-requires c κs = search rules
 
-open-node-requires : tie.Need-open-node-requires
+open-node-requires : tie.Need-open_node-p-requires
 open-node-requires c κs = search rules
 
-same_length : tie.Need-same-length
+same_length : tie.Need-shape_of-words-then-r-ne0
 same_length c = search rules
 
-same-length-2 : tie.Need-same-length-2
+same-length-2 : tie.Need-shape_of-out-then-r-ne0
 same-length-2 c = search rules
 
-same-length-3 : tie.Need-same-length-3
+same-length-3 : tie.Need-shape_of-words
 same-length-3 c = search rules
 
-same-length-4 : tie.Need-same-length-4
+same-length-4 : tie.Need-shape_of-out
 same-length-4 c = search rules
 
 pub put_call_spec : {M : Type 1} → statement M

@@ -4,23 +4,21 @@ use Rattle.builder_nodes.proofs.Laws.{start_at}
 use Rattle.builder_nodes.proofs.open_add.Statement.{statement}
 use Rattle.builder_nodes.proofs.open_add.Tie as tie
 
-default-alignment-requires : tie.Need-default-alignment-requires
+default-alignment-requires : tie.Need-default_alignment-requires
 default-alignment-requires c κs = search rules
 
-open-node-requires : tie.Need-open-node-requires
+open-node-requires : tie.Need-open_node-requires
 open-node-requires c κs = search rules
 
-same_length : tie.Need-same-length
+same_length : tie.Need-shape_of-out
 same_length c = search rules
 
 returns : tie.Need-returns
-returns c =
-    let at-open-node = c.before.before in
-    let at-default-alignment = at-open-node.before in (
+returns c = (
       start_at 134
-          at-default-alignment.default_alignment.ensures
-          at-open-node.open-node.ensures.0,
-      at-open-node.open-node.ensures.1,
+          c.default_alignment.ensures
+          c.open_node.ensures.0,
+      c.open_node.ensures.1,
     )
 
 pub open_add_spec : {M : Type 1} → statement M

@@ -8,20 +8,17 @@ use Rattle.builder_nodes.proofs.open_node.Tie as tie
 aligned-requires : tie.Need-aligned-requires
 aligned-requires c κs = search rules
 
-start-node-requires : tie.Need-start-node-requires
+start-node-requires : tie.Need-start_node-requires
 start-node-requires c κs =
-    let at-start = c.before.before.before in
-    (omega (arith, at-start.requires.0), at-start.requires.1, at-start.requires.2)
+    (omega (arith, c.requires.0), c.requires.1, c.requires.2)
 
-same_length : tie.Need-same-length
+same_length : tie.Need-shape_of-out
 same_length c = search rules
 
 returns : tie.Need-returns
-returns c =
-    let at-start-node = c.before.before in
-    let at_Aligned = at-start-node.before in (
-      start_at _ at_Aligned.aligned.ensures at-start-node.start_node.ensures.0,
-      at-start-node.start_node.ensures.1,
+returns c = (
+      start_at _ c.aligned.ensures c.start_node.ensures.0,
+      c.start_node.ensures.1,
     )
 
 pub open_node_spec : {M : Type 1} → statement M

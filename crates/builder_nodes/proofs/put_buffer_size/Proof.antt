@@ -5,79 +5,65 @@ use native.Mathlib.Omega.{arith}
 use Rattle.builder_nodes.proofs.put_buffer_size.Statement.{statement}
 use Rattle.builder_nodes.proofs.put_buffer_size.Tie as tie
 
-default-alignment-requires : tie.Need-default-alignment-requires
+default-alignment-requires : tie.Need-default_alignment-requires
 default-alignment-requires c κs = search rules
 
 -- The places, each seen from a later one: what was known there.
-abbrev at-start : tie.After-default-alignment → tie.Start
+abbrev at-start : tie.After-default_alignment → tie.Start
 at-start r = r.before.before.before
 
-open-node-requires : tie.Need-open-node-requires
+open-node-requires : tie.Need-open_node-p-requires
 open-node-requires c κs = (omega (arith, (at-start c).requires), omega arith, omega arith)
 
-slice-aggregate-put-text-part : tie.Need-slice-aggregate-put-text-part
-slice-aggregate-put-text-part c = search rules
-
-put-text-part-requires : tie.Need-put-text-part-requires
-put-text-part-requires c κs =
-    let at-open-node = c.before.before.before.before in (
-      omega (arith, (at-start at-open-node.before).requires, at-open-node.open-node.ensures.1),
+put-text-part-requires : tie.Need-put_text_part-q-requires
+put-text-part-requires c κs = (
+      omega (arith, (at-start c.before.before.before.before.before.before).requires, c.open_node-p.ensures.1),
       omega arith,
       omega arith,
       omega arith,
     )
 
-put-text-flag-requires : tie.Need-put-text-flag-requires
-put-text-flag-requires c κs =
-    let at-put-text-part = c.before.before.before in
-    let at-open-node = at-put-text-part.before.before.before.before.before in (
+put-text-flag-requires : tie.Need-put_text_flag-u-requires
+put-text-flag-requires c κs = (
       omega (
         arith,
-        (at-start at-open-node.before).requires,
-        at-open-node.open-node.ensures.1,
-        at-put-text-part.put-text-part.ensures.1,
+        (at-start c.before.before.before.before.before.before.before.before.before.before).requires,
+        c.open_node-p.ensures.1,
+        c.put_text_part-q.ensures.1,
       ),
       omega arith,
       omega arith,
       omega arith,
     )
 
-close-block-requires : tie.Need-close-block-requires
-close-block-requires c κs =
-    let at-put-text-flag = c.before.before.before in
-    let at-put-text-part = at-put-text-flag.before.before.before.before in
-    let at-open-node = at-put-text-part.before.before.before.before.before in (
+close-block-requires : tie.Need-close_block-requires
+close-block-requires c κs = (
       omega (
         arith,
-        at-open-node.open-node.ensures.1,
-        at-put-text-part.put-text-part.ensures.1,
-        at-put-text-flag.put-text-flag.ensures.1,
+        c.open_node-p.ensures.1,
+        c.put_text_part-q.ensures.1,
+        c.put_text_flag-u.ensures.1,
       ),
       omega (
         arith,
-        (at-start at-open-node.before).requires,
-        at-open-node.open-node.ensures.1,
-        at-put-text-part.put-text-part.ensures.1,
-        at-put-text-flag.put-text-flag.ensures.1,
+        (at-start c.before.before.before.before.before.before.before.before.before.before.before.before.before.before).requires,
+        c.open_node-p.ensures.1,
+        c.put_text_part-q.ensures.1,
+        c.put_text_flag-u.ensures.1,
       ),
     )
 
-same_length : tie.Need-same-length
+same_length : tie.Need-shape_of-out
 same_length c = search rules
 
 returns : tie.Need-returns
 returns c =
-    let at-close-block = c.before.before in
-    let at-put-text-flag = at-close-block.before.before.before.before in
-    let at-put-text-part = at-put-text-flag.before.before.before.before in
-    let at-open-node = at-put-text-part.before.before.before.before.before in
-    let at-default-alignment = at-open-node.before in
     buffer_closed
-    at-default-alignment.default_alignment.ensures
-    at-open-node.open-node.ensures.0
-    at-put-text-part.put-text-part.ensures.0
-    at-put-text-flag.put-text-flag.ensures.0
-    at-close-block.close_block.ensures.0
+    c.default_alignment.ensures
+    c.open_node-p.ensures.0
+    c.put_text_part-q.ensures.0
+    c.put_text_flag-u.ensures.0
+    c.close_block.ensures.0
 
 pub put_buffer_size_spec : {M : Type 1} → statement M
 put_buffer_size_spec =
@@ -85,7 +71,6 @@ put_buffer_size_spec =
     (tie.spec
     default-alignment-requires
     open-node-requires
-    slice-aggregate-put-text-part
     put-text-part-requires
     put-text-flag-requires
     close-block-requires

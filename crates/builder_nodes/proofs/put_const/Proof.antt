@@ -4,14 +4,14 @@ use native.Mathlib.Omega.{arith}
 use Rattle.builder_nodes.proofs.put_const.Statement.{statement}
 use Rattle.builder_nodes.proofs.put_const.Tie as tie
 
-const-node-requires : tie.Need-const-node-requires
-const-node-requires c κs = omega (arith, c.before.before.requires)
+const-node-requires : tie.Need-const_node-requires
+const-node-requires c κs = omega (arith, c.requires)
 
-same_length : tie.Need-same-length
+same_length : tie.Need-shape_of-out
 same_length c = search rules
 
 returns : tie.Need-returns
-returns c = c.before.before.const_node.ensures
+returns c = c.const_node.ensures
 
 pub put_const_spec : {M : Type 1} → statement M
 put_const_spec =

@@ -6,51 +6,45 @@ use native.Mathlib.Omega.{arith}
 use Rattle.builder_nodes.proofs.put_count_part.Statement.{statement}
 use Rattle.builder_nodes.proofs.put_count_part.Tie as tie
 
-node-part-requires : tie.Need-node-part-requires
-node-part-requires c κs = (c.before.requires.1, c.before.requires.2, c.before.requires.3)
+node-part-requires : tie.Need-node_part-code-requires
+node-part-requires c κs = (c.requires.1, c.requires.2, c.requires.3)
 
-put-le-requires : tie.Need-put-le-requires
+put-le-requires : tie.Need-put_le-requires
 put-le-requires c κs = search rules
 
-same_length : tie.Need-same-length
+same_length : tie.Need-shape_of-out-then-code-eq-CASES
 same_length c = search rules
 
-returns : tie.Need-returns
+returns : tie.Need-returns-then-code-eq-CASES
 returns c =
-    let at-put-le = c.before.before in
-    let at-then1 = at-put-le.before.before in
-    let end = at-put-le.put-le.ensures.1 in (
+    let end = c.put_le.ensures.1 in (
       count_cases
-          at-then1.before.node_part.ensures _
-          at-then1.if1.true
-          at-put-le.put-le.ensures.0,
+          c.node_part-code.ensures _
+          c.if-code-eq-CASES.true
+          c.put_le.ensures.0,
       (omega (arith, end), omega (arith, end)),
     )
 
-put-le-requires-2 : tie.Need-put-le-requires-2
+put-le-requires-2 : tie.Need-put_le-requires-then-code-eq-ARGUMENTS
 put-le-requires-2 c κs = search rules
 
-same-length-2 : tie.Need-same-length-2
+same-length-2 : tie.Need-shape_of-out-then-code-eq-ARGUMENTS
 same-length-2 c = search rules
 
-returns-2 : tie.Need-returns-2
+returns-2 : tie.Need-returns-then-code-eq-ARGUMENTS
 returns-2 c =
-    let at-put-le2 = c.before.before in
-    let at-then2 = at-put-le2.before.before in
-    let at-else1 = at-then2.before in
-    let end = at-put-le2.put-le2.ensures.1 in (
+    let end = c.put_le-then-code-eq-ARGUMENTS.ensures.1 in (
       count_arguments
-          at-else1.before.node_part.ensures _
-          at-else1.if1.false
-          at-then2.if2.true
-          at-put-le2.put-le2.ensures.0,
+          c.node_part-code.ensures _
+          c.if-code-eq-CASES.false
+          c.if-code-eq-ARGUMENTS.true
+          c.put_le-then-code-eq-ARGUMENTS.ensures.0,
       (omega (arith, end), omega (arith, end)),
     )
 
-returns-3 : tie.Need-returns-3
-returns-3 c =
-    let at-else1 = c.before in (
-      count_other at-else1.before.node_part.ensures _ at-else1.if1.false c.if2.false,
+returns-3 : tie.Need-returns
+returns-3 c = (
+      count_other c.node_part-code.ensures _ c.if-code-eq-CASES.false c.if-code-eq-ARGUMENTS.false,
       (omega arith, omega arith),
     )
 

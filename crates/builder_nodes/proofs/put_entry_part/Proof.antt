@@ -6,27 +6,22 @@ use native.Mathlib.Omega.{arith}
 use Rattle.builder_nodes.proofs.put_entry_part.Statement.{statement}
 use Rattle.builder_nodes.proofs.put_entry_part.Tie as tie
 
-put-text-flag-requires : tie.Need-put-text-flag-requires
+put-text-flag-requires : tie.Need-put_text_flag-q-requires
 put-text-flag-requires c κs =
-    let at-start = c.before.before.before in
-    (omega (arith, at-start.requires.1), at-start.requires.2, at-start.requires.3, at-start.requires.4)
+    (omega (arith, c.requires.1), c.requires.2, c.requires.3, c.requires.4)
 
-put-entry-name-requires : tie.Need-put-entry-name-requires
+put-entry-name-requires : tie.Need-put_entry_name-requires
 put-entry-name-requires c κs =
-    let at-put-text-flag = c.before.before.before in
-    let at-start = at-put-text-flag.before.before.before.before in
-    (at-start.requires.0, omega (arith, at-start.requires.1, at-put-text-flag.put-text-flag.ensures.1))
+    (c.requires.0, omega (arith, c.requires.1, c.put_text_flag-q.ensures.1))
 
-same_length : tie.Need-same-length
+same_length : tie.Need-shape_of-out
 same_length c = search rules
 
 returns : tie.Need-returns
 returns c =
-    let at-put-entry-name = c.before.before in
-    let at-put-text-flag = at-put-entry-name.before.before.before.before in
-    let flag-end = at-put-text-flag.put-text-flag.ensures.1 in
-    let name_end = at-put-entry-name.put-entry-name.ensures.1 in (
-      both at-put-text-flag.put-text-flag.ensures.0 at-put-entry-name.put-entry-name.ensures.0,
+    let flag-end = c.put_text_flag-q.ensures.1 in
+    let name_end = c.put_entry_name.ensures.1 in (
+      both c.put_text_flag-q.ensures.0 c.put_entry_name.ensures.0,
       (omega (arith, flag-end, name_end), omega (arith, flag-end, name_end)),
     )
 

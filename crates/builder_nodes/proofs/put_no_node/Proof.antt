@@ -5,33 +5,29 @@ use native.Mathlib.Omega.{arith}
 use Rattle.builder_nodes.proofs.put_no_node.Statement.{statement}
 use Rattle.builder_nodes.proofs.put_no_node.Tie as tie
 
-node-part-requires : tie.Need-node-part-requires
-node-part-requires c κs = (c.before.requires.1, c.before.requires.2, c.before.requires.3)
+node-part-requires : tie.Need-node_part-requires
+node-part-requires c κs = (c.requires.1, c.requires.2, c.requires.3)
 
-put-flag-requires : tie.Need-put-flag-requires
+put-flag-requires : tie.Need-put_flag-requires
 put-flag-requires c κs =
-    let at-start = c.before.before.before.before in
-    omega (arith, at-start.requires.0)
+    omega (arith, c.requires.0)
 
-same_length : tie.Need-same-length
+same_length : tie.Need-shape_of-out-then-node_part-eq-OPT_NODE
 same_length c = search rules
 
-returns : tie.Need-returns
+returns : tie.Need-returns-then-node_part-eq-OPT_NODE
 returns c =
-    let at-put-flag = c.before.before in
-    let at-then1 = at-put-flag.before.before in
-    let at-node-part = at-then1.before in
-    let end = at-put-flag.put-flag.ensures.1 in (
+    let end = c.put_flag.ensures.1 in (
       no_node_there
-          at-node-part.node_part.ensures
-          at-then1.if1.true
-          at-put-flag.put-flag.ensures.0,
+          c.node_part.ensures
+          c.if-node_part-eq-OPT_NODE.true
+          c.put_flag.ensures.0,
       (omega (arith, end), omega (arith, end)),
     )
 
-returns-2 : tie.Need-returns-2
+returns-2 : tie.Need-returns
 returns-2 c = (
-  no_node_other c.before.node_part.ensures c.if1.false,
+  no_node_other c.node_part.ensures c.if-node_part-eq-OPT_NODE.false,
   (omega arith, omega arith),
 )
 

@@ -5,32 +5,28 @@ use native.Mathlib.Omega.{arith}
 use Rattle.builder_nodes.proofs.put_number_part.Statement.{statement}
 use Rattle.builder_nodes.proofs.put_number_part.Tie as tie
 
-node-part-requires : tie.Need-node-part-requires
-node-part-requires c κs = (c.before.requires.1, c.before.requires.2, c.before.requires.3)
+node-part-requires : tie.Need-node_part-requires
+node-part-requires c κs = (c.requires.1, c.requires.2, c.requires.3)
 
-put-le-requires : tie.Need-put-le-requires
+put-le-requires : tie.Need-put_le-requires
 put-le-requires c κs =
-    let at-start = c.before.before.before.before in
-    omega (arith, at-start.requires.0)
+    omega (arith, c.requires.0)
 
-same_length : tie.Need-same-length
+same_length : tie.Need-shape_of-out-then-node_part-eq-NUMBER
 same_length c = search rules
 
-returns : tie.Need-returns
-returns c =
-    let at-put-le = c.before.before in
-    let at-then1 = at-put-le.before.before in
-    let at-node-part = at-then1.before in (
+returns : tie.Need-returns-then-node_part-eq-NUMBER
+returns c = (
       number_there
-          at-node-part.node_part.ensures _
-          at-then1.if1.true
-          at-put-le.put-le.ensures.0,
-      (omega (arith, at-put-le.put-le.ensures.1), omega (arith, at-put-le.put-le.ensures.1)),
+          c.node_part.ensures _
+          c.if-node_part-eq-NUMBER.true
+          c.put_le.ensures.0,
+      (omega (arith, c.put_le.ensures.1), omega (arith, c.put_le.ensures.1)),
     )
 
-returns-2 : tie.Need-returns-2
+returns-2 : tie.Need-returns
 returns-2 c = (
-  number_other c.before.node_part.ensures _ c.if1.false,
+  number_other c.node_part.ensures _ c.if-node_part-eq-NUMBER.false,
   (omega arith, omega arith),
 )
 

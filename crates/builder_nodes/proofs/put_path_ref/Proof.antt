@@ -5,59 +5,51 @@ use native.Mathlib.Omega.{arith}
 use Rattle.builder_nodes.proofs.put_path_ref.Statement.{statement}
 use Rattle.builder_nodes.proofs.put_path_ref.Tie as tie
 
-default-alignment-requires : tie.Need-default-alignment-requires
+default-alignment-requires : tie.Need-default_alignment-requires
 default-alignment-requires c κs = search rules
 
-open-node-requires : tie.Need-open-node-requires
+open-node-requires : tie.Need-open_node-p-requires
 open-node-requires c κs =
-    let at-start = c.before.before.before.before.before in
-    (omega (arith, at-start.requires.1), omega arith, omega arith)
+    (omega (arith, c.requires.1), omega arith, omega arith)
 
-put-ref-parts-requires : tie.Need-put-ref-parts-requires
+put-ref-parts-requires : tie.Need-put_ref_parts-q-requires
 put-ref-parts-requires c κs = search rules
 
-close-block-requires : tie.Need-close-block-requires
-close-block-requires c κs =
-    let at-put-ref-parts = c.before.before.before in
-    let at-open-node = at-put-ref-parts.before.before.before.before in
-    let at-start = at-open-node.before.before.before.before.before.before in (
+close-block-requires : tie.Need-close_block-requires
+close-block-requires c κs = (
       omega (
         arith,
-        at-open-node.open-node.ensures.1,
-        at-put-ref-parts.put-ref-parts.ensures.1,
+        c.open_node-p.ensures.1,
+        c.put_ref_parts-q.ensures.1,
       ),
       omega (
         arith,
-        at-start.requires.1,
-        at-open-node.open-node.ensures.1,
-        at-put-ref-parts.put-ref-parts.ensures.1,
+        c.requires.1,
+        c.open_node-p.ensures.1,
+        c.put_ref_parts-q.ensures.1,
       ),
     )
 
-same_length : tie.Need-same-length
+same_length : tie.Need-shape_of-out
 same_length c = search rules
 
 returns : tie.Need-returns
-returns c =
-    let at-close-block = c.before.before in
-    let at-put-ref-parts = at-close-block.before.before.before.before in
-    let at-open-node = at-put-ref-parts.before.before.before.before in
-    let at-default-alignment = at-open-node.before in (
+returns c = (
       path_closed _ _
-          at-default-alignment.default_alignment.ensures
-          at-open-node.open-node.ensures.0
-          at-put-ref-parts.put-ref-parts.ensures.0
-          at-close-block.close_block.ensures.0,
+          c.default_alignment.ensures
+          c.open_node-p.ensures.0
+          c.put_ref_parts-q.ensures.0
+          c.close_block.ensures.0,
       (
         omega (
           arith,
-          at-open-node.open-node.ensures.1,
-          at-put-ref-parts.put-ref-parts.ensures.1,
+          c.open_node-p.ensures.1,
+          c.put_ref_parts-q.ensures.1,
         ),
         omega (
           arith,
-          at-open-node.open-node.ensures.1,
-          at-put-ref-parts.put-ref-parts.ensures.1,
+          c.open_node-p.ensures.1,
+          c.put_ref_parts-q.ensures.1,
         ),
       ),
     )

@@ -5,39 +5,33 @@ use native.Mathlib.Omega.{arith}
 use Rattle.builder_nodes.proofs.put_ref_parts.Statement.{statement}
 use Rattle.builder_nodes.proofs.put_ref_parts.Tie as tie
 
-put-text-part-requires : tie.Need-put-text-part-requires
+put-text-part-requires : tie.Need-put_text_part-p-requires
 put-text-part-requires c κs =
-    let at-start = c.before.before.before.before in
-    (omega (arith, at-start.requires.1, at-start.requires.2), omega arith, omega arith, omega arith)
+    (omega (arith, c.requires.1, c.requires.2), omega arith, omega arith, omega arith)
 
-put-entry-part-requires : tie.Need-put-entry-part-requires
-put-entry-part-requires c κs =
-    let at-put-text-part = c.before.before.before in
-    let at-start = at-put-text-part.before.before.before.before.before in (
-      at-start.requires.0,
+put-entry-part-requires : tie.Need-put_entry_part-requires
+put-entry-part-requires c κs = (
+      c.requires.0,
       omega (
         arith,
-        at-start.requires.1,
-        at-start.requires.2,
-        at-put-text-part.put-text-part.ensures.1,
+        c.requires.1,
+        c.requires.2,
+        c.put_text_part-p.ensures.1,
       ),
       omega arith,
       omega arith,
       omega arith,
     )
 
-same_length : tie.Need-same-length
+same_length : tie.Need-shape_of-out
 same_length c = search rules
 
 returns : tie.Need-returns
 returns c =
-    let at-put-entry-part = c.before.before in
-    let at-put-text-part = at-put-entry-part.before.before.before.before in
-    let at-start = at-put-text-part.before.before.before.before.before in
-    let path-end = at-put-text-part.put-text-part.ensures.1 in
-    let entry-end = at-put-entry-part.put-entry-part.ensures.1 in (
-      ref_parts_lem _ _ at-put-text-part.put-text-part.ensures.0 at-put-entry-part.put-entry-part.ensures.0,
-      (omega (arith, path-end, entry-end), omega (arith, at-start.requires.2, path-end, entry-end)),
+    let path-end = c.put_text_part-p.ensures.1 in
+    let entry-end = c.put_entry_part.ensures.1 in (
+      ref_parts_lem _ _ c.put_text_part-p.ensures.0 c.put_entry_part.ensures.0,
+      (omega (arith, path-end, entry-end), omega (arith, c.requires.2, path-end, entry-end)),
     )
 
 pub put_ref_parts_spec : {M : Type 1} → statement M

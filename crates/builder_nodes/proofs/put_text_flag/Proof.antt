@@ -5,35 +5,31 @@ use native.Mathlib.Omega.{arith}
 use Rattle.builder_nodes.proofs.put_text_flag.Statement.{statement}
 use Rattle.builder_nodes.proofs.put_text_flag.Tie as tie
 
-node-part-requires : tie.Need-node-part-requires
-node-part-requires c κs = (c.before.requires.1, c.before.requires.2, c.before.requires.3)
+node-part-requires : tie.Need-node_part-requires
+node-part-requires c κs = (c.requires.1, c.requires.2, c.requires.3)
 
-put-flag-requires : tie.Need-put-flag-requires
+put-flag-requires : tie.Need-put_flag-requires
 put-flag-requires c κs =
-    let at-start = c.before.before.before.before in
-    omega (arith, at-start.requires.0)
+    omega (arith, c.requires.0)
 
-same_length : tie.Need-same-length
+same_length : tie.Need-shape_of-out-then-node_part-eq-OPT_TEXT
 same_length c = search rules
 
-returns : tie.Need-returns
-returns c =
-    let at-put-flag = c.before.before in
-    let at-then1 = at-put-flag.before.before in
-    let at-node-part = at-then1.before in (
+returns : tie.Need-returns-then-node_part-eq-OPT_TEXT
+returns c = (
       flag_there
-          at-node-part.node_part.ensures _
-          at-then1.if1.true
-          at-put-flag.put-flag.ensures.0,
+          c.node_part.ensures _
+          c.if-node_part-eq-OPT_TEXT.true
+          c.put_flag.ensures.0,
       (
-        omega (arith, at-put-flag.put-flag.ensures.1),
-        omega (arith, at-put-flag.put-flag.ensures.1),
+        omega (arith, c.put_flag.ensures.1),
+        omega (arith, c.put_flag.ensures.1),
       ),
     )
 
-returns-2 : tie.Need-returns-2
+returns-2 : tie.Need-returns
 returns-2 c = (
-  flag_other c.before.node_part.ensures _ c.if1.false,
+  flag_other c.node_part.ensures _ c.if-node_part-eq-OPT_TEXT.false,
   (omega arith, omega arith),
 )
 

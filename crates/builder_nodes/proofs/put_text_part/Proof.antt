@@ -5,35 +5,30 @@ use native.Mathlib.Omega.{arith}
 use Rattle.builder_nodes.proofs.put_text_part.Statement.{statement}
 use Rattle.builder_nodes.proofs.put_text_part.Tie as tie
 
-put-text-flag-requires : tie.Need-put-text-flag-requires
+put-text-flag-requires : tie.Need-put_text_flag-p-requires
 put-text-flag-requires c κs =
-    let at-start = c.before.before.before in
-    (omega (arith, at-start.requires.0), at-start.requires.1, at-start.requires.2, at-start.requires.3)
+    (omega (arith, c.requires.0), c.requires.1, c.requires.2, c.requires.3)
 
-put-name-requires : tie.Need-put-name-requires
+put-name-requires : tie.Need-put_name-requires
 put-name-requires c κs =
-    let at-put-text-flag = c.before.before.before in
-    let at-start = at-put-text-flag.before.before.before.before in
-    omega (arith, at-start.requires.0, at-put-text-flag.put-text-flag.ensures.1)
+    omega (arith, c.requires.0, c.put_text_flag-p.ensures.1)
 
-same_length : tie.Need-same-length
+same_length : tie.Need-shape_of-out
 same_length c = search rules
 
 returns : tie.Need-returns
-returns c =
-    let at-put-name = c.before.before in
-    let at-put-text-flag = at-put-name.before.before.before.before in (
-      both at-put-text-flag.put-text-flag.ensures.0 at-put-name.put-name.ensures.0,
+returns c = (
+      both c.put_text_flag-p.ensures.0 c.put_name.ensures.0,
       (
         omega (
           arith,
-          at-put-text-flag.put-text-flag.ensures.1,
-          at-put-name.put-name.ensures.1,
+          c.put_text_flag-p.ensures.1,
+          c.put_name.ensures.1,
         ),
         omega (
           arith,
-          at-put-text-flag.put-text-flag.ensures.1,
-          at-put-name.put-name.ensures.1,
+          c.put_text_flag-p.ensures.1,
+          c.put_name.ensures.1,
         ),
       ),
     )

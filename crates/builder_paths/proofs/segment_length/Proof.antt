@@ -5,29 +5,27 @@ use Rattle.builder_paths.proofs.Segments.{long_dot, long_last}
 use Rattle.builder_paths.proofs.segment_length.Statement.{statement}
 use Rattle.builder_paths.proofs.segment_length.Tie as tie
 
-read2-requires : tie.Need-read2-requires
+read2-requires : tie.Need-read2-n-requires
 read2-requires c κs = search rules
 
-add-result : tie.Need-overflow-add-result
+add-result : tie.Need-overflow_add-result
 add-result c = search rules
 
-returns : tie.Need-returns
+returns : tie.Need-returns-then-left-gt1
 returns c =
-    let at-start = c.before.before.before in
     long_dot
-    at-start.args.s.now _
-    at-start.requires
-    c.before.read2.ensures.0
-    c.if1.true
+    c.args.s.now _
+    c.requires
+    c.read2-n.ensures.0
+    c.if-left-gt1.true
 
-returns-2 : tie.Need-returns-2
+returns-2 : tie.Need-returns
 returns-2 c =
-    let at-start = c.before.before.before in
     long_last
-    at-start.args.s.now _
-    at-start.requires
-    c.before.read2.ensures.0
-    c.if1.false
+    c.args.s.now _
+    c.requires
+    c.read2-n.ensures.0
+    c.if-left-gt1.false
 
 pub segment_length_spec : {M : Type 1} → statement M
 segment_length_spec =

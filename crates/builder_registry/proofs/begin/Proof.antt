@@ -4,26 +4,24 @@ use borrow.Author.Rules.{rules}
 use Rattle.builder_registry.proofs.begin.Statement.{statement}
 use Rattle.builder_registry.proofs.begin.Tie as tie
 
-sub-clear : tie.Need-overflow-sub-clear
+sub-clear : tie.Need-slice_bounds-clear-count
 sub-clear c = search rules
 
-part-clear-start : tie.Need-slice-bounds-clear-start
+part-clear-start : tie.Need-slice_bounds-clear-start
 part-clear-start c = search rules
 
-part-clear-end : tie.Need-slice-bounds-clear-end
+part-clear-end : tie.Need-slice_bounds-clear-end
 part-clear-end c = search rules
 
 clear-requires : tie.Need-clear-requires
 clear-requires c κs = search rules
 
-same_length : tie.Need-same-length
+same_length : tie.Need-shape_of-words
 same_length c = search rules
 
 returns : tie.Need-returns
 returns c =
-    let at_clear = c.before.before in
-    let at-start = at_clear.before.before.before in
-    index_none at-start.args.words.now at_clear.clear.new.0 at-start.requires at_clear.clear.auto.0 at_clear.clear.ensures
+    index_none c.args.words.now c.clear.new.table c.requires c.clear.auto.table c.clear.ensures
 
 pub begin_spec : {M : Type 1} → statement M
 begin_spec =

@@ -6,7 +6,7 @@ use Rattle.builder_registry.proofs.Word.{even}
 use Rattle.builder_registry.proofs.derived_word.Statement.{statement}
 use Rattle.builder_registry.proofs.derived_word.Tie as tie
 
-add-result : tie.Need-overflow-add-result
+add-result : tie.Need-overflow_add-result
 add-result c = omega (arith, even c.args.w c.requires)
 
 returns : tie.Need-returns

@@ -11,90 +11,73 @@ use native.Mathlib.Omega.{arith}
 use Rattle.builder_registry.proofs.ensure_all.Statement.{statement}
 use Rattle.builder_registry.proofs.ensure_all.Tie as tie
 
-abbrev invariant-loop : tie.invariant-loop
+abbrev invariant-loop : tie.invariant-loop-left
 invariant-loop s words₀ n owner paths marked left₀ at₀ count₀ words left at count =
     (count ≤ 512) × (length words ≡ length words₀) × Paths s (held s owner) (entries_of s words₀ n) (entries_of s words count) paths left at × Indexed s words count
 
-abbrev decreases-loop : tie.decreases-loop
+abbrev decreases-loop : tie.decreases-loop-left
 decreases-loop s words₀ n owner paths marked left₀ at₀ count₀ words left at count = left
 
-marked-owner-requires : tie.Need-marked-owner-requires invariant-loop decreases-loop
+marked-owner-requires : tie.Need-marked_owner-marked-requires invariant-loop decreases-loop
 marked-owner-requires c κs = search rules
 
-read2-requires : tie.Need-read2-requires invariant-loop decreases-loop
+read2-requires : tie.Need-read2-left-requires invariant-loop decreases-loop
 read2-requires c κs = omega arith
 
-add_at : tie.Need-overflow-add-at invariant-loop decreases-loop
+add_at : tie.Need-overflow_add-at invariant-loop decreases-loop
 add_at c = omega arith
 
-loop-holds : tie.Need-loop-init invariant-loop decreases-loop
-loop-holds c =
-    let at-start = c.before.before.before.before in (
+loop-holds : tie.Need-loop-left-init invariant-loop decreases-loop
+loop-holds c = (
       omega arith,
       search rules,
-      paths_begin _ _ c.read2.ensures.0 at-start.requires.2,
-      at-start.requires.0.index,
+      paths_begin _ _ c.read2-left.ensures.0 c.requires.2,
+      c.requires.0.index,
     )
 
-ensure-requires : tie.Need-ensure-requires invariant-loop decreases-loop
-ensure-requires c κs =
-    let at-loop-test = c.before in
-    let at-loop = at-loop-test.before in
-    let at-marked-owner = at-loop.before.before in
-    let at-start = at-marked-owner.before.before.before in (
-      standing at-start.requires.0 at-loop.loop.invariant.1 at-loop.loop.invariant.0 at-loop.loop.invariant.3,
-      omega (arith, at-marked-owner.marked-owner.ensures.0),
-      rw at-marked-owner.marked-owner.ensures.0 at-marked-owner.marked-owner.ensures.1,
-      omega (arith, entry_named at-loop.loop.invariant.2.here at-loop-test.loop-test.true),
+ensure-requires : tie.Need-ensure-e-requires invariant-loop decreases-loop
+ensure-requires c κs = (
+      standing c.requires.0 c.loop-left.invariant.1 c.loop-left.invariant.0 c.loop-left.invariant.3,
+      omega (arith, c.marked_owner-marked.ensures.0),
+      rw c.marked_owner-marked.ensures.0 c.marked_owner-marked.ensures.1,
+      omega (arith, entry_named c.loop-left.invariant.2.here c.loop-left-test.true),
     )
 
-same_length : tie.Need-same-length invariant-loop decreases-loop
+same_length : tie.Need-shape_of-words-then-e-ne0 invariant-loop decreases-loop
 same_length c = search rules
 
-returns : tie.Need-returns invariant-loop decreases-loop
-returns c =
-    let at-ensure = c.before.before.before.before in
-    let at-loop-test = at-ensure.before.before in
-    let at-loop = at-loop-test.before in
-    let at-marked-owner = at-loop.before.before in (
+returns : tie.Need-returns-then-e-ne0 invariant-loop decreases-loop
+returns c = (
       omega arith,
-      paths_stop _ _ _ _ at-loop-test.loop-test.true (rw at-marked-owner.marked-owner.ensures.0 at at-ensure.ensure.ensures.1)
-          c.if1.true at-loop.loop.invariant.2,
+      paths_stop _ _ _ _ c.loop-left-test.true (rw c.marked_owner-marked.ensures.0 at c.ensure-e.ensures.1)
+          c.if-e-ne0.true c.loop-left.invariant.2,
     )
 
-next-name-requires : tie.Need-next-name-requires invariant-loop decreases-loop
+next-name-requires : tie.Need-next_name-at-requires invariant-loop decreases-loop
 next-name-requires c κs =
-    let at-loop-test = c.before.before.before.before.before.before in
-    let at-loop = at-loop-test.before in
-    (entry_named at-loop.loop.invariant.2.here at-loop-test.loop-test.true).inside
+    (entry_named c.loop-left.invariant.2.here c.loop-left-test.true).inside
 
-sub-left : tie.Need-overflow-sub-left invariant-loop decreases-loop
+sub-left : tie.Need-overflow_sub-left invariant-loop decreases-loop
 sub-left c = omega arith
 
-loop-less : tie.Need-loop-smaller invariant-loop decreases-loop
+loop-less : tie.Need-loop-left-smaller invariant-loop decreases-loop
 loop-less c = omega arith
 
-loop-again : tie.Need-loop-preserved invariant-loop decreases-loop
-loop-again c =
-    let at-if1 = c.before in
-    let at-ensure = at-if1.before.before.before.before in
-    let at-loop-test = at-ensure.before.before in
-    let at-loop = at-loop-test.before in
-    let at-marked-owner = at-loop.before.before in (
+loop-again : tie.Need-loop-left-preserved invariant-loop decreases-loop
+loop-again c = (
       omega arith,
       search rules,
-      paths_more _ _ _ _ at-loop-test.loop-test.true (rw at-marked-owner.marked-owner.ensures.0 at at-ensure.ensure.ensures.1)
-          c.next-name.ensures at-if1.if1.false at-loop.loop.invariant.2,
-      kept_index at-if1.if1.false at-ensure.ensure.ensures.1,
+      paths_more _ _ _ _ c.loop-left-test.true (rw c.marked_owner-marked.ensures.0 at c.ensure-e.ensures.1)
+          c.next_name-at.ensures c.if-e-ne0.false c.loop-left.invariant.2,
+      kept_index c.if-e-ne0.false c.ensure-e.ensures.1,
     )
 
-same-length-2 : tie.Need-same-length-2 invariant-loop decreases-loop
+same-length-2 : tie.Need-shape_of-words invariant-loop decreases-loop
 same-length-2 c = search rules
 
-returns-2 : tie.Need-returns-2 invariant-loop decreases-loop
+returns-2 : tie.Need-returns invariant-loop decreases-loop
 returns-2 c =
-    let at-loop = c.before in
-    (omega arith, paths_end _ _ _ c.loop-test.false at-loop.loop.invariant.3 at-loop.loop.invariant.2)
+    (omega arith, paths_end _ _ _ c.loop-left-test.false c.loop-left.invariant.3 c.loop-left.invariant.2)
 
 pub ensure_all_spec : {M : Type 1} → statement M
 ensure_all_spec =

@@ -4,14 +4,14 @@ use Rattle.builder_registry.proofs.Keys.{owner_word}
 use Rattle.builder_registry.proofs.is_keyed.Statement.{statement}
 use Rattle.builder_registry.proofs.is_keyed.Tie as tie
 
-owner-at-requires : tie.Need-owner-at-requires
+owner-at-requires : tie.Need-owner_at-requires
 owner-at-requires c κs = search rules
 
-is-owner-requires : tie.Need-is-owner-requires
+is-owner-requires : tie.Need-is_owner-mine-requires
 is-owner-requires c κs = search rules
 
-has-key-requires : tie.Need-has-key-requires
-has-key-requires c κs = owner_word _ _ _ _ _ c.is-owner.ensures c.before.owner_at.ensures.0
+has-key-requires : tie.Need-has_key-requires
+has-key-requires c κs = owner_word _ _ _ _ _ c.is_owner-mine.ensures c.owner_at.ensures.0
 
 returns : tie.Need-returns
 returns c = search rules

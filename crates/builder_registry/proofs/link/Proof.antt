@@ -4,55 +4,48 @@ use borrow.Author.Rules.{rules}
 use Rattle.builder_registry.proofs.link.Statement.{statement}
 use Rattle.builder_registry.proofs.link.Tie as tie
 
-sub-table : tie.Need-overflow-sub-table
+sub-table : tie.Need-slice_bounds-table-count
 sub-table c = search rules
 
-part-table-start : tie.Need-slice-bounds-table-start
+part-table-start : tie.Need-slice_bounds-table-start
 part-table-start c = search rules
 
-part-table-end : tie.Need-slice-bounds-table-end
+part-table-end : tie.Need-slice_bounds-table-end
 part-table-end c = search rules
 
-mul-k : tie.Need-overflow-mul-k
+mul-k : tie.Need-overflow_mul-k
 mul-k c = search rules
 
 link-requires : tie.Need-link-requires
 link-requires c κs = search rules
 
-enum-known-alias : tie.Need-enum-known-alias
+enum-known-alias : tie.Need-enum_known-alias
 enum-known-alias c = search rules
 
-add-link : tie.Need-overflow-add-link
+add-link : tie.Need-overflow_add-k
 add-link c = search rules
 
-link-requires-2 : tie.Need-link-requires-2
+link-requires-2 : tie.Need-link-requires-in-Mark
 link-requires-2 c κs = search rules
 
-enum_told : tie.Need-enum-told
+enum_told : tie.Need-enum_told-1
 enum_told c = search rules
 
-same_length : tie.Need-same-length
+same_length : tie.Need-shape_of-words-in-Mark
 same_length c = search rules
 
-returns : tie.Need-returns
+returns : tie.Need-returns-in-Mark
 returns c =
-    let at-link2 = c.before.before in
-    let at-alias = at-link2.before.before in
-    let at-link = at-alias.before.before.before.before in
-    let at-start = at-link.before.before.before.before in
-    linking_both _ at-start.requires.0 _ _ _ at-link.link.ensures _ _ at-link2.link2.ensures _
-    at-alias.alias.given.1
+    linking_both _ c.requires.0 _ _ _ c.link.ensures _ _ c.link-in-Mark.ensures _
+    c.in-Mark.is
 
-same-length-2 : tie.Need-same-length-2
+same-length-2 : tie.Need-shape_of-words-in-LeftOut
 same-length-2 c = search rules
 
-returns-2 : tie.Need-returns-2
+returns-2 : tie.Need-returns-in-LeftOut
 returns-2 c =
-    let at-enum-told = c.before.before in
-    let at-link = at-enum-told.before.before.before.before in
-    let at-start = at-link.before.before.before.before in
-    linking_one _ at-start.requires.0 _ _ _ at-link.link.ensures at-link.link.auto.0
-    at-start.requires.1 _ at-enum-told.enum_told.given.1
+    linking_one _ c.requires.0 _ _ _ c.link.ensures c.link.auto.table
+    c.requires.1 _ c.in-LeftOut.is
 
 pub link_spec : {M : Type 1} → statement M
 link_spec =

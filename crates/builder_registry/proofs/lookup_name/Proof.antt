@@ -7,14 +7,14 @@ use borrow.Author.Rules.{rules}
 use Rattle.builder_registry.proofs.lookup_name.Statement.{statement}
 use Rattle.builder_registry.proofs.lookup_name.Tie as tie
 
-path-place-requires : tie.Need-path-place-requires
+path-place-requires : tie.Need-path_place-at-requires
 path-place-requires c κs = search rules
 
-returns : tie.Need-returns
-returns c = looked_at _ _ _ (omega arith) _ _ _ c.before.path_place.ensures.0 (some _) refl c.if1.true
+returns : tie.Need-returns-then-at-n
+returns c = looked_at _ _ _ (omega arith) _ _ _ c.path_place-at.ensures.0 (some _) refl c.if-at-n.true
 
-returns-2 : tie.Need-returns-2
-returns-2 c = looked_none _ _ _ (omega arith) _ _ _ c.before.path_place.ensures.0 (some _) refl c.if1.false
+returns-2 : tie.Need-returns
+returns-2 c = looked_none _ _ _ (omega arith) _ _ _ c.path_place-at.ensures.0 (some _) refl c.if-at-n.false
 
 pub lookup_name_spec : {M : Type 1} → statement M
 lookup_name_spec =

@@ -10,64 +10,53 @@ use native.Mathlib.Omega.{arith}
 use Rattle.builder_registry.proofs.lookup_qualified.Statement.{statement}
 use Rattle.builder_registry.proofs.lookup_qualified.Tie as tie
 
-qualified-key-requires : tie.Need-qualified-key-requires
+qualified-key-requires : tie.Need-qualified_key-requires
 qualified-key-requires c κs = search rules
 
-enum-known-a : tie.Need-enum-known-a
+enum-known-a : tie.Need-enum_known-a
 enum-known-a c = search rules
 
-slice-aggregate-head : tie.Need-slice-aggregate-head
+slice-aggregate-head : tie.Need-slice_bounds-head-end
 slice-aggregate-head c = sym (length-take-le _ _ (search head_fits))
 
-sub-rest : tie.Need-overflow-sub-rest
+sub-rest : tie.Need-slice_bounds-rest-count
 sub-rest c = search rest_fits
 
-part-rest-start : tie.Need-slice-bounds-rest-start
+part-rest-start : tie.Need-slice_bounds-rest-start
 part-rest-start c = search rest_fits
 
-part-rest-end : tie.Need-slice-bounds-rest-end
+part-rest-end : tie.Need-slice_bounds-rest-end
 part-rest-end c = search rules
 
-mark-of-requires : tie.Need-mark-of-requires
+mark-of-requires : tie.Need-mark_of-requires
 mark-of-requires c κs = search rules
 
 mark-requires : tie.Need-mark-requires
 mark-requires c κs = search rules
 
-mark-requires-2 : tie.Need-mark-requires-2
+mark-requires-2 : tie.Need-mark-mark-requires
 mark-requires-2 c κs = search rules
 
-place-requires : tie.Need-place-requires
+place-requires : tie.Need-place-at-requires
 place-requires c κs =
-    let at_mark = c.before in
-    let at-mark-of = at_mark.before in
-    let at-start = at-mark-of.before.before.before.before.before.before.before.before.before.before.before in
-    (at-start.requires, sought_joined _ _ c.mark2.ensures at_mark.mark.ensures at-mark-of.mark_of.ensures)
+    (c.requires, sought_joined _ _ c.mark-mark.ensures c.mark.ensures c.mark_of.ensures)
 
-returns : tie.Need-returns
+returns : tie.Need-returns-then-at-n
 returns c =
-    let at_place = c.before in
-    let at_a = at_place.before.before.before.before.before.before.before in
-    let at-qualified-key = at_a.before.before in
-    let at-start = at-qualified-key.before.before.before.before.before in
-    looked_at _ _ _ (omega (arith, at-start.requires)) _ _ _ at_place.place.ensures.0
+    looked_at _ _ _ (omega (arith, c.requires)) _ _ _ c.place-at.ensures.0
     (qualify_parent_path _ _)
-    (key_parts _ _ _ at-qualified-key.qualified-key.ensures _ _ at_a.a.given.1) c.if1.true
+    (key_parts _ _ _ c.qualified_key.ensures _ _ c.in-Joined.is) c.if-at-n.true
 
-enum_told : tie.Need-enum-told
+enum_told : tie.Need-enum_told-1
 enum_told c = search rules
 
-returns-2 : tie.Need-returns-2
+returns-2 : tie.Need-returns-else-at-n
 returns-2 c =
-    let at_place = c.before in
-    let at_a = at_place.before.before.before.before.before.before.before in
-    let at-qualified-key = at_a.before.before in
-    let at-start = at-qualified-key.before.before.before.before.before in
-    looked_none _ _ _ (omega (arith, at-start.requires)) _ _ _ at_place.place.ensures.0
+    looked_none _ _ _ (omega (arith, c.requires)) _ _ _ c.place-at.ensures.0
     (qualify_parent_path _ _)
-    (key_parts _ _ _ at-qualified-key.qualified-key.ensures _ _ at_a.a.given.1) c.if1.false
+    (key_parts _ _ _ c.qualified_key.ensures _ _ c.in-Joined.is) c.if-at-n.false
 
-returns-3 : tie.Need-returns-3
+returns-3 : tie.Need-returns-in-NoParent
 returns-3 c = looked_nothing _ _ _ _ (qualify_parent_path _ _) (search no_parent)
 
 pub lookup_qualified_spec : {M : Type 1} → statement M

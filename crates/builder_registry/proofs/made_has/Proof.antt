@@ -4,22 +4,13 @@ use borrow.Author.Rules.{rules}
 use Rattle.builder_registry.proofs.made_has.Statement.{statement}
 use Rattle.builder_registry.proofs.made_has.Tie as tie
 
-slice-aggregate-pick : tie.Need-slice-aggregate-pick
-slice-aggregate-pick c = search rules
-
-slice-aggregate-pick-2 : tie.Need-slice-aggregate-pick-2
-slice-aggregate-pick-2 c = search rules
-
-slice-aggregate-pick-3 : tie.Need-slice-aggregate-pick-3
-slice-aggregate-pick-3 c = search rules
-
-pick-requires : tie.Need-pick-requires
+pick-requires : tie.Need-pick-text-requires
 pick-requires c κs = search rules
 
-normalize-path-requires : tie.Need-normalize-path-requires
+normalize-path-requires : tie.Need-normalize_path-requires
 normalize-path-requires c κs = search rules
 
-same-behind-requires : tie.Need-same-behind-requires
+same-behind-requires : tie.Need-same_behind-requires
 same-behind-requires c κs = search rules
 
 returns : tie.Need-returns
@@ -29,9 +20,6 @@ pub made_has_spec : {M : Type 1} → statement M
 made_has_spec =
     tie.close
     (tie.spec
-    slice-aggregate-pick
-    slice-aggregate-pick-2
-    slice-aggregate-pick-3
     pick-requires
     normalize-path-requires
     same-behind-requires

@@ -6,70 +6,61 @@ use borrow.Author.Rules.{rules}
 use Rattle.builder_registry.proofs.mark_derived.Statement.{statement}
 use Rattle.builder_registry.proofs.mark_derived.Tie as tie
 
-path-place-requires : tie.Need-path-place-requires
+path-place-requires : tie.Need-path_place-i-requires
 path-place-requires c κs = search rules
 
-same_length : tie.Need-same-length
+same_length : tie.Need-shape_of-words-then-n-i
 same_length c = search rules
 
-returns : tie.Need-returns
+returns : tie.Need-returns-then-n-i
 returns c =
-    let at-path-place = c.before in
-    let at-start = at-path-place.before.before.before.before.before.before in
-    mark_nothing _ _ _ (omega arith) _ _ _ at-path-place.path_place.ensures.0 c.if1.true at-start.requires.index
+    mark_nothing _ _ _ (omega arith) _ _ _ c.path_place-i.ensures.0 c.if-n-i.true c.requires.index
 
-mul-w : tie.Need-overflow-mul-w
+mul-w : tie.Need-offset_bounds-words-i
 mul-w c = search rules
 
-slice-read-w : tie.Need-slice-read-w
+slice-read-w : tie.Need-bounds-words-i
 slice-read-w c = search rules
 
-is-derived-requires : tie.Need-is-derived-requires
+is-derived-requires : tie.Need-is_derived-requires
 is-derived-requires c κs = search rules
 
-same-length-2 : tie.Need-same-length-2
+same-length-2 : tie.Need-shape_of-words-then-is_derived
 same-length-2 c = search rules
 
-returns-2 : tie.Need-returns-2
+returns-2 : tie.Need-returns-then-is_derived
 returns-2 c =
-    let at-else1 = c.before.before.before in
-    let at-path-place = at-else1.before in
-    let at-start = at-path-place.before.before.before.before.before.before in
     mark_again _ _ _
     (omega arith) _ _ _
-    at-path-place.path_place.ensures.0
-    at-else1.if1.false _
-    c.before.is-derived.ensures
-    c.if2.true
-    at-start.requires.index
+    c.path_place-i.ensures.0
+    c.if-n-i.false _
+    c.is_derived.ensures
+    c.if-is_derived.true
+    c.requires.index
 
-derived-word-requires : tie.Need-derived-word-requires
-derived-word-requires c κs = sym c.before.is-derived.ensures ∙ c.if2.false
+derived-word-requires : tie.Need-derived_word-requires
+derived-word-requires c κs = sym c.is_derived.ensures ∙ c.if-is_derived.false
 
-mul_words : tie.Need-overflow-mul-words
+mul_words : tie.Need-offset_bounds-words-i-2
 mul_words c = search rules
 
-slice-write-words : tie.Need-slice-write-words
+slice-write-words : tie.Need-bounds-words-i-2
 slice-write-words c = search rules
 
-same-length-3 : tie.Need-same-length-3
+same-length-3 : tie.Need-shape_of-words
 same-length-3 c = search rules
 
-returns-3 : tie.Need-returns-3
+returns-3 : tie.Need-returns
 returns-3 c =
-    let at-is-derived = c.before.before in
-    let at-else1 = at-is-derived.before.before in
-    let at-path-place = at-else1.before in
-    let at-start = at-path-place.before.before.before.before.before.before in
     mark_first _ _ _
     (omega arith) _ _ _
-    at-path-place.path_place.ensures.0
-    at-else1.if1.false _
-    at-is-derived.is-derived.ensures
-    c.derived-word.ensures
-    c.before.if2.false
-    at-start.requires.count
-    at-start.requires.index
+    c.path_place-i.ensures.0
+    c.if-n-i.false _
+    c.is_derived.ensures
+    c.derived_word.ensures
+    c.if-is_derived.false
+    c.requires.count
+    c.requires.index
 
 pub mark_derived_spec : {M : Type 1} → statement M
 mark_derived_spec =

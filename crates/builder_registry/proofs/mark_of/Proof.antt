@@ -10,16 +10,12 @@ use Rattle.builder_registry.proofs.mark_of.Tie as tie
 mark-requires : tie.Need-mark-requires
 mark-requires c κs = search rules
 
-slice-aggregate-mark : tie.Need-slice-aggregate-mark
-slice-aggregate-mark c = search rules
-
 mark-requires-2 : tie.Need-mark-requires-2
 mark-requires-2 c κs = search rules
 
 returns : tie.Need-returns
 returns c =
-    let at_mark = c.before.before in
-    c.mark2.ensures ∙ ap (λ (h : ℕ). mark_of h (0 ∷ [])) at_mark.mark.ensures
+    c.mark-2.ensures ∙ ap (λ (h : ℕ). mark_of h (0 ∷ [])) c.mark.ensures
 
 pub mark_of_spec : {M : Type 1} → statement M
-mark_of_spec = tie.close (tie.spec mark-requires slice-aggregate-mark mark-requires-2 returns)
+mark_of_spec = tie.close (tie.spec mark-requires mark-requires-2 returns)

@@ -6,19 +6,18 @@ use borrow.Author.Rules.{rules}
 use Rattle.builder_registry.proofs.mark_owner.Statement.{statement}
 use Rattle.builder_registry.proofs.mark_owner.Tie as tie
 
-returns : tie.Need-returns
+returns : tie.Need-returns-then-at-known
 returns c =
-    let at-start = c.before.before.before in
-    known_mark at-start.requires.1 at-start.requires.0 c.if1.true
+    known_mark c.requires.1 c.requires.0 c.if-at-known.true
 
-held-at-requires : tie.Need-held-at-requires
+held-at-requires : tie.Need-held_at-requires
 held-at-requires c κs = search rules
 
 mark-requires : tie.Need-mark-requires
 mark-requires c κs = search rules
 
-returns-2 : tie.Need-returns-2
-returns-2 c = c.mark.ensures ∙ ap (mark_of 0) c.before.held_at.ensures.0
+returns-2 : tie.Need-returns
+returns-2 c = c.mark.ensures ∙ ap (mark_of 0) c.held_at.ensures.0
 
 pub mark_owner_spec : {M : Type 1} → statement M
 mark_owner_spec = tie.close (tie.spec returns held-at-requires mark-requires returns-2)

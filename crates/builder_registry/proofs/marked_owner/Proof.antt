@@ -5,16 +5,15 @@ use mathlib.Core.Path.{refl, ◌∙◌, ap}
 use Rattle.builder_registry.proofs.marked_owner.Statement.{statement}
 use Rattle.builder_registry.proofs.marked_owner.Tie as tie
 
-held-at-requires : tie.Need-held-at-requires
+held-at-requires : tie.Need-held_at-requires
 held-at-requires c κs = search rules
 
-mark-of-requires : tie.Need-mark-of-requires
+mark-of-requires : tie.Need-mark_of-mark-requires
 mark-of-requires c κs = search rules
 
 returns : tie.Need-returns
 returns c =
-    let at-held-at = c.before in
-    (refl, c.mark_of.ensures ∙ ap owner_mark at-held-at.held_at.ensures.0)
+    (refl, c.mark_of-mark.ensures ∙ ap owner_mark c.held_at.ensures.0)
 
 pub marked_owner_spec : {M : Type 1} → statement M
 marked_owner_spec = tie.close (tie.spec held-at-requires mark-of-requires returns)

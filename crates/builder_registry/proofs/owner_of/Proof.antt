@@ -4,15 +4,15 @@ use borrow.Author.Rules.{rules}
 use Rattle.builder_registry.proofs.owner_of.Statement.{statement}
 use Rattle.builder_registry.proofs.owner_of.Tie as tie
 
-owner-at-requires : tie.Need-owner-at-requires
+owner-at-requires : tie.Need-owner_at-requires
 owner-at-requires c κs = search rules
 
-held-at-requires : tie.Need-held-at-requires
+held-at-requires : tie.Need-held_at-requires
 held-at-requires c κs = search rules
 
 returns : tie.Need-returns
 returns c = (
-  held_of _ c.held_at.ensures.0 c.before.owner_at.ensures.0,
+  held_of _ c.held_at.ensures.0 c.owner_at.ensures.0,
   c.held_at.ensures.1,
 )
 

@@ -4,15 +4,15 @@ use borrow.Author.Rules.{rules}
 use Rattle.builder_registry.proofs.path_of.Statement.{statement}
 use Rattle.builder_registry.proofs.path_of.Tie as tie
 
-path-at-requires : tie.Need-path-at-requires
+path-at-requires : tie.Need-path_at-requires
 path-at-requires c κs = search rules
 
-held-at-requires : tie.Need-held-at-requires
+held-at-requires : tie.Need-held_at-requires
 held-at-requires c κs = search rules
 
 returns : tie.Need-returns
 returns c = (
-  held_of _ c.held_at.ensures.0 c.before.path-at.ensures.0,
+  held_of _ c.held_at.ensures.0 c.path_at.ensures.0,
   c.held_at.ensures.1,
 )
 

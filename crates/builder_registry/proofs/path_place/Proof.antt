@@ -5,29 +5,22 @@ use borrow.Author.Rules.{rules}
 use Rattle.builder_registry.proofs.path_place.Statement.{statement}
 use Rattle.builder_registry.proofs.path_place.Tie as tie
 
-normalize-path-requires : tie.Need-normalize-path-requires
+normalize-path-requires : tie.Need-normalize_path-key-requires
 normalize-path-requires c κs = search rules
 
-mark-of-requires : tie.Need-mark-of-requires
+mark-of-requires : tie.Need-mark_of-requires
 mark-of-requires c κs = search rules
 
-mark-requires : tie.Need-mark-requires
+mark-requires : tie.Need-mark-mark-requires
 mark-requires c κs = search rules
-
-slice-aggregate-place : tie.Need-slice-aggregate-place
-slice-aggregate-place c = search rules
 
 place-requires : tie.Need-place-requires
 place-requires c κs =
-    let at_mark = c.before in
-    let at-mark-of = at_mark.before in
-    let at-start = at-mark-of.before.before.before.before.before.before in
-    (at-start.requires, sought_any at_mark.mark.ensures at-mark-of.mark_of.ensures)
+    (c.requires, sought_any c.mark-mark.ensures c.mark_of.ensures)
 
 returns : tie.Need-returns
-returns c =
-    let at-normalize-path = c.before.before.before.before in (
-      path_place _ _ _ _ _ at-normalize-path.normalize_path.ensures c.place.ensures.0,
+returns c = (
+      path_place _ _ _ _ _ c.normalize_path-key.ensures c.place.ensures.0,
       c.place.ensures.1,
     )
 
@@ -38,6 +31,5 @@ path_place_spec =
     normalize-path-requires
     mark-of-requires
     mark-requires
-    slice-aggregate-place
     place-requires
     returns)

@@ -3,13 +3,13 @@ use Rattle.builder_registry.proofs.Keys.{picks}
 use Rattle.builder_registry.proofs.pick.Statement.{statement}
 use Rattle.builder_registry.proofs.pick.Tie as tie
 
-returns : tie.Need-returns
+returns : tie.Need-returns-then-made-eq1
 returns c = search picks
 
-returns-2 : tie.Need-returns-2
+returns-2 : tie.Need-returns-then-made-eq2
 returns-2 c = search picks
 
-returns-3 : tie.Need-returns-3
+returns-3 : tie.Need-returns
 returns-3 c = search picks
 
 pub pick_spec : {M : Type 1} → statement M

@@ -5,27 +5,25 @@ use native.Mathlib.Omega.{arith}
 use Rattle.builder_registry.proofs.put_one.Statement.{statement}
 use Rattle.builder_registry.proofs.put_one.Tie as tie
 
-put-parameter-requires : tie.Need-put-parameter-requires
+put-parameter-requires : tie.Need-put_parameter-end-requires
 put-parameter-requires c κs = search rules
 
-add-count : tie.Need-overflow-add-count
+add-count : tie.Need-overflow_add-count
 add-count c = omega arith
 
-same_length : tie.Need-same-length
+same_length : tie.Need-shape_of-out-then-mine
 same_length c = search rules
 
-returns : tie.Need-returns
-returns c =
-    let at-put-parameter = c.before.before.before in
-    let at-if1 = at-put-parameter.before.before in (
-      puts_yes _ _ _ at-if1.if1.true at-put-parameter.put-parameter.ensures.0,
-      (counts_yes _ _ _ _ at-if1.if1.true, (omega arith, omega arith, omega arith)),
+returns : tie.Need-returns-then-mine
+returns c = (
+      puts_yes _ _ _ c.if-mine.true c.put_parameter-end.ensures.0,
+      (counts_yes _ _ _ _ c.if-mine.true, (omega arith, omega arith, omega arith)),
     )
 
-returns-2 : tie.Need-returns-2
+returns-2 : tie.Need-returns
 returns-2 c = (
-  puts_no _ _ _ _ _ c.if1.false,
-  (counts_no _ _ _ _ c.if1.false, (omega arith, omega arith, omega arith)),
+  puts_no _ _ _ _ _ c.if-mine.false,
+  (counts_no _ _ _ _ c.if-mine.false, (omega arith, omega arith, omega arith)),
 )
 
 pub put_one_spec : {M : Type 1} → statement M

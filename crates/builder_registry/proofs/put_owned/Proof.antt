@@ -17,7 +17,7 @@ use native.Mathlib.Omega.{arith}
 use Rattle.builder_registry.proofs.put_owned.Statement.{statement}
 use Rattle.builder_registry.proofs.put_owned.Tie as tie
 
-abbrev invariant-loop : tie.invariant-loop
+abbrev invariant-loop : tie.invariant-loop-i
 invariant-loop s words n owner out₀ at known₀ mine₀ listed₀ i₀ out known mine listed i =
     (i ≤ n) ×
     (listed.count ≤ i) ×
@@ -30,10 +30,10 @@ invariant-loop s words n owner out₀ at known₀ mine₀ listed₀ i₀ out kno
     Wrote out listed.end (write (entries_tree parameter_tree (owner_parameters owner (drop i (entries_of s words n))))) zs r →
     Wrote out₀ at (write (entries_tree parameter_tree (owner_parameters owner (entries_of s words n)))) zs r)
 
-abbrev decreases-loop : tie.decreases-loop
+abbrev decreases-loop : tie.decreases-loop-i
 decreases-loop s words n owner out₀ at known₀ mine₀ listed₀ i₀ out known mine listed i = n - i
 
-loop-holds : tie.Need-loop-init invariant-loop decreases-loop
+loop-holds : tie.Need-loop-i-init invariant-loop decreases-loop
 loop-holds c = (
   omega arith,
   omega arith,
@@ -45,60 +45,52 @@ loop-holds c = (
   λ zs r g. g,
 )
 
-mul-w : tie.Need-overflow-mul-w invariant-loop decreases-loop
+mul-w : tie.Need-offset_bounds-words-i invariant-loop decreases-loop
 mul-w c = search rules
 
-shared-slice-read-w : tie.Need-shared-slice-read-w invariant-loop decreases-loop
+shared-slice-read-w : tie.Need-bounds-words-i invariant-loop decreases-loop
 shared-slice-read-w c = search rules
 
-owner-at-requires : tie.Need-owner-at-requires invariant-loop decreases-loop
+owner-at-requires : tie.Need-owner_at-o-requires invariant-loop decreases-loop
 owner-at-requires c κs = search rules
 
-is-owner-requires : tie.Need-is-owner-requires invariant-loop decreases-loop
+is-owner-requires : tie.Need-is_owner-mine-requires invariant-loop decreases-loop
 is-owner-requires c κs =
-    let at-loop = c.before.before.before in
-    (c.owner_at.ensures.1, at-loop.loop.invariant.5)
+    (c.owner_at-o.ensures.1, c.loop-i.invariant.5)
 
-put-one-requires : tie.Need-put-one-requires invariant-loop decreases-loop
+put-one-requires : tie.Need-put_one-listed-requires invariant-loop decreases-loop
 put-one-requires c κs = (omega arith, omega arith, omega arith)
 
-add-i : tie.Need-overflow-add-i invariant-loop decreases-loop
+add-i : tie.Need-overflow_add-i invariant-loop decreases-loop
 add-i c = omega arith
 
-loop-less : tie.Need-loop-smaller invariant-loop decreases-loop
+loop-less : tie.Need-loop-i-smaller invariant-loop decreases-loop
 loop-less c = omega arith
 
-loop-again : tie.Need-loop-preserved invariant-loop decreases-loop
+loop-again : tie.Need-loop-i-preserved invariant-loop decreases-loop
 loop-again c =
-    let at-put-one = c.before.before in
-    let at-is-owner = at-put-one.before.before in
-    let at-owner-at = at-is-owner.before in
-    let at-loop-test = at-owner-at.before.before in
-    let at-loop = at-loop-test.before in
-    let at-start = at-loop.before.before.before.before.before in
-    let mine = owned_is _ at-start.args.s.now _ _ _ at-is-owner.is-owner.ensures
-    at-owner-at.owner_at.ensures.0 in (
+    let mine = owned_is _ c.args.s.now _ _ _ c.is_owner-mine.ensures
+    c.owner_at-o.ensures.0 in (
       omega arith,
       omega arith,
       omega arith,
       omega arith,
       search rules,
-      λ l. at-is-owner.is-owner.ensures,
-      count_more _ _ _ (omega arith) _ _ _ _ _ at-loop-test.loop-test.true at-loop.loop.invariant.6
-          (rw mine at at-put-one.put_one.ensures.1.0),
-      λ zs r g. at-loop.loop.invariant.7 zs r
-          (put_more _ _ _ (omega arith) _ _ at-loop-test.loop-test.true
-          (rw mine at at-put-one.put_one.ensures.0) g),
+      λ l. c.is_owner-mine.ensures,
+      count_more _ _ _ (omega arith) _ _ _ _ _ c.loop-i-test.true c.loop-i.invariant.6
+          (rw mine at c.put_one-listed.ensures.1.0),
+      λ zs r g. c.loop-i.invariant.7 zs r
+          (put_more _ _ _ (omega arith) _ _ c.loop-i-test.true
+          (rw mine at c.put_one-listed.ensures.0) g),
     )
 
-same_length : tie.Need-same-length invariant-loop decreases-loop
+same_length : tie.Need-shape_of-out invariant-loop decreases-loop
 same_length c = search rules
 
 returns : tie.Need-returns invariant-loop decreases-loop
-returns c =
-    let at-loop = c.before in (
-      at-loop.loop.invariant.7 _ _ (put_end _ _ _ (omega arith) _ _ _ _ c.loop-test.false),
-      (count_end _ _ _ (omega arith) _ _ _ _ c.loop-test.false at-loop.loop.invariant.6, (omega arith, omega arith)),
+returns c = (
+      c.loop-i.invariant.7 _ _ (put_end _ _ _ (omega arith) _ _ _ _ c.loop-i-test.false),
+      (count_end _ _ _ (omega arith) _ _ _ _ c.loop-i-test.false c.loop-i.invariant.6, (omega arith, omega arith)),
     )
 
 pub put_owned_spec : {M : Type 1} → statement M

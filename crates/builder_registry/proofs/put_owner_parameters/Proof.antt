@@ -5,26 +5,24 @@ use borrow.Author.Rules.{rules}
 use Rattle.builder_registry.proofs.put_owner_parameters.Statement.{statement}
 use Rattle.builder_registry.proofs.put_owner_parameters.Tie as tie
 
-add-put-owned : tie.Need-overflow-add-put-owned
+add-put-owned : tie.Need-overflow_add-at
 add-put-owned c = omega arith
 
-put-owned-requires : tie.Need-put-owned-requires
+put-owned-requires : tie.Need-put_owned-listed-requires
 put-owned-requires c κs = search rules
 
-put-le-requires : tie.Need-put-le-requires
+put-le-requires : tie.Need-put_le-requires
 put-le-requires c κs = search rules
 
-same_length : tie.Need-same-length
+same_length : tie.Need-shape_of-out
 same_length c = search rules
 
 returns : tie.Need-returns
-returns c =
-    let at-put-le = c.before.before in
-    let at-put-owned = at-put-le.before.before.before.before in (
+returns c = (
       counted_last _
-          at-put-owned.put-owned.ensures.0
-          at-put-le.put-le.ensures.0
-          at-put-owned.put-owned.ensures.1.0,
+          c.put_owned-listed.ensures.0
+          c.put_le.ensures.0
+          c.put_owned-listed.ensures.1.0,
       (omega arith, omega arith),
     )
 
