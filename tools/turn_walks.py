@@ -161,7 +161,7 @@ class Walk:
                     return m[0]
             k = plain(w)
             if k in self.by_plain:
-                return self.alias + "." + self.new_place[self.by_plain[k]]
+                return self.alias + "." + self.new_place[self.end(self.by_plain[k])]
             if w not in ("spec", "close") and w != "Claims" and not w.startswith("the-"):
                 self.say(f"no place {w}")
             return m[0]
@@ -178,8 +178,14 @@ class Walk:
             return self.place[first][0]
         return self.place[at][0]
 
+    def end(self, at):
+        """The arm's last place, which stands for those within it."""
+        while at in self.mid:
+            at = next(p for p, a in self.arms.items() if self.place[p][0] == at and a[0] == self.arms[at][0])
+        return at
+
     def steps(self, at, to):
-        n = 0
+        n, to = 0, self.end(to)
         while at is not None and at != to:
             at, n = self.parent(at), n + 1
         return n if at == to else None
@@ -251,6 +257,8 @@ class Walk:
                 while at is not None:
                     parent, old, new, callee = self.place[at]
                     if old and same(old):
+                        if at in self.mid and new == self.arms[at][0]:
+                            new = "i" + self.new_place[at][1:]
                         rest = [new] + rest[1:]
                         if len(rest) > 1 and rest[1] in ("taken", "left") and (new.startswith("if") or "test" in new):
                             rest[1] = {"taken": "true", "left": "false"}[rest[1]]
@@ -338,23 +346,32 @@ class Walk:
 
     def ways(self, text):
         """A function from a place to an earlier one: so many steps as there are now."""
-        m = re.match(rf"(?:--[^\n]*\n)*(?:pub |abbrev )*({NAME}) : (?:\{{[^{{}}]*\}} → )?{self.a}\.({NAME})[^→\n]*→ {self.a}\.({NAME})[^→\n]*\n\1 (\w+) = (\(({NAME}) \4\)|\4)((?:\.before)+)\s*$", text)
+        m = re.match(rf"(?:--[^\n]*\n)*(?:pub |abbrev )*({NAME}) :\s+(?:\{{[^{{}}]*\}} →\s+)?{self.a}\.({NAME})[^→\n]*→\s+{self.a}\.({NAME})[^→\n]*\n\1 (\w+) = (\(({NAME}) \4\)|\4)((?:\.before)+)\s*$", text)
         if not m:
             return text
         at, to = self.by_plain.get(plain(m[2])), self.by_plain.get(plain(m[3]))
         if m[6]:
             at = self.gives.get(m[6])
+        at, to = self.end(at) if at else at, self.end(to) if to else to
         n = self.steps(at, to) if at and to else None
         if n is None:
             self.say(f"no way from {m[2]} to {m[3]}")
             return text
         # in the old walk's steps, which the paths are turned from
+        if m[6] is None and self.parent(at) != self.place[at][0]:
+            return text[: m.start(7)] + "\0before" * n + text[m.end(7) :]
         k = 0
         while at != to:
             at, k = self.place[at][0], k + 1
         return text[: m.start(7)] + ".before" * k + text[m.end(7) :]
 
     def lets(self, text, env):
+        for m in re.finditer(rf"\blet ({NAME})(?: : [^=\n]*)? = \(({NAME}) [^()]*\)((?:\.before)*)\s+in(?=[\s(])", text):
+            if m[2] in self.gives:
+                cur = self.gives[m[2]]
+                for _ in range(m[3].count(".")):
+                    cur = self.place[cur][0] or cur
+                env[m[1]] = (m[1], cur, cur)
         for m in re.finditer(rf"\blet ({NAME})(?: : [^=\n]*)? = ({NAME})((?:\.before)*)(?![.])( [^=]*?)??\s+in(?=[\s(])", text):
             if m[2] in self.gives and m[4] and not m[3]:
                 place = self.gives[m[2]]
@@ -420,8 +437,11 @@ class Walk:
             text = text[:k] + self.handed(text[k:], env)
         text = self.types(self.paths(text, env)).replace("\0", ".")
         # what a negated test says is said without the negation now
-        text = re.sub(r"(?<![^\s(])(?:not-false|not_false|not_not|not-not|not-true|not_true) _ (\S*?\.if-not-\S+?\.(?:false|true))(?![^\s()])", r"\1", text)
-        # a place that is named and no longer used
+        text = re.sub(r"(?<![^\s(])(?:not-false|not_false|not_not|not-not|not-true|not_true) _ (\S*?\.if-not-\S+?\.(?:false|true))(?![^\s()])", "\\1\0", text)
+        if self.fresh:
+            text = re.sub(rf"(?<![^\s({{,])((?:{NAME}|\([^()]*\))\.if-not-[^\s(){{}}.;,]+\.(?:false|true))(?![^\s(){{}};,])", r"(ap not \1)", text)
+        text = text.replace("\0", "")
+                    # a place that is named and no longer used
         while True:
             for m in re.finditer(rf"[ \n]*\blet ({NAME})(?: : [^=\n]*)? = {NAME}(?:\.before)*\s+in(?=[\s(])", text):
                 if m[1] in env and not re.search(rf"(?<![^\s(){{}};.,]){re.escape(m[1])}(?![^\s(){{}};.,])", text[m.end() :]):
@@ -433,13 +453,13 @@ class Walk:
 
     def turned(self):
         self.gives = {}
-        for m in re.finditer(rf"(?m)^(?:pub |abbrev |unfoldable )*({NAME}) : ([^\n]*(?:\n +[^\n]*)*)", self.text):
+        for m in re.finditer(rf"(?m)^(?:pub |abbrev |unfoldable )*({NAME}) :(?=\s)([^\n]*(?:\n +[^\n]*)*)", self.text):
             last = arrows(m[2])[-1]
             t = re.match(rf"\s*{self.a}\.({NAME})", last)
             if t and not t[1].startswith("Need-") and plain(t[1]) in self.by_plain and "→" in m[2]:
                 self.gives[m[1]] = self.by_plain[plain(t[1])]
         self.takes = {}
-        for m in re.finditer(rf"(?m)^(?:pub |abbrev |unfoldable )*({NAME}) : ([^\n]*(?:\n +[^\n]*)*)", self.text):
+        for m in re.finditer(rf"(?m)^(?:pub |abbrev |unfoldable )*({NAME}) :(?=\s)([^\n]*(?:\n +[^\n]*)*)", self.text):
             if self.alias + ".Need-" in m[2]:
                 continue
             takes = []
@@ -450,7 +470,17 @@ class Walk:
             if any(takes):
                 self.takes[m[1]] = takes
         items = re.split(r"(?<=\n)\n(?=\S)", self.text)
-        return "\n".join(self.item(t) if self.alias + "." in t else t for t in items)
+        self.fresh = ".if-not-" not in self.text
+        new = "\n".join(self.item(t) if self.alias + "." in t else t for t in items)
+        if "(ap not " in new and "(ap not " not in self.text:
+            for word, module in (("ap", "mathlib.Core.Path"), ("not", "mathlib.Core.Bool")):
+                m = re.search(rf"(?m)^use {module}\.\{{([^{{}}]*)\}}", new)
+                if m and word not in [x.strip() for x in m[1].split(",")]:
+                    new = new[: m.end(1)] + ", " + word + new[m.end(1) :]
+                elif not m:
+                    m = re.search(r"(?m)^use ", new)
+                    new = new[: m.start()] + f"use {module}.{{{word}}}\n" + new[m.start() :]
+        return new
 
 
 def main():

@@ -60,286 +60,251 @@ calls t = (
 )
 
 -- The places, each seen from a later one: what was known there.
-abbrev start : {t : ℕ} → lts.After-read-shape (calls t) (within t) reads.Post → lts.Start (calls t) (within t) reads.Post
+abbrev start : {t : ℕ} → lts.After-read_shape-p (calls t) (within t) reads.Post → lts.Start (calls t) (within t) reads.Post
 start r = r.before.before.before.before.before
 
-abbrev shape-read : {t : ℕ} → lts.After-open-array (calls t) (within t) reads.Post → lts.After-read-shape (calls t) (within t) reads.Post
+abbrev shape-read : {t : ℕ} → lts.After-open_array-q (calls t) (within t) reads.Post → lts.After-read_shape-p (calls t) (within t) reads.Post
 shape-read r = r.before.before.before
 
-abbrev nodes-open : {t : ℕ} → lts.After-build-counted (calls t) (within t) reads.Post → lts.After-open-array (calls t) (within t) reads.Post
+abbrev nodes-open : {t : ℕ} → lts.After-build_counted-c (calls t) (within t) reads.Post → lts.After-open_array-q (calls t) (within t) reads.Post
 nodes-open r = r.before.before.before.before.before
 
-abbrev counted : {t : ℕ} → lts.Else2 (calls t) (within t) reads.Post → lts.After-build-counted (calls t) (within t) reads.Post
+abbrev counted : {t : ℕ} → lts.Else-c-ne0 (calls t) (within t) reads.Post → lts.After-build_counted-c (calls t) (within t) reads.Post
 counted r = r.before.before.before.before.before.before
 
-abbrev no-refusal : {t : ℕ} → lts.After-read2 (calls t) (within t) reads.Post → lts.Else2 (calls t) (within t) reads.Post
+abbrev no-refusal : {t : ℕ} → lts.After-read2 (calls t) (within t) reads.Post → lts.Else-c-ne0 (calls t) (within t) reads.Post
 no-refusal r = r.before.before
 
 -- the shape that was read is that of the array
-shape : {t : ℕ} (r : lts.After-read-shape (calls t) (within t) reads.Post) →
-    ShapeAt (start r).requires.1.ready.type (start r).args.array.depth r.read-shape.result
-shape r = r.read-shape.ensures (start r).requires.1.ready.type
+shape : {t : ℕ} (r : lts.After-read_shape-p (calls t) (within t) reads.Post) →
+    ShapeAt (start r).requires.1.ready.type (start r).args.array.depth r.read_shape-p.result
+shape r = r.read_shape-p.ensures (start r).requires.1.ready.type
 
-sum-over-array-requires : (t : ℕ) → lts.Need-sum-over-array-requires (calls t) (within t) reads.Post
+sum-over-array-requires : (t : ℕ) → lts.Need-sum_over_array-requires (calls t) (within t) reads.Post
 sum-over-array-requires t c κs =
-    let at-read-shape = c.before.before.before in
-    let at-start = start at-read-shape in
-    (count_ready at-start.pre.1 (shape at-read-shape), (shape at-read-shape).element)
+    let at-start = start c.before.before in
+    (count_ready at-start.requires.1 (shape c.before.before), (shape c.before.before).element)
 
-returns : (t : ℕ) → lts.Need-returns (calls t) (within t) reads.Post
+returns : (t : ℕ) → lts.Need-returns-then-p (calls t) (within t) reads.Post
 returns t c =
-    let at-sum-over-array = c.before.before in
-    let at-then1 = at-sum-over-array.before.before.before in
-    let at-read-shape = at-then1.before in
-    let at-start = start at-read-shape in (
-      sum_within at-start.pre.1 (shape at-read-shape) at-sum-over-array.sum_over_array.ensures.0,
-      sums_leave _ _ _ at-read-shape.read-shape.ensures at-then1.if1.true at-sum-over-array.sum_over_array.ensures.1,
+    let at-start = start c.before.before.before.before.before in (
+      sum_within at-start.requires.1 (shape c.before.before.before.before.before) c.sum_over_array.ensures.0,
+      sums_leave _ _ _ c.read_shape-p.ensures c.if-p.true c.sum_over_array.ensures.1,
     )
 
-open-array-requires : (t : ℕ) → lts.Need-open-array-requires (calls t) (within t) reads.Post
+open-array-requires : (t : ℕ) → lts.Need-open_array-q-requires (calls t) (within t) reads.Post
 open-array-requires t c κs =
-    let at-read-shape = c.before.before in
-    let at-start = start at-read-shape in
-    (omega (arith, at-start.pre.1.ready.cursor), omega arith, omega arith)
+    let at-start = start c.before.before in
+    (omega (arith, at-start.requires.1.ready.cursor), omega arith, omega arith)
 
-build-counted-requires : (t : ℕ) → lts.Need-build-counted-requires (calls t) (within t) reads.Post
+build-counted-requires : (t : ℕ) → lts.Need-build_counted-c-requires (calls t) (within t) reads.Post
 build-counted-requires t c κs =
-    let at-open-array = c.before.before.before.before in
-    let at-read-shape = shape-read at-open-array in
+    let at-read-shape = shape-read c.before.before.before.before in
     let at-start = start at-read-shape in (
-      count_at_lem at-open-array.open_array.ensures.1 (count_ready at-start.pre.1 (shape at-read-shape)),
+      count_at_lem c.open_array-q.ensures.1 (count_ready at-start.requires.1 (shape at-read-shape)),
       (shape at-read-shape).references,
     )
 
-returns-2 : (t : ℕ) → lts.Need-returns-2 (calls t) (within t) reads.Post
+returns-2 : (t : ℕ) → lts.Need-returns-then-c-ne0 (calls t) (within t) reads.Post
 returns-2 t c =
-    let at-build-counted = c.before.before.before.before.before.before in
-    let at-open-array = nodes-open at-build-counted in
-    let at-else1 = at-open-array.before.before in
+    let at-open-array = nodes-open c.before.before.before.before.before.before in
     let at-read-shape = shape-read at-open-array in
     let at-start = start at-read-shape in (
-      stopped at-start.pre.1.ready.standing.count,
+      stopped at-start.requires.1.ready.standing.count,
       counted_stops _ _ _
-          at-read-shape.read-shape.ensures
-          at-else1.if1.left
-          at-open-array.open_array.ensures.0
-          at-build-counted.build-counted.ensures.1
-          c.if2.true,
+          at-read-shape.read_shape-p.ensures
+          at-open-array.if-p.false
+          at-open-array.open_array-q.ensures.0
+          c.build_counted-c.ensures.1
+          c.if-c-ne0.true,
     )
 
-add-read2 : (t : ℕ) → lts.Need-overflow-add-read2 (calls t) (within t) reads.Post
+add-read2 : (t : ℕ) → lts.Need-overflow_add-offset (calls t) (within t) reads.Post
 add-read2 t c =
-    let at-else2 = c.before in
-    let at-build-counted = counted at-else2 in
+    let at-build-counted = counted c.before in
     let at-open-array = nodes-open at-build-counted in
     let at-read-shape = shape-read at-open-array in
     let at-start = start at-read-shape in
-    omega (arith, header_inside (shape at-read-shape).element, at-start.pre.1.ready.standing.size)
+    omega (arith, header_inside (shape at-read-shape).element, at-start.requires.1.ready.standing.size)
 
 read2-requires : (t : ℕ) → lts.Need-read2-requires (calls t) (within t) reads.Post
 read2-requires t c κs =
-    let at-else2 = c.before in
-    let at-build-counted = counted at-else2 in
+    let at-build-counted = counted c.before in
     let at-open-array = nodes-open at-build-counted in
     let at-read-shape = shape-read at-open-array in
     omega (arith, header_inside (shape at-read-shape).element)
 
-returns-3 : (t : ℕ) → lts.Need-returns-3 (calls t) (within t) reads.Post
+returns-3 : (t : ℕ) → lts.Need-returns-then-read2-ne5 (calls t) (within t) reads.Post
 returns-3 t c =
-    let at-read2 = c.before in
-    let at-then3 = at-read2.before in
-    let at-else2 = no-refusal at-read2 in
+    let at-else2 = no-refusal c.before in
     let at-build-counted = counted at-else2 in
     let at-open-array = nodes-open at-build-counted in
-    let at-else1 = at-open-array.before.before in
     let at-read-shape = shape-read at-open-array in
     let at-start = start at-read-shape in (
-      stopped at-start.pre.1.ready.standing.count,
+      stopped at-start.requires.1.ready.standing.count,
       element_stops _ _ _
-          at-read-shape.read-shape.ensures
-          at-else1.if1.left
-          at-open-array.open_array.ensures.0
-          at-build-counted.build-counted.ensures.1
-          at-else2.if2.left
-          at-then3.if3.true
-          (λ q. c.if4.true (at-read2.read2.ensures.0 ∙ q)),
+          at-read-shape.read_shape-p.ensures
+          at-open-array.if-p.false
+          at-open-array.open_array-q.ensures.0
+          at-build-counted.build_counted-c.ensures.1
+          at-else2.if-c-ne0.false
+          c.if-p-2.true
+          (λ q. c.if-read2-ne5.true (c.read2.ensures.0 ∙ q)),
     )
 
-add-depth : (t : ℕ) → lts.Need-overflow-add-depth (calls t) (within t) reads.Post
+add-depth : (t : ℕ) → lts.Need-overflow_add-depth (calls t) (within t) reads.Post
 add-depth t c =
-    let at-read2 = c.before.before in
-    let at-else2 = no-refusal at-read2 in
+    let at-else2 = no-refusal c.before.before in
     let at-build-counted = counted at-else2 in
     let at-open-array = nodes-open at-build-counted in
     let at-read-shape = shape-read at-open-array in
     let at-start = start at-read-shape in
-    omega (arith, at-start.pre.1.deep, (shape at-read-shape).inside)
+    omega (arith, at-start.requires.1.deep, (shape at-read-shape).inside)
 
-build-array-node-with-prefix-requires : (t : ℕ) → lts.Need-build-array-node-with-prefix-requires (calls t) (within t) reads.Post
+build-array-node-with-prefix-requires : (t : ℕ) → lts.Need-build_array_node_with_prefix-b-requires (calls t) (within t) reads.Post
 build-array-node-with-prefix-requires t c κs =
-    let at-else4 = c.before.before.before in
-    let at-read2 = at-else4.before in
-    let at-else2 = no-refusal at-read2 in
+    let at-else2 = no-refusal c.before.before.before.before in
     let at-build-counted = counted at-else2 in
     let at-open-array = nodes-open at-build-counted in
     let at-read-shape = shape-read at-open-array in
     let at-start = start at-read-shape in (
-      omega (arith, at-start.pre.0, (shape at-read-shape).room),
-      nested_ready at-start.pre.1 (shape at-read-shape)
-          at-open-array.open_array.ensures.1
-          at-build-counted.build-counted.ensures.0
+      omega (arith, at-start.requires.0, (shape at-read-shape).room),
+      nested_ready at-start.requires.1 (shape at-read-shape)
+          at-open-array.open_array-q.ensures.1
+          at-build-counted.build_counted-c.ensures.0
           (search rules)
-          (builds_index at-else2.if2.left (at-build-counted.build-counted.ensures.1 (shape at-read-shape).size (shape at-read-shape).references))
-          (sym at-read2.read2.ensures.0 ∙ at-else4.if4.false),
+          (builds_index at-else2.if-c-ne0.false (at-build-counted.build_counted-c.ensures.1 (shape at-read-shape).size (shape at-read-shape).references))
+          (sym c.read2.ensures.0 ∙ c.if-read2-ne5.false),
     )
 
 finish-requires : (t : ℕ) → lts.Need-finish-requires (calls t) (within t) reads.Post
 finish-requires t c κs =
-    let at-build-array-node-with-prefix = c.before.before.before.before.before in
-    let at-read2 = at-build-array-node-with-prefix.before.before.before.before.before in
-    let at-else2 = no-refusal at-read2 in
+    let at-else2 = no-refusal c.before.before.before.before.before.before.before.before.before.before in
     let at-build-counted = counted at-else2 in
     let at-open-array = nodes-open at-build-counted in
     let at-read-shape = shape-read at-open-array in
     let at-start = start at-read-shape in
-    finish_ready at-start.pre.1 (shape at-read-shape)
-    at-open-array.open_array.ensures.1
-    at-build-counted.build-counted.ensures.0
-    at-build-array-node-with-prefix.build_array_node_with_prefix.ensures.0
+    finish_ready at-start.requires.1 (shape at-read-shape)
+    at-open-array.open_array-q.ensures.1
+    at-build-counted.build_counted-c.ensures.0
+    c.build_array_node_with_prefix-b.ensures.0
 
 -- the output keeps its length at each call
-same-length-8 : (t : ℕ) → lts.Need-same-length-8 (calls t) (within t) reads.Post
+same-length-8 : (t : ℕ) → lts.Need-shape_of-out-then-p-2 (calls t) (within t) reads.Post
 same-length-8 t c =
-    let at-finish = c.before.before in
-    let at-build-array-node-with-prefix = at-finish.before.before.before.before.before.before in
-    let at-read2 = at-build-array-node-with-prefix.before.before.before.before.before in
-    let at-else2 = no-refusal at-read2 in
+    let at-else2 = no-refusal c.before.before.before.before.before.before.before.before.before.before.before.before.before in
     let at-build-counted = counted at-else2 in
     let at-open-array = nodes-open at-build-counted in
-    at-finish.finish.auto.0
-    ∙ at-build-array-node-with-prefix.build_array_node_with_prefix.auto.1.1.1.1.1.0
-    ∙ at-build-counted.build-counted.kept.1.1.1.1.1.0
-    ∙ at-open-array.open_array.kept.0
+    c.finish.auto.out
+    ∙ c.build_array_node_with_prefix-b.auto.out
+    ∙ at-build-counted.build_counted-c.auto.out
+    ∙ at-open-array.open_array-q.auto.out
 
-returns-4 : (t : ℕ) → lts.Need-returns-4 (calls t) (within t) reads.Post
+returns-4 : (t : ℕ) → lts.Need-returns-then-p-2 (calls t) (within t) reads.Post
 returns-4 t c =
-    let at-finish = c.before.before in
-    let at-build-array-node-with-prefix = at-finish.before.before.before.before.before.before in
-    let at-else4 = at-build-array-node-with-prefix.before.before.before.before in
-    let at-read2 = at-else4.before in
-    let at-then3 = at-read2.before in
-    let at-else2 = no-refusal at-read2 in
+    let at-else2 = no-refusal c.before.before.before.before.before.before.before.before.before.before.before.before.before in
     let at-build-counted = counted at-else2 in
     let at-open-array = nodes-open at-build-counted in
-    let at-else1 = at-open-array.before.before in
     let at-read-shape = shape-read at-open-array in
     let at-start = start at-read-shape in (
-      finish_within at-start.pre.1 (shape at-read-shape)
-          at-open-array.open_array.ensures.1
-          at-build-counted.build-counted.ensures.0
-          at-build-array-node-with-prefix.build_array_node_with_prefix.ensures.0
-          at-finish.finish.ensures,
+      finish_within at-start.requires.1 (shape at-read-shape)
+          at-open-array.open_array-q.ensures.1
+          at-build-counted.build_counted-c.ensures.0
+          c.build_array_node_with_prefix-b.ensures.0
+          c.finish.ensures,
       element_nests _ _ _
-          at-read-shape.read-shape.ensures
-          at-else1.if1.left
-          at-open-array.open_array.ensures.0
-          at-build-counted.build-counted.ensures.1
-          at-else2.if2.left
-          at-then3.if3.true
-          (sym at-read2.read2.ensures.0 ∙ at-else4.if4.false)
-          at-build-array-node-with-prefix.build_array_node_with_prefix.ensures.1
-          at-finish.finish.ensures,
+          at-read-shape.read_shape-p.ensures
+          at-open-array.if-p.false
+          at-open-array.open_array-q.ensures.0
+          at-build-counted.build_counted-c.ensures.1
+          at-else2.if-c-ne0.false
+          c.if-p-2.true
+          (sym c.read2.ensures.0 ∙ c.if-read2-ne5.false)
+          c.build_array_node_with_prefix-b.ensures.1
+          c.finish.ensures,
     )
 
-put-const-requires : (t : ℕ) → lts.Need-put-const-requires (calls t) (within t) reads.Post
+put-const-requires : (t : ℕ) → lts.Need-put_const-u-requires (calls t) (within t) reads.Post
 put-const-requires t c κs =
-    let at-else2 = c.before.before in
-    let at-build-counted = counted at-else2 in
+    let at-build-counted = counted c.before.before in
     let at-open-array = nodes-open at-build-counted in
     let at-read-shape = shape-read at-open-array in
     let at-start = start at-read-shape in
-    constant_cursor at-start.pre.1 (shape at-read-shape)
-    at-open-array.open_array.ensures.1
-    at-build-counted.build-counted.ensures.0
+    constant_cursor at-start.requires.1 (shape at-read-shape)
+    at-open-array.open_array-q.ensures.1
+    at-build-counted.build_counted-c.ensures.0
 
 finish-requires-2 : (t : ℕ) → lts.Need-finish-requires-2 (calls t) (within t) reads.Post
 finish-requires-2 t c κs =
-    let at-put-const = c.before.before.before in
-    let at-else2 = at-put-const.before.before.before in
-    let at-build-counted = counted at-else2 in
+    let at-build-counted = counted c.before.before.before.before.before.before in
     let at-open-array = nodes-open at-build-counted in
     let at-read-shape = shape-read at-open-array in
     let at-start = start at-read-shape in
-    finish_ready at-start.pre.1 (shape at-read-shape)
-    at-open-array.open_array.ensures.1
-    at-build-counted.build-counted.ensures.0
+    finish_ready at-start.requires.1 (shape at-read-shape)
+    at-open-array.open_array-q.ensures.1
+    at-build-counted.build_counted-c.ensures.0
     (ends_at {number = 0}
-    (omega (arith, at-put-const.put_Const.ensures.1))
-    (omega (arith, at-put-const.put_Const.ensures.1))
-    at-build-counted.build-counted.ensures.0.count)
+    (omega (arith, c.put_const-u.ensures.1))
+    (omega (arith, c.put_const-u.ensures.1))
+    at-build-counted.build_counted-c.ensures.0.count)
 
-returns-5 : (t : ℕ) → lts.Need-returns-5 (calls t) (within t) reads.Post
+returns-5 : (t : ℕ) → lts.Need-returns (calls t) (within t) reads.Post
 returns-5 t c =
-    let at-finish2 = c.before.before in
-    let at-put-const = at-finish2.before.before.before.before in
-    let at-else3 = at-put-const.before.before in
-    let at-else2 = at-else3.before in
-    let at-build-counted = counted at-else2 in
+    let at-build-counted = counted c.before.before.before.before.before.before.before.before.before in
     let at-open-array = nodes-open at-build-counted in
-    let at-else1 = at-open-array.before.before in
     let at-read-shape = shape-read at-open-array in
     let at-start = start at-read-shape in (
-      finish_within at-start.pre.1 (shape at-read-shape)
-          at-open-array.open_array.ensures.1
-          at-build-counted.build-counted.ensures.0
+      finish_within at-start.requires.1 (shape at-read-shape)
+          at-open-array.open_array-q.ensures.1
+          at-build-counted.build_counted-c.ensures.0
           (ends_at {number = 0}
-          (omega (arith, at-put-const.put_Const.ensures.1))
-          (omega (arith, at-put-const.put_Const.ensures.1))
-          at-build-counted.build-counted.ensures.0.count)
-          at-finish2.finish2.ensures,
+          (omega (arith, c.put_const-u.ensures.1))
+          (omega (arith, c.put_const-u.ensures.1))
+          at-build-counted.build_counted-c.ensures.0.count)
+          c.finish-2.ensures,
       element_made _ _ _
-          at-read-shape.read-shape.ensures
-          at-else1.if1.left
-          at-open-array.open_array.ensures.0
-          at-build-counted.build-counted.ensures.1
-          at-else2.if2.false
-          at-else3.if3.false
-          at-put-const.put_Const.ensures.0
-          at-finish2.finish2.ensures,
+          at-read-shape.read_shape-p.ensures
+          at-open-array.if-p.false
+          at-open-array.open_array-q.ensures.0
+          at-build-counted.build_counted-c.ensures.1
+          c.if-c-ne0.false
+          c.if-p-2.false
+          c.put_const-u.ensures.0
+          c.finish-2.ensures,
     )
 
-read-shape-requires : (t : ℕ) → lts.Need-read-shape-requires (calls t) (within t) reads.Post
+read-shape-requires : (t : ℕ) → lts.Need-read_shape-p-requires (calls t) (within t) reads.Post
 read-shape-requires t c κs = search rules
 
-same_length : (t : ℕ) → lts.Need-same-length (calls t) (within t) reads.Post
+same_length : (t : ℕ) → lts.Need-shape_of-words-then-p (calls t) (within t) reads.Post
 same_length t c = search rules
 
-same-length-2 : (t : ℕ) → lts.Need-same-length-2 (calls t) (within t) reads.Post
+same-length-2 : (t : ℕ) → lts.Need-shape_of-out-then-p (calls t) (within t) reads.Post
 same-length-2 t c = search rules
 
-same-length-3 : (t : ℕ) → lts.Need-same-length-3 (calls t) (within t) reads.Post
+same-length-3 : (t : ℕ) → lts.Need-shape_of-words-then-c-ne0 (calls t) (within t) reads.Post
 same-length-3 t c = search rules
 
-same-length-4 : (t : ℕ) → lts.Need-same-length-4 (calls t) (within t) reads.Post
+same-length-4 : (t : ℕ) → lts.Need-shape_of-out-then-c-ne0 (calls t) (within t) reads.Post
 same-length-4 t c = search rules
 
-same-length-5 : (t : ℕ) → lts.Need-same-length-5 (calls t) (within t) reads.Post
+same-length-5 : (t : ℕ) → lts.Need-shape_of-words-then-read2-ne5 (calls t) (within t) reads.Post
 same-length-5 t c = search rules
 
-same-length-6 : (t : ℕ) → lts.Need-same-length-6 (calls t) (within t) reads.Post
+same-length-6 : (t : ℕ) → lts.Need-shape_of-out-then-read2-ne5 (calls t) (within t) reads.Post
 same-length-6 t c = search rules
 
-same-length-7 : (t : ℕ) → lts.Need-same-length-7 (calls t) (within t) reads.Post
+same-length-7 : (t : ℕ) → lts.Need-shape_of-words-then-p-2 (calls t) (within t) reads.Post
 same-length-7 t c = search rules
 
-same-length-9 : (t : ℕ) → lts.Need-same-length-9 (calls t) (within t) reads.Post
+same-length-9 : (t : ℕ) → lts.Need-shape_of-words (calls t) (within t) reads.Post
 same-length-9 t c = search rules
 
-same-length-10 : (t : ℕ) → lts.Need-same-length-10 (calls t) (within t) reads.Post
+same-length-10 : (t : ℕ) → lts.Need-shape_of-out (calls t) (within t) reads.Post
 same-length-10 t c = search rules
 
-pub +build-array-node-with-prefix-spec : {M : Type 1} → statement M
-+build-array-node-with-prefix-spec =
+pub +build_array_node_with_prefix_spec : {M : Type 1} → statement M
++build_array_node_with_prefix_spec =
     close μ
     (λ t. lts.spec (calls t) (within t) reads.Post (read-shape-requires t) (sum-over-array-requires t)
     (same_length t) (same-length-2 t) (returns t) (open-array-requires t) (build-counted-requires t)

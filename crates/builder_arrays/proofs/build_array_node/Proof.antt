@@ -10,88 +10,74 @@ use Rattle.builder_arrays.proofs.build_array_node.Statement.{statement}
 use Rattle.builder_arrays.proofs.build_array_node.Tie as tie
 
 -- The places, each seen from a later one: what was known there.
-abbrev start : tie.After-type-head → tie.Start
+abbrev start : tie.After-type_head-references → tie.Start
 start r = r.before.before.before.before
 
-abbrev head_read : tie.Else1 → tie.After-type-head
+abbrev head_read : tie.Else-read2-eq0 → tie.After-type_head-references
 head_read r = r.before.before
 
-add-read2 : tie.Need-overflow-add-read2
+add-read2 : tie.Need-overflow_add-references
 add-read2 c =
     let at-start = start c in
-    omega (arith, references_inside (c.type_head.ensures at-start.pre.type).references, at-start.pre.standing.size)
+    omega (arith, references_inside (c.type_head-references.ensures at-start.requires.type).references, at-start.requires.standing.size)
 
 read2-requires : tie.Need-read2-requires
 read2-requires c κs =
     let at-start = start c in
-    omega (arith, references_inside (c.type_head.ensures at-start.pre.type).references)
+    omega (arith, references_inside (c.type_head-references.ensures at-start.requires.type).references)
 
-returns : tie.Need-returns
+returns : tie.Need-returns-then-read2-eq0
 returns c =
-    let at-read2 = c.before in
-    let at-type-head = at-read2.before in
-    let at-start = start at-type-head in (
-      stopped at-start.pre.standing.count,
-      root_none at-type-head.type_head.ensures _ at-read2.read2.ensures.0 c.if1.true refl,
+    let at-start = start c.before.before in (
+      stopped at-start.requires.standing.count,
+      root_none c.type_head-references.ensures _ c.read2.ensures.0 c.if-read2-eq0.true refl,
     )
 
-add-name-at : tie.Need-overflow-add-name-at
+add-name-at : tie.Need-overflow_add-array
 add-name-at c =
     let at-type-head = head_read c in
     let at-start = start at-type-head in
-    omega (arith, (at-type-head.type_head.ensures at-start.pre.type).named.inside, at-start.pre.standing.size)
+    omega (arith, (at-type-head.type_head-references.ensures at-start.requires.type).named.inside, at-start.requires.standing.size)
 
-name-at-requires : tie.Need-name-at-requires
+name-at-requires : tie.Need-name_at-name-requires
 name-at-requires c κs =
     let at-type-head = head_read c in
     let at-start = start at-type-head in
-    (at-type-head.type_head.ensures at-start.pre.type).named
+    (at-type-head.type_head-references.ensures at-start.requires.type).named
 
-select-array-owner-requires : tie.Need-select-array-owner-requires
+select-array-owner-requires : tie.Need-select_array_owner-owner-requires
 select-array-owner-requires c κs =
-    let at-name-at = c.before in
-    let at-else1 = at-name-at.before in
-    let at-read2 = at-else1.before in
-    let at-type-head = head_read at-else1 in
+    let at-type-head = head_read c.before.before.before in
     let at-start = start at-type-head in (
-      root_ready at-type-head.type_head.ensures at-start.pre at-read2.read2.ensures.0 at-else1.if1.false,
-      named_short (at-type-head.type_head.ensures at-start.pre.type).named at-name-at.name_at.ensures,
+      root_ready at-type-head.type_head-references.ensures at-start.requires c.read2.ensures.0 c.if-read2-eq0.false,
+      named_short (at-type-head.type_head-references.ensures at-start.requires.type).named c.name_at-name.ensures,
       refl,
     )
 
-build-array-node-with-prefix-requires : tie.Need-build-array-node-with-prefix-requires
+build-array-node-with-prefix-requires : tie.Need-build_array_node_with_prefix-requires
 build-array-node-with-prefix-requires c κs =
-    let at-select-array-owner = c.before.before in
-    let at-else1 = at-select-array-owner.before.before.before in
-    let at-type-head = head_read at-else1 in
+    let at-type-head = head_read c.before.before.before.before.before.before in
     let at-start = start at-type-head in
-    inside_ready at-start.pre at-select-array-owner.select_array_owner.ensures.0
+    inside_ready at-start.requires c.select_array_owner-owner.ensures.0
 
-returns-2 : tie.Need-returns-2
+returns-2 : tie.Need-returns
 returns-2 c =
-    let at-build-array-node-with-prefix = c.before.before.before.before in
-    let at-select-array-owner = at-build-array-node-with-prefix.before.before.before in
-    let at-name-at = at-select-array-owner.before.before in
-    let at-else1 = at-name-at.before in
-    let at-type-head = head_read at-else1 in (
-      at-build-array-node-with-prefix.build_array_node_with_prefix.ensures.0,
+    let at-type-head = head_read c.before.before.before.before.before.before.before.before.before.before.before in (
+      c.build_array_node_with_prefix.ensures.0,
       root_is
-          at-type-head.type_head.ensures _
-          at-name-at.name_at.ensures
-          at-select-array-owner.select_array_owner.ensures.1
-          at-build-array-node-with-prefix.build_array_node_with_prefix.ensures.1,
+          at-type-head.type_head-references.ensures _
+          c.name_at-name.ensures
+          c.select_array_owner-owner.ensures.1
+          c.build_array_node_with_prefix.ensures.1,
     )
 
-type-head-requires : tie.Need-type-head-requires
+type-head-requires : tie.Need-type_head-references-requires
 type-head-requires c κs = search rules
 
-slice-aggregate-select-array-owner : tie.Need-slice-aggregate-select-array-owner
-slice-aggregate-select-array-owner c = search rules
-
-same_length : tie.Need-same-length
+same_length : tie.Need-shape_of-words
 same_length c = search rules
 
-same-length-2 : tie.Need-same-length-2
+same-length-2 : tie.Need-shape_of-out
 same-length-2 c = search rules
 
 pub build_array_node_spec : {M : Type 1} → statement M
@@ -104,7 +90,6 @@ build_array_node_spec =
     returns
     add-name-at
     name-at-requires
-    slice-aggregate-select-array-owner
     select-array-owner-requires
     build-array-node-with-prefix-requires
     same_length

@@ -6,20 +6,18 @@ use Rattle.builder_arrays.proofs.open_array.Statement.{statement}
 use Rattle.builder_arrays.proofs.open_array.Tie as tie
 
 returns : tie.Need-returns
-returns c =
-    let at-open-node = c.before.before in
-    let at-open-align = at-open-node.before.before.before.before in (
-      opens _ _ at-open-align.open-align.ensures.1 at-open-align.open-align.ensures.0 at-open-node.open-node.ensures.0,
-      omega (arith, at-open-align.open-align.ensures.1, at-open-node.open-node.ensures.1),
+returns c = (
+      opens _ _ c.open_align-p.ensures.1 c.open_align-p.ensures.0 c.open_node.ensures.0,
+      omega (arith, c.open_align-p.ensures.1, c.open_node.ensures.1),
     )
 
-open-align-requires : tie.Need-open-align-requires
+open-align-requires : tie.Need-open_align-p-requires
 open-align-requires c κs = search rules
 
-open-node-requires : tie.Need-open-node-requires
+open-node-requires : tie.Need-open_node-requires
 open-node-requires c κs = search rules
 
-same_length : tie.Need-same-length
+same_length : tie.Need-shape_of-out
 same_length c = search rules
 
 pub open_array_spec : {M : Type 1} → statement M

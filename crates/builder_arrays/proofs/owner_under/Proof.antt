@@ -13,87 +13,80 @@ use Rattle.builder_arrays.proofs.owner_under.Tie as tie
 abbrev start : tie.After-get → tie.Start
 start r = r.before.before.before.before
 
-abbrev key-sought : tie.After-enum-told4 → tie.After-get
-key-sought r = r.before.before.before.before.before
+abbrev key-sought : tie.In-Missing-get → tie.After-get
+key-sought r = r.before.before.before
 
 -- there is a first owner, and its name
-first : (r : tie.After-enum-told4) → Named (start (key-sought r)).args.s.now ((start (key-sought r)).args.references + 6 + 2 + 6)
+first : (r : tie.In-Missing-get) → Named (start (key-sought r)).args.s.now ((start (key-sought r)).args.references + 6 + 2 + 6)
 first r = (first_is (start (key-sought r)).requires.0.owners (start (key-sought r)).requires.0.some_owner).0
 
-returns : tie.Need-returns
+returns : tie.Need-returns-in-At
 returns c =
-    let at-get = c.before.before in
-    let at-start = start at-get in
-    (at-start.pre.2, under_key _ at-get.get.ensures.0 c.enum_told.given.1)
+    let at-start = start c.before in
+    (at-start.requires.2, under_key _ c.get.ensures.0 c.in-At.is)
 
-returns-2 : tie.Need-returns-2
+returns-2 : tie.Need-returns-in-At-get
 returns-2 c =
-    let at-get2 = c.before.before in
-    let at-enum-told2 = at-get2.before in
-    let at-get = at-enum-told2.before.before in
-    let at-start = start at-get in (
-      at-start.pre.1,
+    let at-start = start c.before.before.before in (
+      at-start.requires.1,
       under_name _
-          at-get.get.ensures.0
-          at-enum-told2.enum-told2.given.1
-          at-get2.get2.ensures.0
-          c.enum-told3.given.1,
+          c.get.ensures.0
+          c.in-Missing.is
+          c.get-in-Missing.ensures.0
+          c.in-At-get.is,
     )
 
-add-name-at : tie.Need-overflow-add-name-at
+add-name-at : tie.Need-overflow_add-references
 add-name-at c =
     let at-get = key-sought c in
     let at-start = start at-get in
-    omega (arith, (first c).inside, at-start.pre.0.size)
+    omega (arith, (first c).inside, at-start.requires.0.size)
 
-add-name-at-2 : tie.Need-overflow-add-name-at-2
+add-name-at-2 : tie.Need-overflow_add-references-in-Missing-get
 add-name-at-2 c =
     let at-get = key-sought c in
     let at-start = start at-get in
-    omega (arith, (first c).inside, at-start.pre.0.size)
+    omega (arith, (first c).inside, at-start.requires.0.size)
 
-add-name-at-3 : tie.Need-overflow-add-name-at-3
+add-name-at-3 : tie.Need-overflow_add-references-in-Missing-get-2
 add-name-at-3 c =
     let at-get = key-sought c in
     let at-start = start at-get in
-    omega (arith, (first c).inside, at-start.pre.0.size)
+    omega (arith, (first c).inside, at-start.requires.0.size)
 
-name-at-requires : tie.Need-name-at-requires
+name-at-requires : tie.Need-name_at-requires
 name-at-requires c κs = first c
 
-returns-3 : tie.Need-returns-3
+returns-3 : tie.Need-returns-in-Missing-get
 returns-3 c =
-    let at-enum-told4 = c.before in
-    let at-get2 = at-enum-told4.before.before in
-    let at-enum-told2 = at-get2.before in
-    let at-get = key-sought at-enum-told4 in
+    let at-get = key-sought c.before in
     let at-start = start at-get in (
-      named_short (first at-enum-told4) c.name_at.ensures,
+      named_short (first c.before) c.name_at.ensures,
       under_first _
           at-get.get.ensures.0
-          at-enum-told2.enum-told2.given.1
-          at-get2.get2.ensures.0
-          at-enum-told4.enum-told4.given.1
-          at-start.pre.0.some_owner
+          c.in-Missing.is
+          c.get-in-Missing.ensures.0
+          c.in-Missing-get.is
+          at-start.requires.0.some_owner
           c.name_at.ensures,
     )
 
 get-requires : tie.Need-get-requires
 get-requires c κs = search rules
 
-enum_told : tie.Need-enum-told
+enum_told : tie.Need-enum_told-1
 enum_told c = search rules
 
-enum-told-2 : tie.Need-enum-told-2
+enum-told-2 : tie.Need-enum_told-in-Missing
 enum-told-2 c = search rules
 
-get-requires-2 : tie.Need-get-requires-2
+get-requires-2 : tie.Need-get-requires-in-Missing
 get-requires-2 c κs = search rules
 
-enum-told-3 : tie.Need-enum-told-3
+enum-told-3 : tie.Need-enum_told-in-At-get
 enum-told-3 c = search rules
 
-enum-told-4 : tie.Need-enum-told-4
+enum-told-4 : tie.Need-enum_told-in-Missing-get
 enum-told-4 c = search rules
 
 pub owner_under_spec : {M : Type 1} → statement M

@@ -8,77 +8,65 @@ use Rattle.builder_arrays.proofs.select_array_owner.Statement.{statement}
 use Rattle.builder_arrays.proofs.select_array_owner.Tie as tie
 
 -- The places, each seen from a later one: what was known there.
-abbrev start : tie.After-last-colons → tie.Start
+abbrev start : tie.After-last_colons → tie.Start
 start r = r.before.before.before.before
 
-add-behind : tie.Need-overflow-add-behind
+add-behind : tie.Need-overflow_add-behind
 add-behind c =
-    let at_i = c.before in
-    let at-last-colons = at_i.before.before in
-    let at-start = start at-last-colons in
-    omega (arith, behind_fits _ at-last-colons.last-colons.ensures.1 at_i.i.given.1, at-start.pre.1)
+    let at-start = start c.before in
+    omega (arith, behind_fits _ c.last_colons.ensures.1 c.in-At.is, at-start.requires.1)
 
-sub-owner-under : tie.Need-overflow-sub-owner-under
+sub-owner-under : tie.Need-slice_bounds-owner_under-count
 sub-owner-under c =
-    let at_i = c.before in
-    let at-last-colons = at_i.before.before in
-    omega (arith, behind_fits _ at-last-colons.last-colons.ensures.1 at_i.i.given.1)
+    omega (arith, behind_fits _ c.last_colons.ensures.1 c.in-At.is)
 
-part-owner-under-start : tie.Need-slice-bounds-owner-under-start
+part-owner-under-start : tie.Need-slice_bounds-owner_under-start
 part-owner-under-start c =
-    let at_i = c.before in
-    let at-last-colons = at_i.before.before in
-    omega (arith, behind_fits _ at-last-colons.last-colons.ensures.1 at_i.i.given.1)
+    omega (arith, behind_fits _ c.last_colons.ensures.1 c.in-At.is)
 
-owner-under-requires : tie.Need-owner-under-requires
+owner-under-requires : tie.Need-owner_under-requires
 owner-under-requires c κs =
-    let at-last-colons = c.before.before.before.before in
-    let at-start = start at-last-colons in (
-      at-start.pre.0,
-      at-start.pre.1,
-      simp (length-take, length-drop) (omega (arith, at-start.pre.1)),
+    let at-start = start c.before.before in (
+      at-start.requires.0,
+      at-start.requires.1,
+      simp (length-take, length-drop) (omega (arith, at-start.requires.1)),
     )
 
-owner-under-requires-2 : tie.Need-owner-under-requires-2
+owner-under-requires-2 : tie.Need-owner_under-requires-in-Missing
 owner-under-requires-2 c κs =
-    let at-last-colons = c.before.before in
-    let at-start = start at-last-colons in
-    (at-start.pre.0, at-start.pre.1, array_short at-start.pre.2)
+    let at-start = start c.before in
+    (at-start.requires.0, at-start.requires.1, array_short at-start.requires.2)
 
-returns : tie.Need-returns
+returns : tie.Need-returns-in-At
 returns c =
-    let at_i = c.before.before.before in
-    let at-last-colons = at_i.before.before in
-    let at-start = start at-last-colons in (
+    let at-start = start c.before.before.before in (
       c.owner_under.ensures.0,
       selects
-          at-start.pre.0.some_owner
-          (key_behind _ at-last-colons.last-colons.ensures.1 at_i.i.given.1)
+          at-start.requires.0.some_owner
+          (key_behind _ c.last_colons.ensures.1 c.in-At.is)
           c.owner_under.ensures.1,
     )
 
-returns-2 : tie.Need-returns-2
+returns-2 : tie.Need-returns-in-Missing
 returns-2 c =
-    let at-enum-told = c.before in
-    let at-last-colons = at-enum-told.before.before in
-    let at-start = start at-last-colons in (
-      c.owner-under2.ensures.0,
+    let at-start = start c.before.before in (
+      c.owner_under-in-Missing.ensures.0,
       selects
-          at-start.pre.0.some_owner
-          (key_array _ at-last-colons.last-colons.ensures.1 at-enum-told.enum_told.given.1 ∙ sym at-start.pre.2)
-          c.owner-under2.ensures.1,
+          at-start.requires.0.some_owner
+          (key_array _ c.last_colons.ensures.1 c.in-Missing.is ∙ sym at-start.requires.2)
+          c.owner_under-in-Missing.ensures.1,
     )
 
-last-colons-requires : tie.Need-last-colons-requires
+last-colons-requires : tie.Need-last_colons-requires
 last-colons-requires c κs = search rules
 
-enum-known-i : tie.Need-enum-known-i
+enum-known-i : tie.Need-enum_known-i
 enum-known-i c = search rules
 
-part-owner-under-end : tie.Need-slice-bounds-owner-under-end
+part-owner-under-end : tie.Need-slice_bounds-owner_under-end
 part-owner-under-end c = search rules
 
-enum_told : tie.Need-enum-told
+enum_told : tie.Need-enum_told-1
 enum_told c = search rules
 
 pub select_array_owner_spec : {M : Type 1} → statement M

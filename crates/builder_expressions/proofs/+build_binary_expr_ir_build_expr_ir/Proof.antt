@@ -78,249 +78,221 @@ expr-calls t = (
 -- ---- two operands
 
 -- The places, each seen from a later one: what was known there.
-abbrev binary-start : {t : ℕ} → binary-walk.After-open-node (binary-calls t) (binary-at t) binary.Post → binary-walk.Start (binary-calls t) (binary-at t) binary.Post
+abbrev binary-start : {t : ℕ} → binary-walk.After-open_node-p (binary-calls t) (binary-at t) binary.Post → binary-walk.Start (binary-calls t) (binary-at t) binary.Post
 binary-start r = r.before.before.before.before.before.before.before.before
 
-abbrev binary-opened : {t : ℕ} → binary-walk.After-build-expr-ir (binary-calls t) (binary-at t) binary.Post → binary-walk.After-open-node (binary-calls t) (binary-at t) binary.Post
+abbrev binary-opened : {t : ℕ} → binary-walk.After-build_expr_ir-left (binary-calls t) (binary-at t) binary.Post → binary-walk.After-open_node-p (binary-calls t) (binary-at t) binary.Post
 binary-opened r = r.before.before.before.before
 
-abbrev binary-left : {t : ℕ} → binary-walk.After-read4 (binary-calls t) (binary-at t) binary.Post → binary-walk.After-build-expr-ir (binary-calls t) (binary-at t) binary.Post
+abbrev binary-left : {t : ℕ} → binary-walk.After-read4 (binary-calls t) (binary-at t) binary.Post → binary-walk.After-build_expr_ir-left (binary-calls t) (binary-at t) binary.Post
 binary-left r = r.before.before.before.before.before.before
 
-abbrev binary-behind : {t : ℕ} → binary-walk.After-build-expr-ir2 (binary-calls t) (binary-at t) binary.Post → binary-walk.After-read4 (binary-calls t) (binary-at t) binary.Post
+abbrev binary-behind : {t : ℕ} → binary-walk.After-build_expr_ir-right (binary-calls t) (binary-at t) binary.Post → binary-walk.After-read4 (binary-calls t) (binary-at t) binary.Post
 binary-behind r = r.before.before
 
-binary-add-first : (t : ℕ) → binary-walk.Need-add-first (binary-calls t) (binary-at t) binary.Post
+binary-add-first : (t : ℕ) → binary-walk.Need-overflow_add-first (binary-calls t) (binary-at t) binary.Post
 binary-add-first t c =
-    let at-start = c.before.before.before.before.before in
-    omega (arith, header_inside at-start.requires.1.0.expression, at-start.requires.1.0.standing.size)
+    omega (arith, header_inside c.requires.1.0.expression, c.requires.1.0.standing.size)
 
-binary-default-alignment-requires : (t : ℕ) → binary-walk.Need-default-alignment-requires (binary-calls t) (binary-at t) binary.Post
+binary-default-alignment-requires : (t : ℕ) → binary-walk.Need-default_alignment-requires (binary-calls t) (binary-at t) binary.Post
 binary-default-alignment-requires t c κs = search rules
 
-binary-open-node-requires : (t : ℕ) → binary-walk.Need-open-node-requires (binary-calls t) (binary-at t) binary.Post
+binary-open-node-requires : (t : ℕ) → binary-walk.Need-open_node-p-requires (binary-calls t) (binary-at t) binary.Post
 binary-open-node-requires t c κs = search rules
 
-binary-build-expr-ir-requires : (t : ℕ) → binary-walk.Need-build-expr-ir-requires (binary-calls t) (binary-at t) binary.Post
+binary-build-expr-ir-requires : (t : ℕ) → binary-walk.Need-build_expr_ir-left-requires (binary-calls t) (binary-at t) binary.Post
 binary-build-expr-ir-requires t c κs =
-    let at-open-node = c.before.before.before in
-    let at-start = binary-start at-open-node in
-    let ready = left_ready at-start.pre.1.0 at-start.pre.1.1 at-open-node.open-node.ensures.1 in
-    (omega (arith, at-start.pre.0, ready.0), ready.1)
+    let at-start = binary-start c.before.before.before in
+    let ready = left_ready at-start.requires.1.0 at-start.requires.1.1 c.open_node-p.ensures.1 in
+    (omega (arith, at-start.requires.0, ready.0), ready.1)
 
-binary-same-length : (t : ℕ) → binary-walk.Need-same-length (binary-calls t) (binary-at t) binary.Post
+binary-same-length : (t : ℕ) → binary-walk.Need-shape_of-out-then-left-ne0 (binary-calls t) (binary-at t) binary.Post
 binary-same-length t c = search rules
 
-binary-returns : (t : ℕ) → binary-walk.Need-returns (binary-calls t) (binary-at t) binary.Post
+binary-returns : (t : ℕ) → binary-walk.Need-returns-then-left-ne0 (binary-calls t) (binary-at t) binary.Post
 binary-returns t c =
-    let at-build-expr-ir = c.before.before.before.before in
-    let at-open-node = binary-opened at-build-expr-ir in
+    let at-open-node = binary-opened c.before.before.before.before in
     let at-start = binary-start at-open-node in (
-      stopped at-start.pre.1.0.standing.count,
-      left_stops _ _ _ _ at-start.pre.1.1 at-build-expr-ir.build_expr_ir.ensures.1 c.if1.true,
+      stopped at-start.requires.1.0.standing.count,
+      left_stops _ _ _ _ at-start.requires.1.1 c.build_expr_ir-left.ensures.1 c.if-left-ne0.true,
     )
 
-binary-add-second : (t : ℕ) → binary-walk.Need-add-second (binary-calls t) (binary-at t) binary.Post
+binary-add-second : (t : ℕ) → binary-walk.Need-overflow_add-second (binary-calls t) (binary-at t) binary.Post
 binary-add-second t c =
-    let at-build-expr-ir = c.before.before.before.before.before in
-    let at-open-node = binary-opened at-build-expr-ir in
+    let at-open-node = binary-opened c.before.before.before.before.before in
     let at-start = binary-start at-open-node in
-    omega (arith, header_inside at-start.pre.1.0.expression, at-start.pre.1.0.standing.size)
+    omega (arith, header_inside at-start.requires.1.0.expression, at-start.requires.1.0.standing.size)
 
 binary-read4-requires : (t : ℕ) → binary-walk.Need-read4-requires (binary-calls t) (binary-at t) binary.Post
 binary-read4-requires t c κs =
-    let at-build-expr-ir = c.before.before.before.before.before in
-    let at-open-node = binary-opened at-build-expr-ir in
+    let at-open-node = binary-opened c.before.before.before.before.before in
     let at-start = binary-start at-open-node in
-    let ready = left_ready at-start.pre.1.0 at-start.pre.1.1 at-open-node.open-node.ensures.1 in
+    let ready = left_ready at-start.requires.1.0 at-start.requires.1.1 at-open-node.open_node-p.ensures.1 in
     omega (arith, header_inside ready.1.expression)
 
-binary-add-second-2 : (t : ℕ) → binary-walk.Need-add-second-2 (binary-calls t) (binary-at t) binary.Post
+binary-add-second-2 : (t : ℕ) → binary-walk.Need-overflow_add-second-2 (binary-calls t) (binary-at t) binary.Post
 binary-add-second-2 t c =
     let at-build-expr-ir = binary-left c in
     let at-open-node = binary-opened at-build-expr-ir in
     let at-start = binary-start at-open-node in
-    omega (arith, header_inside at-start.pre.1.0.expression, at-start.pre.1.0.standing.size, c.read4.ensures.1)
+    omega (arith, header_inside at-start.requires.1.0.expression, at-start.requires.1.0.standing.size, c.read4.ensures.1)
 
-binary-build-expr-ir-requires-2 : (t : ℕ) → binary-walk.Need-build-expr-ir-requires-2 (binary-calls t) (binary-at t) binary.Post
+binary-build-expr-ir-requires-2 : (t : ℕ) → binary-walk.Need-build_expr_ir-right-requires (binary-calls t) (binary-at t) binary.Post
 binary-build-expr-ir-requires-2 t c κs =
-    let at-read4 = c.before in
-    let at-else1 = at-read4.before.before in
-    let at-build-expr-ir = binary-left at-read4 in
+    let at-build-expr-ir = binary-left c.before in
     let at-open-node = binary-opened at-build-expr-ir in
     let at-start = binary-start at-open-node in
-    let left = (left_ready at-start.pre.1.0 at-start.pre.1.1 at-open-node.open-node.ensures.1).1 in
+    let left = (left_ready at-start.requires.1.0 at-start.requires.1.1 at-open-node.open_node-p.ensures.1).1 in
     let ready =
     right_ready
-    at-start.pre.1.0
-    at-start.pre.1.1
-    at-open-node.open-node.ensures.1
-    at-build-expr-ir.build_expr_ir.ensures.0
-    (summed _ at-read4.read4.ensures.0)
-    (builds_index at-else1.if1.false (at-build-expr-ir.build_expr_ir.ensures.1 left.expression)) in
-    (omega (arith, at-start.pre.0, ready.0), ready.1)
+    at-start.requires.1.0
+    at-start.requires.1.1
+    at-open-node.open_node-p.ensures.1
+    at-build-expr-ir.build_expr_ir-left.ensures.0
+    (summed _ c.read4.ensures.0)
+    (builds_index c.if-left-ne0.false (at-build-expr-ir.build_expr_ir-left.ensures.1 left.expression)) in
+    (omega (arith, at-start.requires.0, ready.0), ready.1)
 
-binary-same-length-2 : (t : ℕ) → binary-walk.Need-same-length-2 (binary-calls t) (binary-at t) binary.Post
+binary-same-length-2 : (t : ℕ) → binary-walk.Need-shape_of-out-then-right-ne0 (binary-calls t) (binary-at t) binary.Post
 binary-same-length-2 t c = search rules
 
-binary-returns-2 : (t : ℕ) → binary-walk.Need-returns-2 (binary-calls t) (binary-at t) binary.Post
+binary-returns-2 : (t : ℕ) → binary-walk.Need-returns-then-right-ne0 (binary-calls t) (binary-at t) binary.Post
 binary-returns-2 t c =
-    let at-build-expr-ir2 = c.before.before.before.before in
-    let at-read4 = binary-behind at-build-expr-ir2 in
-    let at-else1 = at-read4.before.before in
+    let at-read4 = binary-behind c.before.before.before.before in
     let at-build-expr-ir = binary-left at-read4 in
     let at-open-node = binary-opened at-build-expr-ir in
     let at-start = binary-start at-open-node in (
-      stopped at-start.pre.1.0.standing.count,
+      stopped at-start.requires.1.0.standing.count,
       right_stops _ _ _ _
-          at-start.pre.1.1
-          at-build-expr-ir.build_expr_ir.ensures.1
-          at-else1.if1.left
+          at-start.requires.1.1
+          at-build-expr-ir.build_expr_ir-left.ensures.1
+          at-read4.if-left-ne0.false
           (summed _ at-read4.read4.ensures.0)
-          at-build-expr-ir2.build-expr-ir2.ensures.1
-          c.if2.true,
+          c.build_expr_ir-right.ensures.1
+          c.if-right-ne0.true,
     )
 
-binary-close-block-requires : (t : ℕ) → binary-walk.Need-close-block-requires (binary-calls t) (binary-at t) binary.Post
+binary-close-block-requires : (t : ℕ) → binary-walk.Need-close_block-requires (binary-calls t) (binary-at t) binary.Post
 binary-close-block-requires t c κs =
-    let at-build-expr-ir2 = c.before.before.before.before.before in
-    let at-read4 = binary-behind at-build-expr-ir2 in
+    let at-read4 = binary-behind c.before.before.before.before.before in
     let at-build-expr-ir = binary-left at-read4 in
     let at-open-node = binary-opened at-build-expr-ir in
     let at-start = binary-start at-open-node in
     let ends =
     both_within
-    at-start.pre.1.0
-    at-start.pre.1.1
-    at-open-node.open-node.ensures.1
-    at-build-expr-ir.build_expr_ir.ensures.0
+    at-start.requires.1.0
+    at-start.requires.1.1
+    at-open-node.open_node-p.ensures.1
+    at-build-expr-ir.build_expr_ir-left.ensures.0
     (summed _ at-read4.read4.ensures.0)
-    at-build-expr-ir2.build-expr-ir2.ensures.0 in
+    c.build_expr_ir-right.ensures.0 in
     (ends.0, ends.1)
 
-binary-same-length-3 : (t : ℕ) → binary-walk.Need-same-length-3 (binary-calls t) (binary-at t) binary.Post
+binary-same-length-3 : (t : ℕ) → binary-walk.Need-shape_of-out (binary-calls t) (binary-at t) binary.Post
 binary-same-length-3 t c = search rules
 
-binary-returns-3 : (t : ℕ) → binary-walk.Need-returns-3 (binary-calls t) (binary-at t) binary.Post
+binary-returns-3 : (t : ℕ) → binary-walk.Need-returns (binary-calls t) (binary-at t) binary.Post
 binary-returns-3 t c =
-    let at-close-block = c.before.before in
-    let at-else2 = at-close-block.before.before in
-    let at-build-expr-ir2 = at-else2.before.before.before.before in
-    let at-read4 = binary-behind at-build-expr-ir2 in
-    let at-else1 = at-read4.before.before in
+    let at-read4 = binary-behind c.before.before.before.before.before.before.before.before in
     let at-build-expr-ir = binary-left at-read4 in
     let at-open-node = binary-opened at-build-expr-ir in
-    let at-default-alignment = at-open-node.before in
     let at-start = binary-start at-open-node in (
       (both_within
-          at-start.pre.1.0
-          at-start.pre.1.1
-          at-open-node.open-node.ensures.1
-          at-build-expr-ir.build_expr_ir.ensures.0
+          at-start.requires.1.0
+          at-start.requires.1.1
+          at-open-node.open_node-p.ensures.1
+          at-build-expr-ir.build_expr_ir-left.ensures.0
           (summed _ at-read4.read4.ensures.0)
-          at-build-expr-ir2.build-expr-ir2.ensures.0).2,
+          c.build_expr_ir-right.ensures.0).2,
       both_made _ _ _ _
-          at-start.pre.1.1
-          at-build-expr-ir.build_expr_ir.ensures.1
-          at-else1.if1.left
+          at-start.requires.1.1
+          at-build-expr-ir.build_expr_ir-left.ensures.1
+          at-read4.if-left-ne0.false
           (summed _ at-read4.read4.ensures.0)
-          at-build-expr-ir2.build-expr-ir2.ensures.1
-          at-else2.if2.false
-          at-default-alignment.default_alignment.ensures
-          at-open-node.open-node.ensures.0
-          at-close-block.close_block.ensures.0,
+          c.build_expr_ir-right.ensures.1
+          c.if-right-ne0.false
+          at-open-node.default_alignment.ensures
+          at-open-node.open_node-p.ensures.0
+          c.close_block.ensures.0,
     )
 
 -- ---- any expression
 
-abbrev expr-start : {t : ℕ} → expr-walk.After-read2 (expr-calls t) (expr-at t) expr.Post → expr-walk.Start (expr-calls t) (expr-at t) expr.Post
+abbrev expr-start : {t : ℕ} → expr-walk.After-read2-k (expr-calls t) (expr-at t) expr.Post → expr-walk.Start (expr-calls t) (expr-at t) expr.Post
 expr-start r = r.before.before.before.before.before
 
-expr-add-read2 : (t : ℕ) → expr-walk.Need-add-read2 (expr-calls t) (expr-at t) expr.Post
+expr-add-read2 : (t : ℕ) → expr-walk.Need-overflow_add-offset (expr-calls t) (expr-at t) expr.Post
 expr-add-read2 t c =
-    let at-start = c.before.before.before.before in
-    omega (arith, header_inside at-start.requires.1.expression, at-start.requires.1.standing.size)
+    omega (arith, header_inside c.requires.1.expression, c.requires.1.standing.size)
 
-expr-read2-requires : (t : ℕ) → expr-walk.Need-read2-requires (expr-calls t) (expr-at t) expr.Post
+expr-read2-requires : (t : ℕ) → expr-walk.Need-read2-k-requires (expr-calls t) (expr-at t) expr.Post
 expr-read2-requires t c κs =
-    let at-start = c.before.before.before.before in
-    omega (arith, header_inside at-start.requires.1.expression)
+    omega (arith, header_inside c.requires.1.expression)
 
-expr-build-literal-requires : (t : ℕ) → expr-walk.Need-build-literal-requires (expr-calls t) (expr-at t) expr.Post
+expr-build-literal-requires : (t : ℕ) → expr-walk.Need-build_literal-requires (expr-calls t) (expr-at t) expr.Post
 expr-build-literal-requires t c κs = search rules
 
-expr-same-length : (t : ℕ) → expr-walk.Need-same-length (expr-calls t) (expr-at t) expr.Post
+expr-same-length : (t : ℕ) → expr-walk.Need-shape_of-out-then-k-eq64 (expr-calls t) (expr-at t) expr.Post
 expr-same-length t c = search rules
 
-expr-returns : (t : ℕ) → expr-walk.Need-returns (expr-calls t) (expr-at t) expr.Post
+expr-returns : (t : ℕ) → expr-walk.Need-returns-then-k-eq64 (expr-calls t) (expr-at t) expr.Post
 expr-returns t c =
-    let at-build-literal = c.before.before in
-    let at-read2 = at-build-literal.before.before.before in
-    let at-start = expr-start at-read2 in (
-      widened (omega arith) at-build-literal.build-literal.ensures.0,
-      at-build-literal.build-literal.ensures.1 _ _ _ at-start.pre.1.standing.index,
+    let at-start = expr-start c.before.before.before.before.before in (
+      widened (omega arith) c.build_literal.ensures.0,
+      c.build_literal.ensures.1 _ _ _ at-start.requires.1.standing.index,
     )
 
-expr-build-field-ref-requires : (t : ℕ) → expr-walk.Need-build-field-ref-requires (expr-calls t) (expr-at t) expr.Post
+expr-build-field-ref-requires : (t : ℕ) → expr-walk.Need-build_field_ref-requires (expr-calls t) (expr-at t) expr.Post
 expr-build-field-ref-requires t c κs = search rules
 
-expr-same-length-2 : (t : ℕ) → expr-walk.Need-same-length-2 (expr-calls t) (expr-at t) expr.Post
+expr-same-length-2 : (t : ℕ) → expr-walk.Need-shape_of-out-then-k-eq65 (expr-calls t) (expr-at t) expr.Post
 expr-same-length-2 t c = search rules
 
-expr-returns-2 : (t : ℕ) → expr-walk.Need-returns-2 (expr-calls t) (expr-at t) expr.Post
-expr-returns-2 t c =
-    let at-build-field-ref = c.before.before in (
-      widened (omega arith) at-build-field-ref.build-field-ref.ensures.0,
-      at-build-field-ref.build-field-ref.ensures.1,
+expr-returns-2 : (t : ℕ) → expr-walk.Need-returns-then-k-eq65 (expr-calls t) (expr-at t) expr.Post
+expr-returns-2 t c = (
+      widened (omega arith) c.build_field_ref.ensures.0,
+      c.build_field_ref.ensures.1,
     )
 
-expr-operation-kind-requires : (t : ℕ) → expr-walk.Need-operation-kind-requires (expr-calls t) (expr-at t) expr.Post
+expr-operation-kind-requires : (t : ℕ) → expr-walk.Need-operation_kind-kind-requires (expr-calls t) (expr-at t) expr.Post
 expr-operation-kind-requires t c κs = search rules
 
-expr-returns-3 : (t : ℕ) → expr-walk.Need-returns-3 (expr-calls t) (expr-at t) expr.Post
+expr-returns-3 : (t : ℕ) → expr-walk.Need-returns-then-kind-eq0 (expr-calls t) (expr-at t) expr.Post
 expr-returns-3 t c =
-    let at-operation-kind = c.before in
-    let at-else2 = at-operation-kind.before in
-    let at-else1 = at-else2.before in
-    let at-read2 = at-else1.before in
-    let at-start = expr-start at-read2 in (
-      stopped at-start.pre.1.standing.count,
+    let at-start = expr-start c.before.before.before.before in (
+      stopped at-start.requires.1.standing.count,
       other_stops _ _ _
-          at-read2.read2.ensures.0
-          at-else1.if1.false
-          at-else2.if2.false
-          c.if3.true
-          at-operation-kind.operation-kind.ensures,
+          c.read2-k.ensures.0
+          c.if-k-eq64.false
+          c.if-k-eq65.false
+          c.if-kind-eq0.true
+          c.operation_kind-kind.ensures,
     )
 
-expr-build-binary-expr-ir-requires : (t : ℕ) → expr-walk.Need-build-binary-expr-ir-requires (expr-calls t) (expr-at t) expr.Post
+expr-build-binary-expr-ir-requires : (t : ℕ) → expr-walk.Need-build_binary_expr_ir-requires (expr-calls t) (expr-at t) expr.Post
 expr-build-binary-expr-ir-requires t c κs =
-    let at-else3 = c.before in
-    let at-operation-kind = at-else3.before in
-    let at-read2 = at-operation-kind.before.before.before in
-    let at-start = expr-start at-read2 in (
-      omega (arith, at-start.pre.0),
+    let at-start = expr-start c.before.before.before.before.before in (
+      omega (arith, at-start.requires.0),
       (
-        at-start.pre.1,
+        at-start.requires.1,
         is_operation
-            at-read2.read2.ensures.0
-            at-else3.if3.false
-            at-operation-kind.operation-kind.ensures,
+            c.read2-k.ensures.0
+            c.if-kind-eq0.false
+            c.operation_kind-kind.ensures,
       ),
     )
 
-expr-same-length-3 : (t : ℕ) → expr-walk.Need-same-length-3 (expr-calls t) (expr-at t) expr.Post
+expr-same-length-3 : (t : ℕ) → expr-walk.Need-shape_of-out (expr-calls t) (expr-at t) expr.Post
 expr-same-length-3 t c = search rules
 
-expr-returns-4 : (t : ℕ) → expr-walk.Need-returns-4 (expr-calls t) (expr-at t) expr.Post
-expr-returns-4 t c =
-    let at-build-binary-expr-ir = c.before.before in (
-      at-build-binary-expr-ir.build-binary-expr-ir.ensures.0,
-      at-build-binary-expr-ir.build-binary-expr-ir.ensures.1,
+expr-returns-4 : (t : ℕ) → expr-walk.Need-returns (expr-calls t) (expr-at t) expr.Post
+expr-returns-4 t c = (
+      c.build_binary_expr_ir.ensures.0,
+      c.build_binary_expr_ir.ensures.1,
     )
 
-pub +build-binary-expr-ir-build-expr-ir-spec : {M : Type 1} → statement M
-+build-binary-expr-ir-build-expr-ir-spec =
+pub +build_binary_expr_ir_build_expr_ir_spec : {M : Type 1} → statement M
++build_binary_expr_ir_build_expr_ir_spec =
     close μ-binary μ-expr
     (λ t. binary-walk.spec (binary-calls t) (binary-at t) binary.Post (binary-add-first t)
     (binary-default-alignment-requires t) (binary-open-node-requires t) (binary-build-expr-ir-requires t)

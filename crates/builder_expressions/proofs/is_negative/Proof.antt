@@ -6,32 +6,29 @@ use Rattle.builder_expressions.proofs.is_negative.Statement.{statement}
 use Rattle.builder_expressions.proofs.is_negative.Tie as tie
 
 -- The places, each seen from a later one: what was known there.
-abbrev at-start : tie.Else1 → tie.Start
+abbrev at-start : tie.Else-s-code-lt4 → tie.Start
 at-start r = r.before.before.before
 
-add-code : tie.Need-overflow-add-code
-add-code c = omega (arith, (literal_at c.before.requires.0 c.before.requires.1).inside)
+add-code : tie.Need-overflow_add-code
+add-code c = omega (arith, (literal_at c.requires.0 c.requires.1).inside)
 
-shared-slice-read-if1 : tie.Need-shared-slice-read-if1
+shared-slice-read-if1 : tie.Need-bounds-s-code
 shared-slice-read-if1 c =
-    let at-start = c.before.before in
-    omega (arith, (literal_at at-start.requires.0 at-start.requires.1).inside)
+    omega (arith, (literal_at c.requires.0 c.requires.1).inside)
 
-returns : tie.Need-returns
+returns : tie.Need-returns-then-s-code-lt4
 returns c =
-    let at-start = c.before.before.before in
-    is_unsigned at-start.requires.1 c.if1.true
+    is_unsigned c.requires.1 c.if-s-code-lt4.true
 
-add-read8 : tie.Need-overflow-add-read8
+add-read8 : tie.Need-overflow_add-expr
 add-read8 c = omega (arith, (literal_at (at-start c).requires.0 (at-start c).requires.1).inside)
 
 read8-requires : tie.Need-read8-requires
 read8-requires c κs = omega (arith, (literal_at (at-start c).requires.0 (at-start c).requires.1).inside)
 
-returns-2 : tie.Need-returns-2
+returns-2 : tie.Need-returns
 returns-2 c =
-    let at-else1 = c.before in
-    is_signed (at-start at-else1).requires.1 at-else1.if1.false c.read8.ensures
+    is_signed (at-start c.before).requires.1 c.if-s-code-lt4.false c.read8.ensures
 
 pub is_negative_spec : {M : Type 1} → statement M
 is_negative_spec =

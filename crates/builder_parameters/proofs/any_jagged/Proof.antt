@@ -7,110 +7,91 @@ use native.Mathlib.Omega.{arith}
 use Rattle.builder_parameters.proofs.any_jagged.Statement.{statement}
 use Rattle.builder_parameters.proofs.any_jagged.Tie as tie
 
-abbrev invariant-loop : tie.invariant-loop
+abbrev invariant-loop : tie.invariant-loop-left
 invariant-loop s kind left₀ at₀ left at = Search (λ n. Unit) s left₀ at₀ left at
 
-abbrev decreases-loop : tie.decreases-loop
+abbrev decreases-loop : tie.decreases-loop-left
 decreases-loop s kind left₀ at₀ left at = left
 
-add-read2 : tie.Need-overflow-add-read2 invariant-loop decreases-loop
-add-read2 c = omega (arith, inside c.before.requires)
+add-read2 : tie.Need-overflow_add-kind invariant-loop decreases-loop
+add-read2 c = omega (arith, inside c.requires)
 
 read2-requires : tie.Need-read2-requires invariant-loop decreases-loop
-read2-requires c κs = omega (arith, inside c.before.requires, long c.before.requires)
+read2-requires c κs = omega (arith, inside c.requires, long c.requires)
 
-returns : tie.Need-returns invariant-loop decreases-loop
-returns c = no_struct c.before.read2.ensures.0 c.if1.true
+returns : tie.Need-returns-then-read2-ne2 invariant-loop decreases-loop
+returns c = no_struct c.read2.ensures.0 c.if-read2-ne2.true
 
-field-list-requires : tie.Need-field-list-requires invariant-loop decreases-loop
-field-list-requires c κs =
-    let at-start = c.before.before.before in (
-      at-start.requires,
+field-list-requires : tie.Need-field_list-list-requires invariant-loop decreases-loop
+field-list-requires c κs = (
+      c.requires,
       (
-        omega (arith, c.before.read2.ensures.0, c.if1.false),
-        omega (arith, c.before.read2.ensures.0, c.if1.false),
+        omega (arith, c.read2.ensures.0, c.if-read2-ne2.false),
+        omega (arith, c.read2.ensures.0, c.if-read2-ne2.false),
       ),
     )
 
-loop-holds : tie.Need-loop-init invariant-loop decreases-loop
+loop-holds : tie.Need-loop-left-init invariant-loop decreases-loop
 loop-holds c =
-    let at-start = c.before.before.before.before in
-    begin (c.field-list.ensures at-start.requires) _
+    begin (c.field_list-list.ensures c.requires) _
 
-field-parts-requires : tie.Need-field-parts-requires invariant-loop decreases-loop
-field-parts-requires c κs = next_field c.loop-test.true c.before.loop.invariant
+field-parts-requires : tie.Need-field_parts-field-requires invariant-loop decreases-loop
+field-parts-requires c κs = next_field c.loop-left-test.true c.loop-left.invariant
 
-is-jagged-requires : tie.Need-is-jagged-requires invariant-loop decreases-loop
+is-jagged-requires : tie.Need-is_jagged-requires invariant-loop decreases-loop
 is-jagged-requires c κs =
-    (c.field-parts.ensures
-    (next_field c.before.loop-test.true c.before.before.loop.invariant)).type
+    (c.field_parts-field.ensures
+    (next_field c.loop-left-test.true c.loop-left.invariant)).type
 
-returns-2 : tie.Need-returns-2 invariant-loop decreases-loop
+returns-2 : tie.Need-returns-then-is_jagged invariant-loop decreases-loop
 returns-2 c =
-    let at-else1 = c.before.before.before.before.before.before in
-    let at-read2 = at-else1.before in
-    one_jagged at-read2.read2.ensures.0 at-else1.if1.false
+    one_jagged c.read2.ensures.0 c.if-read2-ne2.false
 
-add_at : tie.Need-overflow-add-at invariant-loop decreases-loop
+add_at : tie.Need-overflow_add-at invariant-loop decreases-loop
 add_at c =
-    let in-loop = c.before.before.before in
-    let at-loop = in-loop.before in
-    omega (arith, inside (next_field in-loop.loop-test.true at-loop.loop.invariant))
+    omega (arith, inside (next_field c.loop-left-test.true c.loop-left.invariant))
 
 read4-requires : tie.Need-read4-requires invariant-loop decreases-loop
 read4-requires c κs =
-    let in-loop = c.before.before.before in
-    let at-loop = in-loop.before in
-    omega (arith, inside (next_field in-loop.loop-test.true at-loop.loop.invariant))
+    omega (arith, inside (next_field c.loop-left-test.true c.loop-left.invariant))
 
-add-at-2 : tie.Need-overflow-add-at-2 invariant-loop decreases-loop
+add-at-2 : tie.Need-overflow_add-at-in-loop-left invariant-loop decreases-loop
 add-at-2 c =
-    let in-loop = c.before.before.before.before in
-    let at-loop = in-loop.before in
     omega (
       arith,
-      inside (next_field in-loop.loop-test.true at-loop.loop.invariant),
+      inside (next_field c.loop-left-test.true c.loop-left.invariant),
       c.read4.ensures.0,
     )
 
-sub-left : tie.Need-overflow-sub-left invariant-loop decreases-loop
+sub-left : tie.Need-overflow_sub-left invariant-loop decreases-loop
 sub-left c =
-    let in-loop = c.before.before.before.before in
-    omega (arith, in-loop.loop-test.true)
+    omega (arith, c.loop-left-test.true)
 
-loop-less : tie.Need-loop-smaller invariant-loop decreases-loop
+loop-less : tie.Need-loop-left-smaller invariant-loop decreases-loop
 loop-less c =
-    let in-loop = c.before.before.before.before in
-    omega (arith, in-loop.loop-test.true)
+    omega (arith, c.loop-left-test.true)
 
-loop-again : tie.Need-loop-preserved invariant-loop decreases-loop
+loop-again : tie.Need-loop-left-preserved invariant-loop decreases-loop
 loop-again c =
-    let at-is-jagged = c.before.before in
-    let at-field-parts = at-is-jagged.before in
-    let in-loop = at-field-parts.before in
-    let at-loop = in-loop.before in
     go_on
-    in-loop.loop-test.true
+    c.loop-left-test.true
     (λ n e b u. plain_field
-    (at-field-parts.field-parts.ensures b) n u
-    at-is-jagged.is-jagged.ensures
-    c.before.if2.false)
+    (c.field_parts-field.ensures b) n u
+    c.is_jagged.ensures
+    c.if-is_jagged.false)
     c.read4.ensures.0
-    at-loop.loop.invariant
+    c.loop-left.invariant
 
-returns-3 : tie.Need-returns-3 invariant-loop decreases-loop
+returns-3 : tie.Need-returns invariant-loop decreases-loop
 returns-3 c =
-    let at-field-list = c.before.before in
-    let at-else1 = at-field-list.before in
-    let at-read2 = at-else1.before in
     no_jagged
-    at-read2.read2.ensures.0
-    at-else1.if1.false
+    c.read2.ensures.0
+    c.if-read2-ne2.false
     (λ a n. not_found
-    (at-field-list.field-list.ensures a) _
-    (sym at-read2.read2.ensures.0 ∙ at-else1.if1.false) tt
-    c.before.loop.invariant
-    c.loop-test.false)
+    (c.field_list-list.ensures a) _
+    (sym c.read2.ensures.0 ∙ c.if-read2-ne2.false) tt
+    c.loop-left.invariant
+    c.loop-left-test.false)
 
 pub any_jagged_spec : {M : Type 1} → statement M
 any_jagged_spec =

@@ -10,114 +10,113 @@ use borrow.Author.Rules.{rules}
 use Rattle.builder_parameters.proofs.before_element.Statement.{statement}
 use Rattle.builder_parameters.proofs.before_element.Tie as tie
 
-abbrev invariant-loop : tie.invariant-loop
-invariant-loop name from₀ to₀ e from to =
+abbrev invariant-loop : tie.invariant-loop-to
+invariant-loop name from₀ to₀ from to =
     (from ≤ to) ×
     (to ≤ length name) ×
     (before_element (split name) ≡ before (take (to - from) (drop from name)) (behind name to))
 
-abbrev decreases-loop : tie.decreases-loop
-decreases-loop name from₀ to₀ e from to = length name - to
+abbrev decreases-loop : tie.decreases-loop-to
+decreases-loop name from₀ to₀ from to = length name - to
 
-segment-end-requires : tie.Need-segment-end-requires invariant-loop decreases-loop
+segment-end-requires : tie.Need-segment_end-to-requires invariant-loop decreases-loop
 segment-end-requires c κs = omega arith
 
-sub-same-name : tie.Need-overflow-sub-same-name invariant-loop decreases-loop
+sub-same-name : tie.Need-slice_bounds-same_name-count invariant-loop decreases-loop
 sub-same-name c = omega arith
 
-part-same-name-start : tie.Need-slice-bounds-same-name-start invariant-loop decreases-loop
+part-same-name-start : tie.Need-slice_bounds-same_name-start invariant-loop decreases-loop
 part-same-name-start c = omega arith
 
-part-same-name-end : tie.Need-slice-bounds-same-name-end invariant-loop decreases-loop
-part-same-name-end c = omega (arith, c.segment-end.ensures.1.1)
+part-same-name-end : tie.Need-slice_bounds-same_name-end invariant-loop decreases-loop
+part-same-name-end c = omega (arith, c.segment_end-to.ensures.1.1)
 
-slice-aggregate-same-name : tie.Need-slice-aggregate-same-name invariant-loop decreases-loop
-slice-aggregate-same-name c = search rules
-
-same-name-requires : tie.Need-same-name-requires invariant-loop decreases-loop
+same-name-requires : tie.Need-same_name-requires invariant-loop decreases-loop
 same-name-requires c κs = search rules
 
-returns : tie.Need-returns invariant-loop decreases-loop
+returns : tie.Need-returns-then-same_name invariant-loop decreases-loop
 returns c =
-    let at-segment-end = c.before.before.before.before in
     element_first _
-    at-segment-end.segment-end.ensures.0
-    c.before.same_name.ensures
-    c.if1.true
+    c.segment_end-to.ensures.0
+    c.same_name.ensures
+    c.if-same_name.true
 
-loop-holds : tie.Need-loop-init invariant-loop decreases-loop
-loop-holds c =
-    let at-segment-end = c.before.before.before.before in (
+loop-holds : tie.Need-loop-to-init invariant-loop decreases-loop
+loop-holds c = (
       omega arith,
-      at-segment-end.segment-end.ensures.1.1,
+      c.segment_end-to.ensures.1.1,
       begins _
-          at-segment-end.segment-end.ensures.0
-          c.before.same_name.ensures
-          c.if1.false,
+          c.segment_end-to.ensures.0
+          c.same_name.ensures
+          c.if-same_name.false,
     )
 
-add-next : tie.Need-overflow-add-next invariant-loop decreases-loop
-add-next c = omega (arith, c.loop-test.true)
+add-next : tie.Need-overflow_add-next invariant-loop decreases-loop
+add-next c = omega (arith, c.loop-to-test.true)
 
-segment-end-requires-2 : tie.Need-segment-end-requires-2 invariant-loop decreases-loop
-segment-end-requires-2 c κs = omega (arith, c.loop-test.true)
+segment-end-requires-2 : tie.Need-segment_end-end-requires invariant-loop decreases-loop
+segment-end-requires-2 c κs = omega (arith, c.loop-to-test.true)
 
-sub-same-name-2 : tie.Need-overflow-sub-same-name-2 invariant-loop decreases-loop
-sub-same-name-2 c = omega (arith, c.segment-end2.ensures.1.0)
+sub-same-name-2 : tie.Need-slice_bounds-same_name-count-in-loop-to invariant-loop decreases-loop
+sub-same-name-2 c = omega (arith, c.segment_end-end.ensures.1.0)
 
-part-same-name-start-2 : tie.Need-slice-bounds-same-name-start-2 invariant-loop decreases-loop
-part-same-name-start-2 c = omega (arith, c.segment-end2.ensures.1.0)
+part-same-name-start-2 : tie.Need-slice_bounds-same_name-start-in-loop-to invariant-loop decreases-loop
+part-same-name-start-2 c = omega (arith, c.segment_end-end.ensures.1.0)
 
-part-same-name-end-2 : tie.Need-slice-bounds-same-name-end-2 invariant-loop decreases-loop
-part-same-name-end-2 c = omega (arith, c.segment-end2.ensures.1.1)
+part-same-name-end-2 : tie.Need-slice_bounds-same_name-end-in-loop-to invariant-loop decreases-loop
+part-same-name-end-2 c = omega (arith, c.segment_end-end.ensures.1.1)
 
-slice-aggregate-same-name-2 : tie.Need-slice-aggregate-same-name-2 invariant-loop decreases-loop
-slice-aggregate-same-name-2 c = search rules
-
-same-name-requires-2 : tie.Need-same-name-requires-2 invariant-loop decreases-loop
+same-name-requires-2 : tie.Need-same_name-requires-in-loop-to invariant-loop decreases-loop
 same-name-requires-2 c κs = search rules
 
-returns-2 : tie.Need-returns-2 invariant-loop decreases-loop
+returns-2 : tie.Need-returns-then-same_name-2 invariant-loop decreases-loop
 returns-2 c =
-    let at-segment-end2 = c.before.before.before.before in
-    let in-loop = at-segment-end2.before in
-    let at-loop = in-loop.before in
     element_next _ _ _
-    at-loop.loop.invariant.2
-    in-loop.loop-test.true
-    at-segment-end2.segment-end2.ensures.0
-    c.before.same-name2.ensures
-    at-loop.loop.invariant.0
-    c.if2.true
+    c.loop-to.invariant.2
+    c.loop-to-test.true
+    c.segment_end-end.ensures.0
+    c.same_name-in-loop-to.ensures
+    c.loop-to.invariant.0
+    c.if-same_name-2.true
 
-loop-less : tie.Need-loop-smaller invariant-loop decreases-loop
+loop-less : tie.Need-loop-to-smaller invariant-loop decreases-loop
 loop-less c =
-    let at-segment-end2 = c.before.before.before.before in
-    let in-loop = at-segment-end2.before in
-    omega (arith, at-segment-end2.segment-end2.ensures.1.0, in-loop.loop-test.true)
+    omega (arith, c.segment_end-end.ensures.1.0, c.loop-to-test.true)
 
-loop-again : tie.Need-loop-preserved invariant-loop decreases-loop
-loop-again c =
-    let at-segment-end2 = c.before.before.before.before in
-    let in-loop = at-segment-end2.before in
-    let at-loop = in-loop.before in (
-      at-segment-end2.segment-end2.ensures.1.0,
-      at-segment-end2.segment-end2.ensures.1.1,
+loop-again : tie.Need-loop-to-preserved invariant-loop decreases-loop
+loop-again c = (
+      c.segment_end-end.ensures.1.0,
+      c.segment_end-end.ensures.1.1,
       goes_on _ _ _
-          at-loop.loop.invariant.2
-          in-loop.loop-test.true
-          at-segment-end2.segment-end2.ensures.0
-          c.before.same-name2.ensures
-          c.if2.false,
+          c.loop-to.invariant.2
+          c.loop-to-test.true
+          c.segment_end-end.ensures.0
+          c.same_name-in-loop-to.ensures
+          c.if-same_name-2.false,
     )
 
-returns-3 : tie.Need-returns-3 invariant-loop decreases-loop
-returns-3 c = no_element _ _ _ c.before.loop.invariant.2 c.loop-test.false
+returns-3 : tie.Need-returns invariant-loop decreases-loop
+returns-3 c = no_element _ _ _ c.loop-to.invariant.2 c.loop-to-test.false
 
 pub before_element_spec : {M : Type 1} → statement M
 before_element_spec =
     tie.close
-    (tie.spec invariant-loop decreases-loop segment-end-requires sub-same-name part-same-name-start
-    part-same-name-end slice-aggregate-same-name same-name-requires returns loop-holds add-next
-    segment-end-requires-2 sub-same-name-2 part-same-name-start-2 part-same-name-end-2
-    slice-aggregate-same-name-2 same-name-requires-2 returns-2 loop-less loop-again returns-3)
+    (tie.spec invariant-loop
+    decreases-loop
+    segment-end-requires
+    sub-same-name
+    part-same-name-start
+    part-same-name-end
+    same-name-requires
+    returns
+    loop-holds
+    add-next
+    segment-end-requires-2
+    sub-same-name-2
+    part-same-name-start-2
+    part-same-name-end-2
+    same-name-requires-2
+    returns-2
+    loop-less
+    loop-again
+    returns-3)

@@ -7,89 +7,82 @@ use native.Mathlib.Omega.{arith}
 use Rattle.builder_parameters.proofs.has_jagged.Statement.{statement}
 use Rattle.builder_parameters.proofs.has_jagged.Tie as tie
 
-abbrev invariant-loop : tie.invariant-loop
+abbrev invariant-loop : tie.invariant-loop-left
 invariant-loop s kind name left₀ at₀ left at = Search (λ n. n ≡ name) s left₀ at₀ left at
 
-abbrev decreases-loop : tie.decreases-loop
+abbrev decreases-loop : tie.decreases-loop-left
 decreases-loop s kind name left₀ at₀ left at = left
 
 -- The places, each seen from a later one: what was known there.
-abbrev at-start : tie.After-shared-slice-known2 invariant-loop decreases-loop → tie.Start invariant-loop decreases-loop
+abbrev at-start : tie.After-shared_slice_known-2-1 invariant-loop decreases-loop → tie.Start invariant-loop decreases-loop
 at-start r = r.before.before
 
-abbrev in-loop : tie.Else1 invariant-loop decreases-loop → tie.In-loop invariant-loop decreases-loop
+abbrev in-loop : tie.Else-is_jagged_field invariant-loop decreases-loop → tie.In-loop-left invariant-loop decreases-loop
 in-loop r = r.before.before
 
-abbrev at-loop : tie.Else1 invariant-loop decreases-loop → tie.At-loop invariant-loop decreases-loop
+abbrev at-loop : tie.Else-is_jagged_field invariant-loop decreases-loop → tie.At-loop-left invariant-loop decreases-loop
 at-loop r = (in-loop r).before
 
-field-list-requires : tie.Need-field-list-requires invariant-loop decreases-loop
+field-list-requires : tie.Need-field_list-list-requires invariant-loop decreases-loop
 field-list-requires c κs = (
   (at-start c).requires.0,
   (omega (arith, (at-start c).requires.1), omega (arith, (at-start c).requires.1)),
 )
 
-loop-holds : tie.Need-loop-init invariant-loop decreases-loop
-loop-holds c = begin (c.field-list.ensures (at-start c.before).pre.0) _
+loop-holds : tie.Need-loop-left-init invariant-loop decreases-loop
+loop-holds c = begin (c.field_list-list.ensures (at-start c.before).requires.0) _
 
-is-jagged-field-requires : tie.Need-is-jagged-field-requires invariant-loop decreases-loop
-is-jagged-field-requires c κs = next_field c.loop-test.true c.before.loop.invariant
+is-jagged-field-requires : tie.Need-is_jagged_field-requires invariant-loop decreases-loop
+is-jagged-field-requires c κs = next_field c.loop-left-test.true c.loop-left.invariant
 
-returns : tie.Need-returns invariant-loop decreases-loop
+returns : tie.Need-returns-then-is_jagged_field invariant-loop decreases-loop
 returns c =
-    let in-loop = c.before.before in
-    let at-loop = in-loop.before in
-    let at-field-list = at-loop.before in
     λ a. found
-    (at-field-list.field-list.ensures a) _
-    (at-start at-field-list.before).pre.1 refl
-    at-loop.loop.invariant
-    in-loop.loop-test.true
-    (λ b u. hits _ c.before.is-jagged-field.ensures b u c.if1.true)
+    (c.field_list-list.ensures a) _
+    (at-start c.before.before.before.before.before).requires.1 refl
+    c.loop-left.invariant
+    c.loop-left-test.true
+    (λ b u. hits _ c.is_jagged_field.ensures b u c.if-is_jagged_field.true)
 
-add_at : tie.Need-overflow-add-at invariant-loop decreases-loop
-add_at c = omega (arith, inside (next_field (in-loop c).loop-test.true (at-loop c).loop.invariant))
+add_at : tie.Need-overflow_add-at invariant-loop decreases-loop
+add_at c = omega (arith, inside (next_field (in-loop c).loop-left-test.true (at-loop c).loop-left.invariant))
 
 read4-requires : tie.Need-read4-requires invariant-loop decreases-loop
 read4-requires c κs = omega (
   arith,
-  inside (next_field (in-loop c).loop-test.true (at-loop c).loop.invariant),
+  inside (next_field (in-loop c).loop-left-test.true (at-loop c).loop-left.invariant),
 )
 
-add-at-2 : tie.Need-overflow-add-at-2 invariant-loop decreases-loop
+add-at-2 : tie.Need-overflow_add-at-in-loop-left invariant-loop decreases-loop
 add-at-2 c =
-    let at-else1 = c.before in
     omega (
       arith,
-      inside (next_field (in-loop at-else1).loop-test.true (at-loop at-else1).loop.invariant),
+      inside (next_field (in-loop c.before).loop-left-test.true (at-loop c.before).loop-left.invariant),
       c.read4.ensures.0,
     )
 
-sub-left : tie.Need-overflow-sub-left invariant-loop decreases-loop
-sub-left c = omega (arith, (in-loop c.before).loop-test.taken)
+sub-left : tie.Need-overflow_sub-left invariant-loop decreases-loop
+sub-left c = omega (arith, (in-loop c.before).loop-left-test.true)
 
-loop-less : tie.Need-loop-smaller invariant-loop decreases-loop
-loop-less c = omega (arith, (in-loop c.before).loop-test.taken)
+loop-less : tie.Need-loop-left-smaller invariant-loop decreases-loop
+loop-less c = omega (arith, (in-loop c.before).loop-left-test.true)
 
-loop-again : tie.Need-loop-preserved invariant-loop decreases-loop
+loop-again : tie.Need-loop-left-preserved invariant-loop decreases-loop
 loop-again c =
-    let at-is-jagged-field = c.before.before in
-    let in-loop = at-is-jagged-field.before in
-    let at-loop = in-loop.before in
     go_on
-    in-loop.loop-test.true
+    c.loop-left-test.true
     (λ n e b u. rw e
-    (misses _ at-is-jagged-field.is-jagged-field.ensures b u c.before.if1.false))
+    (misses _ c.is_jagged_field.ensures b u c.if-is_jagged_field.false))
     c.read4.ensures.0
-    at-loop.loop.invariant
+    c.loop-left.invariant
 
-returns-2 : tie.Need-returns-2 invariant-loop decreases-loop
+returns-2 : tie.Need-returns invariant-loop decreases-loop
 returns-2 c =
     λ a. not_found
-    (c.before.before.field-list.ensures a) _
-    (at-start c.before.before.before).pre.1 refl
-    c.before.loop.invariant
-    c.loop-test.false
+    (c.field_list-list.ensures a) _
+    (at-start c.before.before.before).requires.1 refl
+    c.loop-left.invariant
+    c.loop-left-test.false
 
 pub has_jagged_spec : {M : Type 1} → statement M
 has_jagged_spec =

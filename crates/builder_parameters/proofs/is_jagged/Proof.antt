@@ -6,21 +6,20 @@ use native.Mathlib.Omega.{arith}
 use Rattle.builder_parameters.proofs.is_jagged.Statement.{statement}
 use Rattle.builder_parameters.proofs.is_jagged.Tie as tie
 
-add-read2 : tie.Need-overflow-add-read2
-add-read2 c = omega (arith, inside c.before.requires)
+add-read2 : tie.Need-overflow_add-kind
+add-read2 c = omega (arith, inside c.requires)
 
 read2-requires : tie.Need-read2-requires
-read2-requires c κs = omega (arith, inside c.before.requires, long c.before.requires)
+read2-requires c κs = omega (arith, inside c.requires, long c.requires)
 
-returns : tie.Need-returns
-returns c = λ a. no_array a (λ e. c.if1.true (c.before.read2.ensures.0 ∙ e))
+returns : tie.Need-returns-then-read2-ne5
+returns c = λ a. no_array a (λ e. c.if-read2-ne5.true (c.read2.ensures.0 ∙ e))
 
-array-parts-requires : tie.Need-array-parts-requires
+array-parts-requires : tie.Need-array_parts-requires
 array-parts-requires c κs =
-    let at-start = c.before.before.before in
-    (at-start.requires, sym c.before.read2.ensures.0 ∙ c.if1.false)
+    (c.requires, sym c.read2.ensures.0 ∙ c.if-read2-ne5.false)
 
-returns-2 : tie.Need-returns-2
+returns-2 : tie.Need-returns
 returns-2 c = λ a. an_array a (c.array_parts.ensures a)
 
 pub is_jagged_spec : {M : Type 1} → statement M

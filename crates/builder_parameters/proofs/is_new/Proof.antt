@@ -9,87 +9,80 @@ use native.Mathlib.Omega.{arith}
 use Rattle.builder_parameters.proofs.is_new.Statement.{statement}
 use Rattle.builder_parameters.proofs.is_new.Tie as tie
 
-abbrev invariant-loop : tie.invariant-loop
+abbrev invariant-loop : tie.invariant-loop-j
 invariant-loop s words table i mark w j₀ j = Walk (marks_of s words) mark i (Other s words i) j
 
-abbrev decreases-loop : tie.decreases-loop
+abbrev decreases-loop : tie.decreases-loop-j
 decreases-loop s words table i mark w j₀ j = j
 
 -- The places, each seen from a later one: what was known there.
-abbrev at-start : tie.At-loop invariant-loop decreases-loop → tie.Start invariant-loop decreases-loop
+abbrev at-start : tie.At-loop-j invariant-loop decreases-loop → tie.Start invariant-loop decreases-loop
 at-start r = r.before.before.before.before.before.before
 
-abbrev at-loop : tie.After-same-names invariant-loop decreases-loop → tie.At-loop invariant-loop decreases-loop
+abbrev at-loop : tie.After-same_names invariant-loop decreases-loop → tie.At-loop-j invariant-loop decreases-loop
 at-loop r = r.before.before.before
 
-mul-w : tie.Need-overflow-mul-w invariant-loop decreases-loop
-mul-w c = omega (arith, c.before.before.before.requires.within)
+mul-w : tie.Need-offset_bounds-words-i invariant-loop decreases-loop
+mul-w c = omega (arith, c.requires.within)
 
-shared-slice-read-w : tie.Need-shared-slice-read-w invariant-loop decreases-loop
-shared-slice-read-w c = c.before.before.before.before.requires.within
+shared-slice-read-w : tie.Need-bounds-words-i invariant-loop decreases-loop
+shared-slice-read-w c = c.requires.within
 
-last-requires : tie.Need-last-requires invariant-loop decreases-loop
-last-requires c κs = record { marks = _; count = _; linked = c.before.before.before.before.requires.linked }
+last-requires : tie.Need-last-j-requires invariant-loop decreases-loop
+last-requires c κs = record { marks = _; count = _; linked = c.requires.linked }
 
-loop-holds : tie.Need-loop-init invariant-loop decreases-loop
+loop-holds : tie.Need-loop-j-init invariant-loop decreases-loop
 loop-holds c =
-    let at-start = c.before.before.before.before.before in
-    walk_last (c.last.ensures (record { marks = _; count = _; linked = at-start.requires.linked }))
+    walk_last (c.last-j.ensures (record { marks = _; count = _; linked = c.requires.linked }))
 
-sub-k : tie.Need-overflow-sub-k invariant-loop decreases-loop
-sub-k c = c.loop-test.true
+sub-k : tie.Need-overflow_sub-k invariant-loop decreases-loop
+sub-k c = c.loop-j-test.true
 
-mul-same-names : tie.Need-overflow-mul-same-names invariant-loop decreases-loop
-mul-same-names c = omega (arith, c.before.loop.invariant.within, (at-start c.before).pre.within)
+mul-same-names : tie.Need-offset_bounds-words-k invariant-loop decreases-loop
+mul-same-names c = omega (arith, c.loop-j.invariant.within, (at-start c.before).requires.within)
 
-shared-slice-read-same-names : tie.Need-shared-slice-read-same-names invariant-loop decreases-loop
-shared-slice-read-same-names c = omega (arith, c.before.before.loop.invariant.within, (at-start c.before.before).pre.within)
+shared-slice-read-same-names : tie.Need-bounds-words-k invariant-loop decreases-loop
+shared-slice-read-same-names c = omega (arith, c.loop-j.invariant.within, (at-start c.before.before).requires.within)
 
-same-names-requires : tie.Need-same-names-requires invariant-loop decreases-loop
-same-names-requires c κs = (at-start c.before.before).pre.size
+same-names-requires : tie.Need-same_names-requires invariant-loop decreases-loop
+same-names-requires c κs = (at-start c.before.before).requires.size
 
-returns : tie.Need-returns invariant-loop decreases-loop
+returns : tie.Need-returns-then-same_names invariant-loop decreases-loop
 returns c =
-    let at-same-names = c.before in
-    let at_in = at-same-names.before.before in
-    let start = at-start (at-loop at-same-names) in
+    let start = at-start (at-loop c.before) in
     not_new
     start.args.s.now
     start.args.words.now
     start.args.i
-    ((at-loop at-same-names).loop.j - 1)
-    (omega (arith, (at-loop at-same-names).loop.invariant.within, at_in.loop-test.true))
-    at-same-names.same_names.ensures
-    c.if1.true
+    ((at-loop c.before).loop-j.j - 1)
+    (omega (arith, (at-loop c.before).loop-j.invariant.within, c.loop-j-test.true))
+    c.same_names.ensures
+    c.if-same_names.true
 
-before-requires : tie.Need-before-requires invariant-loop decreases-loop
+before-requires : tie.Need-before-j-requires invariant-loop decreases-loop
 before-requires c κs =
-    let at-same-names = c.before in
-    let at_in = at-same-names.before.before in
-    (at_in.loop-test.true, walk_chain (at-loop at-same-names).loop.invariant (at-start (at-loop at-same-names)).pre.linked)
+    (c.loop-j-test.true, walk_chain (at-loop c.before).loop-j.invariant (at-start (at-loop c.before)).requires.linked)
 
-loop-less : tie.Need-loop-smaller invariant-loop decreases-loop
+loop-less : tie.Need-loop-j-smaller invariant-loop decreases-loop
 loop-less c =
-    let at-same-names = c.before.before in
-    let walk = (at-loop at-same-names).loop.invariant in
+    let walk = (at-loop c.before.before).loop-j.invariant in
     (walk_before walk
-    at-same-names.before.before.loop-test.true
-    (sym at-same-names.same_names.ensures ∙ c.before.if1.false)
-    (c.before2.ensures (walk_chain walk (at-start (at-loop at-same-names)).pre.linked))).1
+    c.loop-j-test.true
+    (sym c.same_names.ensures ∙ c.if-same_names.false)
+    (c.before-j.ensures (walk_chain walk (at-start (at-loop c.before.before)).requires.linked))).1
 
-loop-again : tie.Need-loop-preserved invariant-loop decreases-loop
+loop-again : tie.Need-loop-j-preserved invariant-loop decreases-loop
 loop-again c =
-    let at-same-names = c.before.before in
-    let walk = (at-loop at-same-names).loop.invariant in
+    let walk = (at-loop c.before.before).loop-j.invariant in
     (walk_before walk
-    at-same-names.before.before.loop-test.true
-    (sym at-same-names.same_names.ensures ∙ c.before.if1.false)
-    (c.before2.ensures (walk_chain walk (at-start (at-loop at-same-names)).pre.linked))).0
+    c.loop-j-test.true
+    (sym c.same_names.ensures ∙ c.if-same_names.false)
+    (c.before-j.ensures (walk_chain walk (at-start (at-loop c.before.before)).requires.linked))).0
 
-returns-2 : tie.Need-returns-2 invariant-loop decreases-loop
+returns-2 : tie.Need-returns invariant-loop decreases-loop
 returns-2 c =
     let start = at-start c.before in
-    new start.args.s.now start.args.words.now start.args.i start.pre.mark_is (walk_end c.before.loop.invariant c.loop-test.false)
+    new start.args.s.now start.args.words.now start.args.i start.requires.mark_is (walk_end c.loop-j.invariant c.loop-j-test.false)
 
 pub is_new_spec : {M : Type 1} → statement M
 is_new_spec =

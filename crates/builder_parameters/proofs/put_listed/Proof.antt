@@ -1,6 +1,7 @@
 -- `put_listed`: one pass over the entries. The loop's invariant (`Going`): whatever writes what is listed of the entries that are left makes the whole
 -- write, and what was counted and what is left is the whole count, which is written last.
-use mathlib.Core.Path.{refl, ◌∙◌}
+use mathlib.Core.Bool.{not}
+use mathlib.Core.Path.{refl, ◌∙◌, ap}
 use Prim.Native.Nat.{◌-◌}
 use Rattle.builder_parameters.proofs.Listed.{placed}
 use Rattle.builder_parameters.proofs.Pass.{Going, going_first, going_asks, going_pass, going_put, going_end, going_high}
@@ -8,148 +9,139 @@ use native.Mathlib.Omega.{arith}
 use Rattle.builder_parameters.proofs.put_listed.Statement.{statement}
 use Rattle.builder_parameters.proofs.put_listed.Tie as tie
 
-abbrev invariant-loop : tie.invariant-loop
+abbrev invariant-loop : tie.invariant-loop-i
 invariant-loop s words listing table₀ out₀ at n known₀ p₀ count₀ i₀ table out known p count i =
     Going s words listing.n listing.kind at out₀ table₀ table out known p count i
 
-abbrev decreases-loop : tie.decreases-loop
+abbrev decreases-loop : tie.decreases-loop-i
 decreases-loop s words listing table₀ out₀ at n known₀ p₀ count₀ i₀ table out known p count i =
     n - i
 
 -- The places, each seen from a later one: what was known there.
-abbrev at-start : tie.At-loop invariant-loop decreases-loop → tie.Start invariant-loop decreases-loop
+abbrev at-start : tie.At-loop-i invariant-loop decreases-loop → tie.Start invariant-loop decreases-loop
 at-start r = r.before.before.before.before.before
 
-abbrev in-loop : tie.After-mark-name invariant-loop decreases-loop → tie.In-loop invariant-loop decreases-loop
+abbrev in-loop : tie.After-mark_name-known invariant-loop decreases-loop → tie.In-loop-i invariant-loop decreases-loop
 in-loop r = r.before.before
 
-abbrev at-loop : tie.After-mark-name invariant-loop decreases-loop → tie.At-loop invariant-loop decreases-loop
+abbrev at-loop : tie.After-mark_name-known invariant-loop decreases-loop → tie.At-loop-i invariant-loop decreases-loop
 at-loop r = (in-loop r).before
 
-abbrev at-is-listed : tie.After-slice-known3 invariant-loop decreases-loop → tie.After-is-listed invariant-loop decreases-loop
+abbrev at-is-listed : tie.After-slice_known-in-loop-i-1 invariant-loop decreases-loop → tie.After-is_listed invariant-loop decreases-loop
 at-is-listed r = r.before.before
 
-abbrev at-mark-name : tie.After-slice-known3 invariant-loop decreases-loop → tie.After-mark-name invariant-loop decreases-loop
+abbrev at-mark-name : tie.After-slice_known-in-loop-i-1 invariant-loop decreases-loop → tie.After-mark_name-known invariant-loop decreases-loop
 at-mark-name r = (at-is-listed r).before.before
 
-add-p : tie.Need-overflow-add-p invariant-loop decreases-loop
+add-p : tie.Need-overflow_add-p invariant-loop decreases-loop
 add-p c =
-    let start = c.before.before.before.before in
-    omega (arith, start.requires.ready.cursor)
+    omega (arith, c.requires.ready.cursor)
 
-loop-holds : tie.Need-loop-init invariant-loop decreases-loop
+loop-holds : tie.Need-loop-i-init invariant-loop decreases-loop
 loop-holds c =
-    let start = c.before.before.before.before in
-    going_first _ start.requires refl
+    going_first _ c.requires refl
 
-mul-w : tie.Need-overflow-mul-w invariant-loop decreases-loop
-mul-w c = omega (arith, (placed (at-start c.before).pre.ready.standing c.loop-test.true).0)
+mul-w : tie.Need-offset_bounds-words-i invariant-loop decreases-loop
+mul-w c = omega (arith, (placed (at-start c.before).requires.ready.standing c.loop-i-test.true).0)
 
-shared-slice-read-w : tie.Need-shared-slice-read-w invariant-loop decreases-loop
-shared-slice-read-w c = (placed (at-start c.before.before).pre.ready.standing c.before.loop-test.true).1
+shared-slice-read-w : tie.Need-bounds-words-i invariant-loop decreases-loop
+shared-slice-read-w c = (placed (at-start c.before.before).requires.ready.standing c.loop-i-test.true).1
 
-mark-name-requires : tie.Need-mark-name-requires invariant-loop decreases-loop
-mark-name-requires c κs = c.before.before.loop.invariant.owner
+mark-name-requires : tie.Need-mark_name-known-requires invariant-loop decreases-loop
+mark-name-requires c κs = c.loop-i.invariant.owner
 
-is-listed-requires : tie.Need-is-listed-requires invariant-loop decreases-loop
+is-listed-requires : tie.Need-is_listed-requires invariant-loop decreases-loop
 is-listed-requires c κs =
-    let at-mark-name = c.before in
     going_asks
-    (at-loop at-mark-name).loop.invariant
-    (at-start (at-loop at-mark-name)).pre
-    (in-loop at-mark-name).loop-test.true
-    at-mark-name.mark-name.ensures.0
+    (at-loop c.before).loop-i.invariant
+    (at-start (at-loop c.before)).requires
+    (in-loop c.before).loop-i-test.true
+    c.mark_name-known.ensures.0
 
-add-i : tie.Need-overflow-add-i invariant-loop decreases-loop
+add-i : tie.Need-overflow_add-i invariant-loop decreases-loop
 add-i c =
     let at-mark-name = at-mark-name c.before in
-    omega (arith, (at-start (at-loop at-mark-name)).pre.ready.standing.count, (in-loop at-mark-name).loop-test.taken)
+    omega (arith, (at-start (at-loop at-mark-name)).requires.ready.standing.count, (in-loop at-mark-name).loop-i-test.true)
 
-loop-less : tie.Need-loop-smaller invariant-loop decreases-loop
+loop-less : tie.Need-loop-i-smaller-then-not-is_listed invariant-loop decreases-loop
 loop-less c =
     let at-mark-name = at-mark-name c.before in
-    omega (arith, (in-loop at-mark-name).loop-test.taken)
+    omega (arith, (in-loop at-mark-name).loop-i-test.true)
 
-loop-again : tie.Need-loop-preserved invariant-loop decreases-loop
+loop-again : tie.Need-loop-i-preserved-then-not-is_listed invariant-loop decreases-loop
 loop-again c =
     let at-is-listed = at-is-listed c.before in
     let at-mark-name = at-mark-name c.before in
     going_pass
-    (at-loop at-mark-name).loop.inv
-    (in-loop at-mark-name).loop-test.taken
-    at-is-listed.is-listed.ensures.0
-    at-mark-name.mark-name.ensures.1
-    at-is-listed.is-listed.ensures.1
-    at-is-listed.is-listed.kept.1.1.1.1.1.0
-    c.if1.true
+    (at-loop at-mark-name).loop-i.invariant
+    (in-loop at-mark-name).loop-i-test.true
+    at-is-listed.is_listed.ensures.0
+    at-mark-name.mark_name-known.ensures.1
+    at-is-listed.is_listed.ensures.1
+    at-is-listed.is_listed.auto.table
+    (ap not c.if-not-is_listed.true)
 
-put-parameter-requires : tie.Need-put-parameter-requires invariant-loop decreases-loop
+put-parameter-requires : tie.Need-put_parameter-p-requires invariant-loop decreases-loop
 put-parameter-requires c κs =
     let at-mark-name = at-mark-name c.before.before in
-    let known = (at-start (at-loop at-mark-name)).pre.ready in
-    let inv = (at-loop at-mark-name).loop.inv in
+    let known = (at-start (at-loop at-mark-name)).requires.ready in
+    let inv = (at-loop at-mark-name).loop-i.invariant in
     (known.standing.size, omega (arith, known.cursor, known.standing.count, inv.high, inv.within))
 
-add-count : tie.Need-overflow-add-count invariant-loop decreases-loop
+add-count : tie.Need-overflow_add-count invariant-loop decreases-loop
 add-count c =
     let at-mark-name = at-mark-name c.before.before.before.before.before in
     omega (
       arith,
-      (at-start (at-loop at-mark-name)).pre.ready.standing.count,
-      (in-loop at-mark-name).loop-test.taken,
-      (at-loop at-mark-name).loop.inv.counted,
+      (at-start (at-loop at-mark-name)).requires.ready.standing.count,
+      (in-loop at-mark-name).loop-i-test.true,
+      (at-loop at-mark-name).loop-i.invariant.counted,
     )
 
-add-i-2 : tie.Need-overflow-add-i-2 invariant-loop decreases-loop
+add-i-2 : tie.Need-overflow_add-i-in-loop-i invariant-loop decreases-loop
 add-i-2 c =
     let at-mark-name = at-mark-name c.before.before.before.before.before in
-    omega (arith, (at-start (at-loop at-mark-name)).pre.ready.standing.count, (in-loop at-mark-name).loop-test.taken)
+    omega (arith, (at-start (at-loop at-mark-name)).requires.ready.standing.count, (in-loop at-mark-name).loop-i-test.true)
 
-loop-less-2 : tie.Need-loop-smaller-2 invariant-loop decreases-loop
+loop-less-2 : tie.Need-loop-i-smaller invariant-loop decreases-loop
 loop-less-2 c =
     let at-mark-name = at-mark-name c.before.before.before.before.before in
-    omega (arith, (in-loop at-mark-name).loop-test.taken)
+    omega (arith, (in-loop at-mark-name).loop-i-test.true)
 
-loop-again-2 : tie.Need-loop-preserved-2 invariant-loop decreases-loop
+loop-again-2 : tie.Need-loop-i-preserved invariant-loop decreases-loop
 loop-again-2 c =
-    let at-put-parameter = c.before.before in
-    let at-else1 = at-put-parameter.before.before in
-    let at-is-listed = at-is-listed at-else1.before in
-    let at-mark-name = at-mark-name at-else1.before in
+    let at-is-listed = at-is-listed c.before.before.before.before.before in
+    let at-mark-name = at-mark-name c.before.before.before.before.before in
     going_put
-    (at-loop at-mark-name).loop.inv
-    (in-loop at-mark-name).loop-test.taken
-    at-is-listed.is-listed.ensures.0
-    at-mark-name.mark-name.ensures.1
-    at-is-listed.is-listed.ensures.1
-    at-is-listed.is-listed.kept.1.1.1.1.1.0
-    at-else1.if1.false
-    at-put-parameter.put-parameter.ensures.0
-    at-put-parameter.put-parameter.ensures.1
-    at-put-parameter.put-parameter.auto.1.1.0
+    (at-loop at-mark-name).loop-i.invariant
+    (in-loop at-mark-name).loop-i-test.true
+    at-is-listed.is_listed.ensures.0
+    at-mark-name.mark_name-known.ensures.1
+    at-is-listed.is_listed.ensures.1
+    at-is-listed.is_listed.auto.table
+    (ap not c.if-not-is_listed.false)
+    c.put_parameter-p.ensures.0
+    c.put_parameter-p.ensures.1
+    c.put_parameter-p.auto.out
 
-put-le-requires : tie.Need-put-le-requires invariant-loop decreases-loop
+put-le-requires : tie.Need-put_le-requires invariant-loop decreases-loop
 put-le-requires c κs =
     let start = at-start c.before.before in
-    omega (arith, start.pre.ready.cursor)
+    omega (arith, start.requires.ready.cursor)
 
-same_length : tie.Need-same-length invariant-loop decreases-loop
+same_length : tie.Need-shape_of-table invariant-loop decreases-loop
 same_length c =
-    let at-put-le = c.before.before in
-    at-put-le.before.before.before.loop.invariant.room
+    c.loop-i.invariant.room
 
-same-length-2 : tie.Need-same-length-2 invariant-loop decreases-loop
+same-length-2 : tie.Need-shape_of-out invariant-loop decreases-loop
 same-length-2 c =
-    let at-put-le = c.before.before in
-    at-put-le.put-le.auto.0 ∙ at-put-le.before.before.before.loop.invariant.long
+    c.put_le.auto.out ∙ c.loop-i.invariant.long
 
 returns : tie.Need-returns invariant-loop decreases-loop
 returns c =
-    let at-put-le = c.before.before in
-    let after-loop = at-put-le.before.before in
-    let inv = after-loop.before.loop.invariant in
-    let known = (at-start after-loop.before).pre.ready in
-    (going_end inv known after-loop.loop-test.false at-put-le.put-le.ensures.0, going_high inv known)
+    let inv = c.loop-i.invariant in
+    let known = (at-start c.before.before.before.before.before).requires.ready in
+    (going_end inv known c.loop-i-test.false c.put_le.ensures.0, going_high inv known)
 
 pub put_listed_spec : {M : Type 1} → statement M
 put_listed_spec =

@@ -11,103 +11,87 @@ use borrow.Author.Rules.{rules}
 use Rattle.builder_parameters.proofs.replace_colons.Statement.{statement}
 use Rattle.builder_parameters.proofs.replace_colons.Tie as tie
 
-abbrev invariant-loop : tie.invariant-loop
+abbrev invariant-loop : tie.invariant-loop-i
 invariant-loop name out₀ p₀ i₀ out p i =
     (p ≤ i) ×
     (i ≤ length name) ×
     (length out ≡ length out₀) ×
     ((zs : List ℕ) (r : ℕ) → Wrote out p (replace_colons (drop i name)) zs r → Wrote out₀ 0 (replace_colons name) zs r)
 
-abbrev decreases-loop : tie.decreases-loop
+abbrev decreases-loop : tie.decreases-loop-i
 decreases-loop name out₀ p₀ i₀ out p i = length name - i
 
-loop-holds : tie.Need-loop-init invariant-loop decreases-loop
+loop-holds : tie.Need-loop-i-init invariant-loop decreases-loop
 loop-holds c = (omega arith, omega arith, search rules, λ zs r g. g)
 
-colons-at-requires : tie.Need-colons-at-requires invariant-loop decreases-loop
-colons-at-requires c κs = c.loop-test.true
+colons-at-requires : tie.Need-colons_at-requires invariant-loop decreases-loop
+colons-at-requires c κs = c.loop-i-test.true
 
 -- The places, each seen from a later one: what was known there.
-abbrev at-start : tie.At-loop invariant-loop decreases-loop → tie.Start invariant-loop decreases-loop
+abbrev at-start : tie.At-loop-i invariant-loop decreases-loop → tie.Start invariant-loop decreases-loop
 at-start r = r.before.before.before
 
-put-byte-requires : tie.Need-put-byte-requires invariant-loop decreases-loop
+put-byte-requires : tie.Need-put_byte-p-requires invariant-loop decreases-loop
 put-byte-requires c κs =
-    let at-loop = c.before.before.before.before in
-    omega (arith, (at-start at-loop).requires, at-loop.loop.invariant.0, at-loop.loop.invariant.1)
+    omega (arith, (at-start c.before.before.before.before).requires, c.loop-i.invariant.0, c.loop-i.invariant.1)
 
-add-i : tie.Need-overflow-add-i invariant-loop decreases-loop
+add-i : tie.Need-overflow_add-i invariant-loop decreases-loop
 add-i c =
-    let at-loop = c.before.before.before.before.before.before.before in
-    omega (arith, (at-start at-loop).requires, at-loop.loop.invariant.1)
+    omega (arith, (at-start c.before.before.before.before.before.before.before).requires, c.loop-i.invariant.1)
 
-loop-less : tie.Need-loop-smaller invariant-loop decreases-loop
+loop-less : tie.Need-loop-i-smaller-then-colons_at invariant-loop decreases-loop
 loop-less c =
-    let in-loop = c.before.before.before.before.before.before in
-    omega (arith, in-loop.loop-test.true)
+    omega (arith, c.loop-i-test.true)
 
-loop-again : tie.Need-loop-preserved invariant-loop decreases-loop
-loop-again c =
-    let at-put-byte = c.before.before in
-    let at-then1 = at-put-byte.before.before in
-    let at-colons-at = at-then1.before in
-    let at-loop = at-colons-at.before.before in (
-      omega (arith, at-loop.loop.invariant.0, at-put-byte.put_byte.ensures.1),
-      omega (arith, at-colons-at.colons-at.ensures.1 at-then1.if1.true),
+loop-again : tie.Need-loop-i-preserved-then-colons_at invariant-loop decreases-loop
+loop-again c = (
+      omega (arith, c.loop-i.invariant.0, c.put_byte-p.ensures.1),
+      omega (arith, c.colons_at.ensures.1 c.if-colons_at.true),
       search rules,
-      λ zs r g. at-loop.loop.invariant.3 zs r
+      λ zs r g. c.loop-i.invariant.3 zs r
           (pair_more _ _
-          at-colons-at.colons-at.ensures.0
-          at-then1.if1.true
-          (at-colons-at.colons-at.ensures.1 at-then1.if1.true)
-          at-put-byte.put_byte.ensures.0 g),
+          c.colons_at.ensures.0
+          c.if-colons_at.true
+          (c.colons_at.ensures.1 c.if-colons_at.true)
+          c.put_byte-p.ensures.0 g),
     )
 
-shared-slice-read-put-byte : tie.Need-shared-slice-read-put-byte invariant-loop decreases-loop
+shared-slice-read-put-byte : tie.Need-bounds-name-i invariant-loop decreases-loop
 shared-slice-read-put-byte c =
-    let in-loop = c.before.before.before.before in
-    in-loop.loop-test.true
+    c.loop-i-test.true
 
-put-byte-requires-2 : tie.Need-put-byte-requires-2 invariant-loop decreases-loop
+put-byte-requires-2 : tie.Need-put_byte-p-requires-in-loop-i invariant-loop decreases-loop
 put-byte-requires-2 c κs =
-    let at-loop = c.before.before.before.before.before in
-    omega (arith, (at-start at-loop).requires, at-loop.loop.invariant.0, at-loop.loop.invariant.1)
+    omega (arith, (at-start c.before.before.before.before.before).requires, c.loop-i.invariant.0, c.loop-i.invariant.1)
 
-add-i-2 : tie.Need-overflow-add-i-2 invariant-loop decreases-loop
+add-i-2 : tie.Need-overflow_add-i-in-loop-i invariant-loop decreases-loop
 add-i-2 c =
-    let at-loop = c.before.before.before.before.before.before.before.before in
-    omega (arith, (at-start at-loop).requires, at-loop.loop.invariant.1)
+    omega (arith, (at-start c.before.before.before.before.before.before.before.before).requires, c.loop-i.invariant.1)
 
-loop-less-2 : tie.Need-loop-smaller-2 invariant-loop decreases-loop
+loop-less-2 : tie.Need-loop-i-smaller invariant-loop decreases-loop
 loop-less-2 c =
-    let in-loop = c.before.before.before.before.before.before.before in
-    omega (arith, in-loop.loop-test.true)
+    omega (arith, c.loop-i-test.true)
 
-loop-again-2 : tie.Need-loop-preserved-2 invariant-loop decreases-loop
-loop-again-2 c =
-    let at-put-byte2 = c.before.before in
-    let at-else1 = at-put-byte2.before.before.before in
-    let at-colons-at = at-else1.before in
-    let in-loop = at-colons-at.before in
-    let at-loop = in-loop.before in (
-      omega (arith, at-loop.loop.invariant.0, at-put-byte2.put-byte2.ensures.1),
-      omega (arith, in-loop.loop-test.true),
+loop-again-2 : tie.Need-loop-i-preserved invariant-loop decreases-loop
+loop-again-2 c = (
+      omega (arith, c.loop-i.invariant.0, c.put_byte-p-in-loop-i.ensures.1),
+      omega (arith, c.loop-i-test.true),
       search rules,
-      λ zs r g. at-loop.loop.invariant.3 zs r
+      λ zs r g. c.loop-i.invariant.3 zs r
           (one_more _ _
-          at-colons-at.colons-at.ensures.0
-          at-else1.if1.false
-          in-loop.loop-test.true
-          at-put-byte2.put-byte2.ensures.0 g),
+          c.colons_at.ensures.0
+          c.if-colons_at.false
+          c.loop-i-test.true
+          c.put_byte-p-in-loop-i.ensures.0 g),
     )
 
-same_length : tie.Need-same-length invariant-loop decreases-loop
+same_length : tie.Need-shape_of-out invariant-loop decreases-loop
 same_length c = search rules
 
 returns : tie.Need-returns invariant-loop decreases-loop
 returns c = (
-  c.before.loop.invariant.3 _ _ (no_more_bytes _ _ _ _ c.loop-test.false),
-  omega (arith, c.before.loop.invariant.0, c.before.loop.invariant.1),
+  c.loop-i.invariant.3 _ _ (no_more_bytes _ _ _ _ c.loop-i-test.false),
+  omega (arith, c.loop-i.invariant.0, c.loop-i.invariant.1),
 )
 
 pub replace_colons_spec : {M : Type 1} → statement M

@@ -46,178 +46,155 @@ callees t = (
 -- The places, each seen from a later one: what was known there.
 abbrev at-else1 :
     {t : ℕ} →
-    walk.After-open-add (callees t) (entered t) self.Post →
-    walk.Else1 (callees t) (entered t) self.Post
+    walk.After-open_add-p (callees t) (entered t) self.Post →
+    walk.Else-k-eq1 (callees t) (entered t) self.Post
 at-else1 r = r.before.before
 
 abbrev at-start :
     {t : ℕ} →
-    walk.After-open-add (callees t) (entered t) self.Post →
+    walk.After-open_add-p (callees t) (entered t) self.Post →
     walk.Start (callees t) (entered t) self.Post
 at-start r = (at-else1 r).before.before.before.before.before
 
-put-ref-requires : (t : ℕ) → walk.Need-put-ref-requires (callees t) (entered t) self.Post
-put-ref-requires t c κs =
-    let at-start = c.before.before.before.before.before.before in (
-      at-start.requires.1.0,
-      omega (arith, at-start.requires.1.1, at-start.requires.1.2),
-      omega (arith, at-start.requires.1.3),
+put-ref-requires : (t : ℕ) → walk.Need-put_ref-requires (callees t) (entered t) self.Post
+put-ref-requires t c κs = (
+      c.requires.1.0,
+      omega (arith, c.requires.1.1, c.requires.1.2),
+      omega (arith, c.requires.1.3),
     )
 
-same_length : (t : ℕ) → walk.Need-same-length (callees t) (entered t) self.Post
+same_length : (t : ℕ) → walk.Need-shape_of-out-then-k-eq1 (callees t) (entered t) self.Post
 same_length t c = search rules
 
-returns : (t : ℕ) → walk.Need-returns (callees t) (entered t) self.Post
-returns t c =
-    let at-put-ref = c.before.before in
-    let at-then1 = at-put-ref.before.before in
-    let at-start = at-then1.before.before.before.before.before in (
-      widened (omega (arith, at-then1.if1.true)) at-put-ref.put-ref.ensures.0,
+returns : (t : ℕ) → walk.Need-returns-then-k-eq1 (callees t) (entered t) self.Post
+returns t c = (
+      widened (omega (arith, c.if-k-eq1.true)) c.put_ref.ensures.0,
       sum_first _ _ _
-          at-then1.if1.true
-          (omega (arith, at-start.requires.1.1, at-start.requires.1.2))
-          at-put-ref.put-ref.ensures.1,
+          c.if-k-eq1.true
+          (omega (arith, c.requires.1.1, c.requires.1.2))
+          c.put_ref.ensures.1,
     )
 
-open-add-requires : (t : ℕ) → walk.Need-open-add-requires (callees t) (entered t) self.Post
+open-add-requires : (t : ℕ) → walk.Need-open_add-p-requires (callees t) (entered t) self.Post
 open-add-requires t c κs = search rules
 
-sub-put-sum : (t : ℕ) → walk.Need-sub-put-sum (callees t) (entered t) self.Post
-sub-put-sum t c = omega (arith, (at-start c.before.before).pre.1.2)
+sub-put-sum : (t : ℕ) → walk.Need-overflow_sub-k (callees t) (entered t) self.Post
+sub-put-sum t c = omega (arith, (at-start c.before.before).requires.1.2)
 
-put-sum-requires : (t : ℕ) → walk.Need-put-sum-requires (callees t) (entered t) self.Post
-put-sum-requires t c κs =
-    let at-open-add = c.before.before.before in (
-      omega (arith, (at-start at-open-add).requires.0, (at-start at-open-add).requires.1.2),
+put-sum-requires : (t : ℕ) → walk.Need-put_sum-l-requires (callees t) (entered t) self.Post
+put-sum-requires t c κs = (
+      omega (arith, (at-start c.before.before.before).requires.0, (at-start c.before.before.before).requires.1.2),
       (
-        (at-start at-open-add).requires.1.0,
-        omega (arith, (at-start at-open-add).requires.1.1),
-        omega (arith, (at-start at-open-add).requires.1.2, (at-else1 at-open-add).if1.false),
+        (at-start c.before.before.before).requires.1.0,
+        omega (arith, (at-start c.before.before.before).requires.1.1),
+        omega (arith, (at-start c.before.before.before).requires.1.2, (at-else1 c.before.before.before).if-k-eq1.false),
         omega (
           arith,
-          (at-start at-open-add).requires.1.3,
-          at-open-add.open-add.ensures.1,
-          (at-start at-open-add).requires.1.2,
+          (at-start c.before.before.before).requires.1.3,
+          c.open_add-p.ensures.1,
+          (at-start c.before.before.before).requires.1.2,
         ),
       ),
     )
 
-same-length-2 : (t : ℕ) → walk.Need-same-length-2 (callees t) (entered t) self.Post
+same-length-2 : (t : ℕ) → walk.Need-shape_of-out-then-l-ne0 (callees t) (entered t) self.Post
 same-length-2 t c = search rules
 
-returns-2 : (t : ℕ) → walk.Need-returns-2 (callees t) (entered t) self.Post
-returns-2 t c =
-    let at-put-sum = c.before.before.before.before in
-    let at-open-add = at-put-sum.before.before.before.before in (
-      stopped (at-start at-open-add).requires.1.0.standing.count,
+returns-2 : (t : ℕ) → walk.Need-returns-then-l-ne0 (callees t) (entered t) self.Post
+returns-2 t c = (
+      stopped (at-start c.before.before.before.before.before.before.before.before).requires.1.0.standing.count,
       sum_stops _ _ _
-          (at-start at-open-add).requires.1.2
-          (at-else1 at-open-add).if1.false
-          (at-start at-open-add).requires.1.1
-          at-open-add.open-add.ensures.0
-          at-put-sum.put-sum.ensures.1
-          c.if2.true,
+          (at-start c.before.before.before.before.before.before.before.before).requires.1.2
+          (at-else1 c.before.before.before.before.before.before.before.before).if-k-eq1.false
+          (at-start c.before.before.before.before.before.before.before.before).requires.1.1
+          c.open_add-p.ensures.0
+          c.put_sum-l.ensures.1
+          c.if-l-ne0.true,
     )
 
-sub-put-ref : (t : ℕ) → walk.Need-sub-put-ref (callees t) (entered t) self.Post
+sub-put-ref : (t : ℕ) → walk.Need-overflow_sub-k-2 (callees t) (entered t) self.Post
 sub-put-ref t c =
-    let at-open-add = c.before.before.before.before.before.before.before.before in
-    omega (arith, (at-start at-open-add).requires.1.2)
+    omega (arith, (at-start c.before.before.before.before.before.before.before.before).requires.1.2)
 
-put-ref-requires-2 : (t : ℕ) → walk.Need-put-ref-requires-2 (callees t) (entered t) self.Post
+put-ref-requires-2 : (t : ℕ) → walk.Need-put_ref-m-requires (callees t) (entered t) self.Post
 put-ref-requires-2 t c κs =
-    let at-put-sum = c.before.before.before.before.before in
-    let at-open-add = at-put-sum.before.before.before.before in
-    let known = (at-start at-open-add).requires.1.0 in (
+    let known = (at-start c.before.before.before.before.before.before.before.before.before).requires.1.0 in (
       record {
         standing = standing known.standing refl
-            at-put-sum.put-sum.ensures.0.count
-            (builds_index c.before.if2.false at-put-sum.put-sum.ensures.1);
+            c.put_sum-l.ensures.0.count
+            (builds_index c.if-l-ne0.false c.put_sum-l.ensures.1);
         owned = known.owned;
         list = known.list;
       },
-      omega (arith, (at-start at-open-add).requires.1.1, (at-start at-open-add).requires.1.2),
+      omega (arith, (at-start c.before.before.before.before.before.before.before.before.before).requires.1.1, (at-start c.before.before.before.before.before.before.before.before.before).requires.1.2),
       omega (
         arith,
-        (at-start at-open-add).requires.1.3,
-        at-open-add.open-add.ensures.1,
-        at-put-sum.put-sum.ensures.0.high,
-        (at-start at-open-add).requires.1.2,
+        (at-start c.before.before.before.before.before.before.before.before.before).requires.1.3,
+        c.open_add-p.ensures.1,
+        c.put_sum-l.ensures.0.high,
+        (at-start c.before.before.before.before.before.before.before.before.before).requires.1.2,
       ),
     )
 
-same-length-3 : (t : ℕ) → walk.Need-same-length-3 (callees t) (entered t) self.Post
+same-length-3 : (t : ℕ) → walk.Need-shape_of-out-then-m-ne0 (callees t) (entered t) self.Post
 same-length-3 t c = search rules
 
-returns-3 : (t : ℕ) → walk.Need-returns-3 (callees t) (entered t) self.Post
-returns-3 t c =
-    let at-put-ref2 = c.before.before.before.before in
-    let at-else2 = at-put-ref2.before.before in
-    let at-put-sum = at-else2.before.before.before.before in
-    let at-open-add = at-put-sum.before.before.before.before in (
-      stopped (at-start at-open-add).requires.1.0.standing.count,
+returns-3 : (t : ℕ) → walk.Need-returns-then-m-ne0 (callees t) (entered t) self.Post
+returns-3 t c = (
+      stopped (at-start c.before.before.before.before.before.before.before.before.before.before.before.before.before.before).requires.1.0.standing.count,
       sum_stops_last _ _ _
-          (at-start at-open-add).requires.1.2
-          (at-else1 at-open-add).if1.false
-          (at-start at-open-add).requires.1.1
-          at-open-add.open-add.ensures.0
-          at-put-sum.put-sum.ensures.1
-          at-else2.if2.false
-          at-put-ref2.put-ref2.ensures.1
-          c.if3.true,
+          (at-start c.before.before.before.before.before.before.before.before.before.before.before.before.before.before).requires.1.2
+          (at-else1 c.before.before.before.before.before.before.before.before.before.before.before.before.before.before).if-k-eq1.false
+          (at-start c.before.before.before.before.before.before.before.before.before.before.before.before.before.before).requires.1.1
+          c.open_add-p.ensures.0
+          c.put_sum-l.ensures.1
+          c.if-l-ne0.false
+          c.put_ref-m.ensures.1
+          c.if-m-ne0.true,
     )
 
-close-block-requires : (t : ℕ) → walk.Need-close-block-requires (callees t) (entered t) self.Post
-close-block-requires t c κs =
-    let at-put-ref2 = c.before.before.before.before.before in
-    let at-put-sum = at-put-ref2.before.before.before.before.before.before in
-    let at-open-add = at-put-sum.before.before.before.before in (
+close-block-requires : (t : ℕ) → walk.Need-close_block-requires (callees t) (entered t) self.Post
+close-block-requires t c κs = (
       omega (
         arith,
-        at-open-add.open-add.ensures.1,
-        at-put-sum.put-sum.ensures.0.low,
-        at-put-ref2.put-ref2.ensures.0.low,
+        c.open_add-p.ensures.1,
+        c.put_sum-l.ensures.0.low,
+        c.put_ref-m.ensures.0.low,
       ),
       omega (
         arith,
-        (at-start at-open-add).requires.1.3,
-        at-open-add.open-add.ensures.1,
-        at-put-sum.put-sum.ensures.0.high,
-        at-put-ref2.put-ref2.ensures.0.high,
-        (at-start at-open-add).requires.1.2,
+        (at-start c.before.before.before.before.before.before.before.before.before.before.before.before.before.before.before).requires.1.3,
+        c.open_add-p.ensures.1,
+        c.put_sum-l.ensures.0.high,
+        c.put_ref-m.ensures.0.high,
+        (at-start c.before.before.before.before.before.before.before.before.before.before.before.before.before.before.before).requires.1.2,
       ),
     )
 
-same-length-4 : (t : ℕ) → walk.Need-same-length-4 (callees t) (entered t) self.Post
+same-length-4 : (t : ℕ) → walk.Need-shape_of-out (callees t) (entered t) self.Post
 same-length-4 t c = search rules
 
-returns-4 : (t : ℕ) → walk.Need-returns-4 (callees t) (entered t) self.Post
-returns-4 t c =
-    let at-close-block = c.before.before in
-    let at-else3 = at-close-block.before.before in
-    let at-put-ref2 = at-else3.before.before.before.before in
-    let at-else2 = at-put-ref2.before.before in
-    let at-put-sum = at-else2.before.before.before.before in
-    let at-open-add = at-put-sum.before.before.before.before in (
+returns-4 : (t : ℕ) → walk.Need-returns (callees t) (entered t) self.Post
+returns-4 t c = (
       sum_within
-          (at-start at-open-add).requires.1.2
-          at-open-add.open-add.ensures.1
-          at-put-sum.put-sum.ensures.0
-          at-put-ref2.put-ref2.ensures.0,
+          (at-start c.before.before.before.before.before.before.before.before.before.before.before.before.before.before.before.before.before.before).requires.1.2
+          c.open_add-p.ensures.1
+          c.put_sum-l.ensures.0
+          c.put_ref-m.ensures.0,
       sum_done _ _ _
-          (at-start at-open-add).requires.1.2
-          (at-else1 at-open-add).if1.false
-          (at-start at-open-add).requires.1.1
-          at-open-add.open-add.ensures.0
-          at-put-sum.put-sum.ensures.1
-          at-else2.if2.false
-          at-put-ref2.put-ref2.ensures.1
-          at-else3.if3.false
-          at-close-block.close_block.ensures.0,
+          (at-start c.before.before.before.before.before.before.before.before.before.before.before.before.before.before.before.before.before.before).requires.1.2
+          (at-else1 c.before.before.before.before.before.before.before.before.before.before.before.before.before.before.before.before.before.before).if-k-eq1.false
+          (at-start c.before.before.before.before.before.before.before.before.before.before.before.before.before.before.before.before.before.before).requires.1.1
+          c.open_add-p.ensures.0
+          c.put_sum-l.ensures.1
+          c.if-l-ne0.false
+          c.put_ref-m.ensures.1
+          c.if-m-ne0.false
+          c.close_block.ensures.0,
     )
 
-pub +put-sum-spec : {M : Type 1} → statement M
-+put-sum-spec =
+pub +put_sum_spec : {M : Type 1} → statement M
++put_sum_spec =
     close μ
     (λ t. walk.spec (callees t) (entered t) self.Post (put-ref-requires t) (same_length t) (returns t)
     (open-add-requires t) (sub-put-sum t) (put-sum-requires t) (same-length-2 t) (returns-2 t) (sub-put-ref t)

@@ -4,11 +4,11 @@ use borrow.Author.Rules.{rules}
 use Rattle.builder_sums.proofs.has_payload.Statement.{statement}
 use Rattle.builder_sums.proofs.has_payload.Tie as tie
 
-chosen-count-requires : tie.Need-chosen-count-requires
+chosen-count-requires : tie.Need-chosen_count-requires
 chosen-count-requires c κs = search rules
 
 returns : tie.Need-returns
-returns c = λ p. payload_is c.chosen-count.ensures.0 p
+returns c = λ p. payload_is c.chosen_count.ensures.0 p
 
 pub has_payload_spec : {M : Type 1} → statement M
 has_payload_spec = tie.close (tie.spec chosen-count-requires returns)

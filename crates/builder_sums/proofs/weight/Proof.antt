@@ -5,40 +5,33 @@ use borrow.Author.Rules.{rules}
 use Rattle.builder_sums.proofs.weight.Statement.{statement}
 use Rattle.builder_sums.proofs.weight.Tie as tie
 
-name-at-requires : tie.Need-name-at-requires
+name-at-requires : tie.Need-name_at-requires
 name-at-requires c κs = search rules
 
-slice-aggregate-ends-with : tie.Need-slice-aggregate-ends-with
-slice-aggregate-ends-with c = search rules
-
-ends-with-requires : tie.Need-ends-with-requires
+ends-with-requires : tie.Need-ends_with-requires
 ends-with-requires c κs = search rules
 
-returns : tie.Need-returns
-returns c =
-    let at-name-at = c.before.before.before in
-    let at-then1 = at-name-at.before in (
+returns : tie.Need-returns-then-ends_with
+returns c = (
       weighs
-          at-then1.if1.true
-          at-name-at.name_at.ensures
-          c.before.ends_with.ensures 1
-          (rw c.if2.true),
+          c.if-only.true
+          c.name_at.ensures
+          c.ends_with.ensures 1
+          (rw c.if-ends_with.true),
       omega arith,
     )
 
-returns-2 : tie.Need-returns-2
-returns-2 c =
-    let at-name-at = c.before.before.before in
-    let at-then1 = at-name-at.before in (
+returns-2 : tie.Need-returns-then-only
+returns-2 c = (
       weighs
-          at-then1.if1.true
-          at-name-at.name_at.ensures
-          c.before.ends_with.ensures 0
-          (rw c.if2.false),
+          c.if-only.true
+          c.name_at.ensures
+          c.ends_with.ensures 0
+          (rw c.if-ends_with.false),
       omega arith,
     )
 
-returns-3 : tie.Need-returns-3
+returns-3 : tie.Need-returns
 returns-3 c = search rules
 
 pub weight_spec : {M : Type 1} → statement M
@@ -46,7 +39,6 @@ weight_spec =
     tie.close
     (tie.spec
     name-at-requires
-    slice-aggregate-ends-with
     ends-with-requires
     returns
     returns-2

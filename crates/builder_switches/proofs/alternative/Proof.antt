@@ -6,59 +6,54 @@ use Rattle.builder_switches.proofs.Cases.{at_kind, not_union, alt_union, alt_enu
 use Rattle.builder_switches.proofs.alternative.Statement.{statement}
 use Rattle.builder_switches.proofs.alternative.Tie as tie
 
-add-name : tie.Need-overflow-add-name
-add-name c = omega (arith, header_inside c.before.requires.block)
+add-name : tie.Need-overflow_add-name
+add-name c = omega (arith, header_inside c.requires.block)
 
-field-parts-requires : tie.Need-field-parts-requires
-field-parts-requires c κs = search (rules, at_kind c.if1.true c.before.before.requires.block)
+field-parts-requires : tie.Need-field_parts-f-requires
+field-parts-requires c κs = search (rules, at_kind c.if-k-eq33.true c.requires.block)
 
-type-head-requires : tie.Need-type-head-requires
+type-head-requires : tie.Need-type_head-h-requires
 type-head-requires c κs =
-    let at-start = c.before.before.before in
     search (
       rules,
-      (c.field-parts.ensures (at_kind c.before.if1.true at-start.requires.block)).type,
+      (c.field_parts-f.ensures (at_kind c.if-k-eq33.true c.requires.block)).type,
     )
 
-returns : tie.Need-returns
+returns : tie.Need-returns-then-k-eq33
 returns c =
     alt_union
-    c.before.before.if1.true
-    c.before.field-parts.ensures
-    c.type_head.ensures
+    c.if-k-eq33.true
+    c.field_parts-f.ensures
+    c.type_head-h.ensures
 
-variant-parts-requires : tie.Need-variant-parts-requires
+variant-parts-requires : tie.Need-variant_parts-v-requires
 variant-parts-requires c κs = search (
   rules,
-  not_union c.before.before.requires.kind c.if1.false,
+  not_union c.requires.kind c.if-k-eq33.false,
 )
 
-type-head-requires-2 : tie.Need-type-head-requires-2
+type-head-requires-2 : tie.Need-type_head-h-requires-2
 type-head-requires-2 c κs =
-    let at-start = c.before.before.before in
-    search (rules, (c.variant_parts.ensures at-start.requires.block).type)
+    search (rules, (c.variant_parts-v.ensures c.requires.block).type)
 
-returns-2 : tie.Need-returns-2
+returns-2 : tie.Need-returns-then-k-eq34
 returns-2 c =
     alt_enum
-    c.before.before.variant_parts.ensures
-    c.before.type-head2.ensures
-    c.if2.true
+    c.variant_parts-v.ensures
+    c.type_head-h-2.ensures
+    c.if-k-eq34.true
 
-returns-3 : tie.Need-returns-3
+returns-3 : tie.Need-returns
 returns-3 c =
-    let at-variant-parts = c.before.before in
-    let at-else1 = at-variant-parts.before in
-    let at-start = at-else1.before.before in
     alt_sized
-    at-variant-parts.variant_parts.ensures
-    c.before.type-head2.ensures
+    c.variant_parts-v.ensures
+    c.type_head-h-2.ensures
     (omega (
       arith,
-      at-start.requires.kind.low,
-      at-start.requires.kind.high,
-      at-else1.if1.false,
-      c.if2.false,
+      c.requires.kind.low,
+      c.requires.kind.high,
+      c.if-k-eq33.false,
+      c.if-k-eq34.false,
     ))
 
 pub alternative_spec : {M : Type 1} → statement M

@@ -10,127 +10,108 @@ use Rattle.builder_switches.proofs.Switch.{switching, refs_standing, refs_stop, 
 use Rattle.builder_switches.proofs.build_size_discriminated_union_node.Statement.{statement}
 use Rattle.builder_switches.proofs.build_size_discriminated_union_node.Tie as tie
 
-type-head-requires : tie.Need-type-head-requires
+type-head-requires : tie.Need-type_head-h-requires
 type-head-requires c κs = search rules
 
 -- The places, each seen from a later one: what was known there.
-abbrev at-extend-with : tie.Else1 → tie.After-extend-with
+abbrev at-extend-with : tie.Else-x-ne0 → tie.After-extend_with-x
 at-extend-with r = r.before.before.before.before
 
-abbrev at-type-head : tie.Else1 → tie.After-type-head
+abbrev at-type-head : tie.Else-x-ne0 → tie.After-type_head-h
 at-type-head r = (at-extend-with r).before.before
 
-abbrev at-start : tie.Else1 → tie.Start
+abbrev at-start : tie.Else-x-ne0 → tie.Start
 at-start r = (at-type-head r).before.before.before.before
 
-extend-with-requires : tie.Need-extend-with-requires
+extend-with-requires : tie.Need-extend_with-x-requires
 extend-with-requires c κs =
-    let at-start = c.before.before.before.before.before in
-    (at-start.requires.standing, (c.before.type_head.ensures at-start.requires.type_at).references)
+    (c.requires.standing, (c.type_head-h.ensures c.requires.type_at).references)
 
-same_length : tie.Need-same-length
+same_length : tie.Need-shape_of-words-then-x-ne0
 same_length c = search rules
 
-returns : tie.Need-returns
+returns : tie.Need-returns-then-x-ne0
 unfolding build_size_discriminated_union_node
-returns c =
-    let at-extend-with = c.before.before.before.before in
-    let at-type-head = at-extend-with.before.before in
-    let at-start = at-type-head.before.before.before.before in (
-      stopped at-start.requires.standing.count,
+returns c = (
+      stopped c.requires.standing.count,
       λ a vs q. refs_stop _
-          at-type-head.type_head.ensures
-          at-extend-with.extend_with.ensures.1 _
-          c.if1.true a,
+          c.type_head-h.ensures
+          c.extend_with-x.ensures.1 _
+          c.if-x-ne0.true a,
     )
 
-sized-list-requires : tie.Need-sized-list-requires
+sized-list-requires : tie.Need-sized_list-p-requires
 sized-list-requires c κs = search rules
 
-same-length-2 : tie.Need-same-length-2
+same-length-2 : tie.Need-shape_of-words-then-p-eq0
 same-length-2 c = search rules
 
-returns-2 : tie.Need-returns-2
-returns-2 c =
-    let at-sized-list = c.before.before in
-    let at-else1 = at-sized-list.before in (
-      stopped (at-start at-else1).requires.standing.count,
+returns-2 : tie.Need-returns-then-p-eq0
+returns-2 c = (
+      stopped (at-start c.before.before.before).requires.standing.count,
       λ a vs q. sized_none _
-          (at-type-head at-else1).type_head.ensures
-          (at-extend-with at-else1).extend_with.ensures.1
-          at-else1.if1.false
-          at-sized-list.sized-list.ensures
-          c.if2.true a vs q,
+          (at-type-head c.before.before.before).type_head-h.ensures
+          (at-extend-with c.before.before.before).extend_with-x.ensures.1
+          c.if-x-ne0.false
+          c.sized_list-p.ensures
+          c.if-p-eq0.true a vs q,
     )
 
-add-add-synthetic : tie.Need-overflow-add-add-synthetic
+add-add-synthetic : tie.Need-overflow_add-kind
 add-add-synthetic c =
-    let at-else1 = c.before.before.before.before in
     omega (
       arith,
-      ((at-type-head at-else1).type_head.ensures (at-start at-else1).requires.type_at).named.inside,
-      (at-start at-else1).requires.standing.size,
+      ((at-type-head c.before.before.before.before).type_head-h.ensures (at-start c.before.before.before.before).requires.type_at).named.inside,
+      (at-start c.before.before.before.before).requires.standing.size,
     )
 
-add-synthetic-requires : tie.Need-add-synthetic-requires
-add-synthetic-requires c κs =
-    let at-else1 = c.before.before.before.before in
-    let at-extend-with = at-else1.before.before.before.before in
-    let at-type-head = at-extend-with.before.before in
-    let at-start = at-type-head.before.before.before.before in (
+add-synthetic-requires : tie.Need-add_synthetic-t-requires
+add-synthetic-requires c κs = (
       refs_standing _
-          at-start.requires
-          at-type-head.type_head.ensures
+          c.requires
+          c.type_head-h.ensures
           (omega arith)
-          at-extend-with.extend_with.ensures.0
-          at-extend-with.extend_with.ensures.1
-          at-else1.if1.false,
+          c.extend_with-x.ensures.0
+          c.extend_with-x.ensures.1
+          c.if-x-ne0.false,
       omega (
         arith,
-        (at-type-head.type_head.ensures at-start.requires.type_at).named.inside,
-        at-start.requires.standing.size,
+        (c.type_head-h.ensures c.requires.type_at).named.inside,
+        c.requires.standing.size,
       ),
       (omega arith, omega arith),
     )
 
-put-switch-requires : tie.Need-put-switch-requires
+put-switch-requires : tie.Need-put_switch-requires
 put-switch-requires c κs =
-    let at-add-synthetic = c.before.before.before.before in
-    let at-sized-list = at-add-synthetic.before.before.before.before in
-    let at-else1 = at-sized-list.before in
-    let variants = at-sized-list.sized-list.ensures (at-start at-else1).requires.type_at in
+    let variants = c.sized_list-p.ensures (at-start c.before.before.before.before.before.before.before.before).requires.type_at in
     switching
-    (at-start at-else1).requires
-    (at-add-synthetic.add_synthetic.auto.1.0 ∙ (at-extend-with at-else1).extend_with.auto.1.0)
-    at-add-synthetic.add_synthetic.ensures.0
-    at-add-synthetic.add_synthetic.ensures.1.0
+    (at-start c.before.before.before.before.before.before.before.before).requires
+    (c.add_synthetic-t.auto.words ∙ (at-extend-with c.before.before.before.before.before.before.before.before).extend_with-x.auto.words)
+    c.add_synthetic-t.ensures.0
+    c.add_synthetic-t.ensures.1.0
     (omega arith)
     (omega arith)
     variants.list
     variants.few
 
-same-length-3 : tie.Need-same-length-3
+same-length-3 : tie.Need-shape_of-words
 same-length-3 c = search rules
 
-same-length-4 : tie.Need-same-length-4
+same-length-4 : tie.Need-shape_of-out
 same-length-4 c = search rules
 
-returns-3 : tie.Need-returns-3
-returns-3 c =
-    let at-put-switch = c.before.before in
-    let at-add-synthetic = at-put-switch.before.before.before.before.before in
-    let at-else2 = at-add-synthetic.before.before in
-    let at-sized-list = at-else2.before.before in
-    let at-else1 = at-sized-list.before in (
-      at-put-switch.put-switch.ensures.0,
+returns-3 : tie.Need-returns
+returns-3 c = (
+      c.put_switch.ensures.0,
       λ a vs q. sized_done _
-          (at-type-head at-else1).type_head.ensures
-          (at-extend-with at-else1).extend_with.ensures.1
-          at-else1.if1.false
-          at-sized-list.sized-list.ensures
-          at-else2.if2.false
-          at-add-synthetic.add_synthetic.ensures.1.0
-          at-put-switch.put-switch.ensures.1 a vs q,
+          (at-type-head c.before.before.before.before.before.before.before.before.before.before.before).type_head-h.ensures
+          (at-extend-with c.before.before.before.before.before.before.before.before.before.before.before).extend_with-x.ensures.1
+          c.if-x-ne0.false
+          c.sized_list-p.ensures
+          c.if-p-eq0.false
+          c.add_synthetic-t.ensures.1.0
+          c.put_switch.ensures.1 a vs q,
     )
 
 pub build_size_discriminated_union_node_spec : {M : Type 1} → statement M

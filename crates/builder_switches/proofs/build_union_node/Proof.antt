@@ -9,114 +9,98 @@ use Rattle.builder_switches.proofs.Switch.{switching, union_kind, refs_standing,
 use Rattle.builder_switches.proofs.build_union_node.Statement.{statement}
 use Rattle.builder_switches.proofs.build_union_node.Tie as tie
 
-type-head-requires : tie.Need-type-head-requires
+type-head-requires : tie.Need-type_head-h-requires
 type-head-requires c κs = search rules
 
 -- The places, each seen from a later one: what was known there.
-abbrev at-type-head : tie.After-extend-with → tie.After-type-head
+abbrev at-type-head : tie.After-extend_with-x → tie.After-type_head-h
 at-type-head r = r.before.before
 
-abbrev at-start : tie.After-extend-with → tie.Start
+abbrev at-start : tie.After-extend_with-x → tie.Start
 at-start r = (at-type-head r).before.before.before.before
 
-extend-with-requires : tie.Need-extend-with-requires
+extend-with-requires : tie.Need-extend_with-x-requires
 extend-with-requires c κs =
-    let at-start = c.before.before.before.before.before in
-    (at-start.requires.standing, (c.before.type_head.ensures at-start.requires.type_at).references)
+    (c.requires.standing, (c.type_head-h.ensures c.requires.type_at).references)
 
-same_length : tie.Need-same-length
+same_length : tie.Need-shape_of-words-then-x-ne0
 same_length c = search rules
 
-returns : tie.Need-returns
+returns : tie.Need-returns-then-x-ne0
 unfolding build_union_node
-returns c =
-    let at-extend-with = c.before.before.before.before in (
-      stopped (at-start at-extend-with).requires.standing.count,
+returns c = (
+      stopped (at-start c.before.before.before.before).requires.standing.count,
       λ a fs q. refs_stop _
-          (at-type-head at-extend-with).type_head.ensures
-          at-extend-with.extend_with.ensures.1 _
-          c.if1.true a,
+          (at-type-head c.before.before.before.before).type_head-h.ensures
+          c.extend_with-x.ensures.1 _
+          c.if-x-ne0.true a,
     )
 
-add-add-synthetic : tie.Need-overflow-add-add-synthetic
+add-add-synthetic : tie.Need-overflow_add-kind
 add-add-synthetic c =
-    let at-extend-with = c.before.before.before.before.before in
     omega (
       arith,
-      ((at-type-head at-extend-with).type_head.ensures
-          (at-start at-extend-with).requires.type_at).named.inside,
-      (at-start at-extend-with).requires.standing.size,
+      ((at-type-head c.before.before.before.before.before).type_head-h.ensures
+          (at-start c.before.before.before.before.before).requires.type_at).named.inside,
+      (at-start c.before.before.before.before.before).requires.standing.size,
     )
 
-add-synthetic-requires : tie.Need-add-synthetic-requires
-add-synthetic-requires c κs =
-    let at-else1 = c.before in
-    let at-extend-with = at-else1.before.before.before.before in
-    let at-type-head = at-extend-with.before.before in
-    let at-start = at-type-head.before.before.before.before in (
+add-synthetic-requires : tie.Need-add_synthetic-t-requires
+add-synthetic-requires c κs = (
       refs_standing _
-          at-start.requires
-          at-type-head.type_head.ensures
+          c.requires
+          c.type_head-h.ensures
           (omega arith)
-          at-extend-with.extend_with.ensures.0
-          at-extend-with.extend_with.ensures.1
-          at-else1.if1.false,
+          c.extend_with-x.ensures.0
+          c.extend_with-x.ensures.1
+          c.if-x-ne0.false,
       omega (
         arith,
-        (at-type-head.type_head.ensures at-start.requires.type_at).named.inside,
-        at-start.requires.standing.size,
+        (c.type_head-h.ensures c.requires.type_at).named.inside,
+        c.requires.standing.size,
       ),
       (omega arith, omega arith),
     )
 
-field-list-requires : tie.Need-field-list-requires
+field-list-requires : tie.Need-field_list-p-requires
 field-list-requires c κs =
-    let at-extend-with = c.before.before.before.before.before.before.before.before in
     search (
       rules,
-      union_kind (at-start at-extend-with).requires.kind_is,
-      (at-start at-extend-with).requires.type_at,
-      (at-start at-extend-with).requires.standing,
+      union_kind (at-start c.before.before.before.before.before.before.before.before).requires.kind_is,
+      (at-start c.before.before.before.before.before.before.before.before).requires.type_at,
+      (at-start c.before.before.before.before.before.before.before.before).requires.standing,
     )
 
-put-switch-requires : tie.Need-put-switch-requires
+put-switch-requires : tie.Need-put_switch-requires
 put-switch-requires c κs =
-    let at-field-list = c.before.before in
-    let at-add-synthetic = at-field-list.before.before.before in
-    let at-extend-with = at-add-synthetic.before.before.before.before.before.before in
-    let fields = at-field-list.field-list.ensures (at-start at-extend-with).requires.type_at in
+    let fields = c.field_list-p.ensures (at-start c.before.before.before.before.before.before.before.before.before.before).requires.type_at in
     switching
-    (at-start at-extend-with).requires
-    (at-add-synthetic.add_synthetic.auto.1.0 ∙ at-extend-with.extend_with.auto.1.0)
-    at-add-synthetic.add_synthetic.ensures.0
-    at-add-synthetic.add_synthetic.ensures.1.0
+    (at-start c.before.before.before.before.before.before.before.before.before.before).requires
+    (c.add_synthetic-t.auto.words ∙ c.extend_with-x.auto.words)
+    c.add_synthetic-t.ensures.0
+    c.add_synthetic-t.ensures.1.0
     (omega arith)
     (omega arith)
     fields.list
     fields.few
 
-same-length-2 : tie.Need-same-length-2
+same-length-2 : tie.Need-shape_of-words
 same-length-2 c = search rules
 
-same-length-3 : tie.Need-same-length-3
+same-length-3 : tie.Need-shape_of-out
 same-length-3 c = search rules
 
-returns-2 : tie.Need-returns-2
-returns-2 c =
-    let at-put-switch = c.before.before in
-    let at-field-list = at-put-switch.before.before.before in
-    let at-add-synthetic = at-field-list.before.before.before in
-    let at-else1 = at-add-synthetic.before.before in
-    let at-extend-with = at-else1.before.before.before.before in (
-      at-put-switch.put-switch.ensures.0,
+returns-2 : tie.Need-returns
+returns-2 c = (
+      c.put_switch.ensures.0,
       λ a fs q. union_done _
-          (at-type-head at-extend-with).type_head.ensures
-          at-extend-with.extend_with.ensures.1
-          at-else1.if1.false
-          (at-start at-extend-with).requires.kind_is
-          at-field-list.field-list.ensures
-          at-add-synthetic.add_synthetic.ensures.1.0
-          at-put-switch.put-switch.ensures.1 a fs q,
+          (at-type-head c.before.before.before.before.before.before.before.before.before.before.before.before.before).type_head-h.ensures
+          c.extend_with-x.ensures.1
+          c.if-x-ne0.false
+          (at-start c.before.before.before.before.before.before.before.before.before.before.before.before.before).requires.kind_is
+          c.field_list-p.ensures
+          c.add_synthetic-t.ensures.1.0
+          c.put_switch.ensures.1 a fs q,
     )
 
 pub build_union_node_spec : {M : Type 1} → statement M

@@ -11,118 +11,98 @@ use Rattle.builder_switches.proofs.enum_tag_parameter.Statement.{statement}
 use Rattle.builder_switches.proofs.enum_tag_parameter.Tie as tie
 
 -- The places, each seen from a later one: what was known there.
-abbrev at-start : tie.After-name-at → tie.Start
+abbrev at-start : tie.After-name_at-owner → tie.Start
 at-start r = r.before.before.before
 
-add-name-at : tie.Need-overflow-add-name-at
+add-name-at : tie.Need-overflow_add-kind
 add-name-at c =
-    let at-start = c.before.before in
-    omega (arith, at-start.requires.named.inside, at-start.requires.standing.size)
+    omega (arith, c.requires.named.inside, c.requires.standing.size)
 
-name-at-requires : tie.Need-name-at-requires
+name-at-requires : tie.Need-name_at-owner-requires
 name-at-requires c κs = search rules
 
-add-read2 : tie.Need-overflow-add-read2
+add-read2 : tie.Need-overflow_add-e
 add-read2 c = omega (arith, header_inside (at-start c).requires.expr)
 
 read2-requires : tie.Need-read2-requires
 read2-requires c κs = omega (arith, header_inside (at-start c).requires.expr)
 
-tag-lookup-requires : tie.Need-tag-lookup-requires
-tag-lookup-requires c κs =
-    let at-read2 = c.before.before in
-    let at-name-at = at-read2.before in (
+tag-lookup-requires : tie.Need-tag_lookup-requires
+tag-lookup-requires c κs = (
       record {
-        standing = (at-start at-name-at).requires.standing;
-        owned = named_short (at-start at-name-at).requires.named at-name-at.name_at.ensures;
-        expr = (at-start at-name-at).requires.expr;
+        standing = (at-start c.before.before).requires.standing;
+        owned = named_short (at-start c.before.before).requires.named c.name_at-owner.ensures;
+        expr = (at-start c.before.before).requires.expr;
       },
-      sym at-read2.read2.ensures.0 ∙ c.before.if1.true,
+      sym c.read2.ensures.0 ∙ c.if-read2-eq65.true,
     )
 
-enum-known-i : tie.Need-enum-known-i
+enum-known-i : tie.Need-enum_known-i
 enum-known-i c = search rules
 
-same_length : tie.Need-same-length
+same_length : tie.Need-shape_of-words-in-At
 same_length c = search rules
 
-returns : tie.Need-returns
-returns c =
-    let at-tag-lookup = c.before.before.before in
-    let at-then1 = at-tag-lookup.before.before in
-    let at-read2 = at-then1.before in
-    let at-name-at = at-read2.before in (
-      (at-start at-name-at).requires.standing.count,
+returns : tie.Need-returns-in-At
+returns c = (
+      (at-start c.before.before.before.before).requires.standing.count,
       λ a. tag_known _ _
-          at-name-at.name_at.ensures
-          (sym at-read2.read2.ensures.0 ∙ at-then1.if1.true)
-          at-tag-lookup.tag_lookup.ensures
-          (at-start at-name-at).requires.standing.index
-          c.before.i.given.1 a,
+          c.name_at-owner.ensures
+          (sym c.read2.ensures.0 ∙ c.if-read2-eq65.true)
+          c.tag_lookup.ensures
+          (at-start c.before.before.before.before).requires.standing.index
+          c.in-At.is a,
     )
 
-enum_told : tie.Need-enum-told
+enum_told : tie.Need-enum_told-1
 enum_told c = search rules
 
-same-length-2 : tie.Need-same-length-2
+same-length-2 : tie.Need-shape_of-words-in-Missing
 same-length-2 c = search rules
 
-returns-2 : tie.Need-returns-2
-returns-2 c =
-    let at-tag-lookup = c.before.before in
-    let at-then1 = at-tag-lookup.before.before in
-    let at-read2 = at-then1.before in
-    let at-name-at = at-read2.before in (
-      (at-start at-name-at).requires.standing.count,
+returns-2 : tie.Need-returns-in-Missing
+returns-2 c = (
+      (at-start c.before.before.before.before).requires.standing.count,
       λ a. tag_unknown _ _
-          at-name-at.name_at.ensures
-          (sym at-read2.read2.ensures.0 ∙ at-then1.if1.true)
-          at-tag-lookup.tag_lookup.ensures
-          c.enum_told.given.1 a,
+          c.name_at-owner.ensures
+          (sym c.read2.ensures.0 ∙ c.if-read2-eq65.true)
+          c.tag_lookup.ensures
+          c.in-Missing.is a,
     )
 
-mark-expression-field-refs-requires : tie.Need-mark-expression-field-refs-requires
-mark-expression-field-refs-requires c κs =
-    let at-name-at = c.before.before.before in record {
-      standing = (at-start at-name-at).requires.standing;
-      owned = named_short (at-start at-name-at).requires.named at-name-at.name_at.ensures;
-      expr = (at-start at-name-at).requires.expr;
+mark-expression-field-refs-requires : tie.Need-mark_expression_field_refs-requires
+mark-expression-field-refs-requires c κs = record {
+      standing = (at-start c.before.before.before).requires.standing;
+      owned = named_short (at-start c.before.before.before).requires.named c.name_at-owner.ensures;
+      expr = (at-start c.before.before.before).requires.expr;
     }
 
-add-add-synthetic : tie.Need-overflow-add-add-synthetic
+add-add-synthetic : tie.Need-overflow_add-kind-2
 add-add-synthetic c =
-    let at-name-at = c.before.before.before.before.before.before.before in
-    omega (arith, (at-start at-name-at).requires.named.inside, (at-start at-name-at).requires.standing.size)
+    omega (arith, (at-start c.before.before.before.before.before.before.before).requires.named.inside, (at-start c.before.before.before.before.before.before.before).requires.standing.size)
 
-add-synthetic-requires : tie.Need-add-synthetic-requires
-add-synthetic-requires c κs =
-    let at-mark-expression-field-refs = c.before.before.before in
-    let at-start = at-mark-expression-field-refs.before.before.before.before.before.before.before in (
-      standing at-start.requires.standing (omega arith)
-          at-start.requires.standing.count
-          at-mark-expression-field-refs.mark-expression-field-refs.ensures.1,
-      omega (arith, at-start.requires.named.inside, at-start.requires.standing.size),
+add-synthetic-requires : tie.Need-add_synthetic-requires
+add-synthetic-requires c κs = (
+      standing c.requires.standing (omega arith)
+          c.requires.standing.count
+          c.mark_expression_field_refs.ensures.1,
+      omega (arith, c.requires.named.inside, c.requires.standing.size),
       (omega arith, omega arith),
     )
 
-same-length-3 : tie.Need-same-length-3
+same-length-3 : tie.Need-shape_of-words
 same-length-3 c = search rules
 
-returns-3 : tie.Need-returns-3
-returns-3 c =
-    let at-add-synthetic = c.before.before in
-    let at-mark-expression-field-refs = at-add-synthetic.before.before.before.before in
-    let at-else1 = at-mark-expression-field-refs.before.before in
-    let at-read2 = at-else1.before in
-    let at-name-at = at-read2.before in (
-      at-add-synthetic.add_synthetic.ensures.0,
+returns-3 : tie.Need-returns
+returns-3 c = (
+      c.add_synthetic.ensures.0,
       λ a. tag_made _ _ _ _ _ _
-          at-name-at.name_at.ensures
-          (at-start at-name-at).requires.named
-          at-read2.read2.ensures.0
-          at-else1.if1.false
-          at-mark-expression-field-refs.mark-expression-field-refs.ensures.0
-          at-add-synthetic.add_synthetic.ensures.1.0 a,
+          c.name_at-owner.ensures
+          (at-start c.before.before.before.before.before.before.before.before.before.before).requires.named
+          c.read2.ensures.0
+          c.if-read2-eq65.false
+          c.mark_expression_field_refs.ensures.0
+          c.add_synthetic.ensures.1.0 a,
     )
 
 pub enum_tag_parameter_spec : {M : Type 1} → statement M

@@ -7,78 +7,63 @@ use Rattle.builder_switches.proofs.Marks.{part_long, mark_none, mark_long, mark_
 use Rattle.builder_switches.proofs.mark_path.Statement.{statement}
 use Rattle.builder_switches.proofs.mark_path.Tie as tie
 
-no-segments-requires : tie.Need-no-segments-requires
+no-segments-requires : tie.Need-no_segments-requires
 no-segments-requires c κs = search rules
 
-returns : tie.Need-returns
-returns c =
-    let at-start = c.before.before.before.before.before in (
-      λ a. mark_none _ _ at-start.requires.1 c.before.no-segments.ensures c.if1.true a,
-      at-start.requires.0.standing.index,
+returns : tie.Need-returns-then-no_segments
+returns c = (
+      λ a. mark_none _ _ c.requires.1 c.no_segments.ensures c.if-no_segments.true a,
+      c.requires.0.standing.index,
     )
 
-joined-length-requires : tie.Need-joined-length-requires
+joined-length-requires : tie.Need-joined_length-m-requires
 joined-length-requires c κs = search rules
 
-returns-2 : tie.Need-returns-2
-returns-2 c =
-    let at-else1 = c.before.before in
-    let at-no-segments = at-else1.before in
-    let at-start = at-no-segments.before.before.before.before in (
+returns-2 : tie.Need-returns-then-m-gt511
+returns-2 c = (
       λ a. mark_long _ _
-          at-start.requires.1
-          at-no-segments.no-segments.ensures
-          c.before.joined_length.ensures
-          at-else1.if1.false
-          c.if2.true
-          at-start.requires.0.standing
-          at-start.requires.0.owned refl a,
-      at-start.requires.0.standing.index,
+          c.requires.1
+          c.no_segments.ensures
+          c.joined_length-m.ensures
+          c.if-no_segments.false
+          c.if-m-gt511.true
+          c.requires.0.standing
+          c.requires.0.owned refl a,
+      c.requires.0.standing.index,
     )
 
-slice-aggregate-put-joined : tie.Need-slice-aggregate-put-joined
+slice-aggregate-put-joined : tie.Need-slice_bounds-put_joined-end
 slice-aggregate-put-joined c = search rules
 
-put-joined-requires : tie.Need-put-joined-requires
+put-joined-requires : tie.Need-put_joined-requires
 put-joined-requires c κs = search rules
 
-array-share-prefix-path : tie.Need-array-share-prefix-path
+array-share-prefix-path : tie.Need-slice_bounds-path-end
 array-share-prefix-path c =
-    let at-else2 = c.before.before.before.before in
-    omega (arith, at-else2.if2.false)
+    omega (arith, c.if-m-gt511.false)
 
-slice-aggregate-mark-derived : tie.Need-slice-aggregate-mark-derived
+slice-aggregate-mark-derived : tie.Need-slice_bounds-mark_derived-end
 slice-aggregate-mark-derived c =
-    let at-put-joined = c.before.before.before in
-    let at-else2 = at-put-joined.before.before in
-    part_long _ _ at-else2.if2.false at-put-joined.put-joined.auto.1.1.1.0
+    part_long _ _ c.if-m-gt511.false c.put_joined.auto.out
 
-mark-derived-requires : tie.Need-mark-derived-requires
+mark-derived-requires : tie.Need-mark_derived-requires
 mark-derived-requires c κs =
-    let at-start = c.before.before.before.before.before.before.before.before.before.before.before.before in
-    at-start.requires.0.standing
+    c.requires.0.standing
 
-same_length : tie.Need-same-length
+same_length : tie.Need-shape_of-words
 same_length c = search rules
 
-returns-3 : tie.Need-returns-3
-returns-3 c =
-    let at-mark-derived = c.before.before in
-    let at-put-joined = at-mark-derived.before.before.before.before in
-    let at-else2 = at-put-joined.before.before in
-    let at-joined-length = at-else2.before in
-    let at-else1 = at-joined-length.before in
-    let at-no-segments = at-else1.before in
-    let at-start = at-no-segments.before.before.before.before in (
+returns-3 : tie.Need-returns
+returns-3 c = (
       λ a. mark_path _ _
-          at-start.requires.1
-          at-no-segments.no-segments.ensures
-          at-joined-length.joined_length.ensures
-          at-else1.if1.false
-          at-else2.if2.false refl
-          at-put-joined.put-joined.ensures
-          at-mark-derived.mark_derived.ensures.0 a,
-      at-mark-derived.mark_derived.ensures.1,
+          c.requires.1
+          c.no_segments.ensures
+          c.joined_length-m.ensures
+          c.if-no_segments.false
+          c.if-m-gt511.false refl
+          c.put_joined.ensures
+          c.mark_derived.ensures.0 a,
+      c.mark_derived.ensures.1,
     )
 
 pub mark_path_spec : {M : Type 1} → statement M

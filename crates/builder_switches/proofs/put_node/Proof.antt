@@ -8,147 +8,122 @@ use Rattle.builder_switches.proofs.Cases.{below_60, paths_at, node_const, node_m
 use Rattle.builder_switches.proofs.put_node.Statement.{statement}
 use Rattle.builder_switches.proofs.put_node.Tie as tie
 
-name-at-requires : tie.Need-name-at-requires
+name-at-requires : tie.Need-name_at-name-requires
 name-at-requires c κs = search rules
 
 get-requires : tie.Need-get-requires
 get-requires c κs = search rules
 
-enum-known-paths : tie.Need-enum-known-paths
+enum-known-paths : tie.Need-enum_known-paths
 enum-known-paths c = search rules
 
 -- The places, each seen from a later one: what was known there.
-abbrev at-name-at : tie.After-get → tie.After-name-at
+abbrev at-name-at : tie.After-get → tie.After-name_at-name
 at-name-at r = r.before
 
-abbrev at-then1 : tie.After-get → tie.Then1
+abbrev at-then1 : tie.After-get → tie.Then-x
 at-then1 r = (at-name-at r).before
 
 abbrev at-start : tie.After-get → tie.Start
 at-start r = (at-then1 r).before.before.before.before
 
-open-align-requires : tie.Need-open-align-requires
+open-align-requires : tie.Need-open_align-p-requires
 open-align-requires c κs =
-    let at-get = c.before.before.before.before in
-    search (rules, below_60 _ (at-start at-get).requires.cursor)
+    search (rules, below_60 _ (at-start c.before.before).requires.cursor)
 
-sum-refs-requires : tie.Need-sum-refs-requires
-sum-refs-requires c κs =
-    let at-open-align = c.before.before.before in
-    let at-paths = at-open-align.before.before.before in
-    let at-get = at-paths.before.before in record {
-      standing = (at-start at-get).requires.standing;
-      owned = named_short (at-start at-get).requires.named (at-name-at at-get).name_at.ensures;
+sum-refs-requires : tie.Need-sum_refs-r-requires
+sum-refs-requires c κs = record {
+      standing = (at-start c.before.before.before.before.before.before).requires.standing;
+      owned = named_short (at-start c.before.before.before.before.before.before).requires.named (at-name-at c.before.before.before.before.before.before).name_at-name.ensures;
       list = paths_at _
-          (at-name-at at-get).name_at.ensures
-          at-get.get.ensures.0
-          at-paths.paths.given.1
-          (at-start at-get).requires.references_at;
-      cursor = omega (arith, (at-start at-get).requires.cursor, at-open-align.open-align.ensures.1);
+          (at-name-at c.before.before.before.before.before.before).name_at-name.ensures
+          c.get.ensures.0
+          c.in-At.is
+          (at-start c.before.before.before.before.before.before).requires.references_at;
+      cursor = omega (arith, (at-start c.before.before.before.before.before.before).requires.cursor, c.open_align-p.ensures.1);
     }
 
-same_length : tie.Need-same-length
+same_length : tie.Need-shape_of-out-then-r-ne0
 same_length c = search rules
 
-returns : tie.Need-returns
-returns c =
-    let at-sum-refs = c.before.before.before.before in
-    let at-open-align = at-sum-refs.before.before.before.before in
-    let at-paths = at-open-align.before.before.before in
-    let at-get = at-paths.before.before in (
-      stopped (at-start at-get).requires.standing.count,
+returns : tie.Need-returns-then-r-ne0
+returns c = (
+      stopped (at-start c.before.before.before.before.before.before.before.before.before.before.before).requires.standing.count,
       λ a. node_stops _
-          (at-start at-get).args.x
-          (at-then1 at-get).if1.true
-          (at-name-at at-get).name_at.ensures
-          at-get.get.ensures.0
-          at-paths.paths.given.1
-          at-open-align.open-align.ensures.0
-          at-sum-refs.sum_refs.ensures.1
-          c.if2.true a,
+          (at-start c.before.before.before.before.before.before.before.before.before.before.before).args.x
+          (at-then1 c.before.before.before.before.before.before.before.before.before.before.before).if-x.true
+          (at-name-at c.before.before.before.before.before.before.before.before.before.before.before).name_at-name.ensures
+          c.get.ensures.0
+          c.in-At.is
+          c.open_align-p.ensures.0
+          c.sum_refs-r.ensures.1
+          c.if-r-ne0.true a,
     )
 
-close-block-requires : tie.Need-close-block-requires
-close-block-requires c κs =
-    let at-sum-refs = c.before.before.before.before.before in
-    let at-open-align = at-sum-refs.before.before.before.before in
-    let at-get = at-open-align.before.before.before.before.before in (
-      omega (arith, at-open-align.open-align.ensures.1, at-sum-refs.sum_refs.ensures.0.low),
+close-block-requires : tie.Need-close_block-requires
+close-block-requires c κs = (
+      omega (arith, c.open_align-p.ensures.1, c.sum_refs-r.ensures.0.low),
       omega (
         arith,
-        (at-start at-get).requires.cursor,
-        at-open-align.open-align.ensures.1,
-        at-sum-refs.sum_refs.ensures.0.high,
+        (at-start c.before.before.before.before.before.before.before.before.before.before.before.before).requires.cursor,
+        c.open_align-p.ensures.1,
+        c.sum_refs-r.ensures.0.high,
       ),
     )
 
-same-length-2 : tie.Need-same-length-2
+same-length-2 : tie.Need-shape_of-out-in-At
 same-length-2 c = search rules
 
-returns-2 : tie.Need-returns-2
-returns-2 c =
-    let at-close-block = c.before.before in
-    let at-else2 = at-close-block.before.before in
-    let at-sum-refs = at-else2.before.before.before.before in
-    let at-open-align = at-sum-refs.before.before.before.before in
-    let at-paths = at-open-align.before.before.before in
-    let at-get = at-paths.before.before in
-    let at-name-at = at-get.before in
-    let at-then1 = at-name-at.before in
-    let at-start = at-then1.before.before.before.before in (
+returns-2 : tie.Need-returns-in-At
+returns-2 c = (
       behind 23
-          at-open-align.open-align.ensures.1
+          c.open_align-p.ensures.1
           (omega arith)
-          at-sum-refs.sum_refs.ensures.0,
+          c.sum_refs-r.ensures.0,
       λ a. node_done _
-          at-start.args.x
-          at-then1.if1.true
-          at-name-at.name_at.ensures
-          at-get.get.ensures.0
-          at-paths.paths.given.1
-          at-open-align.open-align.ensures.0
-          at-sum-refs.sum_refs.ensures.1
-          at-else2.if2.false
-          at-close-block.close_block.ensures.0 a,
+          c.args.x
+          c.if-x.true
+          c.name_at-name.ensures
+          c.get.ensures.0
+          c.in-At.is
+          c.open_align-p.ensures.0
+          c.sum_refs-r.ensures.1
+          c.if-r-ne0.false
+          c.close_block.ensures.0 a,
     )
 
-enum_told : tie.Need-enum-told
+enum_told : tie.Need-enum_told-1
 enum_told c = search rules
 
-returns-3 : tie.Need-returns-3
-returns-3 c =
-    let at-get = c.before.before in (
-      stopped (at-start at-get).requires.standing.count,
+returns-3 : tie.Need-returns-in-Missing
+returns-3 c = (
+      stopped (at-start c.before).requires.standing.count,
       λ a. node_missing _
-          (at-start at-get).args.x
-          (at-then1 at-get).if1.true
-          (at-name-at at-get).name_at.ensures
-          at-get.get.ensures.0
-          c.enum_told.given.1 a,
+          (at-start c.before).args.x
+          (at-then1 c.before).if-x.true
+          (at-name-at c.before).name_at-name.ensures
+          c.get.ensures.0
+          c.in-Missing.is a,
     )
 
-put-const-or-zero-requires : tie.Need-put-const-or-zero-requires
+put-const-or-zero-requires : tie.Need-put_const_or_zero-p-requires
 put-const-or-zero-requires c κs =
-    let at-start = c.before.before.before.before.before in
-    search (rules, below_60 _ at-start.requires.cursor)
+    search (rules, below_60 _ c.requires.cursor)
 
-same-length-3 : tie.Need-same-length-3
+same-length-3 : tie.Need-shape_of-out
 same-length-3 c = search rules
 
-returns-4 : tie.Need-returns-4
-returns-4 c =
-    let at-put-const-or-zero = c.before.before in
-    let at-else1 = at-put-const-or-zero.before.before in
-    let at-start = at-else1.before.before.before.before in (
+returns-4 : tie.Need-returns
+returns-4 c = (
       ends_at
-          at-put-const-or-zero.put-const-or-zero.ensures.1.0
-          (omega (arith, at-put-const-or-zero.put-const-or-zero.ensures.1.1))
-          at-start.requires.standing.count,
+          c.put_const_or_zero-p.ensures.1.0
+          (omega (arith, c.put_const_or_zero-p.ensures.1.1))
+          c.requires.standing.count,
       λ a. node_const _
-          at-start.args.x
-          at-start.requires.standing.index
-          at-else1.if1.false
-          at-put-const-or-zero.put-const-or-zero.ensures.0 a,
+          c.args.x
+          c.requires.standing.index
+          c.if-x.false
+          c.put_const_or_zero-p.ensures.0 a,
     )
 
 pub put_node_spec : {M : Type 1} → statement M
