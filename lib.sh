@@ -13,13 +13,18 @@ version() {
     sed -n 's/^#define CIZTARMO_VERSION_[MP][A-Z]* \([0-9]*\)$/\1/p' "$top/c/ciztarmo.h" | paste -s -d . -
 }
 
+# newer_than FILE: the first file of a crate, or crates.txt, that is newer; not of what rt itself made there.
+newer_than() {
+    find "$top/crates" "$top/crates.txt" -name out -prune -o -type f -newer "$1" -print | head -n 1
+}
+
 # stale FILE: whether it is missing or older than a file of a crate. `why` says which.
 stale() {
     if [ ! -f "$1" ]; then
         why="is not built yet"
         return 0
     fi
-    changed=$(find "$top/crates" "$top/crates.txt" -type f -newer "$1" | head -n 1)
+    changed=$(newer_than "$1")
     why="is older than ${changed#"$top"/}"
     [ -n "$changed" ]
 }
@@ -33,50 +38,42 @@ need_rt() {
     exit 2
 }
 
-# crates_of NAME: how many crates are proved for it: itself and those of its line in crates.txt that have a line too.
-crates_of() {
+# uses_of NAME: what stands behind the colon in its line of crates.txt, of that what has a line too.
+uses_of() {
     awk -v name="$1" '
         { sub(/#.*/, "") }
-        $1 ~ /:$/ { own = substr($1, 1, length($1) - 1); crate[own] = 1; if (own == name) uses = $0 }
+        /:/ {
+            own = $1
+            sub(/:.*/, "", own)
+            crate[own] = 1
+            if (own == name) uses = substr($0, index($0, ":") + 1)
+        }
         END {
             n = split(uses, part, " ")
-            count = 1
-            for (i = 2; i <= n; i++) if (part[i] in crate) count++
-            print count
+            for (i = 1; i <= n; i++) if (part[i] in crate) print part[i]
         }' "$top/crates.txt"
 }
 
-# told LINE: the line of rt in short, where it says that a crate is proved; whole, where it says that something is not.
+# told LINE: the lines of rt in short, where they say that a crate is proved; whole, where one says that something is not.
 told() {
     case $1 in
-    'rt: '*' proved ('*')')
-        crate=${1#rt: }
-        crate=${crate%% *}
-        took=${1##*\(}
-        took=${took%)}
-        case $took in unchanged*) took=unchanged ;; esac
-        at=$((at + 1))
-        echo "$at of $all $crate $took" >&2
-        ;;
-    'rt: target/staticlib/'*) echo "$((at + 1)) of $all $name" >&2 ;;
-    'rt: '*'NOT PROVED'* | 'rt: '*FAILED* | 'rt: crates.txt:'*) echo "$1" >&2 ;;
+    'rt: chose --jobs '*' for '*) crate=${1##* for } from=$(date +%s) ;;
+    'logic=proved '*) echo "$crate proved, $(($(date +%s) - from)) s" >&2 ;;
+    'rt: running '* | 'rt: nothing has changed '* | 'rt: '*': begins with what a check kept '*) ;;
+    'rt: '* | 'logic=not-proved'* | *': error'*) echo "$1" >&2 ;;
     esac
 }
 
-# proved FILE NAME COMMAND: `rt COMMAND NAME`, which makes FILE. A line a crate goes to standard error, all that rt says to the log.
-# FILE is then as old as the beginning, so that what is changed meanwhile counts as newer, and no older than what it was made from.
-proved() {
-    made=$1 name=$2 command=$3
-    all=$(crates_of "$name") at=0
-    log=$top/target/log/build-$name.log
-    mkdir -p "$top/target/log"
-    : >"$log.began"
-    problem "$name $why: proving $all crates, which takes minutes the first time; all that rt says is in $log"
+# logged LOG COMMAND...: runs it here; all that it says goes to LOG, and what `told` takes from it to standard error. Its status.
+logged() {
+    log=$1
+    shift
     {
         status=0
-        (cd "$top" && rt "$command" "$name") </dev/null 2>&1 || status=$?
+        "$@" </dev/null 2>&1 || status=$?
         echo "$status" >"$log.status"
     } | {
+        crate=$name from=$(date +%s)
         : >"$log"
         while IFS= read -r line; do
             printf '%s\n' "$line" >>"$log"
@@ -84,11 +81,32 @@ proved() {
         done
     }
     status=$(cat "$log.status")
-    if [ "$status" -eq 0 ] && [ -f "$made" ]; then
-        touch -r "$log.began" "$made"
-    else
-        problem "rt $command $name did not make ${made#"$top"/} (status $status); what it said is in $log"
+    rm -f "$log.status"
+    return "$status"
+}
+
+# proved FILE NAME MADE COMMAND...: runs the command in the folder of crate NAME, where it makes MADE, and puts that at FILE, there at
+# once or not at all. A line for each crate that is proved goes to standard error, all that is said to a log. FILE is then as old as the
+# beginning, so that what is changed meanwhile counts as newer, and no older than what it was made from.
+proved() {
+    file=$1 name=$2 made=$top/crates/$2/$3
+    shift 3
+    log=$top/target/log/build-$name.log
+    mkdir -p "$top/target/log" "$(dirname "$file")"
+    : >"$log.began"
+    problem "$name $why: proving it and what of the $(uses_of "$name" | wc -l) crates below it is not proved yet, which takes minutes" \
+        "the first time; all that is said is in $log"
+    status=0
+    (cd "$top/crates/$name" && logged "$log" "$@") || status=$?
+    if [ "$status" -ne 0 ] || [ ! -f "$made" ]; then
+        rm -f "$log.began"
+        problem "$(basename "$1") $2 did not make ${made#"$top"/} (status $status); what was said is in $log"
+        exit 2
     fi
-    rm -f "$log.began" "$log.status"
-    [ "$status" -eq 0 ] && [ -f "$made" ] || exit 2
+    if [ "$made" != "$file" ]; then
+        cp "$made" "$file.new.$$"
+        mv -f "$file.new.$$" "$file"
+    fi
+    touch -r "$log.began" "$file"
+    rm -f "$log.began"
 }

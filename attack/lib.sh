@@ -29,10 +29,9 @@ find_sources() {
 # The Rattle toolchain's own folder, and its clang; false where it is not here or has another form.
 find_kit() {
     rt=$(command -v rt) || return
-    home=${RATTLE_HOME:-$(dirname "$(dirname "$(readlink -f "$rt")")")}
-    own=$home/on/$(uname -m)
-    kit_clang=$own/toolchain/bin/clang
-    [ -x "$kit_clang" ] && [ -x "$own/bin/rattle" ]
+    kit=$(dirname "$(dirname "$(readlink -f "$rt")")")
+    kit_clang=$kit/toolchain/bin/clang
+    [ -x "$kit_clang" ] && [ -x "$kit/bin/rattle" ]
 }
 
 # compile_watched MODULE OBJECT: a module's text with counters for edges and checks of addresses, its calls renamed.

@@ -346,7 +346,11 @@ class Walk:
 
     def ways(self, text):
         """A function from a place to an earlier one: so many steps as there are now."""
-        m = re.match(rf"(?:--[^\n]*\n)*(?:pub |abbrev )*({NAME}) :\s+(?:\{{[^{{}}]*\}} →\s+)?{self.a}\.({NAME})[^→\n]*→\s+{self.a}\.({NAME})[^→\n]*\n\1 (\w+) = (\(({NAME}) \4\)|\4)((?:\.before)+)\s*$", text)
+        m = re.match(
+            rf"(?:--[^\n]*\n)*(?:pub |abbrev )*({NAME}) :\s+(?:[{{(]\w+ : [^{{}}()]*[}})] →\s+)?{self.a}\.({NAME})[^→\n]*→\s+{self.a}\.({NAME})[^→\n]*\n"
+            rf"\1 (?:t )?(\w+) = (\(({NAME}) (?:t )?\4\)|\4)((?:\.before)+)\s*$",
+            text,
+        )
         if not m:
             return text
         at, to = self.by_plain.get(plain(m[2])), self.by_plain.get(plain(m[3]))
@@ -402,7 +406,7 @@ class Walk:
                 for part in parts[:-1]:
                     b = re.match(rf"\s*\(([^():]+) : ", part)
                     t = re.match(rf"\s*(?:\([^():]+ : )?{self.a}\.({NAME})", part)
-                    old = self.by_plain.get(plain(t[1])) if t else None
+                    old = self.end(self.by_plain.get(plain(t[1]))) if t else None
                     for one in b[1].split() if b else [""]:
                         binders.append(old)
                         if old and one:
@@ -457,7 +461,7 @@ class Walk:
             last = arrows(m[2])[-1]
             t = re.match(rf"\s*{self.a}\.({NAME})", last)
             if t and not t[1].startswith("Need-") and plain(t[1]) in self.by_plain and "→" in m[2]:
-                self.gives[m[1]] = self.by_plain[plain(t[1])]
+                self.gives[m[1]] = self.end(self.by_plain[plain(t[1])])
         self.takes = {}
         for m in re.finditer(rf"(?m)^(?:pub |abbrev |unfoldable )*({NAME}) :(?=\s)([^\n]*(?:\n +[^\n]*)*)", self.text):
             if self.alias + ".Need-" in m[2]:
@@ -466,7 +470,7 @@ class Walk:
             for part in arrows(m[2])[:-1]:
                 b = re.match(r"\s*\(([^():]+) : ", part)
                 t = re.match(rf"\s*(?:\([^():]+ : )?{self.a}\.({NAME})", part)
-                takes += [self.by_plain.get(plain(t[1])) if t else None] * (len(b[1].split()) if b else 1)
+                takes += [self.end(self.by_plain.get(plain(t[1]))) if t else None] * (len(b[1].split()) if b else 1)
             if any(takes):
                 self.takes[m[1]] = takes
         items = re.split(r"(?<=\n)\n(?=\S)", self.text)

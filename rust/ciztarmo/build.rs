@@ -41,8 +41,20 @@ fn named(folder: PathBuf) -> Result<PathBuf, String> {
 fn made() -> Result<PathBuf, String> {
     let top = Path::new(env!("CARGO_MANIFEST_DIR")).join("../..");
     let script = top.join("archive");
-    for from in ["archive", "lib.sh", "crates", "crates.txt"] {
+    for from in ["archive", "lib.sh", "crates.txt"] {
         println!("cargo:rerun-if-changed={}", top.join(from).display());
+    }
+    // What the crates are made from, and not what the toolchain keeps beside it.
+    for entry in std::fs::read_dir(top.join("crates"))
+        .into_iter()
+        .flatten()
+        .flatten()
+    {
+        for part in ["src", "specs", "proofs"].map(|part| entry.path().join(part)) {
+            if part.is_dir() {
+                println!("cargo:rerun-if-changed={}", part.display());
+            }
+        }
     }
     let help = format!("set CIZTARMO_LIB to the folder that holds {FILE}");
     let target = std::env::var("CARGO_CFG_TARGET_ARCH").unwrap_or_default();

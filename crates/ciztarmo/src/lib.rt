@@ -1,6 +1,8 @@
 // The calls for C and Rust programs. A slice is passed as its first element's address and its length, an array by its address.
 // The answer goes into the caller's four words: number (0 if accepted), place, offset, and value or count; where there are many,
 // one behind the other.
+#![tactic(auto)]
+
 ghost use Rattle.std.specs.Prelude.{◌≡◌, ◌++◌, ◌*◌, length, drop};
 ghost use Rattle.blocks.specs.Read.{read_set, read_layout, read_values, read_run};
 ghost use Rattle.reader_calls.specs.Inputs.{read_call};

@@ -1,13 +1,15 @@
 // Reads a list of stored calls with their answers from standard input and holds the proved readers against those that reading
 // decides, `build_set`, `validate` and `validate_run` against all of theirs, layouts byte for byte, and what `lengths` prints
 // against its stored lines.
-ghost use Rattle.std.specs.Prelude.{◌^◌, ◌≤◌, ◌<◌, length};
-ghost use Rattle.io.specs.Counts.{IsPrefixLen};
+#![tactic(auto)]
+
+ghost use Rattle.std.specs.Prelude.{◌≡◌, ◌^◌, ◌≤◌, ◌<◌, length, take, IfOk};
 ghost use Rattle.lengths_program.specs.Parts.{Room};
 
 use errors::{Answer, Length, Refusal};
 use lengths_program::State;
-use libc::{STDIN_FILENO, STDOUT_FILENO};
+use std::io;
+use std::io::{Read, Write};
 
 // What one record came to.
 #[derive(Clone, Copy)]
@@ -58,7 +60,8 @@ fn bump(tally: &mut [u64; 62], i: usize) {
 
 // How many of the words a record's call gets: as many as its first four bytes say, or all.
 fn word_count(s: &[u8], words: &[u64]) -> usize
-    ensures { IsPrefixLen result words.now }
+    ensures bound { result ≤ length words.now }
+    ensures taken { result ≡ length (take result words.now) }
 {
     if s.len() < 4 {
         return 0;
@@ -163,7 +166,7 @@ fn is_answer(got: Answer, s: &[u8], at: usize) -> bool {
     }
 }
 
-fn count_refused(tally: &mut [u64; 62], got: Answer) {
+fn count_refused(tally: &mut [u64; 62], got: &Answer) {
     match got {
         Answer::Count(_) => {}
         Answer::Refused(r) => {
@@ -174,7 +177,7 @@ fn count_refused(tally: &mut [u64; 62], got: Answer) {
     }
 }
 
-fn count_answer(tally: &mut [u64; 62], got: Answer) {
+fn count_answer(tally: &mut [u64; 62], got: &Answer) {
     match got {
         Answer::Count(_) => bump(tally, ANSWERS),
         Answer::Refused(r) => {
@@ -215,7 +218,8 @@ fn is_all(out: &[u8], b: u8) -> bool {
 
 // How much of the output a record's call gets: as many bytes as it says, or all.
 fn output_length(s: &[u8], out: &[u8]) -> usize
-    ensures { IsPrefixLen result out.now }
+    ensures bound { result ≤ length out.now }
+    ensures taken { result ≡ length (take result out.now) }
 {
     if s.len() < 8 {
         return 0;
@@ -272,7 +276,7 @@ fn hold_set(words: &mut [u64], tally: &mut [u64; 62], s: &[u8]) -> Held {
     }
     fill_words(words);
     let got = reader_calls::read_set(words, &s[12..end]);
-    count_refused(tally, got);
+    count_refused(tally, &got);
     if !(is_clean(words) && is_read(got, s, end)) {
         return Held::Differs;
     }
@@ -287,11 +291,11 @@ fn first(a: Answer, b: Answer) -> Answer {
         Answer::Count(_) => b,
         Answer::Refused(q) => {
             if q.number == 19 || q.number == 1 {
-                return a;
+                return Answer::Refused(q);
             }
             match b {
-                Answer::Count(_) => a,
-                Answer::Refused(r) => if r.number == 1 { b } else { a },
+                Answer::Count(_) => Answer::Refused(q),
+                Answer::Refused(r) => Answer::Refused(if r.number == 1 { r } else { q }),
             }
         }
     }
@@ -323,13 +327,13 @@ fn same_reading(
     fill_words(words);
     let b = read_input(words, input, kind);
     let got = first(a, b);
-    count_refused(tally, got);
+    count_refused(tally, &got);
     is_clean(words) && is_read(got, s, at)
 }
 
 // Whether a validation gave the answer at `at` and left the words clean.
 fn same_answer(words: &[u64], tally: &mut [u64; 62], got: Answer, s: &[u8], at: usize) -> bool {
-    count_answer(tally, got);
+    count_answer(tally, &got);
     is_clean(words) && is_answer(got, s, at)
 }
 
@@ -464,102 +468,126 @@ fn hold_record(words: &mut [u64], tally: &mut [u64; 62], kind: u8, s: &[u8]) -> 
     }
 }
 
+// Reads until s is full or the input ends: how many bytes it put at the start of s.
+fn read_full<R: Read>(reader: &mut R, s: &mut [u8]) -> io::Result<usize>
+    ensures { IfOk result (λ n. n ≤ length s.new) }
+{
+    let mut done = 0;
+    while done < s.len() {
+        let got = reader.read(&mut s[done..])?;
+        if got == 0 {
+            break;
+        }
+        done += got;
+    }
+    Ok(done)
+}
+
 // Reads the body of a record of the kind, as long as s, and holds the record.
-fn hold_body(s: &mut [u8], words: &mut [u64], tally: &mut [u64; 62], kind: u8) -> Turn {
-    if io::read_full(STDIN_FILENO, s) < s.len() {
-        return Turn::Bad;
+fn hold_body<R: Read>(
+    reader: &mut R,
+    s: &mut [u8],
+    words: &mut [u64],
+    tally: &mut [u64; 62],
+    kind: u8,
+) -> io::Result<Turn> {
+    if read_full(reader, s)? < s.len() {
+        return Ok(Turn::Bad);
     }
     match hold_record(words, tally, kind, s) {
         Held::Same => {}
         Held::Differs => bump(tally, DIFFER),
-        Held::Cut => return Turn::Bad,
+        Held::Cut => return Ok(Turn::Bad),
     }
     bump(tally, RECORDS);
-    Turn::More
+    Ok(Turn::More)
 }
 
 // Reads the header of a record: kind, mark and length. Then the body, if it has room.
-fn hold_next(body: &mut [u8], words: &mut [u64], tally: &mut [u64; 62]) -> Turn {
+fn hold_next<R: Read>(
+    reader: &mut R,
+    body: &mut [u8],
+    words: &mut [u64],
+    tally: &mut [u64; 62],
+) -> io::Result<Turn> {
     let mut header = [0u8; 6];
-    let got = io::read_full(STDIN_FILENO, &mut header);
+    let got = read_full(reader, &mut header)?;
     if got == 0 {
-        return Turn::End;
+        return Ok(Turn::End);
     }
     if got < 6 {
-        return Turn::Bad;
+        return Ok(Turn::Bad);
     }
     let length = wire::read4(&header, 2);
-    let n = io::count(length as isize, body);
-    if n < length {
-        return Turn::Bad;
+    if body.len() < length {
+        return Ok(Turn::Bad);
     }
-    hold_body(&mut body[..n], words, tally, header[0])
+    hold_body(reader, &mut body[..length], words, tally, header[0])
 }
 
-// Whether the list was whole. Nothing says that the input ends, so the loop counts its turns down.
-fn hold_all(tally: &mut [u64; 62]) -> bool {
+// Whether the list was whole. Nothing says that the input ends, so the turns are counted.
+fn hold_all<R: Read>(reader: &mut R, tally: &mut [u64; 62]) -> io::Result<bool> {
     let mut body = [0u8; 262144];
     let mut words = [0u64; 8192];
-    let mut turns: u64 = 4000000000;
-    while turns > 0 {
-        match hold_next(&mut body, &mut words, tally) {
+    for _ in 0..4000000000u64 {
+        match hold_next(reader, &mut body, &mut words, tally)? {
             Turn::More => {}
-            Turn::End => return true,
-            Turn::Bad => return false,
+            Turn::End => return Ok(true),
+            Turn::Bad => return Ok(false),
         }
-        turns -= 1;
     }
-    false
+    Ok(false)
 }
 
-fn say(number: u64, text: &[u8]) {
-    io::print_decimal(STDOUT_FILENO, number);
-    io::write_all(STDOUT_FILENO, text);
+fn say<W: Write>(writer: &mut W, number: u64, text: &str) -> io::Result<()> {
+    write!(writer, "{number}{text}")
 }
 
 // How often a number was met, if it was.
-fn say_number(number: u64, count: u64) {
+fn say_number<W: Write>(writer: &mut W, number: u64, count: u64) -> io::Result<()> {
     if count != 0 {
-        io::write_all(STDOUT_FILENO, b" ");
-        say(number, b":");
-        io::print_decimal(STDOUT_FILENO, count);
+        write!(writer, " {number}:{count}")?;
     }
+    Ok(())
 }
 
 // The counts of the numbers 0 to 27, which stand from a place of the tally on.
-fn say_numbers(tally: &[u64; 62], from: usize) {
+fn say_numbers<W: Write>(writer: &mut W, tally: &[u64; 62], from: usize) -> io::Result<()> {
     let mut i = from;
     let mut number: u64 = 0;
     while number < 28 {
         if 61 < i {
-            return;
+            return Ok(());
         }
-        say_number(number, tally[i]);
+        say_number(writer, number, tally[i])?;
         i += 1;
         number += 1;
     }
+    Ok(())
 }
 
-fn report(tally: &[u64; 62]) {
-    say(tally[RECORDS], b" records: ");
-    say(tally[SETS], b" sets, ");
-    say(tally[VALIDATIONS], b" validations, ");
-    say(tally[RUNS], b" runs, ");
-    say(tally[LENGTHS], b" of lengths\nrefused by reading:");
-    say_numbers(tally, READINGS);
-    io::write_all(STDOUT_FILENO, b"\nvalidated (0: accepted):");
-    say_numbers(tally, ANSWERS);
-    io::write_all(STDOUT_FILENO, b"\n");
-    say(tally[DIFFER], b" differ\n");
+fn report<W: Write>(writer: &mut W, tally: &[u64; 62]) -> io::Result<()> {
+    say(writer, tally[RECORDS], " records: ")?;
+    say(writer, tally[SETS], " sets, ")?;
+    say(writer, tally[VALIDATIONS], " validations, ")?;
+    say(writer, tally[RUNS], " runs, ")?;
+    say(writer, tally[LENGTHS], " of lengths\nrefused by reading:")?;
+    say_numbers(writer, tally, READINGS)?;
+    write!(writer, "\nvalidated (0: accepted):")?;
+    say_numbers(writer, tally, ANSWERS)?;
+    write!(writer, "\n")?;
+    say(writer, tally[DIFFER], " differ\n")
 }
 
-fn main() {
+fn main(rt: HostRuntime) -> io::Result<()> {
+    let mut stdin = rt.stdin();
+    let mut stdout = rt.stdout();
     let mut tally = [0u64; 62];
-    if hold_all(&mut tally) {
-        report(&tally);
+    if hold_all(&mut stdin, &mut tally)? {
+        report(&mut stdout, &tally)
     } else {
         bump(&mut tally, RECORDS);
-        io::write_all(STDOUT_FILENO, b"bad list at record ");
-        say(tally[RECORDS], b"\n");
+        write!(stdout, "bad list at record ")?;
+        say(&mut stdout, tally[RECORDS], "\n")
     }
 }

@@ -9,62 +9,57 @@ use Rattle.builder_set.proofs.build_set.Statement.{statement}
 use Rattle.builder_set.proofs.build_set.Tie as tie
 
 -- The place, seen from a later one: what was known there.
-abbrev at-clear-words : tie.After-used → tie.After-clear-words
+abbrev at-clear-words : tie.After-used-most → tie.After-clear_words
 at-clear-words r = r.before.before.before
 
-clear-words-requires : tie.Need-clear-words-requires
+clear-words-requires : tie.Need-clear_words-requires
 clear-words-requires c κs = search rules
 
-used-requires : tie.Need-used-requires
+used-requires : tie.Need-used-most-requires
 used-requires c κs = search rules
 
-slice-relend-prefix-registry : tie.Need-slice-relend-prefix-registry
+slice-relend-prefix-registry : tie.Need-slice_bounds-registry-end
 slice-relend-prefix-registry c =
     part_within _ _ _
-    (at-clear-words c).clear-words.new.0
-    (at-clear-words c).clear-words.ensures
-    c.used.ensures
+    (at-clear-words c).clear_words.new.words
+    (at-clear-words c).clear_words.ensures
+    c.used-most.ensures
 
-slice-aggregate-registry : tie.Need-slice-aggregate-registry
+slice-aggregate-registry : tie.Need-slice_bounds-registry-end-2
 slice-aggregate-registry c =
-    let at-used = c.before in
     part_length _ _ _
-    (at-clear-words at-used).clear-words.new.0
-    (at-clear-words at-used).clear-words.ensures
-    at-used.used.ensures
+    (at-clear-words c.before).clear_words.new.words
+    (at-clear-words c.before).clear_words.ensures
+    c.used-most.ensures
 
-settled-requires : tie.Need-settled-requires
+settled-requires : tie.Need-settled-a-requires
 settled-requires c κs =
-    let at-used = c.before.before.before in
     λ h. part_enough _ _ _
-    (at-clear-words at-used).clear-words.new.0
-    (at-clear-words at-used).clear-words.ensures
-    at-used.used.ensures
+    (at-clear-words c.before.before.before).clear_words.new.words
+    (at-clear-words c.before.before.before).clear_words.ensures
+    c.used-most.ensures
     (omega arith)
 
-clear-words-requires-2 : tie.Need-clear-words-requires-2
+clear-words-requires-2 : tie.Need-clear_words-requires-2
 clear-words-requires-2 c κs = search rules
 
-same_length : tie.Need-same-length
+same_length : tie.Need-shape_of-out
 same_length c = search rules
 
-same-length-2 : tie.Need-same-length-2
+same-length-2 : tie.Need-shape_of-words
 same-length-2 c = search rules
 
 returns : tie.Need-returns
 returns c =
-    let at-clear-words2 = c.before.before in
-    let at-settled = at-clear-words2.before.before.before.before.before in
-    let at-used = at-settled.before.before.before.before in
-    let same : length at-settled.settled.new.1.1.1.0 ≡ length (take at-used.used.result (at-clear-words at-used).clear-words.new.0) = omega arith in (
-      at-settled.settled.ensures.0,
+    let same : length c.settled-a.new.words ≡ length (take c.used-most.result (at-clear-words c.before.before.before.before.before.before.before.before.before.before.before).clear_words.new.words) = omega arith in (
+      c.settled-a.ensures.0,
       (
-        at-settled.settled.ensures.1,
+        c.settled-a.ensures.1,
         part_clean _ _ _
-            (at-clear-words at-used).clear-words.new.0
-            (at-clear-words at-used).clear-words.ensures
-            at-used.used.ensures
-            (at-clear-words2.clear-words2.ensures ∙ ap (λ (n : ℕ). replicate n 0) same),
+            (at-clear-words c.before.before.before.before.before.before.before.before.before.before.before).clear_words.new.words
+            (at-clear-words c.before.before.before.before.before.before.before.before.before.before.before).clear_words.ensures
+            c.used-most.ensures
+            (c.clear_words-2.ensures ∙ ap (λ (n : ℕ). replicate n 0) same),
       ),
     )
 

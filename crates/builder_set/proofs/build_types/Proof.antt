@@ -7,140 +7,127 @@ use Rattle.builder_set.proofs.Laws.{Building, begin, go_on, stopped, no_more, ty
 use Rattle.builder_set.proofs.build_types.Statement.{statement}
 use Rattle.builder_set.proofs.build_types.Tie as tie
 
-abbrev invariant-loop : tie.invariant-loop
+abbrev invariant-loop : tie.invariant-loop-left
 invariant-loop s words₀ out₀ at left₀ from₀ place₀ p₀ words out left from place p = Building s words₀ out₀ at words out left from place p
 
-abbrev decreases-loop : tie.decreases-loop
+abbrev decreases-loop : tie.decreases-loop-left
 decreases-loop s words₀ out₀ at left₀ from₀ place₀ p₀ words out left from place p = left
 
 -- The places, each seen from a later one: what was known there.
-abbrev in-loop : tie.Else1 invariant-loop decreases-loop → tie.In-loop invariant-loop decreases-loop
+abbrev in-loop : tie.Else-b-ne0 invariant-loop decreases-loop → tie.In-loop-left invariant-loop decreases-loop
 in-loop r = r.before.before.before.before.before.before.before.before.before
 
-abbrev at-loop : tie.Else1 invariant-loop decreases-loop → tie.At-loop invariant-loop decreases-loop
+abbrev at-loop : tie.Else-b-ne0 invariant-loop decreases-loop → tie.At-loop-left invariant-loop decreases-loop
 at-loop r = (in-loop r).before
 
-read2-requires : tie.Need-read2-requires invariant-loop decreases-loop
+read2-requires : tie.Need-read2-left-requires invariant-loop decreases-loop
 read2-requires c κs =
-    let at-start = c.before.before.before in
-    omega (arith, (set_counts at-start.requires.0).0)
+    omega (arith, (set_counts c.requires.0).0)
 
-loop-holds : tie.Need-loop-init invariant-loop decreases-loop
-loop-holds c =
-    let at-start = c.before.before.before.before in record {
-      types = omega (arith, (set_counts at-start.requires.0).1, c.read2.ensures.0);
+loop-holds : tie.Need-loop-left-init invariant-loop decreases-loop
+loop-holds c = record {
+      types = omega (arith, (set_counts c.requires.0).1, c.read2-left.ensures.0);
       low = omega arith;
       high = omega arith;
       inside = omega arith;
-      ready = at-start.requires.0;
-      loop = begin c.read2.ensures.0;
+      ready = c.requires.0;
+      loop = begin c.read2-left.ensures.0;
       words = refl;
       out = refl;
     }
 
-build-type-requires : tie.Need-build-type-requires invariant-loop decreases-loop
+build-type-requires : tie.Need-build_type-b-requires invariant-loop decreases-loop
 build-type-requires c κs =
-    let in-loop = c.before.before in
-    let at-loop = in-loop.before in
-    let at-start = at-loop.before.before.before.before.before in
     type_ready
-    at-loop.loop.invariant.ready
-    in-loop.loop-test.true
-    at-loop.loop.invariant.loop
-    (omega (arith, at-start.requires.1, at-loop.loop.invariant))
+    c.loop-left.invariant.ready
+    c.loop-left-test.true
+    c.loop-left.invariant.loop
+    (omega (arith, c.requires.1, c.loop-left.invariant))
 
-same_length : tie.Need-same-length invariant-loop decreases-loop
+same_length : tie.Need-shape_of-words-then-b-ne0 invariant-loop decreases-loop
 same_length c = search rules
 
-same-length-2 : tie.Need-same-length-2 invariant-loop decreases-loop
+same-length-2 : tie.Need-shape_of-out-then-b-ne0 invariant-loop decreases-loop
 same-length-2 c = search rules
 
-returns : tie.Need-returns invariant-loop decreases-loop
-returns c =
-    let at-build-type = c.before.before.before.before.before.before in
-    let in-loop = at-build-type.before.before.before in
-    let at-loop = in-loop.before in (
+returns : tie.Need-returns-then-b-ne0 invariant-loop decreases-loop
+returns c = (
       (omega arith, omega arith),
       stopped
-          in-loop.loop-test.true
-          at-build-type.build_type.ensures.1
-          c.if1.true refl
-          at-loop.loop.invariant.loop,
+          c.loop-left-test.true
+          c.build_type-b.ensures.1
+          c.if-b-ne0.true refl
+          c.loop-left.invariant.loop,
     )
 
-read4-requires : tie.Need-read4-requires invariant-loop decreases-loop
+read4-requires : tie.Need-read4-length-requires invariant-loop decreases-loop
 read4-requires c κs = omega (
   arith,
-  next_inside (at-loop c).loop.invariant.ready (in-loop c).loop-test.true (at-loop c).loop.invariant.loop,
+  next_inside (at-loop c).loop-left.invariant.ready (in-loop c).loop-left-test.true (at-loop c).loop-left.invariant.loop,
 )
 
-add-length : tie.Need-overflow-add-length invariant-loop decreases-loop
+add-length : tie.Need-overflow_add-length invariant-loop decreases-loop
 add-length c =
-    let at-else1 = c.before in
     omega (
       arith,
       next_end
-          (at-loop at-else1).loop.invariant.ready
-          (in-loop at-else1).loop-test.true
-          (at-loop at-else1).loop.invariant.loop,
-      c.read4.ensures.0,
+          (at-loop c.before).loop-left.invariant.ready
+          (in-loop c.before).loop-left-test.true
+          (at-loop c.before).loop-left.invariant.loop,
+      c.read4-length.ensures.0,
     )
 
-add-from : tie.Need-overflow-add-from invariant-loop decreases-loop
+add-from : tie.Need-overflow_add-from invariant-loop decreases-loop
 add-from c =
-    let at-else1 = c.before in
     omega (
       arith,
       next_end
-          (at-loop at-else1).loop.invariant.ready
-          (in-loop at-else1).loop-test.true
-          (at-loop at-else1).loop.invariant.loop,
-      c.read4.ensures.0,
+          (at-loop c.before).loop-left.invariant.ready
+          (in-loop c.before).loop-left-test.true
+          (at-loop c.before).loop-left.invariant.loop,
+      c.read4-length.ensures.0,
     )
 
-add-place : tie.Need-overflow-add-place invariant-loop decreases-loop
+add-place : tie.Need-overflow_add-place invariant-loop decreases-loop
 add-place c = omega arith
 
-sub-left : tie.Need-overflow-sub-left invariant-loop decreases-loop
+sub-left : tie.Need-overflow_sub-left invariant-loop decreases-loop
 sub-left c = omega arith
 
-loop-less : tie.Need-loop-smaller invariant-loop decreases-loop
+loop-less : tie.Need-loop-left-smaller invariant-loop decreases-loop
 loop-less c = omega arith
 
-loop-again : tie.Need-loop-preserved invariant-loop decreases-loop
-loop-again c =
-    let at-build-type = c.before.before.before.before.before.before.before in
-    let in-loop = at-build-type.before.before.before in
-    let at-loop = in-loop.before in record {
+loop-again : tie.Need-loop-left-preserved invariant-loop decreases-loop
+loop-again c = record {
       types = omega arith;
-      low = omega (arith, at-build-type.build_type.ensures.0.0);
-      high = omega (arith, at-build-type.build_type.ensures.0.1);
+      low = omega (arith, c.build_type-b.ensures.0.0);
+      high = omega (arith, c.build_type-b.ensures.0.1);
       inside = omega (
         arith,
-        next_end at-loop.loop.invariant.ready in-loop.loop-test.true at-loop.loop.invariant.loop,
-        c.read4.ensures.0,
+        next_end c.loop-left.invariant.ready c.loop-left-test.true c.loop-left.invariant.loop,
+        c.read4-length.ensures.0,
       );
-      ready = ready_again at-loop.loop.invariant.ready (omega arith);
+      ready = ready_again c.loop-left.invariant.ready (omega arith);
       loop = go_on _
-          in-loop.loop-test.true
-          at-build-type.build_type.ensures.1
-          c.before.if1.false
-          c.read4.ensures.0
-          at-loop.loop.invariant.loop;
-      words = omega (arith, at-loop.loop.invariant.words);
-      out = omega (arith, at-loop.loop.invariant.out);
+          c.loop-left-test.true
+          c.build_type-b.ensures.1
+          c.if-b-ne0.false
+          c.read4-length.ensures.0
+          c.loop-left.invariant.loop;
+      words = omega (arith, c.loop-left.invariant.words);
+      out = omega (arith, c.loop-left.invariant.out);
     }
 
-same-length-3 : tie.Need-same-length-3 invariant-loop decreases-loop
+same-length-3 : tie.Need-shape_of-words invariant-loop decreases-loop
 same-length-3 c = search rules
 
-same-length-4 : tie.Need-same-length-4 invariant-loop decreases-loop
+same-length-4 : tie.Need-shape_of-out invariant-loop decreases-loop
 same-length-4 c = search rules
 
-returns-2 : tie.Need-returns-2 invariant-loop decreases-loop
+returns-2 : tie.Need-returns invariant-loop decreases-loop
 returns-2 c = (
   (omega arith, omega arith),
-  no_more c.loop-test.false refl c.before.loop.invariant.loop,
+  no_more c.loop-left-test.false refl c.loop-left.invariant.loop,
 )
 
 pub build_types_spec : {M : Type 1} → statement M

@@ -4,48 +4,41 @@ use borrow.Author.Rules.{rules}
 use Rattle.builder_set.proofs.built.Statement.{statement}
 use Rattle.builder_set.proofs.built.Tie as tie
 
-one-read-requires : tie.Need-one-read-requires
+one-read-requires : tie.Need-one_read-requires
 one-read-requires c κs = search rules
 
-enum-known-q : tie.Need-enum-known-q
+enum-known-q : tie.Need-enum_known-q
 enum-known-q c = search rules
 
 unread-requires : tie.Need-unread-requires
 unread-requires c κs = search rules
 
-enum_told : tie.Need-enum-told
+enum_told : tie.Need-enum_told-1
 enum_told c = search rules
 
-build-layout-requires : tie.Need-build-layout-requires
+build-layout-requires : tie.Need-build_layout-requires
 build-layout-requires c κs =
-    let at-enum-told = c.before.before in
-    let at-one-read = at-enum-told.before.before in
-    let at-start = at-one-read.before.before.before.before in
     set_ready _ _
-    at-one-read.one_read.ensures
-    at-enum-told.enum_told.given.1
-    at-start.requires
+    c.one_read.ensures
+    c.in-Ok.is
+    c.requires
 
-returns : tie.Need-returns
+returns : tie.Need-returns-in-Refused
 returns c =
-    let at-one-read = c.before.before.before.before in
-    set_unread _ _ at-one-read.one_read.ensures _ c.before.before.q.given.1 c.unread.ensures
+    set_unread _ _ c.one_read.ensures _ c.in-Refused.is c.unread.ensures
 
-same_length : tie.Need-same-length
+same_length : tie.Need-shape_of-out
 same_length c = search rules
 
-same-length-2 : tie.Need-same-length-2
+same-length-2 : tie.Need-shape_of-words
 same-length-2 c = search rules
 
-returns-2 : tie.Need-returns-2
+returns-2 : tie.Need-returns-in-Ok
 returns-2 c =
-    let at-build-layout = c.before.before.before.before in
-    let at-enum-told = at-build-layout.before.before.before in
-    let at-one-read = at-enum-told.before.before in
     set_read _ _
-    at-one-read.one_read.ensures
-    at-enum-told.enum_told.given.1 _
-    at-build-layout.build-layout.ensures
+    c.one_read.ensures
+    c.in-Ok.is _
+    c.build_layout.ensures
 
 pub built_spec : {M : Type 1} → statement M
 built_spec =

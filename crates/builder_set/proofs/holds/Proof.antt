@@ -7,45 +7,39 @@ use Rattle.builder_set.proofs.Laws.{holds_out, holds_long, holds_yes, holds_no}
 use Rattle.builder_set.proofs.holds.Statement.{statement}
 use Rattle.builder_set.proofs.holds.Tie as tie
 
-returns : tie.Need-returns
-returns c = holds_out _ _ c.if1.true
+returns : tie.Need-returns-then-out-n
+returns c = holds_out _ _ c.if-out-n.true
 
-returns-2 : tie.Need-returns-2
-returns-2 c = holds_long _ _ c.if2.true
+returns-2 : tie.Need-returns-then-n-gt65536
+returns-2 c = holds_long _ _ c.if-n-gt65536.true
 
-slice-aggregate-read-input : tie.Need-slice-aggregate-read-input
+slice-aggregate-read-input : tie.Need-slice_bounds-read_input-end
 slice-aggregate-read-input c = sym (length-take-le _ _ (omega arith))
 
-read-input-requires : tie.Need-read-input-requires
+read-input-requires : tie.Need-read_input-requires
 read-input-requires c κs = search rules
 
-enum_told : tie.Need-enum-told
+enum_told : tie.Need-enum_told-1
 enum_told c = search rules
 
-enum-told-2 : tie.Need-enum-told-2
+enum-told-2 : tie.Need-enum_told-in-Ok
 enum-told-2 c = search rules
 
-returns-3 : tie.Need-returns-3
+returns-3 : tie.Need-returns-in-Refused
 returns-3 c =
-    let at-read-input = c.before.before in
-    let at-else2 = at-read-input.before.before in
-    let at-else1 = at-else2.before in
     holds_no _ _ _
-    at-else1.if1.false
-    at-else2.if2.false
-    at-read-input.read-input.ensures
-    c.enum_told.given.1
+    c.if-out-n.false
+    c.if-n-gt65536.false
+    c.read_input.ensures
+    c.in-Refused.is
 
-returns-4 : tie.Need-returns-4
+returns-4 : tie.Need-returns-in-Ok
 returns-4 c =
-    let at-read-input = c.before.before in
-    let at-else2 = at-read-input.before.before in
-    let at-else1 = at-else2.before in
     holds_yes _ _ _
-    at-else1.if1.false
-    at-else2.if2.false
-    at-read-input.read-input.ensures
-    c.enum-told2.given.1
+    c.if-out-n.false
+    c.if-n-gt65536.false
+    c.read_input.ensures
+    c.in-Ok.is
 
 pub holds_spec : {M : Type 1} → statement M
 holds_spec =

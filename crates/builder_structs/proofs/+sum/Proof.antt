@@ -37,144 +37,129 @@ calls t = (
 )
 
 -- The places, each seen from a later one: what was known there.
-abbrev start_of : (t : ℕ) → lts.Else1 (calls t) (within t) reads.Post → lts.Start (calls t) (within t) reads.Post
+abbrev start_of : (t : ℕ) → lts.Else-k-eq1 (calls t) (within t) reads.Post → lts.Start (calls t) (within t) reads.Post
 start_of t r = r.before.before.before.before
 
-abbrev at-else1 : (t : ℕ) → lts.After-open-add (calls t) (within t) reads.Post → lts.Else1 (calls t) (within t) reads.Post
+abbrev at-else1 : (t : ℕ) → lts.After-open_add-p (calls t) (within t) reads.Post → lts.Else-k-eq1 (calls t) (within t) reads.Post
 at-else1 t r = r.before.before
 
-abbrev at-open-add : (t : ℕ) → lts.After-sum (calls t) (within t) reads.Post → lts.After-open-add (calls t) (within t) reads.Post
+abbrev at-open-add : (t : ℕ) → lts.After-sum-a (calls t) (within t) reads.Post → lts.After-open_add-p (calls t) (within t) reads.Post
 at-open-add t r = r.before.before.before.before.before
 
-abbrev at-start : (t : ℕ) → lts.After-sum (calls t) (within t) reads.Post → lts.Start (calls t) (within t) reads.Post
+abbrev at-start : (t : ℕ) → lts.After-sum-a (calls t) (within t) reads.Post → lts.Start (calls t) (within t) reads.Post
 at-start t r = start_of t (at-else1 t (at-open-add t r))
 
-abbrev at-else2 : (t : ℕ) → lts.After-child2 (calls t) (within t) reads.Post → lts.Else2 (calls t) (within t) reads.Post
-at-else2 t r = r.before.before.before
+abbrev at-else2 : (t : ℕ) → lts.After-child-r (calls t) (within t) reads.Post → lts.Else-a-ne0 (calls t) (within t) reads.Post
+at-else2 t r = r.before.before.before.before
 
-abbrev at_sum : (t : ℕ) → lts.After-child2 (calls t) (within t) reads.Post → lts.After-sum (calls t) (within t) reads.Post
+abbrev at_sum : (t : ℕ) → lts.After-child-r (calls t) (within t) reads.Post → lts.After-sum-a (calls t) (within t) reads.Post
 at_sum t r = (at-else2 t r).before.before.before.before.before.before
 
-abbrev at-out3 : (t : ℕ) → lts.After-out4 (calls t) (within t) reads.Post → lts.After-out3 (calls t) (within t) reads.Post
-at-out3 t r = r.before.before.before.before.before.before.before.before.before
+abbrev at-out3 : (t : ℕ) → lts.After-out-4-1 (calls t) (within t) reads.Post → lts.After-out-3-1 (calls t) (within t) reads.Post
+at-out3 t r = r.before.before.before.before.before.before.before.before.before.before
 
-abbrev at-out2 : (t : ℕ) → lts.After-out4 (calls t) (within t) reads.Post → lts.After-out2 (calls t) (within t) reads.Post
+abbrev at-out2 : (t : ℕ) → lts.After-out-4-1 (calls t) (within t) reads.Post → lts.After-out-2-1 (calls t) (within t) reads.Post
 at-out2 t r = (at-out3 t r).before.before.before.before.before.before.before
 
 child-requires : (t : ℕ) → lts.Need-child-requires (calls t) (within t) reads.Post
 child-requires t c κs =
-    let at-then1 = c.before.before in
-    let at-start = at-then1.before.before.before.before in
-    next_ready at-start.requires.1 (omega (arith, at-start.requires.1.room, at-then1.if1.true))
+    next_ready c.requires.1 (omega (arith, c.requires.1.room, c.if-k-eq1.true))
 
-returns : (t : ℕ) → lts.Need-returns (calls t) (within t) reads.Post
-returns t c =
-    let at-child = c.before.before.before.before in
-    let at-then1 = at-child.before.before.before in (
+returns : (t : ℕ) → lts.Need-returns-then-k-eq1 (calls t) (within t) reads.Post
+returns t c = (
       record {
-        low = at-child.child.ensures.0.low;
-        high = omega (arith, at-child.child.ensures.0.high, at-then1.if1.true);
-        count = at-child.child.ensures.0.count;
-        list = at-child.child.ensures.0.list;
+        low = c.child.ensures.0.low;
+        high = omega (arith, c.child.ensures.0.high, c.if-k-eq1.true);
+        count = c.child.ensures.0.count;
+        list = c.child.ensures.0.list;
       },
-      λ t b l q. sum_one _ _ at-then1.if1.true (at-child.child.ensures.1 t b l q),
+      λ t b l q. sum_one _ _ c.if-k-eq1.true (c.child.ensures.1 t b l q),
     )
 
-open-add-requires : (t : ℕ) → lts.Need-open-add-requires (calls t) (within t) reads.Post
+open-add-requires : (t : ℕ) → lts.Need-open_add-p-requires (calls t) (within t) reads.Post
 open-add-requires t c κs =
-    let r = (start_of t c.before).pre.1.room in
-    let s = (start_of t c.before).pre.1.standing in
+    let r = (start_of t c.before).requires.1.room in
+    let s = (start_of t c.before).requires.1.standing in
     search rules
 
-sub-sum : (t : ℕ) → lts.Need-overflow-sub-sum (calls t) (within t) reads.Post
-sub-sum t c = omega (arith, (start_of t (at-else1 t c.before.before.before)).pre.1.some)
+sub-sum : (t : ℕ) → lts.Need-overflow_sub-k (calls t) (within t) reads.Post
+sub-sum t c = omega (arith, (start_of t (at-else1 t c.before.before.before)).requires.1.some)
 
-sum-requires : (t : ℕ) → lts.Need-sum-requires (calls t) (within t) reads.Post
+sum-requires : (t : ℕ) → lts.Need-sum-a-requires (calls t) (within t) reads.Post
 sum-requires t c κs =
-    let opened = c.before.before.before.before in
-    let ready = (start_of t (at-else1 t opened)).pre in (
+    let ready = (start_of t (at-else1 t c.before.before.before.before)).requires in (
       omega (arith, ready.0, ready.1.some),
       record {
         standing = ready.1.standing;
         set = ready.1.set;
         refs = ready.1.refs;
         list = ready.1.list;
-        some = omega (arith, ready.1.some, (at-else1 t opened).if1.false);
-        room = omega (arith, opened.open-add.ensures.1, ready.1.room, ready.1.some);
+        some = omega (arith, ready.1.some, (at-else1 t c.before.before.before.before).if-k-eq1.false);
+        room = omega (arith, c.open_add-p.ensures.1, ready.1.room, ready.1.some);
       },
     )
 
-returns-2 : (t : ℕ) → lts.Need-returns-2 (calls t) (within t) reads.Post
+returns-2 : (t : ℕ) → lts.Need-returns-then-a-ne0 (calls t) (within t) reads.Post
 returns-2 t c =
-    let first = c.before.before.before.before.before.before in
-    let ready = (at-start t first).requires.1 in (
-      first_goes _ (at-open-add t first).open-add.ensures.1 ready.some first.sum.ensures.0,
-      λ u b l q. sum_stops _ _ ready.some (at-else1 t (at-open-add t first)).if1.left (first.sum.ensures.1 u b l q) c.if2.true,
+    let ready = (at-start t c.before.before.before.before.before.before).requires.1 in (
+      first_goes _ (at-open-add t c.before.before.before.before.before.before).open_add-p.ensures.1 ready.some c.sum-a.ensures.0,
+      λ u b l q. sum_stops _ _ ready.some (at-else1 t (at-open-add t c.before.before.before.before.before.before)).if-k-eq1.false (c.sum-a.ensures.1 u b l q) c.if-a-ne0.true,
     )
 
-child-requires-2 : (t : ℕ) → lts.Need-child-requires-2 (calls t) (within t) reads.Post
+child-requires-2 : (t : ℕ) → lts.Need-child-r-requires (calls t) (within t) reads.Post
 child-requires-2 t c κs =
-    let at-else2 = c.before.before in
-    let first = at-else2.before.before.before.before.before.before in
-    let ready = (at-start t first).requires.1 in
-    last_ready _ (at-open-add t first).open-add.ensures.1 ready.some first.sum.ensures.0 ready (search rules)
-    (ran_index at-else2.if2.false (first.sum.ensures.1 ready.set.0 ready.refs ready.list ready.set.1))
+    let ready = (at-start t c.before.before.before.before.before.before.before.before.before).requires.1 in
+    last_ready _ (at-open-add t c.before.before.before.before.before.before.before.before.before).open_add-p.ensures.1 ready.some c.sum-a.ensures.0 ready (search rules)
+    (ran_index c.if-a-ne0.false (c.sum-a.ensures.1 ready.set.0 ready.refs ready.list ready.set.1))
 
-same-length-6 : (t : ℕ) → lts.Need-same-length-6 (calls t) (within t) reads.Post
+same-length-6 : (t : ℕ) → lts.Need-shape_of-out-then-r-ne0 (calls t) (within t) reads.Post
 same-length-6 t c =
-    let at-out4 = c.before.before.before in
-    omega (arith, (at-out2 t at-out4).out2.given, (at-out3 t at-out4).out3.given, at-out4.out4.given)
+    omega (arith, (at-out2 t c.before.before.before).out-2-1.given, (at-out3 t c.before.before.before).out-3-1.given, c.out-4-1.given)
 
-returns-3 : (t : ℕ) → lts.Need-returns-3 (calls t) (within t) reads.Post
+returns-3 : (t : ℕ) → lts.Need-returns-then-r-ne0 (calls t) (within t) reads.Post
 returns-3 t c =
-    let last = c.before.before.before.before.before.before in
-    let first = at_sum t last in
+    let first = at_sum t c.before.before.before.before.before.before in
     let opened = at-open-add t first in
-    let ready = (at-start t first).pre.1 in (
-      sum_goes _ opened.open-add.ensures.1 ready.some first.sum.ensures.0 last.child2.ensures.0,
+    let ready = (at-start t first).requires.1 in (
+      sum_goes _ opened.open_add-p.ensures.1 ready.some first.sum-a.ensures.0 c.child-r.ensures.0,
       λ u b l q. sum_stops_last _ _
           ready.some
-          (at-else1 t opened).if1.left
-          (first.sum.ensures.1 u b l q)
-          (at-else2 t last).if2.false
-          (λ m. last.child2.ensures.1 u b m q)
-          c.if3.true,
+          (at-else1 t opened).if-k-eq1.false
+          (first.sum-a.ensures.1 u b l q)
+          (at-else2 t c.before.before.before.before.before.before).if-a-ne0.false
+          (λ m. c.child-r.ensures.1 u b m q)
+          c.if-r-ne0.true,
     )
 
-close-block-requires : (t : ℕ) → lts.Need-close-block-requires (calls t) (within t) reads.Post
+close-block-requires : (t : ℕ) → lts.Need-close_block-requires (calls t) (within t) reads.Post
 close-block-requires t c κs =
-    let last = c.before.before.before.before.before.before.before in
-    let first = at_sum t last in
-    let ready = (at-start t first).pre.1 in
-    sum_ends _ (at-open-add t first).open-add.ensures.1 ready.some first.sum.ensures.0 last.child2.ensures.0 ready
+    let first = at_sum t c.before.before.before.before.before.before.before in
+    let ready = (at-start t first).requires.1 in
+    sum_ends _ (at-open-add t first).open_add-p.ensures.1 ready.some first.sum-a.ensures.0 c.child-r.ensures.0 ready
 
-same-length-8 : (t : ℕ) → lts.Need-same-length-8 (calls t) (within t) reads.Post
+same-length-8 : (t : ℕ) → lts.Need-shape_of-out (calls t) (within t) reads.Post
 same-length-8 t c =
-    let at-out4 = c.before.before.before.before.before.before.before in
-    omega (arith, (at-out2 t at-out4).out2.given, (at-out3 t at-out4).out3.given, at-out4.out4.given, c.before.out5.given)
+    omega (arith, (at-out2 t c.before.before.before.before.before.before.before).out-2-1.given, (at-out3 t c.before.before.before.before.before.before.before).out-3-1.given, c.out-4-1.given, c.out-5-1.given)
 
-returns-4 : (t : ℕ) → lts.Need-returns-4 (calls t) (within t) reads.Post
+returns-4 : (t : ℕ) → lts.Need-returns (calls t) (within t) reads.Post
 returns-4 t c =
-    let at-close-block = c.before.before in
-    let at-else3 = at-close-block.before.before in
-    let last = at-else3.before.before.before.before.before.before in
-    let first = at_sum t last in
+    let first = at_sum t c.before.before.before.before.before.before.before.before.before.before in
     let opened = at-open-add t first in
-    let ready = (at-start t first).pre.1 in (
-      sum_goes _ opened.open-add.ensures.1 ready.some first.sum.ensures.0 last.child2.ensures.0,
+    let ready = (at-start t first).requires.1 in (
+      sum_goes _ opened.open_add-p.ensures.1 ready.some first.sum-a.ensures.0 c.child-r.ensures.0,
       λ u b l q. sum_done _ _
           ready.some
-          (at-else1 t opened).if1.left
-          (first.sum.ensures.1 u b l q)
-          (at-else2 t last).if2.false
-          (λ m. last.child2.ensures.1 u b m q)
-          opened.open-add.ensures.0
-          at-else3.if3.false
-          at-close-block.close_block.ensures.0,
+          (at-else1 t opened).if-k-eq1.false
+          (first.sum-a.ensures.1 u b l q)
+          (at-else2 t c.before.before.before.before.before.before.before.before.before.before).if-a-ne0.false
+          (λ m. c.child-r.ensures.1 u b m q)
+          opened.open_add-p.ensures.0
+          c.if-r-ne0.false
+          c.close_block.ensures.0,
     )
 
-pub +sum-spec : {M : Type 1} → statement M
-+sum-spec =
+pub +sum_spec : {M : Type 1} → statement M
++sum_spec =
     close μ
     (λ t. lts.spec (calls t) (within t) reads.Post (child-requires t) (λ c. search rules) (λ c. search rules)
     (returns t) (open-add-requires t) (sub-sum t) (sum-requires t) (λ c. search rules) (λ c. search rules)

@@ -6,64 +6,49 @@ use Rattle.builder_structs.proofs.Field.{field_variable, field_stops, field_done
 use Rattle.builder_structs.proofs.build_field.Statement.{statement}
 use Rattle.builder_structs.proofs.build_field.Tie as tie
 
-type-head-requires : tie.Need-type-head-requires
+type-head-requires : tie.Need-type_head-t-requires
 type-head-requires c κs =
-    let at-start = c.before.before.before in
-    at-start.requires.field.base.type_at
+    c.requires.field.base.type_at
 
-variable-field-requires : tie.Need-variable-field-requires
+variable-field-requires : tie.Need-variable_field-requires
 variable-field-requires c κs =
-    let at-start = c.before.before.before.before.before.before.before in
-    at-start.requires
+    c.requires
 
-returns : tie.Need-returns
-returns c =
-    let at-variable-field = c.before.before.before.before in
-    let at-then1 = at-variable-field.before.before.before in
-    let at-type-head = at-then1.before in (
-      at-variable-field.variable-field.ensures.0,
+returns : tie.Need-returns-then-t
+returns c = (
+      c.variable_field.ensures.0,
       field_variable _ _ _
-          at-type-head.type_head.ensures
-          at-then1.if1.true
-          at-variable-field.variable-field.ensures.1,
+          c.type_head-t.ensures
+          c.if-t.true
+          c.variable_field.ensures.1,
     )
 
-enter-own-requires : tie.Need-enter-own-requires
+enter-own-requires : tie.Need-enter_own-h-requires
 enter-own-requires c κs =
-    let at-start = c.before.before.before.before.before.before in
-    (at-start.requires.field.base.standing, at-start.requires.field.base.type_at)
+    (c.requires.field.base.standing, c.requires.field.base.type_at)
 
-returns-2 : tie.Need-returns-2
-returns-2 c =
-    let at-enter-own = c.before.before.before.before in
-    let at-else1 = at-enter-own.before.before in
-    let at-type-head = at-else1.before in
-    let at-start = at-type-head.before.before.before.before in (
-      stopped at-start.requires.field.base.standing.count,
+returns-2 : tie.Need-returns-then-h-ne0
+returns-2 c = (
+      stopped c.requires.field.base.standing.count,
       field_stops _ _ _
-          at-type-head.type_head.ensures
-          at-else1.if1.false
-          at-enter-own.enter-own.ensures.1
-          c.if2.true,
+          c.type_head-t.ensures
+          c.if-t.false
+          c.enter_own-h.ensures.1
+          c.if-h-ne0.true,
     )
 
-returns-3 : tie.Need-returns-3
-returns-3 c =
-    let at-put-const-or-zero = c.before.before in
-    let at-else2 = at-put-const-or-zero.before.before in
-    let at-enter-own = at-else2.before.before.before.before in
-    let at-else1 = at-enter-own.before.before in
-    let at-type-head = at-else1.before in (
+returns-3 : tie.Need-returns
+returns-3 c = (
       ends_at
-          (omega (arith, at-put-const-or-zero.put-const-or-zero.ensures.1))
-          (omega (arith, at-put-const-or-zero.put-const-or-zero.ensures.1))
-          at-enter-own.enter-own.ensures.0,
+          (omega (arith, c.put_const_or_zero-u.ensures.1))
+          (omega (arith, c.put_const_or_zero-u.ensures.1))
+          c.enter_own-h.ensures.0,
       field_done _ _ _
-          at-type-head.type_head.ensures
-          at-else1.if1.false
-          at-enter-own.enter-own.ensures.1
-          at-else2.if2.false
-          at-put-const-or-zero.put-const-or-zero.ensures.0,
+          c.type_head-t.ensures
+          c.if-t.false
+          c.enter_own-h.ensures.1
+          c.if-h-ne0.false
+          c.put_const_or_zero-u.ensures.0,
     )
 
 pub build_field_spec : {M : Type 1} → statement M

@@ -8,112 +8,97 @@ use Rattle.builder_structs.proofs.build_variable_struct.Statement.{statement}
 use Rattle.builder_structs.proofs.build_variable_struct.Tie as tie
 
 -- The places, each seen from a later one: what was known there.
-abbrev at-type-head : tie.After-field-list → tie.After-type-head
+abbrev at-type-head : tie.After-field_list-list → tie.After-type_head-h
 at-type-head r = r.before
 
-abbrev at-start : tie.After-field-list → tie.Start
+abbrev at-start : tie.After-field_list-list → tie.Start
 at-start r = (at-type-head r).before.before.before.before
 
-type-head-requires : tie.Need-type-head-requires
+type-head-requires : tie.Need-type_head-h-requires
 type-head-requires c κs =
-    let at-start = c.before.before.before in
-    at-start.requires.0.type_at
+    c.requires.0.type_at
 
-field-list-requires : tie.Need-field-list-requires
-field-list-requires c κs =
-    let at-start = c.before.before.before.before in (
-      at-start.requires.0.type_at,
-      (omega (arith, at-start.requires.0.kind_is), omega (arith, at-start.requires.0.kind_is)),
+field-list-requires : tie.Need-field_list-list-requires
+field-list-requires c κs = (
+      c.requires.0.type_at,
+      (omega (arith, c.requires.0.kind_is), omega (arith, c.requires.0.kind_is)),
     )
 
-count-nodes-requires : tie.Need-count-nodes-requires
+count-nodes-requires : tie.Need-count_nodes-k-requires
 count-nodes-requires c κs = (
-  (c.field-list.ensures (at-start c).requires.0.type_at).list,
-  (c.field-list.ensures (at-start c).requires.0.type_at).few,
+  (c.field_list-list.ensures (at-start c).requires.0.type_at).list,
+  (c.field_list-list.ensures (at-start c).requires.0.type_at).few,
 )
 
-returns : tie.Need-returns
-returns c =
-    let at-field-list = c.before.before in (
-      stopped (at-start at-field-list).requires.0.standing.count,
+returns : tie.Need-returns-then-k-eq0
+returns c = (
+      stopped (at-start c.before.before).requires.0.standing.count,
       struct_none _
-          (at-start at-field-list).requires.0.kind_is
-          (at-type-head at-field-list).type_head.ensures
-          at-field-list.field-list.ensures
-          c.before.count-nodes.ensures.1
-          c.if1.true,
+          (at-start c.before.before).requires.0.kind_is
+          (at-type-head c.before.before).type_head-h.ensures
+          c.field_list-list.ensures
+          c.count_nodes-k.ensures.1
+          c.if-k-eq0.true,
     )
 
-sum-requires : tie.Need-sum-requires
-sum-requires c κs =
-    let at-open-align = c.before.before.before.before in
-    let at-else1 = at-open-align.before.before in
-    let at-count-nodes = at-else1.before in
-    let at-field-list = at-count-nodes.before in record {
-      standing = (at-start at-field-list).requires.0.standing;
-      set = (at-start at-field-list).requires.0.set;
-      refs = ((at-type-head at-field-list).type_head.ensures
-          (at-start at-field-list).requires.0.type_at).references;
-      list = (at-field-list.field-list.ensures (at-start at-field-list).requires.0.type_at).list;
-      some = omega (arith, at-else1.if1.false);
+sum-requires : tie.Need-sum-r-requires
+sum-requires c κs = record {
+      standing = (at-start c.before.before.before.before.before.before.before.before).requires.0.standing;
+      set = (at-start c.before.before.before.before.before.before.before.before).requires.0.set;
+      refs = ((at-type-head c.before.before.before.before.before.before.before.before).type_head-h.ensures
+          (at-start c.before.before.before.before.before.before.before.before).requires.0.type_at).references;
+      list = (c.field_list-list.ensures (at-start c.before.before.before.before.before.before.before.before).requires.0.type_at).list;
+      some = omega (arith, c.if-k-eq0.false);
       room = omega (
         arith,
-        at-open-align.open-align.ensures.1,
-        at-count-nodes.count-nodes.ensures.0,
-        (at-start at-field-list).requires.1,
+        c.open_align-p.ensures.1,
+        c.count_nodes-k.ensures.0,
+        (at-start c.before.before.before.before.before.before.before.before).requires.1,
       );
     }
 
-close-aligned-requires : tie.Need-close-aligned-requires
-close-aligned-requires c κs =
-    let at_sum = c.before.before.before.before.before in
-    let at-open-align = at_sum.before.before.before.before.before in
-    let at-count-nodes = at-open-align.before.before.before in (
-      omega (arith, at-open-align.open-align.ensures.1, at_sum.sum.ensures.0.low),
+close-aligned-requires : tie.Need-close_aligned-requires
+close-aligned-requires c κs = (
+      omega (arith, c.open_align-p.ensures.1, c.sum-r.ensures.0.low),
       omega (
         arith,
-        at-open-align.open-align.ensures.1,
-        at_sum.sum.ensures.0.high,
-        at-count-nodes.count-nodes.ensures.0,
-        (at-start at-count-nodes.before).requires.1,
+        c.open_align-p.ensures.1,
+        c.sum-r.ensures.0.high,
+        c.count_nodes-k.ensures.0,
+        (at-start c.before.before.before.before.before.before.before.before.before.before.before.before.before.before).requires.1,
       ),
     )
 
-returns-2 : tie.Need-returns-2
-returns-2 c =
-    let at-close-aligned = c.before.before in
-    let at_sum = at-close-aligned.before.before.before.before.before.before in
-    let at-open-align = at_sum.before.before.before.before.before in
-    let at-count-nodes = at-open-align.before.before.before in
-    let at-field-list = at-count-nodes.before in (
+returns-2 : tie.Need-returns
+returns-2 c = (
       record {
         low = omega (
           arith,
-          at-open-align.open-align.ensures.1,
-          at_sum.sum.ensures.0.low,
-          at-close-aligned.close-aligned.ensures.0,
+          c.open_align-p.ensures.1,
+          c.sum-r.ensures.0.low,
+          c.close_aligned.ensures.0,
         );
         high = omega (
           arith,
-          at-open-align.open-align.ensures.1,
-          at_sum.sum.ensures.0.high,
-          at-count-nodes.count-nodes.ensures.0,
-          at-close-aligned.close-aligned.ensures.0,
+          c.open_align-p.ensures.1,
+          c.sum-r.ensures.0.high,
+          c.count_nodes-k.ensures.0,
+          c.close_aligned.ensures.0,
         );
         count = omega (
           arith,
-          at_sum.sum.ensures.0.count,
-          at-close-aligned.close-aligned.ensures.0,
+          c.sum-r.ensures.0.count,
+          c.close_aligned.ensures.0,
         );
       },
       struct_built _
-          (at-start at-field-list).requires.0.kind_is
-          (at-type-head at-field-list).type_head.ensures
-          at-field-list.field-list.ensures
-          at-count-nodes.count-nodes.ensures.1
-          at_sum.sum.ensures.1
-          at-open-align.open-align.ensures.0
-          at-close-aligned.close-aligned.ensures.1,
+          (at-start c.before.before.before.before.before.before.before.before.before.before.before.before.before.before.before.before.before).requires.0.kind_is
+          (at-type-head c.before.before.before.before.before.before.before.before.before.before.before.before.before.before.before.before.before).type_head-h.ensures
+          c.field_list-list.ensures
+          c.count_nodes-k.ensures.1
+          c.sum-r.ensures.1
+          c.open_align-p.ensures.0
+          c.close_aligned.ensures.1,
     )
 
 pub build_variable_struct_spec : {M : Type 1} → statement M

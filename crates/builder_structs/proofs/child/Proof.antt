@@ -7,85 +7,66 @@ use Rattle.builder_structs.proofs.child.Statement.{statement}
 use Rattle.builder_structs.proofs.child.Tie as tie
 
 -- The places, each seen from a later one: what was known there.
-abbrev at-start : tie.Else1 → tie.Start
+abbrev at-start : tie.Else-from-eq0 → tie.Start
 at-start r = r.before.before.before.before.before
 
-returns : tie.Need-returns
-returns c =
-    let at-start = c.before.before.before.before.before in (
+returns : tie.Need-returns-then-from-eq0
+returns c = (
       record {
         low = omega arith;
         high = omega arith;
-        count = at-start.requires.standing.count;
-        list = at-start.requires.list;
+        count = c.requires.standing.count;
+        list = c.requires.list;
       },
-      child_none _ _ _ c.if1.true,
+      child_none _ _ _ c.if-from-eq0.true,
     )
 
-field-node-requires : tie.Need-field-node-requires
+field-node-requires : tie.Need-field_node-requires
 field-node-requires c κs =
-    let at-else1 = c.before.before.before in
-    ((at-start at-else1).requires, omega (arith, at-else1.if1.false))
+    ((at-start c.before.before.before).requires, omega (arith, c.if-from-eq0.false))
 
-returns-2 : tie.Need-returns-2
-returns-2 c =
-    let at-field-node = c.before.before.before.before in
-    let at-then2 = at-field-node.before.before.before in (
-      at-field-node.field-node.ensures.0,
-      child_half _ _ _ at-field-node.field-node.ensures.1 at-then2.if2.true,
+returns-2 : tie.Need-returns-then-from
+returns-2 c = (
+      c.field_node.ensures.0,
+      child_half _ _ _ c.field_node.ensures.1 c.if-from.true,
     )
 
-field-parts-requires : tie.Need-field-parts-requires
+field-parts-requires : tie.Need-field_parts-f-requires
 field-parts-requires c κs =
-    let at-start = c.before.before.before.before.before.before in
-    field_here (omega (arith, c.before.if1.false)) at-start.requires.list
+    field_here (omega (arith, c.if-from-eq0.false)) c.requires.list
 
-field-node-requires-2 : tie.Need-field-node-requires-2
+field-node-requires-2 : tie.Need-field_node-requires-then-pad-eq0
 field-node-requires-2 c κs =
-    let at-else1 = c.before.before.before.before.before.before in
-    ((at-start at-else1).requires, omega (arith, at-else1.if1.false))
+    ((at-start c.before.before.before.before.before.before).requires, omega (arith, c.if-from-eq0.false))
 
-returns-3 : tie.Need-returns-3
-returns-3 c =
-    let at-field-node2 = c.before.before.before.before in
-    let at-then3 = at-field-node2.before.before.before in
-    let at-padding = at-then3.before in
-    let at-field-parts = at-padding.before in
-    let at-else2 = at-field-parts.before in
-    let at-else1 = at-else2.before in (
-      at-field-node2.field-node2.ensures.0,
+returns-3 : tie.Need-returns-then-pad-eq0
+returns-3 c = (
+      c.field_node-then-pad-eq0.ensures.0,
       child_plain _ _ _
-          at-field-node2.field-node2.ensures.1
-          at-else2.if2.false
-          (omega (arith, at-else1.if1.false))
-          at-field-parts.field-parts.ensures
-          at-padding.padding.ensures
-          at-then3.if3.true,
+          c.field_node-then-pad-eq0.ensures.1
+          c.if-from.false
+          (omega (arith, c.if-from-eq0.false))
+          c.field_parts-f.ensures
+          c.padding-pad.ensures
+          c.if-pad-eq0.true,
     )
 
-returns-4 : tie.Need-returns-4
-returns-4 c =
-    let at-put-const-or-zero = c.before.before in
-    let at-else3 = at-put-const-or-zero.before.before in
-    let at-padding = at-else3.before in
-    let at-field-parts = at-padding.before in
-    let at-else2 = at-field-parts.before in
-    let at-else1 = at-else2.before in
-    let at-start = at-else1.before.before.before.before.before in (
+returns-4 : tie.Need-returns
+returns-4 c = (
       record {
-        low = omega (arith, at-put-const-or-zero.put-const-or-zero.ensures.1);
-        high = omega (arith, at-put-const-or-zero.put-const-or-zero.ensures.1);
-        count = at-start.requires.standing.count;
-        list = at-start.requires.list;
+        low = omega (arith, c.put_const_or_zero-u.ensures.1);
+        high = omega (arith, c.put_const_or_zero-u.ensures.1);
+        count = c.requires.standing.count;
+        list = c.requires.list;
       },
       child_pad
-          at-start.requires.standing.index
-          at-else2.if2.false
-          (omega (arith, at-else1.if1.false))
-          at-field-parts.field-parts.ensures
-          at-padding.padding.ensures
-          at-else3.if3.false
-          at-put-const-or-zero.put-const-or-zero.ensures.0,
+          c.requires.standing.index
+          c.if-from.false
+          (omega (arith, c.if-from-eq0.false))
+          c.field_parts-f.ensures
+          c.padding-pad.ensures
+          c.if-pad-eq0.false
+          c.put_const_or_zero-u.ensures.0,
     )
 
 pub child_spec : {M : Type 1} → statement M

@@ -4,20 +4,17 @@ use Rattle.builder_structs.proofs.Field.{own_entered}
 use Rattle.builder_structs.proofs.enter_own.Statement.{statement}
 use Rattle.builder_structs.proofs.enter_own.Tie as tie
 
-type-head-requires : tie.Need-type-head-requires
-type-head-requires c κs = c.before.before.requires.1
+type-head-requires : tie.Need-type_head-references-requires
+type-head-requires c κs = c.requires.1
 
-extend-with-requires : tie.Need-extend-with-requires
+extend-with-requires : tie.Need-extend_with-requires
 extend-with-requires c κs =
-    let at-start = c.before.before.before.before in
-    (at-start.requires.0, (c.before.type_head.ensures at-start.requires.1).references)
+    (c.requires.0, (c.type_head-references.ensures c.requires.1).references)
 
 returns : tie.Need-returns
-returns c =
-    let at-extend-with = c.before.before in
-    let at-type-head = at-extend-with.before.before in (
-      at-extend-with.extend_with.ensures.0,
-      own_entered _ at-type-head.type_head.ensures at-extend-with.extend_with.ensures.1,
+returns c = (
+      c.extend_with.ensures.0,
+      own_entered _ c.type_head-references.ensures c.extend_with.ensures.1,
     )
 
 pub enter_own_spec : {M : Type 1} → statement M

@@ -6,50 +6,41 @@ use Rattle.builder_structs.proofs.field_refs.Statement.{statement}
 use Rattle.builder_structs.proofs.field_refs.Tie as tie
 
 -- The places, each seen from a later one: what was known there.
-abbrev at-start : tie.After-slice-known2 → tie.Start
+abbrev at-start : tie.After-slice_known-2-1 → tie.Start
 at-start r = r.before.before.before
 
-name-at-requires : tie.Need-name-at-requires
+name-at-requires : tie.Need-name_at-owner-requires
 name-at-requires c κs = (at-start c).requires.field.named
 
 get-requires : tie.Need-get-requires
 get-requires c κs = (at-start c.before).requires.refs
 
-put-sum-requires : tie.Need-put-sum-requires
-put-sum-requires c κs =
-    let at-paths = c.before.before.before in
-    let at-get = at-paths.before.before in
-    let at-slice-known2 = at-get.before.before in record {
-      field = (at-start at-slice-known2).requires.field;
+put-sum-requires : tie.Need-put_sum-requires
+put-sum-requires c κs = record {
+      field = (at-start c.before.before.before.before.before).requires.field;
       list = paths_found
-          at-paths.paths.given.1
-          at-get.get.ensures.0
-          (at-start at-slice-known2).requires.refs;
+          c.in-At.is
+          c.get.ensures.0
+          (at-start c.before.before.before.before.before).requires.refs;
     }
 
-returns : tie.Need-returns
-returns c =
-    let at-put-sum = c.before.before.before.before in
-    let at-paths = at-put-sum.before.before.before.before in
-    let at-get = at-paths.before.before in
-    let at-name-at = at-get.before in (
-      at-put-sum.put-sum.ensures.0,
+returns : tie.Need-returns-in-At
+returns c = (
+      c.put_sum.ensures.0,
       refs_found _ _ _
-          at-name-at.name_at.ensures
-          at-get.get.ensures.0
-          at-paths.paths.given.1
-          at-put-sum.put-sum.ensures.1,
+          c.name_at-owner.ensures
+          c.get.ensures.0
+          c.in-At.is
+          c.put_sum.ensures.1,
     )
 
-returns-2 : tie.Need-returns-2
-returns-2 c =
-    let at-get = c.before.before in
-    let at-name-at = at-get.before in (
-      stopped (at-start at-name-at.before).requires.field.base.standing.count,
+returns-2 : tie.Need-returns-in-Missing
+returns-2 c = (
+      stopped (at-start c.before.before.before).requires.field.base.standing.count,
       refs_missing _ _ _
-          at-name-at.name_at.ensures
-          at-get.get.ensures.0
-          c.enum_told.given.1,
+          c.name_at-owner.ensures
+          c.get.ensures.0
+          c.in-Missing.is,
     )
 
 pub field_refs_spec : {M : Type 1} → statement M

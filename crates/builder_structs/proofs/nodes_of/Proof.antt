@@ -6,26 +6,24 @@ use Rattle.builder_structs.proofs.Laws.{one_node, two_nodes}
 use Rattle.builder_structs.proofs.nodes_of.Statement.{statement}
 use Rattle.builder_structs.proofs.nodes_of.Tie as tie
 
-returns : tie.Need-returns
-returns c =
-    let at-start = c.before.before in (
+returns : tie.Need-returns-then-padding-eq0
+returns c = (
       omega arith,
       one_node
-          at-start.args.end
-          (offset_of at-start.args.placed at-start.args.offset)
-          c.before.padding.ensures
-          c.if1.true,
+          c.args.end
+          (offset_of c.args.placed c.args.offset)
+          c.padding.ensures
+          c.if-padding-eq0.true,
     )
 
-returns-2 : tie.Need-returns-2
-returns-2 c =
-    let at-start = c.before.before in (
+returns-2 : tie.Need-returns
+returns-2 c = (
       omega arith,
       two_nodes
-          at-start.args.end
-          (offset_of at-start.args.placed at-start.args.offset)
-          c.before.padding.ensures
-          c.if1.false,
+          c.args.end
+          (offset_of c.args.placed c.args.offset)
+          c.padding.ensures
+          c.if-padding-eq0.false,
     )
 
 pub nodes_of_spec : {M : Type 1} → statement M

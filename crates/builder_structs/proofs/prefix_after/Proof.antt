@@ -5,40 +5,36 @@ use Rattle.builder_structs.proofs.Laws.{end_unplaced, end_variable, end_const, e
 use Rattle.builder_structs.proofs.prefix_after.Statement.{statement}
 use Rattle.builder_structs.proofs.prefix_after.Tie as tie
 
-type-head-requires : tie.Need-type-head-requires
-type-head-requires c κs = c.before.requires
+type-head-requires : tie.Need-type_head-t-requires
+type-head-requires c κs = c.requires
 
-returns : tie.Need-returns
+returns : tie.Need-returns-then-t
 returns c =
     end_variable _ _ _
-    c.before.before.type_head.ensures
-    c.before.if1.true
-    c.if2.true
+    c.type_head-t.ensures
+    c.if-placed.true
+    c.if-t.true
 
-returns-2 : tie.Need-returns-2
+returns-2 : tie.Need-returns-then-size-offset
 returns-2 c =
-    let at-then1 = c.before.before in
-    let at-type-head = at-then1.before in
     end_const _ _ _
-    at-type-head.type_head.ensures
-    at-then1.if1.true
-    c.before.if2.false
+    c.type_head-t.ensures
+    c.if-placed.true
+    c.if-t.false
     (omega arith)
-    c.if3.true
+    c.if-size-offset.true
 
-returns-3 : tie.Need-returns-3
+returns-3 : tie.Need-returns-then-placed
 returns-3 c =
-    let at-then1 = c.before.before in
-    let at-type-head = at-then1.before in
     end_over _ _ _
-    at-type-head.type_head.ensures
-    at-then1.if1.true
-    c.before.if2.false
+    c.type_head-t.ensures
+    c.if-placed.true
+    c.if-t.false
     (omega arith)
-    c.if3.false
+    c.if-size-offset.false
 
-returns-4 : tie.Need-returns-4
-returns-4 c = end_unplaced _ _ _ c.before.type_head.ensures c.if1.false
+returns-4 : tie.Need-returns
+returns-4 c = end_unplaced _ _ _ c.type_head-t.ensures c.if-placed.false
 
 pub prefix_after_spec : {M : Type 1} → statement M
 prefix_after_spec = tie.close (tie.spec type-head-requires returns (λ c. search rules) (λ c. search rules) returns-2 returns-3 returns-4)

@@ -14,223 +14,198 @@ use Rattle.builder_type.proofs.build_type.Statement.{statement}
 use Rattle.builder_type.proofs.build_type.Tie as tie
 
 -- The places as they are seen from where the references have entered.
-abbrev at-extend-with : tie.Else1 → tie.After-extend-with
+abbrev at-extend-with : tie.Else-held-ne0 → tie.After-extend_with-held
 at-extend-with r = r.before.before.before.before
 
-abbrev at-begin : tie.Else1 → tie.After-begin
+abbrev at-begin : tie.Else-held-ne0 → tie.After-begin
 at-begin r = (at-extend-with r).before.before.before.before
 
-abbrev at-type-head : tie.Else1 → tie.After-type-head
+abbrev at-type-head : tie.Else-held-ne0 → tie.After-type_head-head
 at-type-head r = (at-begin r).before.before
 
-abbrev at-start : tie.Else1 → tie.Start
+abbrev at-start : tie.Else-held-ne0 → tie.Start
 at-start r = (at-type-head r).before.before.before.before
 
 -- The places as they are seen from where the root begins.
-abbrev at-put-name : tie.After-put-le → tie.After-put-name
+abbrev at-put-name : tie.After-put_le-start → tie.After-put_name-aligned
 at-put-name r = r.before.before.before.before
 
-abbrev at-open-block : tie.After-put-le → tie.After-open-block
+abbrev at-open-block : tie.After-put_le-start → tie.After-open_block-body
 at-open-block r = (at-put-name r).before.before.before.before
 
-abbrev at-name-at : tie.After-put-le → tie.After-name-at
+abbrev at-name-at : tie.After-put_le-start → tie.After-name_at-name
 at-name-at r = (at-open-block r).before.before
 
-abbrev at-else1 : tie.After-put-le → tie.Else1
+abbrev at-else1 : tie.After-put_le-start → tie.Else-held-ne0
 at-else1 r = (at-name-at r).before
 
-type-head-requires : tie.Need-type-head-requires
+type-head-requires : tie.Need-type_head-head-requires
 type-head-requires c κs =
-    let at-start = c.before.before.before in
-    at-start.requires.type_at
+    c.requires.type_at
 
 begin-requires : tie.Need-begin-requires
 begin-requires c κs =
-    let at-start = c.before.before.before.before.before in
-    at-start.requires.words
+    c.requires.words
 
-extend-with-requires : tie.Need-extend-with-requires
-extend-with-requires c κs =
-    let at-begin = c.before.before.before in
-    let at-type-head = at-begin.before.before in
-    let at-start = at-type-head.before.before.before.before in (
-      words_ready at-start.requires at-begin.begin.auto.0 (omega arith) (at-begin.begin.ensures _),
-      (at-type-head.type_head.ensures at-start.requires.type_at).references,
+extend-with-requires : tie.Need-extend_with-held-requires
+extend-with-requires c κs = (
+      words_ready c.requires c.begin.auto.words (omega arith) (c.begin.ensures _),
+      (c.type_head-head.ensures c.requires.type_at).references,
     )
 
-returns : tie.Need-returns
-returns c =
-    let at-extend-with = c.before.before.before.before in
-    let at-begin = at-extend-with.before.before.before.before in
-    let at-type-head = at-begin.before.before in (
+returns : tie.Need-returns-then-held-ne0
+returns c = (
       (omega arith, omega arith, λ z. refl),
       not_entered
-          at-type-head.type_head.ensures _
-          at-extend-with.extend_with.ensures.1
-          c.if1.true refl,
+          c.type_head-head.ensures _
+          c.extend_with-held.ensures.1
+          c.if-held-ne0.true refl,
     )
 
-add-name-at : tie.Need-overflow-add-name-at
+add-name-at : tie.Need-overflow_add-kind
 add-name-at c = omega (arith, (short_type (at-start c).requires.type_at (at-start c).requires.size).0)
 
-name-at-requires : tie.Need-name-at-requires
-name-at-requires c κs = ((at-type-head c).type_head.ensures (at-start c).requires.type_at).named
+name-at-requires : tie.Need-name_at-name-requires
+name-at-requires c κs = ((at-type-head c).type_head-head.ensures (at-start c).requires.type_at).named
 
-open-block-requires : tie.Need-open-block-requires
+open-block-requires : tie.Need-open_block-body-requires
 open-block-requires c κs = omega (arith, (at-start c.before.before).requires.cursor)
 
-put-name-requires : tie.Need-put-name-requires
+put-name-requires : tie.Need-put_name-aligned-requires
 put-name-requires c κs =
-    let at-open-block = c.before.before.before in
-    let at-name-at = at-open-block.before.before in
-    let at-else1 = at-name-at.before in
     omega (
       arith,
-      (at-start at-else1).requires.cursor,
-      at-open-block.open_block.ensures.1,
+      (at-start c.before.before.before.before.before.before).requires.cursor,
+      c.open_block-body.ensures.1,
       named_short
-          ((at-type-head at-else1).type_head.ensures (at-start at-else1).requires.type_at).named
-          at-name-at.name_at.ensures,
+          ((at-type-head c.before.before.before.before.before.before).type_head-head.ensures (at-start c.before.before.before.before.before.before).requires.type_at).named
+          c.name_at-name.ensures,
     )
 
-put-le-requires : tie.Need-put-le-requires
+put-le-requires : tie.Need-put_le-start-requires
 put-le-requires c κs =
-    let at-put-name = c.before.before.before in
-    let at-open-block = at-put-name.before.before.before.before in
-    let at-name-at = at-open-block.before.before in
-    let at-else1 = at-name-at.before in
     omega (
       arith,
-      (at-start at-else1).requires.cursor,
-      at-open-block.open_block.ensures.1,
-      at-put-name.put-name.ensures.1,
+      (at-start c.before.before.before.before.before.before.before.before.before.before).requires.cursor,
+      c.open_block-body.ensures.1,
+      c.put_name-aligned.ensures.1,
       named_short
-          ((at-type-head at-else1).type_head.ensures (at-start at-else1).requires.type_at).named
-          at-name-at.name_at.ensures,
+          ((at-type-head c.before.before.before.before.before.before.before.before.before.before).type_head-head.ensures (at-start c.before.before.before.before.before.before.before.before.before.before).requires.type_at).named
+          c.name_at-name.ensures,
     )
 
 -- the root stands behind the header of a block, a name and a number: 271 bytes at most
-root-at : (r : tie.After-put-le) →
-    ((at-start (at-else1 r)).args.at + 6 ≤ r.put-le.result) × (r.put-le.result ≤ (at-start (at-else1 r)).args.at + 271)
+root-at : (r : tie.After-put_le-start) →
+    ((at-start (at-else1 r)).args.at + 6 ≤ r.put_le-start.result) × (r.put_le-start.result ≤ (at-start (at-else1 r)).args.at + 271)
 root-at r =
     let n = named_short
-    ((at-type-head (at-else1 r)).type_head.ensures (at-start (at-else1 r)).requires.type_at).named
-    (at-name-at r).name_at.ensures in (
-      omega (arith, (at-open-block r).open_block.ensures.1, (at-put-name r).put-name.ensures.1, r.put-le.ensures.1),
-      omega (arith, (at-open-block r).open_block.ensures.1, (at-put-name r).put-name.ensures.1, r.put-le.ensures.1),
+    ((at-type-head (at-else1 r)).type_head-head.ensures (at-start (at-else1 r)).requires.type_at).named
+    (at-name-at r).name_at-name.ensures in (
+      omega (arith, (at-open-block r).open_block-body.ensures.1, (at-put-name r).put_name-aligned.ensures.1, r.put_le-start.ensures.1),
+      omega (arith, (at-open-block r).open_block-body.ensures.1, (at-put-name r).put_name-aligned.ensures.1, r.put_le-start.ensures.1),
     )
 
 -- The places as they are seen from where the root was built, and from where the parameters were listed.
-abbrev at-put-le : tie.After-node-from-resolved → tie.After-put-le
+abbrev at-put-le : tie.After-node_from_resolved-root → tie.After-put_le-start
 at-put-le r = r.before.before.before.before.before
 
-abbrev entered : tie.After-node-from-resolved → tie.Else1
+abbrev entered : tie.After-node_from_resolved-root → tie.Else-held-ne0
 entered r = at-else1 (at-put-le r)
 
-abbrev at-else2 : tie.After-put-parameters → tie.Else2
-at-else2 r = r.before.before.before
+abbrev at-else2 : tie.After-put_parameters-end → tie.Else-root-ne0
+at-else2 r = r.before.before
 
-abbrev at-root : tie.After-put-parameters → tie.After-node-from-resolved
+abbrev at-root : tie.After-put_parameters-end → tie.After-node_from_resolved-root
 at-root r = (at-else2 r).before.before.before.before.before.before
 
 -- where the type's tree ends
-ends : (r : tie.After-put-parameters) →
-    ((at-start (entered (at-root r))).args.at + 6 ≤ r.put-parameters.result) × (r.put-parameters.result ≤ (at-start (entered (at-root r))).args.at + 2 ^ 42)
+ends : (r : tie.After-put_parameters-end) →
+    ((at-start (entered (at-root r))).args.at + 6 ≤ r.put_parameters-end.result) × (r.put_parameters-end.result ≤ (at-start (entered (at-root r))).args.at + 2 ^ 42)
 ends r =
-    let root = (at-root r).node_from_resolved.ensures.0 in
+    let root = (at-root r).node_from_resolved-root.ensures.0 in
     let start = root-at (at-put-le (at-root r)) in (
-      omega (arith, start.0, root.low, r.put-parameters.ensures.1.0),
-      omega (arith, start.1, root.high, r.put-parameters.ensures.1.1),
+      omega (arith, start.0, root.low, r.put_parameters-end.ensures.1.0),
+      omega (arith, start.1, root.high, r.put_parameters-end.ensures.1.1),
     )
 
-node-from-resolved-requires : tie.Need-node-from-resolved-requires
+node-from-resolved-requires : tie.Need-node_from_resolved-root-requires
 node-from-resolved-requires c κs =
-    let at-put-le = c.before.before.before.before in
-    let held = at-else1 at-put-le in
+    let held = at-else1 c.before.before.before.before in
     root_ready
-    (at-start held).pre
-    ((at-extend-with held).extend_with.kept.1.0 ∙ (at-begin held).begin.kept.0)
-    (at-extend-with held).extend_with.ensures.0
+    (at-start held).requires
+    ((at-extend-with held).extend_with-held.auto.words ∙ (at-begin held).begin.auto.words)
+    (at-extend-with held).extend_with-held.ensures.0
     (kept_index
-    held.if1.left
-    ((at-extend-with held).extend_with.ensures.1 ((at-type-head held).type_head.ensures (at-start held).pre.type_at).references))
-    (omega (arith, (at-start held).pre.cursor, root-at at-put-le))
+    held.if-held-ne0.false
+    ((at-extend-with held).extend_with-held.ensures.1 ((at-type-head held).type_head-head.ensures (at-start held).requires.type_at).references))
+    (omega (arith, (at-start held).requires.cursor, root-at c.before.before.before.before))
 
 -- the words keep their length at each call
-same-length-2 : tie.Need-same-length-2
+same-length-2 : tie.Need-shape_of-words-then-root-ne0
 same-length-2 c =
-    let root = c.before.before.before.before.before.before in
-    root.node_from_resolved.auto.1.0
-    ∙ (at-extend-with (entered root)).extend_with.auto.1.0
-    ∙ (at-begin (entered root)).begin.auto.0
+    c.node_from_resolved-root.auto.words
+    ∙ (at-extend-with (entered c.before.before.before.before.before.before)).extend_with-held.auto.words
+    ∙ (at-begin (entered c.before.before.before.before.before.before)).begin.auto.words
 
-returns-2 : tie.Need-returns-2
-returns-2 c =
-    let root = c.before.before.before.before.before.before in (
+returns-2 : tie.Need-returns-then-root-ne0
+returns-2 c = (
       (omega arith, omega arith, λ z. refl),
       no_root
-          (at-type-head (entered root)).type_head.ensures _
-          (at-extend-with (entered root)).extend_with.ensures.1
-          (entered root).if1.false
-          root.node_from_resolved.ensures.1
-          c.if2.true refl,
+          (at-type-head (entered c.before.before.before.before.before.before)).type_head-head.ensures _
+          (at-extend-with (entered c.before.before.before.before.before.before)).extend_with-held.ensures.1
+          (entered c.before.before.before.before.before.before).if-held-ne0.false
+          c.node_from_resolved-root.ensures.1
+          c.if-root-ne0.true refl,
     )
 
-put-parameters-requires : tie.Need-put-parameters-requires
+put-parameters-requires : tie.Need-put_parameters-end-requires
 put-parameters-requires c κs =
-    let at-else2 = c.before.before in
-    let root = at-else2.before.before.before.before.before.before in
-    let ready = (at-start (entered root)).requires in
+    let ready = (at-start (entered c.before.before.before.before.before.before.before)).requires in
     list_ready
     ready
-    (root.node_from_resolved.auto.1.0 ∙ (at-extend-with (entered root)).extend_with.auto.1.0 ∙ (at-begin (entered root)).begin.auto.0)
-    root.node_from_resolved.ensures.0.count
-    (builds_index at-else2.if2.false (root.node_from_resolved.ensures.1 ready.set.0 ready.type_at ready.set.1))
-    (omega (arith, ready.cursor, root-at (at-put-le root), root.node_from_resolved.ensures.0.high))
+    (c.node_from_resolved-root.auto.words ∙ (at-extend-with (entered c.before.before.before.before.before.before.before)).extend_with-held.auto.words ∙ (at-begin (entered c.before.before.before.before.before.before.before)).begin.auto.words)
+    c.node_from_resolved-root.ensures.0.count
+    (builds_index c.if-root-ne0.false (c.node_from_resolved-root.ensures.1 ready.set.0 ready.type_at ready.set.1))
+    (omega (arith, ready.cursor, root-at (at-put-le c.before.before.before.before.before.before.before), c.node_from_resolved-root.ensures.0.high))
 
-close-block-requires : tie.Need-close-block-requires
+close-block-requires : tie.Need-close_block-requires
 close-block-requires c κs =
-    let listed = c.before.before.before in
-    (omega (arith, (ends listed).0), omega (arith, (at-start (entered (at-root listed))).requires.cursor, (ends listed).1))
+    (omega (arith, (ends c.before.before.before).0), omega (arith, (at-start (entered (at-root c.before.before.before))).requires.cursor, (ends c.before.before.before).1))
 
-same-length-4 : tie.Need-same-length-4
+same-length-4 : tie.Need-shape_of-words
 same-length-4 c =
     let root = at-root c.before.before.before.before.before.before in
-    root.node_from_resolved.kept.1.0
-    ∙ (at-extend-with (entered root)).extend_with.auto.1.0
-    ∙ (at-begin (entered root)).begin.auto.0
+    root.node_from_resolved-root.auto.words
+    ∙ (at-extend-with (entered root)).extend_with-held.auto.words
+    ∙ (at-begin (entered root)).begin.auto.words
 
-same-length-5 : tie.Need-same-length-5
+same-length-5 : tie.Need-shape_of-out
 same-length-5 c =
-    let at-close-block = c.before.before in
-    let listed = at-close-block.before.before.before.before in
-    let begun = at-put-le (at-root listed) in
-    at-close-block.close_block.auto.0
-    ∙ listed.put-parameters.auto.1.1.1.1.0
-    ∙ (at-root listed).node_from_resolved.auto.1.1.1.1.0
-    ∙ begun.put-le.kept.0
-    ∙ (at-put-name begun).put-name.kept.0
-    ∙ (at-open-block begun).open_block.kept.0
+    let begun = at-put-le (at-root c.before.before.before.before.before.before) in
+    c.close_block.auto.out
+    ∙ c.put_parameters-end.auto.out
+    ∙ (at-root c.before.before.before.before.before.before).node_from_resolved-root.auto.out
+    ∙ begun.put_le-start.auto.out
+    ∙ (at-put-name begun).put_name-aligned.auto.out
+    ∙ (at-open-block begun).open_block-body.auto.out
 
-returns-3 : tie.Need-returns-3
+returns-3 : tie.Need-returns
 returns-3 c =
-    let at-close-block = c.before.before in
-    let listed = at-close-block.before.before.before.before in
-    let root = at-root listed in
+    let root = at-root c.before.before.before.before.before.before in
     let begun = at-put-le root in (
-      (omega (arith, (ends listed).0), (ends listed).1, λ z. absurd (z refl)),
+      (omega (arith, (ends c.before.before.before.before.before.before).0), (ends c.before.before.before.before.before.before).1, λ z. absurd (z refl)),
       tree_built
-          (at-type-head (entered root)).type_head.ensures _
-          (at-extend-with (entered root)).extend_with.ensures.1
-          (entered root).if1.left
-          root.node_from_resolved.ensures.1
-          (at-else2 listed).if2.false refl refl
-          (at-name-at begun).name_at.ensures
-          (at-open-block begun).open_block.ensures.0
-          (at-put-name begun).put-name.ensures.0
-          begun.put-le.ensures.0
-          listed.put-parameters.ensures.0
-          at-close-block.close_block.ensures.0,
+          (at-type-head (entered root)).type_head-head.ensures _
+          (at-extend-with (entered root)).extend_with-held.ensures.1
+          (entered root).if-held-ne0.false
+          root.node_from_resolved-root.ensures.1
+          (at-else2 c.before.before.before.before.before.before).if-root-ne0.false refl refl
+          (at-name-at begun).name_at-name.ensures
+          (at-open-block begun).open_block-body.ensures.0
+          (at-put-name begun).put_name-aligned.ensures.0
+          begun.put_le-start.ensures.0
+          c.put_parameters-end.ensures.0
+          c.close_block.ensures.0,
     )
 
 pub build_type_spec : {M : Type 1} → statement M

@@ -6,54 +6,52 @@ use Rattle.interpreter_context.proofs.Laws.{Passed, none_passed, one_passed, cou
 use Rattle.interpreter_context.proofs.behind_list.Statement.{statement}
 use Rattle.interpreter_context.proofs.behind_list.Tie as tie
 
-abbrev invariant-loop : tie.invariant-loop
+abbrev invariant-loop : tie.invariant-loop-left
 invariant-loop s at left₀ q₀ left q = Passed s (le2 s at) (at + 2) left q
 
-abbrev decreases-loop : tie.decreases-loop
+abbrev decreases-loop : tie.decreases-loop-left
 decreases-loop s at left₀ q₀ left q = left
 
 -- The start, seen from the loop.
-abbrev at-start : tie.At-loop invariant-loop decreases-loop → tie.Start invariant-loop decreases-loop
+abbrev at-start : tie.At-loop-left invariant-loop decreases-loop → tie.Start invariant-loop decreases-loop
 at-start r = r.before.before.before
 
-read2-requires : tie.Need-read2-requires invariant-loop decreases-loop
-read2-requires c κs = count_in c.before.requires.2 c.before.requires.3
+read2-requires : tie.Need-read2-left-requires invariant-loop decreases-loop
+read2-requires c κs = count_in c.requires.2 c.requires.3
 
-add-q : tie.Need-overflow-add-q invariant-loop decreases-loop
-add-q c = omega (arith, count_in c.before.before.requires.2 c.before.before.requires.3)
+add-q : tie.Need-overflow_add-q invariant-loop decreases-loop
+add-q c = omega (arith, count_in c.requires.2 c.requires.3)
 
-loop-holds : tie.Need-loop-init invariant-loop decreases-loop
-loop-holds c = none_passed c.read2.ensures.0
+loop-holds : tie.Need-loop-left-init invariant-loop decreases-loop
+loop-holds c = none_passed c.read2-left.ensures.0
 
-add-q-2 : tie.Need-overflow-add-q-2 invariant-loop decreases-loop
+add-q-2 : tie.Need-overflow_add-q-in-loop-left invariant-loop decreases-loop
 add-q-2 c =
     let start = at-start c.before in
-    omega (arith, (next_in start.pre.2 start.pre.3 c.loop-test.true c.before.loop.invariant).0)
+    omega (arith, (next_in start.requires.2 start.requires.3 c.loop-left-test.true c.loop-left.invariant).0)
 
 read4-requires : tie.Need-read4-requires invariant-loop decreases-loop
 read4-requires c κs =
     let start = at-start c.before in
-    (next_in start.pre.2 start.pre.3 c.loop-test.true c.before.loop.invariant).0
+    (next_in start.requires.2 start.requires.3 c.loop-left-test.true c.loop-left.invariant).0
 
-add-q-3 : tie.Need-overflow-add-q-3 invariant-loop decreases-loop
+add-q-3 : tie.Need-overflow_add-q-in-loop-left-2 invariant-loop decreases-loop
 add-q-3 c =
-    let in-loop = c.before in
-    let start = at-start in-loop.before in
-    omega (arith, (next_in start.pre.2 start.pre.3 in-loop.loop-test.true in-loop.before.loop.invariant).1, c.read4.ensures.0)
+    let start = at-start c.before.before in
+    omega (arith, (next_in start.requires.2 start.requires.3 c.loop-left-test.true c.loop-left.invariant).1, c.read4.ensures.0)
 
-sub-left : tie.Need-overflow-sub-left invariant-loop decreases-loop
+sub-left : tie.Need-overflow_sub-left invariant-loop decreases-loop
 sub-left c = omega arith
 
-loop-less : tie.Need-loop-smaller invariant-loop decreases-loop
+loop-less : tie.Need-loop-left-smaller invariant-loop decreases-loop
 loop-less c = omega arith
 
-loop-again : tie.Need-loop-preserved invariant-loop decreases-loop
+loop-again : tie.Need-loop-left-preserved invariant-loop decreases-loop
 loop-again c =
-    let in-loop = c.before in
-    one_passed in-loop.loop-test.true c.read4.ensures.0 in-loop.before.loop.invariant
+    one_passed c.loop-left-test.true c.read4.ensures.0 c.loop-left.invariant
 
 returns : tie.Need-returns invariant-loop decreases-loop
-returns c = λ p ps x h. all_passed h x c.loop-test.false c.before.loop.invariant
+returns c = λ p ps x h. all_passed h x c.loop-left-test.false c.loop-left.invariant
 
 pub behind_list_spec : {M : Type 1} → statement M
 behind_list_spec =

@@ -6,96 +6,82 @@ use Rattle.interpreter_context.proofs.Calls.{Wanted, asked, the_call, caller_has
 use Rattle.interpreter_context.proofs.find.Statement.{statement}
 use Rattle.interpreter_context.proofs.find.Tie as tie
 
-abbrev invariant-loop : tie.invariant-loop
+abbrev invariant-loop : tie.invariant-loop-d
 invariant-loop s name values root words depth d₀ wanted₀ d wanted =
     Wanted s values root.block root.len words name depth wanted d
 
-abbrev decreases-loop : tie.decreases-loop
+abbrev decreases-loop : tie.decreases-loop-d
 decreases-loop s name values root words depth d₀ wanted₀ d wanted = d
 
--- The places, each seen from a later one: what was known there.
-abbrev at-start : tie.After-slice-known invariant-loop decreases-loop → tie.Start invariant-loop decreases-loop
-at-start r = r.before.before.before
+loop-holds : tie.Need-loop-d-init invariant-loop decreases-loop
+loop-holds c = asked c.requires.0
 
-loop-holds : tie.Need-loop-init invariant-loop decreases-loop
-loop-holds c = asked (at-start c).requires.0
-
-sub-d : tie.Need-overflow-sub-d invariant-loop decreases-loop
+sub-d : tie.Need-overflow_sub-d invariant-loop decreases-loop
 sub-d c = omega arith
 
-mul-word : tie.Need-overflow-mul-word invariant-loop decreases-loop
+mul-word : tie.Need-offset_bounds-words-d invariant-loop decreases-loop
 mul-word c = omega (
   arith,
-  (the_call c.loop-test.true c.before.loop.invariant (at-start c.before.before).pre.1).0,
+  (the_call c.loop-d-test.true c.loop-d.invariant c.requires.1).0,
 )
 
-slice-read-word : tie.Need-slice-read-word invariant-loop decreases-loop
+slice-read-word : tie.Need-bounds-words-d invariant-loop decreases-loop
 slice-read-word c =
     (the_call
-    c.before.loop-test.true
-    c.before.before.loop.invariant
-    (at-start c.before.before.before).pre.1).0
+    c.loop-d-test.true
+    c.loop-d.invariant
+    c.requires.1).0
 
-callers-name-requires : tie.Need-callers-name-requires invariant-loop decreases-loop
-callers-name-requires c κs =
-    let at-loop = c.before.before in (
-      (the_call
-          c.before.loop-test.true
-          at-loop.loop.invariant
-          (at-start at-loop.before).pre.1).1,
-      at-loop.loop.invariant.inside,
-    )
+callers-name-requires : tie.Need-callers_name-requires invariant-loop decreases-loop
+callers-name-requires c κs = (
+  (the_call
+      c.loop-d-test.true
+      c.loop-d.invariant
+      c.requires.1).1,
+  c.loop-d.invariant.inside,
+)
 
-enum-known-q : tie.Need-enum-known-q invariant-loop decreases-loop
+enum-known-q : tie.Need-enum_known-q invariant-loop decreases-loop
 enum-known-q c = search rules
 
-loop-less : tie.Need-loop-smaller invariant-loop decreases-loop
+loop-less : tie.Need-loop-d-smaller invariant-loop decreases-loop
 loop-less c = omega arith
 
-loop-again : tie.Need-loop-preserved invariant-loop decreases-loop
+loop-again : tie.Need-loop-d-preserved invariant-loop decreases-loop
 loop-again c =
-    let at-callers-name = c.before.before.before in
-    let in-loop = at-callers-name.before.before in
-    let at-loop = in-loop.before in
     caller_has
-    in-loop.loop-test.true
-    at-loop.loop.invariant
-    at-callers-name.callers-name.ensures
-    (at-start at-loop.before).pre.1
-    c.before.q.given.1
+    c.loop-d-test.true
+    c.loop-d.invariant
+    c.callers_name.ensures
+    c.requires.1
+    c.in-At.is
 
-enum_told : tie.Need-enum-told invariant-loop decreases-loop
+enum_told : tie.Need-enum_told-1 invariant-loop decreases-loop
 enum_told c = search rules
 
-returns : tie.Need-returns invariant-loop decreases-loop
-returns c =
-    let at-callers-name = c.before.before in
-    let in-loop = at-callers-name.before.before in
-    let at-loop = in-loop.before in (
-      caller_lacks
-          in-loop.loop-test.true
-          at-loop.loop.invariant
-          at-callers-name.callers-name.ensures
-          c.enum_told.given.1,
-      kept_none (bottom (at-start at-loop.before).pre.1.1).1,
-    )
+returns : tie.Need-returns-in-Missing invariant-loop decreases-loop
+returns c = (
+  caller_lacks
+      c.loop-d-test.true
+      c.loop-d.invariant
+      c.callers_name.ensures
+      c.in-Missing.is,
+  kept_none (bottom c.requires.1.1).1,
+)
 
-at-root-requires : tie.Need-at-root-requires invariant-loop decreases-loop
+at-root-requires : tie.Need-at_root-requires invariant-loop decreases-loop
 at-root-requires c κs =
-    let at-loop = c.before.before in
-    let x = bottom (at-start at-loop.before).pre.1.1 in
-    (at-loop.loop.invariant.inside, x.0, x.1)
+    let x = bottom c.requires.1.1 in
+    (c.loop-d.invariant.inside, x.0, x.1)
 
-same_length : tie.Need-same-length invariant-loop decreases-loop
+same_length : tie.Need-shape_of-words invariant-loop decreases-loop
 same_length c = search rules
 
-returns-2 : tie.Need-returns-2 invariant-loop decreases-loop
-returns-2 c =
-    let at-root = c.before.before in
-    let after-loop = at-root.before.before in (
-      at_the_root at-root.at-root.result after-loop.loop-test.false after-loop.before.loop.invariant at-root.at-root.ensures.0,
-      at-root.at-root.ensures.1,
-    )
+returns-2 : tie.Need-returns invariant-loop decreases-loop
+returns-2 c = (
+  at_the_root c.at_root.result c.loop-d-test.false c.loop-d.invariant c.at_root.ensures.0,
+  c.at_root.ensures.1,
+)
 
 pub find_spec : {M : Type 1} → statement M
 find_spec =

@@ -11,90 +11,79 @@ use Rattle.interpreter_context.proofs.Laws.{kinds, Fourth, fourth_column, is_lis
 use Rattle.interpreter_context.proofs.third_part.Statement.{statement}
 use Rattle.interpreter_context.proofs.third_part.Tie as tie
 
-add-read2 : tie.Need-overflow-add-read2
-add-read2 c = omega (arith, (kinds c.before.requires.0).2, (kinds c.before.requires.0).3)
+add-read2 : tie.Need-overflow_add-at
+add-read2 c = omega (arith, (kinds c.requires.0).2, (kinds c.requires.0).3)
 
-read2-requires : tie.Need-read2-requires
-read2-requires c κs = omega (arith, (kinds c.before.requires.0).2, (kinds c.before.requires.0).3)
+read2-requires : tie.Need-read2-kind-requires
+read2-requires c κs = omega (arith, (kinds c.requires.0).2, (kinds c.requires.0).3)
 
-second-part-requires : tie.Need-second-part-requires
-second-part-requires c κs = (c.before.before.requires.0, omega (arith, c.before.before.requires.1))
+second-part-requires : tie.Need-second_part-p-requires
+second-part-requires c κs = (c.requires.0, omega (arith, c.requires.1))
 
--- The places, each seen from a later one: what was known there.
-abbrev at-second-part : tie.After-node-part → tie.After-second-part
-at-second-part r = r.before
-
-abbrev at-read2 : tie.After-node-part → tie.After-read2
-at-read2 r = (at-second-part r).before
-
-abbrev at-start : tie.After-node-part → tie.Start
-at-start r = (at-read2 r).before.before
-
-node-part-requires : tie.Need-node-part-requires
+node-part-requires : tie.Need-node_part-code-requires
 node-part-requires c κs =
-    let at-read2 = c.before in
-    let b = kinds at-read2.before.before.requires.0 in
-    (omega (arith, at-read2.read2.ensures.0, b.0), omega (arith, at-read2.read2.ensures.0, b.1), omega arith)
+    let b = kinds c.requires.0 in
+    (omega (arith, c.read2-kind.ensures.0, b.0), omega (arith, c.read2-kind.ensures.0, b.1), omega arith)
 
 -- part 3 of a node, by its code
-abbrev FourthAt : (r : tie.After-node-part) → Type 0
-FourthAt r = (p : Part) × (ps : List Part) × Fourth p × (r.node_part.result ≡ code_of p) × Parts (at-start r).args.s.now (p ∷ ps) (at-second-part r).second-part.result
+abbrev FourthAt : (r : tie.After-node_part-code) → Type 0
+FourthAt r = (p : Part) × (ps : List Part) × Fourth p × (r.node_part-code.result ≡ code_of p) × Parts r.args.s.now (p ∷ ps) r.second_part-p.result
 
-fourth-part : (r : tie.After-node-part) → FourthAt r
+fourth-part : (r : tie.After-node_part-code) → FourthAt r
 fourth-part r =
     stands fourth_column
-    (at-read2 r).read2.ensures.0
-    r.node_part.ensures
-    (omega (arith, (at-start r).requires.1))
-    (at-second-part r).second-part.ensures
-    (at-start r).requires.0
+    r.read2-kind.ensures.0
+    r.node_part-code.ensures
+    (omega (arith, r.requires.1))
+    r.second_part-p.ensures
+    r.requires.0
 
 -- part 4 begins where it ends
-next-part : (r : tie.After-node-part) {q : ℕ} →
-    ((p : Part) (ps : List Part) (c : Parts (at-start r).args.s.now (p ∷ ps) (at-second-part r).second-part.result) → Fourth p → r.node_part.result ≡ code_of p → Next c q) →
-    Standing (at-start r).args.s.now (at-start r).args.at 4 q
+next-part : (r : tie.After-node_part-code) {q : ℕ} →
+    ((p : Part) (ps : List Part) (c : Parts r.args.s.now (p ∷ ps) r.second_part-p.result) → Fourth p → r.node_part-code.result ≡ code_of p → Next c q) →
+    Standing r.args.s.now r.args.at 4 q
 next-part r =
     stands_next fourth_column
-    (at-read2 r).read2.ensures.0
-    r.node_part.ensures
-    (omega (arith, (at-start r).requires.1))
-    (at-second-part r).second-part.ensures
+    r.read2-kind.ensures.0
+    r.node_part-code.ensures
+    (omega (arith, r.requires.1))
+    r.second_part-p.ensures
 
-behind-list-requires : tie.Need-behind-list-requires
+behind-list-requires : tie.Need-behind_list-requires
 behind-list-requires c κs =
     let r = c.before in
     let x = fourth-part r in
-    (x.0, x.1, is_list Listing.cases c.if1.true x.2 x.3, x.4)
+    (x.0, x.1, is_list Listing.cases c.if-code-eq-CASES.true x.2 x.3, x.4)
 
-returns : tie.Need-returns
+returns : tie.Need-returns-then-code-eq-CASES
 returns c =
     let r = c.before.before in
     next-part r
-    (λ p ps x h e. c.behind-list.ensures p ps x (is_list Listing.cases c.before.if1.true h e))
+    (λ p ps x h e. c.behind_list.ensures p ps x (is_list Listing.cases c.if-code-eq-CASES.true h e))
 
-behind-list-requires-2 : tie.Need-behind-list-requires-2
+behind-list-requires-2 : tie.Need-behind_list-requires-then-code-eq-ARGUMENTS
 behind-list-requires-2 c κs =
     let r = c.before.before in
     let x = fourth-part r in
-    (x.0, x.1, is_list Listing.arguments c.if2.true x.2 x.3, x.4)
+    (x.0, x.1, is_list Listing.arguments c.if-code-eq-ARGUMENTS.true x.2 x.3, x.4)
 
-returns-2 : tie.Need-returns-2
+returns-2 : tie.Need-returns-then-code-eq-ARGUMENTS
 returns-2 c =
     let r = c.before.before.before in
     next-part r
-    (λ p ps x h e. c.behind-list2.ensures p ps x (is_list Listing.arguments c.before.if2.true h e))
+    (λ p ps x h e. c.behind_list-then-code-eq-ARGUMENTS.ensures p ps x (is_list Listing.arguments c.if-code-eq-ARGUMENTS.true h e))
 
 behind-requires : tie.Need-behind-requires
 behind-requires c κs =
     let r = c.before.before in
     let x = fourth-part r in
-    (x.0, x.1, is_simple c.before.if1.false c.if2.false x.2 x.3, x.3, x.4)
+    (x.0, x.1, is_simple c.if-code-eq-CASES.false c.if-code-eq-ARGUMENTS.false x.2 x.3, x.3, x.4)
 
-returns-3 : tie.Need-returns-3
+returns-3 : tie.Need-returns
 returns-3 c =
     let r = c.before.before.before in
     next-part r
-    (λ p ps x h e. c.behind.ensures p ps x (is_simple c.before.before.if1.false c.before.if2.false h e) e)
+    (λ p ps x h e. c.behind.ensures p ps x (is_simple c.if-code-eq-CASES.false c.if-code-eq-ARGUMENTS.false h e) e)
 
 pub third_part_spec : {M : Type 1} → statement M
 third_part_spec =

@@ -11,7 +11,7 @@ of-requires : tie.Need-of-requires
 of-requires c κs = search rules
 
 returns : tie.Need-returns
-returns c = c.of.ensures ∙ c.before.read8.ensures
+returns c = c.of.ensures ∙ c.read8.ensures
 
 pub value_at_spec : {M : Type 1} → statement M
 value_at_spec = tie.close (tie.spec read8-requires of-requires returns)

@@ -3,6 +3,7 @@
 -- still open, then the length of the node's block, then the member's rank, since a node is handed on unchanged only from
 -- eval_operand to eval_node, to eval_kind and to the member of its kind.
 use mathlib.Core.Path.{refl, sym, ◌∙◌, ap}
+use mathlib.Core.Bool.{not}
 use lib.ListN.{length-set}
 use Rattle.errors.specs.Refusal.{done}
 use Rattle.blocks.specs.Bytes.{le4}
@@ -299,508 +300,432 @@ eval-switch-with t = (
   low_reads.Learnt,
 )
 
-eval-align-first-part-requires : (t : ℕ) → eval-align-lts.Need-first-part-requires (eval-align-with t) (eval-align-at t) eval-align.Post
+eval-align-first-part-requires : (t : ℕ) → eval-align-lts.Need-first_part-p-requires (eval-align-with t) (eval-align-at t) eval-align.Post
 eval-align-first-part-requires t c κs =
-    let at-start = c.before.before.before in
-    at-start.requires.1.0.node
+    c.requires.1.0.node
 
-eval-align-second-part-requires : (t : ℕ) → eval-align-lts.Need-second-part-requires (eval-align-with t) (eval-align-at t) eval-align.Post
-eval-align-second-part-requires t c κs =
-    let at-start = c.before.before.before.before in (
-      at-start.requires.1.0.node,
-      enough _ _
-          (omega (arith, at-start.requires.1.1))
-          (omega (arith, at-start.requires.1.1))
-          (omega arith),
-    )
+eval-align-second-part-requires : (t : ℕ) → eval-align-lts.Need-second_part-q-requires (eval-align-with t) (eval-align-at t) eval-align.Post
+eval-align-second-part-requires t c κs = (
+  c.requires.1.0.node,
+  enough _ _
+      (omega (arith, c.requires.1.1))
+      (omega (arith, c.requires.1.1))
+      (omega arith),
+)
 
-eval-align-eval-node-requires : (t : ℕ) → eval-align-lts.Need-eval-node-requires (eval-align-with t) (eval-align-at t) eval-align.Post
-eval-align-eval-node-requires t c κs =
-    let at-second-part = c.before.before in
-    let at-start = at-second-part.before.before.before.before.before in (
-      omega (
-        arith,
-        at-start.requires.0,
-        (align_child
-            at-second-part.second-part.ensures
-            at-start.requires.1.0.node
-            at-start.requires.1.1).2,
-      ),
-      child_ready
-          at-start.requires.1.0
-          (align_child
-          at-second-part.second-part.ensures
-          at-start.requires.1.0.node
-          at-start.requires.1.1).0,
-    )
+eval-align-eval-node-requires : (t : ℕ) → eval-align-lts.Need-eval_node-requires (eval-align-with t) (eval-align-at t) eval-align.Post
+eval-align-eval-node-requires t c κs = (
+  omega (
+    arith,
+    c.requires.0,
+    (align_child
+        c.second_part-q.ensures
+        c.requires.1.0.node
+        c.requires.1.1).2,
+  ),
+  child_ready
+      c.requires.1.0
+      (align_child
+      c.second_part-q.ensures
+      c.requires.1.0.node
+      c.requires.1.1).0,
+)
 
-eval-align-same-length : (t : ℕ) → eval-align-lts.Need-same-length (eval-align-with t) (eval-align-at t) eval-align.Post
+eval-align-same-length : (t : ℕ) → eval-align-lts.Need-shape_of-words-then-not-eval_node (eval-align-with t) (eval-align-at t) eval-align.Post
 eval-align-same-length t c = search rules
 
-eval-align-returns : (t : ℕ) → eval-align-lts.Need-returns (eval-align-with t) (eval-align-at t) eval-align.Post
-eval-align-returns t c =
-    let at-eval-node = c.before.before.before in
-    let at-second-part = at-eval-node.before.before.before in
-    let at-first-part = at-second-part.before in
-    let at-start = at-first-part.before.before.before.before in (
-      at-eval-node.eval_node.ensures.0,
-      λ γ x t rd a. align_stops
-          at-first-part.first_part.ensures
-          at-second-part.second-part.ensures
-          at-start.requires.1.1 _
-          (layout_of t) _ γ a
-          (at-eval-node.eval_node.ensures.1 γ x t rd)
-          c.if1.true,
-    )
+eval-align-returns : (t : ℕ) → eval-align-lts.Need-returns-then-not-eval_node (eval-align-with t) (eval-align-at t) eval-align.Post
+eval-align-returns t c = (
+  c.eval_node.ensures.0,
+  λ γ x t rd a. align_stops
+      c.first_part-p.ensures
+      c.second_part-q.ensures
+      c.requires.1.1 _
+      (layout_of t) _ γ a
+      (c.eval_node.ensures.1 γ x t rd)
+      (ap not c.if-not-eval_node.true),
+)
 
-eval-align-count-in-requires : (t : ℕ) → eval-align-lts.Need-count-in-requires (eval-align-with t) (eval-align-at t) eval-align.Post
+eval-align-count-in-requires : (t : ℕ) → eval-align-lts.Need-count_in-x-requires (eval-align-with t) (eval-align-at t) eval-align.Post
 eval-align-count-in-requires t c κs = search rules
 
 eval-align-read8-requires : (t : ℕ) → eval-align-lts.Need-read8-requires (eval-align-with t) (eval-align-at t) eval-align.Post
 eval-align-read8-requires t c κs =
-    let at-eval-node = c.before.before.before.before.before in
-    let at-first-part = at-eval-node.before.before.before.before in
-    let at-start = at-first-part.before.before.before.before in
     (align_number
-    at-first-part.first_part.ensures
-    at-start.requires.1.0.node
-    at-start.requires.1.1).0
+    c.first_part-p.ensures
+    c.requires.1.0.node
+    c.requires.1.1).0
 
-eval-align-align-up-requires : (t : ℕ) → eval-align-lts.Need-align-up-requires (eval-align-with t) (eval-align-at t) eval-align.Post
+eval-align-align-up-requires : (t : ℕ) → eval-align-lts.Need-align_up-requires (eval-align-with t) (eval-align-at t) eval-align.Post
 eval-align-align-up-requires t c κs = search rules
 
 eval-align-lifted-requires : (t : ℕ) → eval-align-lts.Need-lifted-requires (eval-align-with t) (eval-align-at t) eval-align.Post
 eval-align-lifted-requires t c κs = search rules
 
-eval-align-same-length-2 : (t : ℕ) → eval-align-lts.Need-same-length-2 (eval-align-with t) (eval-align-at t) eval-align.Post
+eval-align-same-length-2 : (t : ℕ) → eval-align-lts.Need-shape_of-words (eval-align-with t) (eval-align-at t) eval-align.Post
 eval-align-same-length-2 t c = search rules
 
-eval-align-returns-2 : (t : ℕ) → eval-align-lts.Need-returns-2 (eval-align-with t) (eval-align-at t) eval-align.Post
-eval-align-returns-2 t c =
-    let at-align-up = c.before.before in
-    let at-read8 = at-align-up.before in
-    let at-count-in = at-read8.before in
-    let at-else1 = at-count-in.before.before in
-    let at-eval-node = at-else1.before.before.before in
-    let at-second-part = at-eval-node.before.before.before in
-    let at-first-part = at-second-part.before in
-    let at-start = at-first-part.before.before.before.before in (
-      at-eval-node.eval_node.ensures.0,
-      λ γ x t rd a. align_goes
-          at-first-part.first_part.ensures
-          at-second-part.second-part.ensures
-          at-start.requires.1.1 _
-          (layout_of t) _ γ a
-          (at-eval-node.eval_node.ensures.1 γ x t rd)
-          at-else1.if1.false
-          at-count-in.count_in.ensures
-          at-read8.read8.ensures
-          at-align-up.align_up.ensures
-          c.lifted.ensures,
-    )
+eval-align-returns-2 : (t : ℕ) → eval-align-lts.Need-returns (eval-align-with t) (eval-align-at t) eval-align.Post
+eval-align-returns-2 t c = (
+  c.eval_node.ensures.0,
+  λ γ x t rd a. align_goes
+      c.first_part-p.ensures
+      c.second_part-q.ensures
+      c.requires.1.1 _
+      (layout_of t) _ γ a
+      (c.eval_node.ensures.1 γ x t rd)
+      (ap not c.if-not-eval_node.false)
+      c.count_in-x.ensures
+      c.read8.ensures
+      c.align_up.ensures
+      c.lifted.ensures,
+)
 
-eval-binary-add-read2 : (t : ℕ) → eval-binary-lts.Need-overflow-add-read2 (eval-binary-with t) (eval-binary-at t) eval-binary.Post
+eval-binary-add-read2 : (t : ℕ) → eval-binary-lts.Need-overflow_add-at (eval-binary-with t) (eval-binary-at t) eval-binary.Post
 eval-binary-add-read2 t c =
-    let at-start = c.before.before.before in
-    omega (arith, within at-start.requires.1.0.node)
+    omega (arith, within c.requires.1.0.node)
 
-eval-binary-read2-requires : (t : ℕ) → eval-binary-lts.Need-read2-requires (eval-binary-with t) (eval-binary-at t) eval-binary.Post
+eval-binary-read2-requires : (t : ℕ) → eval-binary-lts.Need-read2-kind-requires (eval-binary-with t) (eval-binary-at t) eval-binary.Post
 eval-binary-read2-requires t c κs =
-    let at-start = c.before.before.before in
-    omega (arith, within at-start.requires.1.0.node)
+    omega (arith, within c.requires.1.0.node)
 
-eval-binary-first-part-requires : (t : ℕ) → eval-binary-lts.Need-first-part-requires (eval-binary-with t) (eval-binary-at t) eval-binary.Post
+eval-binary-first-part-requires : (t : ℕ) → eval-binary-lts.Need-first_part-p-requires (eval-binary-with t) (eval-binary-at t) eval-binary.Post
 eval-binary-first-part-requires t c κs =
-    let at-start = c.before.before.before.before in
-    at-start.requires.1.0.node
+    c.requires.1.0.node
 
-eval-binary-second-part-requires : (t : ℕ) → eval-binary-lts.Need-second-part-requires (eval-binary-with t) (eval-binary-at t) eval-binary.Post
-eval-binary-second-part-requires t c κs =
-    let at-start = c.before.before.before.before.before in (
-      at-start.requires.1.0.node,
-      enough _ _
-          (omega (arith, at-start.requires.1.1.0))
-          (omega (arith, at-start.requires.1.1.1))
-          (omega arith),
-    )
+eval-binary-second-part-requires : (t : ℕ) → eval-binary-lts.Need-second_part-q-requires (eval-binary-with t) (eval-binary-at t) eval-binary.Post
+eval-binary-second-part-requires t c κs = (
+  c.requires.1.0.node,
+  enough _ _
+      (omega (arith, c.requires.1.1.0))
+      (omega (arith, c.requires.1.1.1))
+      (omega arith),
+)
 
-eval-binary-eval-operand-requires : (t : ℕ) → eval-binary-lts.Need-eval-operand-requires (eval-binary-with t) (eval-binary-at t) eval-binary.Post
-eval-binary-eval-operand-requires t c κs =
-    let at-first-part = c.before.before.before in
-    let at-start = at-first-part.before.before.before.before.before in (
-      omega (
-        arith,
-        at-start.requires.0,
-        (left_child
-            at-start.requires.1.0.node
-            at-start.requires.1.1.0
-            at-start.requires.1.1.1
-            at-first-part.first_part.ensures).2,
-      ),
-      child_ready
-          at-start.requires.1.0
-          (left_child
-          at-start.requires.1.0.node
-          at-start.requires.1.1.0
-          at-start.requires.1.1.1
-          at-first-part.first_part.ensures).0,
-    )
+eval-binary-eval-operand-requires : (t : ℕ) → eval-binary-lts.Need-eval_operand-requires (eval-binary-with t) (eval-binary-at t) eval-binary.Post
+eval-binary-eval-operand-requires t c κs = (
+  omega (
+    arith,
+    c.requires.0,
+    (left_child
+        c.requires.1.0.node
+        c.requires.1.1.0
+        c.requires.1.1.1
+        c.first_part-p.ensures).2,
+  ),
+  child_ready
+      c.requires.1.0
+      (left_child
+      c.requires.1.0.node
+      c.requires.1.1.0
+      c.requires.1.1.1
+      c.first_part-p.ensures).0,
+)
 
-eval-binary-same-length : (t : ℕ) → eval-binary-lts.Need-same-length (eval-binary-with t) (eval-binary-at t) eval-binary.Post
+eval-binary-same-length : (t : ℕ) → eval-binary-lts.Need-shape_of-words-then-not-eval_operand (eval-binary-with t) (eval-binary-at t) eval-binary.Post
 eval-binary-same-length t c = search rules
 
-eval-binary-returns : (t : ℕ) → eval-binary-lts.Need-returns (eval-binary-with t) (eval-binary-at t) eval-binary.Post
-eval-binary-returns t c =
-    let at-eval-operand = c.before.before.before in
-    let at-second-part = at-eval-operand.before.before.before in
-    let at-first-part = at-second-part.before in
-    let at-start = at-first-part.before.before.before.before.before in (
-      at-eval-operand.eval-operand.ensures.0,
-      λ γ x t rd a. left_stops a
-          at-start.requires.1.1.0
-          at-start.requires.1.1.1
-          at-first-part.first_part.ensures
-          at-second-part.second-part.ensures _
-          (layout_of t) _ γ
-          (at-eval-operand.eval-operand.ensures.1 γ x t rd)
-          c.if1.true,
-    )
+eval-binary-returns : (t : ℕ) → eval-binary-lts.Need-returns-then-not-eval_operand (eval-binary-with t) (eval-binary-at t) eval-binary.Post
+eval-binary-returns t c = (
+  c.eval_operand.ensures.0,
+  λ γ x t rd a. left_stops a
+      c.requires.1.1.0
+      c.requires.1.1.1
+      c.first_part-p.ensures
+      c.second_part-q.ensures _
+      (layout_of t) _ γ
+      (c.eval_operand.ensures.1 γ x t rd)
+      (ap not c.if-not-eval_operand.true),
+)
 
-eval-binary-count-in-requires : (t : ℕ) → eval-binary-lts.Need-count-in-requires (eval-binary-with t) (eval-binary-at t) eval-binary.Post
+eval-binary-count-in-requires : (t : ℕ) → eval-binary-lts.Need-count_in-x-requires (eval-binary-with t) (eval-binary-at t) eval-binary.Post
 eval-binary-count-in-requires t c κs = search rules
 
-eval-binary-eval-node-requires : (t : ℕ) → eval-binary-lts.Need-eval-node-requires (eval-binary-with t) (eval-binary-at t) eval-binary.Post
-eval-binary-eval-node-requires t c κs =
-    let at-eval-operand = c.before.before.before.before.before.before.before in
-    let at-second-part = at-eval-operand.before.before.before in
-    let at-start = at-second-part.before.before.before.before.before.before in (
-      omega (
-        arith,
-        at-start.requires.0,
-        (right_child
-            at-start.requires.1.0.node
-            at-start.requires.1.1.0
-            at-start.requires.1.1.1
-            at-second-part.second-part.ensures).2,
-      ),
-      still_ready
-          at-start.requires.1.0
-          (right_child
-          at-start.requires.1.0.node
-          at-start.requires.1.1.0
-          at-start.requires.1.1.1
-          at-second-part.second-part.ensures).0
-          (omega arith)
-          at-eval-operand.eval-operand.ensures.0,
-    )
+eval-binary-eval-node-requires : (t : ℕ) → eval-binary-lts.Need-eval_node-requires (eval-binary-with t) (eval-binary-at t) eval-binary.Post
+eval-binary-eval-node-requires t c κs = (
+  omega (
+    arith,
+    c.requires.0,
+    (right_child
+        c.requires.1.0.node
+        c.requires.1.1.0
+        c.requires.1.1.1
+        c.second_part-q.ensures).2,
+  ),
+  still_ready
+      c.requires.1.0
+      (right_child
+      c.requires.1.0.node
+      c.requires.1.1.0
+      c.requires.1.1.1
+      c.second_part-q.ensures).0
+      (omega arith)
+      c.eval_operand.ensures.0,
+)
 
-eval-binary-same-length-2 : (t : ℕ) → eval-binary-lts.Need-same-length-2 (eval-binary-with t) (eval-binary-at t) eval-binary.Post
+eval-binary-same-length-2 : (t : ℕ) → eval-binary-lts.Need-shape_of-words-then-not-eval_node (eval-binary-with t) (eval-binary-at t) eval-binary.Post
 eval-binary-same-length-2 t c = search rules
 
-eval-binary-returns-2 : (t : ℕ) → eval-binary-lts.Need-returns-2 (eval-binary-with t) (eval-binary-at t) eval-binary.Post
-eval-binary-returns-2 t c =
-    let at-eval-node = c.before.before.before in
-    let at-else1 = at-eval-node.before.before.before.before.before in
-    let at-eval-operand = at-else1.before.before.before in
-    let at-second-part = at-eval-operand.before.before.before in
-    let at-first-part = at-second-part.before in
-    let at-start = at-first-part.before.before.before.before.before in (
-      kept_both at-eval-operand.eval-operand.ensures.0 at-eval-node.eval_node.ensures.0,
-      λ γ x t rd a. right_stops a
-          at-start.requires.1.1.0
-          at-start.requires.1.1.1
-          at-first-part.first_part.ensures
-          at-second-part.second-part.ensures _
-          (layout_of t) _ γ
-          (at-eval-operand.eval-operand.ensures.1 γ x t rd)
-          (at-eval-node.eval_node.ensures.1 γ
-          (context_kept _ (omega arith) at-else1.before.before.words.given at-eval-operand.eval-operand.ensures.0 x)
-          t rd)
-          at-else1.if1.false
-          c.if2.true,
-    )
+eval-binary-returns-2 : (t : ℕ) → eval-binary-lts.Need-returns-then-not-eval_node (eval-binary-with t) (eval-binary-at t) eval-binary.Post
+eval-binary-returns-2 t c = (
+  kept_both c.eval_operand.ensures.0 c.eval_node.ensures.0,
+  λ γ x t rd a. right_stops a
+      c.requires.1.1.0
+      c.requires.1.1.1
+      c.first_part-p.ensures
+      c.second_part-q.ensures _
+      (layout_of t) _ γ
+      (c.eval_operand.ensures.1 γ x t rd)
+      (c.eval_node.ensures.1 γ
+      (context_kept _ (omega arith) c.words-1.given c.eval_operand.ensures.0 x)
+      t rd)
+      (ap not c.if-not-eval_operand.false)
+      (ap not c.if-not-eval_node.true),
+)
 
-eval-binary-count-in-requires-2 : (t : ℕ) → eval-binary-lts.Need-count-in-requires-2 (eval-binary-with t) (eval-binary-at t) eval-binary.Post
+eval-binary-count-in-requires-2 : (t : ℕ) → eval-binary-lts.Need-count_in-y-requires (eval-binary-with t) (eval-binary-at t) eval-binary.Post
 eval-binary-count-in-requires-2 t c κs = search rules
 
 eval-binary-operate-requires : (t : ℕ) → eval-binary-lts.Need-operate-requires (eval-binary-with t) (eval-binary-at t) eval-binary.Post
-eval-binary-operate-requires t c κs =
-    let at-eval-node = c.before.before.before.before.before in
-    let at-eval-operand = at-eval-node.before.before.before.before.before.before.before.before in
-    let at-read2 = at-eval-operand.before.before.before.before.before in
-    let at-start = at-read2.before.before.before.before in (
-      omega (arith, at-read2.read2.ensures.0, at-start.requires.1.1.0),
-      omega (arith, at-read2.read2.ensures.0, at-start.requires.1.1.1),
-    )
+eval-binary-operate-requires t c κs = (
+  omega (arith, c.read2-kind.ensures.0, c.requires.1.1.0),
+  omega (arith, c.read2-kind.ensures.0, c.requires.1.1.1),
+)
 
 eval-binary-lifted-requires : (t : ℕ) → eval-binary-lts.Need-lifted-requires (eval-binary-with t) (eval-binary-at t) eval-binary.Post
 eval-binary-lifted-requires t c κs = search rules
 
-eval-binary-same-length-3 : (t : ℕ) → eval-binary-lts.Need-same-length-3 (eval-binary-with t) (eval-binary-at t) eval-binary.Post
+eval-binary-same-length-3 : (t : ℕ) → eval-binary-lts.Need-shape_of-words (eval-binary-with t) (eval-binary-at t) eval-binary.Post
 eval-binary-same-length-3 t c = search rules
 
-eval-binary-returns-3 : (t : ℕ) → eval-binary-lts.Need-returns-3 (eval-binary-with t) (eval-binary-at t) eval-binary.Post
-eval-binary-returns-3 t c =
-    let at-operate = c.before.before in
-    let at-count-in2 = at-operate.before in
-    let at-else2 = at-count-in2.before.before in
-    let at-eval-node = at-else2.before.before.before in
-    let at-count-in = at-eval-node.before.before.before in
-    let at-else1 = at-count-in.before.before in
-    let at-eval-operand = at-else1.before.before.before in
-    let at-second-part = at-eval-operand.before.before.before in
-    let at-first-part = at-second-part.before in
-    let at-read2 = at-first-part.before in
-    let at-start = at-read2.before.before.before.before in (
-      kept_both at-eval-operand.eval-operand.ensures.0 at-eval-node.eval_node.ensures.0,
-      λ γ x t rd a. both_go a
-          at-start.requires.1.1.0
-          at-start.requires.1.1.1
-          at-first-part.first_part.ensures
-          at-second-part.second-part.ensures _
-          (layout_of t) _ γ
-          (at-eval-operand.eval-operand.ensures.1 γ x t rd)
-          (at-eval-node.eval_node.ensures.1 γ
-          (context_kept _ (omega arith) at-else1.before.before.words.given at-eval-operand.eval-operand.ensures.0 x)
-          t rd)
-          at-else1.if1.false
-          at-else2.if2.false
-          at-read2.read2.ensures.0
-          at-count-in.count_in.ensures
-          at-count-in2.count-in2.ensures
-          at-operate.operate.ensures
-          c.lifted.ensures,
-    )
+eval-binary-returns-3 : (t : ℕ) → eval-binary-lts.Need-returns (eval-binary-with t) (eval-binary-at t) eval-binary.Post
+eval-binary-returns-3 t c = (
+  kept_both c.eval_operand.ensures.0 c.eval_node.ensures.0,
+  λ γ x t rd a. both_go a
+      c.requires.1.1.0
+      c.requires.1.1.1
+      c.first_part-p.ensures
+      c.second_part-q.ensures _
+      (layout_of t) _ γ
+      (c.eval_operand.ensures.1 γ x t rd)
+      (c.eval_node.ensures.1 γ
+      (context_kept _ (omega arith) c.words-1.given c.eval_operand.ensures.0 x)
+      t rd)
+      (ap not c.if-not-eval_operand.false)
+      (ap not c.if-not-eval_node.false)
+      c.read2-kind.ensures.0
+      c.count_in-x.ensures
+      c.count_in-y.ensures
+      c.operate.ensures
+      c.lifted.ensures,
+)
 
-eval-call-collect-arguments-requires : (t : ℕ) → eval-call-lts.Need-collect-arguments-requires (eval-call-with t) (eval-call-at t) eval_call.Post
+eval-call-collect-arguments-requires : (t : ℕ) → eval-call-lts.Need-collect_arguments-requires (eval-call-with t) (eval-call-at t) eval_call.Post
 eval-call-collect-arguments-requires t c κs =
-    let at-start = c.before.before.before.before in
-    (at-start.requires.1.0.node, at-start.requires.1.1, at-start.requires.1.0.context, at-start.requires.1.0.calls)
+    (c.requires.1.0.node, c.requires.1.1, c.requires.1.0.context, c.requires.1.0.calls)
 
 -- eval_call, where its arguments were collected: the places before it, and what is ready over the words of then.
 abbrev Collected : ℕ → Type 0
-Collected t = eval-call-lts.After-slice-known2 (eval-call-with t) (eval-call-at t) eval_call.Post
+Collected t = eval-call-lts.After-slice_known-2-1 (eval-call-with t) (eval-call-at t) eval_call.Post
 
-abbrev collects : (t : ℕ) → Collected t → eval-call-lts.After-collect-arguments (eval-call-with t) (eval-call-at t) eval_call.Post
+abbrev collects : (t : ℕ) → Collected t → eval-call-lts.After-collect_arguments (eval-call-with t) (eval-call-at t) eval_call.Post
 collects t r = r.before.before
 
 abbrev at_call : (t : ℕ) → Collected t → eval-call-lts.Start (eval-call-with t) (eval-call-at t) eval_call.Post
-at_call t r = (collects t r).before.before.before.before.before
+at_call t r = r.before.before.before.before.before.before.before
 
 call_kept : (t : ℕ) (r : Collected t) →
-    Kept (at_call t r).args.values.now (at_call t r).args.root.block (at_call t r).args.f.depth (at_call t r).args.words.now (collects t r).collect_arguments.last.1.1.0
-call_kept t r = kept_now (at_call t r).pre.1.0 r.before.words.given (collects t r).collect_arguments.ensures.1
+    Kept r.args.values.now r.args.root.block r.args.f.depth r.args.words.now r.collect_arguments.new.words
+call_kept t r = kept_now r.requires.1.0 r.words-1.given r.collect_arguments.ensures.1
 
 call-node : (t : ℕ) (r : Collected t) →
-    Ready (at_call t r).args.s.now (at_call t r).args.values.now (collects t r).collect_arguments.last.1.1.0 (at_call t r).args.root (at_call t r).args.f (at_call t r).args.at
-call-node t r = still_ready (at_call t r).pre.1.0 (at_call t r).pre.1.0.node r.before.words.given (call_kept t r)
+    Ready r.args.s.now r.args.values.now r.collect_arguments.new.words r.args.root r.args.f r.args.at
+call-node t r = still_ready r.requires.1.0 r.requires.1.0.node r.words-1.given (call_kept t r)
 
-eval-call-enum-known-q : (t : ℕ) → eval-call-lts.Need-enum-known-q (eval-call-with t) (eval-call-at t) eval_call.Post
+eval-call-enum-known-q : (t : ℕ) → eval-call-lts.Need-enum_known-q (eval-call-with t) (eval-call-at t) eval_call.Post
 eval-call-enum-known-q t c = search rules
 
 eval-call-refused-requires : (t : ℕ) → eval-call-lts.Need-refused-requires (eval-call-with t) (eval-call-at t) eval_call.Post
 eval-call-refused-requires t c κs = search rules
 
-eval-call-enum-told : (t : ℕ) → eval-call-lts.Need-enum-told (eval-call-with t) (eval-call-at t) eval_call.Post
+eval-call-enum-told : (t : ℕ) → eval-call-lts.Need-enum_told-1 (eval-call-with t) (eval-call-at t) eval_call.Post
 eval-call-enum-told t c = search rules
 
 eval-call-called-requires : (t : ℕ) → eval-call-lts.Need-called-requires (eval-call-with t) (eval-call-at t) eval_call.Post
 eval-call-called-requires t c κs =
-    let r = c.before.before.before in
+    let r = c.before in
     let ready = call-node t r in
-    (ready.node, (at_call t r).requires.1.1, ready.layout, ready.here)
+    (ready.node, c.requires.1.1, ready.layout, ready.here)
 
-eval-call-enum-told-2 : (t : ℕ) → eval-call-lts.Need-enum-told-2 (eval-call-with t) (eval-call-at t) eval_call.Post
+eval-call-enum-told-2 : (t : ℕ) → eval-call-lts.Need-enum_told-in-Missing (eval-call-with t) (eval-call-at t) eval_call.Post
 eval-call-enum-told-2 t c = search rules
 
-eval-call-refused-requires-2 : (t : ℕ) → eval-call-lts.Need-refused-requires-2 (eval-call-with t) (eval-call-at t) eval_call.Post
+eval-call-refused-requires-2 : (t : ℕ) → eval-call-lts.Need-refused-requires-in-Missing (eval-call-with t) (eval-call-at t) eval_call.Post
 eval-call-refused-requires-2 t c κs = search rules
 
-eval-call-enum-known-i : (t : ℕ) → eval-call-lts.Need-enum-known-i (eval-call-with t) (eval-call-at t) eval_call.Post
+eval-call-enum-known-i : (t : ℕ) → eval-call-lts.Need-enum_known-i (eval-call-with t) (eval-call-at t) eval_call.Post
 eval-call-enum-known-i t c = search rules
 
-eval-call-refused-requires-3 : (t : ℕ) → eval-call-lts.Need-refused-requires-3 (eval-call-with t) (eval-call-at t) eval_call.Post
+eval-call-refused-requires-3 : (t : ℕ) → eval-call-lts.Need-refused-requires-then-depth-eq16 (eval-call-with t) (eval-call-at t) eval_call.Post
 eval-call-refused-requires-3 t c κs = search rules
 
-eval-call-same-length : (t : ℕ) → eval-call-lts.Need-same-length (eval-call-with t) (eval-call-at t) eval_call.Post
+eval-call-same-length : (t : ℕ) → eval-call-lts.Need-shape_of-words-then-depth-eq16 (eval-call-with t) (eval-call-at t) eval_call.Post
 eval-call-same-length t c = search rules
 
-eval-call-returns : (t : ℕ) → eval-call-lts.Need-returns (eval-call-with t) (eval-call-at t) eval_call.Post
+eval-call-returns : (t : ℕ) → eval-call-lts.Need-returns-then-depth-eq16 (eval-call-with t) (eval-call-at t) eval_call.Post
 eval-call-returns t c =
-    let at-then1 = c.before.before in
-    let at_i = at-then1.before.before in
-    let at_called = at_i.before.before in
-    let at-enum-told = at_called.before.before in
-    let r = at-enum-told.before.before in (
+    let r = c.before.before.before.before.before.before in (
       call_kept t r,
       λ γ x u rd a. tells_as
-          c.refused3.ensures
+          c.refused-then-depth-eq16.ensures
           (call_stops
-          (at_call t r).requires.1.1 _
+          c.requires.1.1 _
           (layout_of u) _ γ a
           (bound_all
-          at-enum-told.enum_told.given.1
-          ((collects t r).collect_arguments.ensures.0 _ γ x a)).1
-          (found_at_lem at_i.i.given.1 (at_called.called.ensures u rd a)).1
-          (omega (arith, at-then1.if1.true))),
+          c.in-All.is
+          (c.collect_arguments.ensures.0 _ γ x a)).1
+          (found_at_lem c.in-At.is (c.called.ensures u rd a)).1
+          (omega (arith, c.if-depth-eq16.true))),
     )
 
-eval-call-root-requires : (t : ℕ) → eval-call-lts.Need-root-requires (eval-call-with t) (eval-call-at t) eval_call.Post
+eval-call-root-requires : (t : ℕ) → eval-call-lts.Need-root-top-requires (eval-call-with t) (eval-call-at t) eval_call.Post
 eval-call-root-requires t c κs =
-    let at_i = c.before.before in
-    let at_called = at_i.before.before in
-    let ready = call-node t at_called.before.before.before.before in
-    (found_at_lem at_i.i.given.1 (at_called.called.ensures ready.layout.0 ready.layout.1 ready.node)).0
+    let ready = call-node t c.before.before.before.before in
+    (found_at_lem c.in-At.is (c.called.ensures ready.layout.0 ready.layout.1 ready.node)).0
 
 -- eval_call, where the root of the called type was found: the places before it.
 abbrev AtRoot : ℕ → Type 0
-AtRoot t = eval-call-lts.After-root (eval-call-with t) (eval-call-at t) eval_call.Post
+AtRoot t = eval-call-lts.After-root-top (eval-call-with t) (eval-call-at t) eval_call.Post
 
-abbrev at-else1 : (t : ℕ) → AtRoot t → eval-call-lts.Else1 (eval-call-with t) (eval-call-at t) eval_call.Post
-at-else1 t r = r.before
-
-abbrev at_i : (t : ℕ) → AtRoot t → eval-call-lts.After-i (eval-call-with t) (eval-call-at t) eval_call.Post
-at_i t r = (at-else1 t r).before.before
-
-abbrev at_called : (t : ℕ) → AtRoot t → eval-call-lts.After-called (eval-call-with t) (eval-call-at t) eval_call.Post
-at_called t r = (at_i t r).before.before
-
-abbrev at-enum-told : (t : ℕ) → AtRoot t → eval-call-lts.After-enum-told (eval-call-with t) (eval-call-at t) eval_call.Post
-at-enum-told t r = (at_called t r).before.before
+abbrev at-enum-told : (t : ℕ) → AtRoot t → eval-call-lts.In-All (eval-call-with t) (eval-call-at t) eval_call.Post
+at-enum-told t r = r.before.before.before.before
 
 abbrev collected : (t : ℕ) → AtRoot t → Collected t
-collected t r = (at-enum-told t r).before.before
+collected t r = r.before.before.before.before.before
 
 abbrev at-start : (t : ℕ) → AtRoot t → eval-call-lts.Start (eval-call-with t) (eval-call-at t) eval_call.Post
 at-start t r = at_call t (collected t r)
 
 -- the words of then
 abbrev words-then : (t : ℕ) → AtRoot t → List ℕ
-words-then t r = (collects t (collected t r)).collect_arguments.last.1.1.0
+words-then t r = (collects t (collected t r)).collect_arguments.new.words
 
 -- the call may open
 opening : (t : ℕ) (r : AtRoot t) →
-    Opening (at-start t r).args.s.now (words-then t r) (at-start t r).args.f (at-start t r).args.at (at_i t r).i.given.0.1.0
-opening t r = call_opens (call-node t (collected t r)) (at_i t r).i.given.1 (at_called t r).called.ensures (at-else1 t r).if1.left
+    Opening r.args.s.now (words-then t r) r.args.f r.args.at r.in-At.callee
+opening t r = call_opens (call-node t (collected t r)) r.in-At.is r.called.ensures r.if-depth-eq16.false
 
 -- the arguments, over the words of then
 arguments : (t : ℕ) (r : AtRoot t) (p : ℕ) (γ : ParamMap) →
-    Context (at-start t r).args.s.now (at-start t r).args.values.now (at-start t r).args.root.block (at-start t r).args.root.len (words-then t r) (at-start t r).args.f.depth γ →
-    (a : Accepted (at-start t r).args.s.now 128 144 (at-start t r).args.at) → Bound p γ (arguments_of (tree a)) (collects t (collected t r)).collect_arguments.result
+    Context r.args.s.now r.args.values.now r.args.root.block r.args.root.len (words-then t r) r.args.f.depth γ →
+    (a : Accepted r.args.s.now 128 144 r.args.at) → Bound p γ (arguments_of (tree a)) (collects t (collected t r)).collect_arguments.result
 arguments t r =
-    bound_now (at-start t r).pre.1.0 (collected t r).before.words.given (collects t (collected t r)).collect_arguments.ensures.1 (collects t (collected t r)).collect_arguments.ensures.0
+    bound_now r.requires.1.0 r.words-1.given (collects t (collected t r)).collect_arguments.ensures.1 (collects t (collected t r)).collect_arguments.ensures.0
 
-eval-call-mul-words : (t : ℕ) → eval-call-lts.Need-overflow-mul-words (eval-call-with t) (eval-call-at t) eval_call.Post
+eval-call-mul-words : (t : ℕ) → eval-call-lts.Need-overflow_mul-words (eval-call-with t) (eval-call-at t) eval_call.Post
 eval-call-mul-words t c = let o = opening t c in omega arith
 
-eval-call-add-words : (t : ℕ) → eval-call-lts.Need-overflow-add-words (eval-call-with t) (eval-call-at t) eval_call.Post
+eval-call-add-words : (t : ℕ) → eval-call-lts.Need-overflow_add-words (eval-call-with t) (eval-call-at t) eval_call.Post
 eval-call-add-words t c = let o = opening t c in omega arith
 
-eval-call-mul-words-2 : (t : ℕ) → eval-call-lts.Need-overflow-mul-words-2 (eval-call-with t) (eval-call-at t) eval_call.Post
+eval-call-mul-words-2 : (t : ℕ) → eval-call-lts.Need-offset_bounds-words-depth (eval-call-with t) (eval-call-at t) eval_call.Post
 eval-call-mul-words-2 t c = let o = opening t c in omega arith
 
-eval-call-slice-write-words : (t : ℕ) → eval-call-lts.Need-slice-write-words (eval-call-with t) (eval-call-at t) eval_call.Post
+eval-call-slice-write-words : (t : ℕ) → eval-call-lts.Need-bounds-words-depth (eval-call-with t) (eval-call-at t) eval_call.Post
 eval-call-slice-write-words t c = let o = opening t c in omega arith
 
-eval-call-add-t30 : (t : ℕ) → eval-call-lts.Need-overflow-add-t30 (eval-call-with t) (eval-call-at t) eval_call.Post
+eval-call-add-t30 : (t : ℕ) → eval-call-lts.Need-overflow_add-inner (eval-call-with t) (eval-call-at t) eval_call.Post
 eval-call-add-t30 t c = let o = opening t c in omega arith
 
-eval-call-eval-node-requires : (t : ℕ) → eval-call-lts.Need-eval-node-requires (eval-call-with t) (eval-call-at t) eval_call.Post
+eval-call-eval-node-requires : (t : ℕ) → eval-call-lts.Need-eval_node-requires (eval-call-with t) (eval-call-at t) eval_call.Post
 eval-call-eval-node-requires t c κs =
     let r = c.before.before in
     let o = opening t r in
     let ready = call-node t (collected t r) in
-    let type = (found_at_lem (at_i t r).i.given.1 ((at_called t r).called.ensures ready.layout.0 ready.layout.1 ready.node)).0 in (
-      omega (arith, (at-start t r).requires.0, ready.small, (ends (r.root.ensures type).root).1),
+    let type = (found_at_lem c.in-At.is (c.called.ensures ready.layout.0 ready.layout.1 ready.node)).0 in (
+      omega (arith, c.requires.0, ready.small, (ends (c.root-top.ensures type).root).1),
       call_ready _ _
           o.word
           (omega arith) refl
-          (at-start t r).requires.1.1
-          (at-enum-told t r).enum_told.given.1
-          (at_i t r).i.given.1
+          c.requires.1.1
+          c.in-All.is
+          c.in-At.is
           (arguments t r)
-          (at_called t r).called.ensures
-          r.root.ensures
+          c.called.ensures
+          c.root-top.ensures
           o.more ready,
     )
 
-eval-call-same-length-2 : (t : ℕ) → eval-call-lts.Need-same-length-2 (eval-call-with t) (eval-call-at t) eval_call.Post
+eval-call-same-length-2 : (t : ℕ) → eval-call-lts.Need-shape_of-words-in-Lacking (eval-call-with t) (eval-call-at t) eval_call.Post
 eval-call-same-length-2 t c = search rules
 
-eval-call-returns-2 : (t : ℕ) → eval-call-lts.Need-returns-2 (eval-call-with t) (eval-call-at t) eval_call.Post
+eval-call-returns-2 : (t : ℕ) → eval-call-lts.Need-returns-in-Lacking (eval-call-with t) (eval-call-at t) eval_call.Post
 eval-call-returns-2 t c =
-    let at-q = c.before.before.before in
-    let r = at-q.before.before in (
+    let r = c.before.before.before in (
       call_kept t r,
       λ γ x u rd a. tells_as
           c.refused.ensures
           (call_lacks
-          (at_call t r).requires.1.1 _
+          c.requires.1.1 _
           (layout_of u) _ γ a
-          at-q.q.given.1
-          ((collects t r).collect_arguments.ensures.0 _ γ x a)),
+          c.in-Lacking.is
+          (c.collect_arguments.ensures.0 _ γ x a)),
     )
 
-eval-call-same-length-3 : (t : ℕ) → eval-call-lts.Need-same-length-3 (eval-call-with t) (eval-call-at t) eval_call.Post
+eval-call-same-length-3 : (t : ℕ) → eval-call-lts.Need-shape_of-words-in-Missing (eval-call-with t) (eval-call-at t) eval_call.Post
 eval-call-same-length-3 t c = search rules
 
-eval-call-returns-3 : (t : ℕ) → eval-call-lts.Need-returns-3 (eval-call-with t) (eval-call-at t) eval_call.Post
+eval-call-returns-3 : (t : ℕ) → eval-call-lts.Need-returns-in-Missing (eval-call-with t) (eval-call-at t) eval_call.Post
 eval-call-returns-3 t c =
-    let at-enum-told2 = c.before.before in
-    let at_called = at-enum-told2.before.before in
-    let at-enum-told = at_called.before.before in
-    let r = at-enum-told.before.before in (
+    let r = c.before.before.before.before.before in (
       call_kept t r,
       λ γ x u rd a. tells_as
-          c.refused2.ensures
+          c.refused-in-Missing.ensures
           (call_unknown
-          (at_call t r).requires.1.1 _
+          c.requires.1.1 _
           (layout_of u) _ γ a
           (bound_all
-          at-enum-told.enum_told.given.1
-          ((collects t r).collect_arguments.ensures.0 _ γ x a)).1
-          at-enum-told2.enum-told2.given.1
-          (at_called.called.ensures u rd a)),
+          c.in-All.is
+          (c.collect_arguments.ensures.0 _ γ x a)).1
+          c.in-Missing.is
+          (c.called.ensures u rd a)),
     )
 
-eval-call-same-length-4 : (t : ℕ) → eval-call-lts.Need-same-length-4 (eval-call-with t) (eval-call-at t) eval_call.Post
+eval-call-same-length-4 : (t : ℕ) → eval-call-lts.Need-shape_of-words-else-depth-eq16 (eval-call-with t) (eval-call-at t) eval_call.Post
 eval-call-same-length-4 t c =
     let r = c.before.before.before.before.before in
-    c.before.words2.given ∙ length-set (words-then t r) (at-start t r).args.f.depth _ ∙ (collected t r).before.words.given
+    c.words-in-At-1.given ∙ length-set (words-then t r) c.args.f.depth _ ∙ c.words-1.given
 
-eval-call-returns-4 : (t : ℕ) → eval-call-lts.Need-returns-4 (eval-call-with t) (eval-call-at t) eval_call.Post
+eval-call-returns-4 : (t : ℕ) → eval-call-lts.Need-returns-else-depth-eq16 (eval-call-with t) (eval-call-at t) eval_call.Post
 eval-call-returns-4 t c =
-    let at-eval-node = c.before.before in
-    let r = at-eval-node.before.before.before in
+    let r = c.before.before.before.before.before in
     let o = opening t r in (
       kept_both
           (call_kept t (collected t r))
           (kept_both
           (kept_set _ _ o.more (remembers (call-node t (collected t r))))
-          (kept_fewer (omega arith) at-eval-node.eval_node.ensures.0)),
-      evaluates_now (at-start t r).requires.1.0 (collected t r).before.words.given (collects t (collected t r)).collect_arguments.ensures.1
+          (kept_fewer (omega arith) c.eval_node.ensures.0)),
+      evaluates_now c.requires.1.0 c.words-1.given (collects t (collected t r)).collect_arguments.ensures.1
           (call_answers _ _
           o.word
           (omega arith) refl
-          (at-start t r).requires.1.1
-          (at-enum-told t r).enum_told.given.1
-          (at_i t r).i.given.1
+          c.requires.1.1
+          c.in-All.is
+          c.in-At.is
           (arguments t r)
-          (at_called t r).called.ensures
-          r.root.ensures
+          c.called.ensures
+          c.root-top.ensures
           o.more
-          at-eval-node.eval_node.ensures.1),
+          c.eval_node.ensures.1),
     )
 
-eval-kind-add-read2 : (t : ℕ) → eval-kind-lts.Need-overflow-add-read2 (eval-kind-with t) (eval-kind-at t) eval-kind.Post
+eval-kind-add-read2 : (t : ℕ) → eval-kind-lts.Need-overflow_add-at (eval-kind-with t) (eval-kind-at t) eval-kind.Post
 eval-kind-add-read2 t c =
-    let at-start = c.before.before.before in
-    omega (arith, within at-start.requires.1.node)
+    omega (arith, within c.requires.1.node)
 
-eval-kind-read2-requires : (t : ℕ) → eval-kind-lts.Need-read2-requires (eval-kind-with t) (eval-kind-at t) eval-kind.Post
+eval-kind-read2-requires : (t : ℕ) → eval-kind-lts.Need-read2-kind-requires (eval-kind-with t) (eval-kind-at t) eval-kind.Post
 eval-kind-read2-requires t c κs =
-    let at-start = c.before.before.before in
-    omega (arith, within at-start.requires.1.node)
+    omega (arith, within c.requires.1.node)
 
 eval-kind-of-requires : (t : ℕ) → eval-kind-lts.Need-of-requires (eval-kind-with t) (eval-kind-at t) eval-kind.Post
 eval-kind-of-requires t c κs = search rules
@@ -810,362 +735,298 @@ eval-kind-counted-requires t c κs = search rules
 
 eval-kind-constant-requires : (t : ℕ) → eval-kind-lts.Need-constant-requires (eval-kind-with t) (eval-kind-at t) eval-kind.Post
 eval-kind-constant-requires t c κs =
-    let at-read2 = c.before.before in
-    let at-start = at-read2.before.before.before.before in
-    (at-start.requires.1.node, sym at-read2.read2.ensures.0 ∙ c.before.match.keys2)
+    (c.requires.1.node, sym c.read2-kind.ensures.0 ∙ c.in-129.is)
 
 eval-kind-field-requires : (t : ℕ) → eval-kind-lts.Need-field-requires (eval-kind-with t) (eval-kind-at t) eval-kind.Post
-eval-kind-field-requires t c κs =
-    let at-match-keys3 = c.before.before in
-    let at-read2 = at-match-keys3.before in
-    let at-start = at-read2.before.before.before.before in (
-      at-start.requires.1.node,
-      sym at-read2.read2.ensures.0 ∙ at-match-keys3.match.keys3,
-      at-start.requires.1.context,
-    )
+eval-kind-field-requires t c κs = (
+  c.requires.1.node,
+  sym c.read2-kind.ensures.0 ∙ c.in-130.is,
+  c.requires.1.context,
+)
 
-eval-kind-eval-align-requires : (t : ℕ) → eval-kind-lts.Need-eval-align-requires (eval-kind-with t) (eval-kind-at t) eval-kind.Post
-eval-kind-eval-align-requires t c κs =
-    let at-match-keys4 = c.before.before in
-    let at-read2 = at-match-keys4.before in
-    let at-start = at-read2.before.before.before.before in (
-      omega (arith, at-start.requires.0),
-      (at-start.requires.1, sym at-read2.read2.ensures.0 ∙ at-match-keys4.match.keys4),
-    )
+eval-kind-eval-align-requires : (t : ℕ) → eval-kind-lts.Need-eval_align-requires (eval-kind-with t) (eval-kind-at t) eval-kind.Post
+eval-kind-eval-align-requires t c κs = (
+  omega (arith, c.requires.0),
+  (c.requires.1, sym c.read2-kind.ensures.0 ∙ c.in-131.is),
+)
 
-eval-kind-eval-switch-requires : (t : ℕ) → eval-kind-lts.Need-eval-switch-requires (eval-kind-with t) (eval-kind-at t) eval-kind.Post
-eval-kind-eval-switch-requires t c κs =
-    let at-match-keys5 = c.before.before in
-    let at-read2 = at-match-keys5.before in
-    let at-start = at-read2.before.before.before.before in (
-      omega (arith, at-start.requires.0),
-      (at-start.requires.1, sym at-read2.read2.ensures.0 ∙ at-match-keys5.match.keys5),
-    )
+eval-kind-eval-switch-requires : (t : ℕ) → eval-kind-lts.Need-eval_switch-requires (eval-kind-with t) (eval-kind-at t) eval-kind.Post
+eval-kind-eval-switch-requires t c κs = (
+  omega (arith, c.requires.0),
+  (c.requires.1, sym c.read2-kind.ensures.0 ∙ c.in-132.is),
+)
 
-eval-kind-eval-call-requires : (t : ℕ) → eval-kind-lts.Need-eval-call-requires (eval-kind-with t) (eval-kind-at t) eval-kind.Post
-eval-kind-eval-call-requires t c κs =
-    let at-match-keys6 = c.before.before in
-    let at-read2 = at-match-keys6.before in
-    let at-start = at-read2.before.before.before.before in (
-      omega (arith, at-start.requires.0),
-      (at-start.requires.1, sym at-read2.read2.ensures.0 ∙ at-match-keys6.match.keys6),
-    )
+eval-kind-eval-call-requires : (t : ℕ) → eval-kind-lts.Need-eval_call-requires (eval-kind-with t) (eval-kind-at t) eval-kind.Post
+eval-kind-eval-call-requires t c κs = (
+  omega (arith, c.requires.0),
+  (c.requires.1, sym c.read2-kind.ensures.0 ∙ c.in-133.is),
+)
 
 eval-kind-refused-requires : (t : ℕ) → eval-kind-lts.Need-refused-requires (eval-kind-with t) (eval-kind-at t) eval-kind.Post
 eval-kind-refused-requires t c κs = search rules
 
-eval-kind-eval-binary-requires : (t : ℕ) → eval-kind-lts.Need-eval-binary-requires (eval-kind-with t) (eval-kind-at t) eval-kind.Post
-eval-kind-eval-binary-requires t c κs =
-    let at-match-rest = c.before.before in
-    let at-read2 = at-match-rest.before in
-    let at-start = at-read2.before.before.before.before in (
-      omega (arith, at-start.requires.0),
-      (
-        at-start.requires.1,
-        (
-          omega (
-            arith,
-            (kinds at-start.requires.1.node).0,
-            at-read2.read2.ensures.0,
-            at-match-rest.match.rest.0.0.0.0.0.0.1,
-            at-match-rest.match.rest.0.0.0.0.0.1,
-            at-match-rest.match.rest.0.0.0.0.1,
-            at-match-rest.match.rest.0.0.0.1,
-            at-match-rest.match.rest.0.0.1,
-            at-match-rest.match.rest.0.1,
-          ),
-          omega (
-            arith,
-            (kinds at-start.requires.1.node).1,
-            at-read2.read2.ensures.0,
-            at-match-rest.match.rest.1,
-          ),
-        ),
+eval-kind-eval-binary-requires : (t : ℕ) → eval-kind-lts.Need-eval_binary-requires (eval-kind-with t) (eval-kind-at t) eval-kind.Post
+eval-kind-eval-binary-requires t c κs = (
+  omega (arith, c.requires.0),
+  (
+    c.requires.1,
+    (
+      omega (
+        arith,
+        (kinds c.requires.1.node).0,
+        c.read2-kind.ensures.0,
+        c.in_default.in_default-own.rest.0.0.0.0.0.0.1,
+        c.in_default.in_default-own.rest.0.0.0.0.0.1,
+        c.in_default.in_default-own.rest.0.0.0.0.1,
+        c.in_default.in_default-own.rest.0.0.0.1,
+        c.in_default.in_default-own.rest.0.0.1,
+        c.in_default.in_default-own.rest.0.1,
       ),
-    )
+      omega (
+        arith,
+        (kinds c.requires.1.node).1,
+        c.read2-kind.ensures.0,
+        c.in_default.in_default-own.rest.1,
+      ),
+    ),
+  ),
+)
 
-eval-kind-returns : (t : ℕ) → eval-kind-lts.Need-returns (eval-kind-with t) (eval-kind-at t) eval-kind.Post
-eval-kind-returns t c =
-    let at_of = c.before.before in
-    let at-match-keys1 = at_of.before in
-    let at-read2 = at-match-keys1.before in
-    let at-start = at-read2.before.before.before.before in (
-      unchanged at-start.requires.1,
-      λ γ x t rd a. leaf_answers _
-          (layout_of t) _ γ a
-          (λ k. tells_as
-          c.counted.ensures
-          (ap done at_of.of.ensures ∙ zero_is at-read2.read2.ensures.0 at-match-keys1.match.keys1 k _ γ a)),
-    )
+eval-kind-returns : (t : ℕ) → eval-kind-lts.Need-returns-in-128 (eval-kind-with t) (eval-kind-at t) eval-kind.Post
+eval-kind-returns t c = (
+  unchanged c.requires.1,
+  λ γ x t rd a. leaf_answers _
+      (layout_of t) _ γ a
+      (λ k. tells_as
+      c.counted.ensures
+      (ap done c.of.ensures ∙ zero_is c.read2-kind.ensures.0 c.in-128.is k _ γ a)),
+)
 
-eval-kind-returns-2 : (t : ℕ) → eval-kind-lts.Need-returns-2 (eval-kind-with t) (eval-kind-at t) eval-kind.Post
-eval-kind-returns-2 t c =
-    let at-read2 = c.before.before.before in
-    let at-start = at-read2.before.before.before.before in (
-      unchanged at-start.requires.1,
-      λ γ x t rd a. leaf_answers _ (layout_of t) _ γ a (λ k. c.constant.ensures k _ γ a),
-    )
+eval-kind-returns-2 : (t : ℕ) → eval-kind-lts.Need-returns-in-129 (eval-kind-with t) (eval-kind-at t) eval-kind.Post
+eval-kind-returns-2 t c = (
+  unchanged c.requires.1,
+  λ γ x t rd a. leaf_answers _ (layout_of t) _ γ a (λ k. c.constant.ensures k _ γ a),
+)
 
-eval-kind-same-length : (t : ℕ) → eval-kind-lts.Need-same-length (eval-kind-with t) (eval-kind-at t) eval-kind.Post
+eval-kind-same-length : (t : ℕ) → eval-kind-lts.Need-shape_of-words-in-130 (eval-kind-with t) (eval-kind-at t) eval-kind.Post
 eval-kind-same-length t c = search rules
 
-eval-kind-returns-3 : (t : ℕ) → eval-kind-lts.Need-returns-3 (eval-kind-with t) (eval-kind-at t) eval-kind.Post
-eval-kind-returns-3 t c =
-    let at_field = c.before.before in
-    let at-start = at_field.before.before.before.before.before.before.before.before in (
-      kept_fewer at-start.requires.1.calls at_field.field.ensures.1,
-      λ γ x t rd a. leaf_answers _ (layout_of t) _ γ a (λ k. at_field.field.ensures.0 k γ x a),
-    )
+eval-kind-returns-3 : (t : ℕ) → eval-kind-lts.Need-returns-in-130 (eval-kind-with t) (eval-kind-at t) eval-kind.Post
+eval-kind-returns-3 t c = (
+  kept_fewer c.requires.1.calls c.field.ensures.1,
+  λ γ x t rd a. leaf_answers _ (layout_of t) _ γ a (λ k. c.field.ensures.0 k γ x a),
+)
 
-eval-kind-same-length-2 : (t : ℕ) → eval-kind-lts.Need-same-length-2 (eval-kind-with t) (eval-kind-at t) eval-kind.Post
+eval-kind-same-length-2 : (t : ℕ) → eval-kind-lts.Need-shape_of-words-in-131 (eval-kind-with t) (eval-kind-at t) eval-kind.Post
 eval-kind-same-length-2 t c = search rules
 
-eval-kind-returns-4 : (t : ℕ) → eval-kind-lts.Need-returns-4 (eval-kind-with t) (eval-kind-at t) eval-kind.Post
+eval-kind-returns-4 : (t : ℕ) → eval-kind-lts.Need-returns-in-131 (eval-kind-with t) (eval-kind-at t) eval-kind.Post
 eval-kind-returns-4 t c =
-    let at-eval-align = c.before.before in
-    (at-eval-align.eval-align.ensures.0, at-eval-align.eval-align.ensures.1)
+    (c.eval_align.ensures.0, c.eval_align.ensures.1)
 
-eval-kind-same-length-3 : (t : ℕ) → eval-kind-lts.Need-same-length-3 (eval-kind-with t) (eval-kind-at t) eval-kind.Post
+eval-kind-same-length-3 : (t : ℕ) → eval-kind-lts.Need-shape_of-words-in-132 (eval-kind-with t) (eval-kind-at t) eval-kind.Post
 eval-kind-same-length-3 t c = search rules
 
-eval-kind-returns-5 : (t : ℕ) → eval-kind-lts.Need-returns-5 (eval-kind-with t) (eval-kind-at t) eval-kind.Post
+eval-kind-returns-5 : (t : ℕ) → eval-kind-lts.Need-returns-in-132 (eval-kind-with t) (eval-kind-at t) eval-kind.Post
 eval-kind-returns-5 t c =
-    let at-eval-switch = c.before.before in
-    (at-eval-switch.eval-switch.ensures.0, at-eval-switch.eval-switch.ensures.1)
+    (c.eval_switch.ensures.0, c.eval_switch.ensures.1)
 
-eval-kind-same-length-4 : (t : ℕ) → eval-kind-lts.Need-same-length-4 (eval-kind-with t) (eval-kind-at t) eval-kind.Post
+eval-kind-same-length-4 : (t : ℕ) → eval-kind-lts.Need-shape_of-words-in-133 (eval-kind-with t) (eval-kind-at t) eval-kind.Post
 eval-kind-same-length-4 t c = search rules
 
-eval-kind-returns-6 : (t : ℕ) → eval-kind-lts.Need-returns-6 (eval-kind-with t) (eval-kind-at t) eval-kind.Post
+eval-kind-returns-6 : (t : ℕ) → eval-kind-lts.Need-returns-in-133 (eval-kind-with t) (eval-kind-at t) eval-kind.Post
 eval-kind-returns-6 t c =
-    let at-eval-call = c.before.before in
-    (at-eval-call.eval_call.ensures.0, at-eval-call.eval_call.ensures.1)
+    (c.eval_call.ensures.0, c.eval_call.ensures.1)
 
-eval-kind-returns-7 : (t : ℕ) → eval-kind-lts.Need-returns-7 (eval-kind-with t) (eval-kind-at t) eval-kind.Post
-eval-kind-returns-7 t c =
-    let at-match-keys7 = c.before.before in
-    let at-read2 = at-match-keys7.before in
-    let at-start = at-read2.before.before.before.before in (
-      unchanged at-start.requires.1,
-      λ γ x t rd a. tells_as
-          c.refused.ensures
-          (sum_is
-          at-read2.read2.ensures.0
-          at-match-keys7.match.keys7 _
-          (layout_of t) _ γ a),
-    )
+eval-kind-returns-7 : (t : ℕ) → eval-kind-lts.Need-returns-in-144 (eval-kind-with t) (eval-kind-at t) eval-kind.Post
+eval-kind-returns-7 t c = (
+  unchanged c.requires.1,
+  λ γ x t rd a. tells_as
+      c.refused.ensures
+      (sum_is
+      c.read2-kind.ensures.0
+      c.in-144.is _
+      (layout_of t) _ γ a),
+)
 
-eval-kind-same-length-5 : (t : ℕ) → eval-kind-lts.Need-same-length-5 (eval-kind-with t) (eval-kind-at t) eval-kind.Post
+eval-kind-same-length-5 : (t : ℕ) → eval-kind-lts.Need-shape_of-words-in_default (eval-kind-with t) (eval-kind-at t) eval-kind.Post
 eval-kind-same-length-5 t c = search rules
 
-eval-kind-returns-8 : (t : ℕ) → eval-kind-lts.Need-returns-8 (eval-kind-with t) (eval-kind-at t) eval-kind.Post
+eval-kind-returns-8 : (t : ℕ) → eval-kind-lts.Need-returns-in_default (eval-kind-with t) (eval-kind-at t) eval-kind.Post
 eval-kind-returns-8 t c =
-    let at-eval-binary = c.before.before in
-    (at-eval-binary.eval-binary.ensures.0, at-eval-binary.eval-binary.ensures.1)
+    (c.eval_binary.ensures.0, c.eval_binary.ensures.1)
 
-eval-node-unwrapped-requires : (t : ℕ) → eval-node-lts.Need-unwrapped-requires (eval-node-with t) (eval-node-at t) eval_node.Post
+eval-node-unwrapped-requires : (t : ℕ) → eval-node-lts.Need-unwrapped-inner-requires (eval-node-with t) (eval-node-at t) eval_node.Post
 eval-node-unwrapped-requires t c κs =
-    let at-start = c.before.before.before in
-    at-start.requires.1.node
+    c.requires.1.node
 
-eval-node-eval-kind-requires : (t : ℕ) → eval-node-lts.Need-eval-kind-requires (eval-node-with t) (eval-node-at t) eval_node.Post
+eval-node-eval-kind-requires : (t : ℕ) → eval-node-lts.Need-eval_kind-requires (eval-node-with t) (eval-node-at t) eval_node.Post
 eval-node-eval-kind-requires t c κs =
-    let at-unwrapped = c.before.before in
-    let at-start = at-unwrapped.before.before.before.before in
-    let u = at-unwrapped.unwrapped.ensures at-start.requires.1.node in
-    (omega (arith, at-start.requires.0, u.short), child_ready at-start.requires.1 u.node)
+    let u = c.unwrapped-inner.ensures c.requires.1.node in
+    (omega (arith, c.requires.0, u.short), child_ready c.requires.1 u.node)
 
-eval-node-same-length : (t : ℕ) → eval-node-lts.Need-same-length (eval-node-with t) (eval-node-at t) eval_node.Post
+eval-node-same-length : (t : ℕ) → eval-node-lts.Need-shape_of-words (eval-node-with t) (eval-node-at t) eval_node.Post
 eval-node-same-length t c = search rules
 
 eval-node-returns : (t : ℕ) → eval-node-lts.Need-returns (eval-node-with t) (eval-node-at t) eval_node.Post
-eval-node-returns t c =
-    let at-eval-kind = c.before.before in
-    let at-unwrapped = at-eval-kind.before.before.before in (
-      at-eval-kind.eval-kind.ensures.0,
-      λ γ x t rd a. unwrapped_is
-          at-unwrapped.unwrapped.ensures _
-          (layout_of t) _ γ
-          (at-eval-kind.eval-kind.ensures.1 γ x t rd) a,
-    )
+eval-node-returns t c = (
+  c.eval_kind.ensures.0,
+  λ γ x t rd a. unwrapped_is
+      c.unwrapped-inner.ensures _
+      (layout_of t) _ γ
+      (c.eval_kind.ensures.1 γ x t rd) a,
+)
 
-eval-operand-unwrapped-requires : (t : ℕ) → eval-operand-lts.Need-unwrapped-requires (eval-operand-with t) (eval-operand-at t) eval-operand.Post
+eval-operand-unwrapped-requires : (t : ℕ) → eval-operand-lts.Need-unwrapped-inner-requires (eval-operand-with t) (eval-operand-at t) eval-operand.Post
 eval-operand-unwrapped-requires t c κs =
-    let at-start = c.before.before.before in
-    at-start.requires.1.node
+    c.requires.1.node
 
-eval-operand-add-read2 : (t : ℕ) → eval-operand-lts.Need-overflow-add-read2 (eval-operand-with t) (eval-operand-at t) eval-operand.Post
+eval-operand-add-read2 : (t : ℕ) → eval-operand-lts.Need-overflow_add-inner (eval-operand-with t) (eval-operand-at t) eval-operand.Post
 eval-operand-add-read2 t c =
-    let at-start = c.before.before.before.before in
-    omega (arith, within (c.unwrapped.ensures at-start.requires.1.node).node)
+    omega (arith, within (c.unwrapped-inner.ensures c.requires.1.node).node)
 
 eval-operand-read2-requires : (t : ℕ) → eval-operand-lts.Need-read2-requires (eval-operand-with t) (eval-operand-at t) eval-operand.Post
 eval-operand-read2-requires t c κs =
-    let at-start = c.before.before.before.before in
-    omega (arith, within (c.unwrapped.ensures at-start.requires.1.node).node)
+    omega (arith, within (c.unwrapped-inner.ensures c.requires.1.node).node)
 
 eval-operand-constant-requires : (t : ℕ) → eval-operand-lts.Need-constant-requires (eval-operand-with t) (eval-operand-at t) eval-operand.Post
-eval-operand-constant-requires t c κs =
-    let at-read2 = c.before.before in
-    let at-unwrapped = at-read2.before in
-    let at-start = at-unwrapped.before.before.before.before in (
-      (at-unwrapped.unwrapped.ensures at-start.requires.1.node).node,
-      sym at-read2.read2.ensures.0 ∙ c.before.if1.true,
-    )
+eval-operand-constant-requires t c κs = (
+  (c.unwrapped-inner.ensures c.requires.1.node).node,
+  sym c.read2.ensures.0 ∙ c.if-read2-eq129.true,
+)
 
-eval-operand-returns : (t : ℕ) → eval-operand-lts.Need-returns (eval-operand-with t) (eval-operand-at t) eval-operand.Post
-eval-operand-returns t c =
-    let at-unwrapped = c.before.before.before.before in
-    let at-start = at-unwrapped.before.before.before.before in (
-      unchanged at-start.requires.1,
-      λ γ x t rd a. unwrapped_is
-          at-unwrapped.unwrapped.ensures _
-          (layout_of t) _ γ
-          (λ b. leaf_answers _ (layout_of t) _ γ b (λ k. c.constant.ensures k _ γ b)) a,
-    )
+eval-operand-returns : (t : ℕ) → eval-operand-lts.Need-returns-then-read2-eq129 (eval-operand-with t) (eval-operand-at t) eval-operand.Post
+eval-operand-returns t c = (
+  unchanged c.requires.1,
+  λ γ x t rd a. unwrapped_is
+      c.unwrapped-inner.ensures _
+      (layout_of t) _ γ
+      (λ b. leaf_answers _ (layout_of t) _ γ b (λ k. c.constant.ensures k _ γ b)) a,
+)
 
-eval-operand-eval-node-requires : (t : ℕ) → eval-operand-lts.Need-eval-node-requires (eval-operand-with t) (eval-operand-at t) eval-operand.Post
+eval-operand-eval-node-requires : (t : ℕ) → eval-operand-lts.Need-eval_node-requires (eval-operand-with t) (eval-operand-at t) eval-operand.Post
 eval-operand-eval-node-requires t c κs =
-    let at-unwrapped = c.before.before.before.before in
-    let at-start = at-unwrapped.before.before.before.before in
-    let u = at-unwrapped.unwrapped.ensures at-start.requires.1.node in
-    (omega (arith, at-start.requires.0, u.short), child_ready at-start.requires.1 u.node)
+    let u = c.unwrapped-inner.ensures c.requires.1.node in
+    (omega (arith, c.requires.0, u.short), child_ready c.requires.1 u.node)
 
-eval-operand-same-length : (t : ℕ) → eval-operand-lts.Need-same-length (eval-operand-with t) (eval-operand-at t) eval-operand.Post
+eval-operand-same-length : (t : ℕ) → eval-operand-lts.Need-shape_of-words (eval-operand-with t) (eval-operand-at t) eval-operand.Post
 eval-operand-same-length t c = search rules
 
-eval-operand-returns-2 : (t : ℕ) → eval-operand-lts.Need-returns-2 (eval-operand-with t) (eval-operand-at t) eval-operand.Post
-eval-operand-returns-2 t c =
-    let at-eval-node = c.before.before in
-    let at-unwrapped = at-eval-node.before.before.before.before.before in (
-      at-eval-node.eval_node.ensures.0,
-      λ γ x t rd a. unwrapped_is
-          at-unwrapped.unwrapped.ensures _
-          (layout_of t) _ γ
-          (at-eval-node.eval_node.ensures.1 γ x t rd) a,
-    )
+eval-operand-returns-2 : (t : ℕ) → eval-operand-lts.Need-returns (eval-operand-with t) (eval-operand-at t) eval-operand.Post
+eval-operand-returns-2 t c = (
+  c.eval_node.ensures.0,
+  λ γ x t rd a. unwrapped_is
+      c.unwrapped-inner.ensures _
+      (layout_of t) _ γ
+      (c.eval_node.ensures.1 γ x t rd) a,
+)
 
 eval-switch-tag-requires : (t : ℕ) → eval-switch-lts.Need-tag-requires (eval-switch-with t) (eval-switch-at t) eval-switch.Post
 eval-switch-tag-requires t c κs =
-    let at-start = c.before.before.before.before in
-    (at-start.requires.1.0.node, at-start.requires.1.1, at-start.requires.1.0.context)
+    (c.requires.1.0.node, c.requires.1.1, c.requires.1.0.context)
 
 -- eval_switch, where its tag was looked for: the places before it, and what is ready over the words of then.
 abbrev Tagged : ℕ → Type 0
-Tagged t = eval-switch-lts.After-slice-known2 (eval-switch-with t) (eval-switch-at t) eval-switch.Post
-
-abbrev tags : (t : ℕ) → Tagged t → eval-switch-lts.After-tag (eval-switch-with t) (eval-switch-at t) eval-switch.Post
-tags t r = r.before.before
+Tagged t = eval-switch-lts.After-slice_known-2-1 (eval-switch-with t) (eval-switch-at t) eval-switch.Post
 
 abbrev at-switch : (t : ℕ) → Tagged t → eval-switch-lts.Start (eval-switch-with t) (eval-switch-at t) eval-switch.Post
-at-switch t r = (tags t r).before.before.before.before.before
+at-switch t r = r.before.before.before.before.before.before.before
 
 switch_kept : (t : ℕ) (r : Tagged t) →
-    Kept (at-switch t r).args.values.now (at-switch t r).args.root.block (at-switch t r).args.f.depth (at-switch t r).args.words.now (tags t r).tag.last.1.1.0
-switch_kept t r = kept_now (at-switch t r).pre.1.0 r.before.words.given (tags t r).tag.ensures.1
+    Kept r.args.values.now r.args.root.block r.args.f.depth r.args.words.now r.tag.new.words
+switch_kept t r = kept_now r.requires.1.0 r.words-1.given r.tag.ensures.1
 
 switch-node : (t : ℕ) (r : Tagged t) →
-    Ready (at-switch t r).args.s.now (at-switch t r).args.values.now (tags t r).tag.last.1.1.0 (at-switch t r).args.root (at-switch t r).args.f (at-switch t r).args.at
-switch-node t r = still_ready (at-switch t r).pre.1.0 (at-switch t r).pre.1.0.node r.before.words.given (switch_kept t r)
+    Ready r.args.s.now r.args.values.now r.tag.new.words r.args.root r.args.f r.args.at
+switch-node t r = still_ready r.requires.1.0 r.requires.1.0.node r.words-1.given (switch_kept t r)
 
-eval-switch-enum-told : (t : ℕ) → eval-switch-lts.Need-enum-told (eval-switch-with t) (eval-switch-at t) eval-switch.Post
+eval-switch-enum-told : (t : ℕ) → eval-switch-lts.Need-enum_told-1 (eval-switch-with t) (eval-switch-at t) eval-switch.Post
 eval-switch-enum-told t c = search rules
 
 eval-switch-refused-requires : (t : ℕ) → eval-switch-lts.Need-refused-requires (eval-switch-with t) (eval-switch-at t) eval-switch.Post
 eval-switch-refused-requires t c κs = search rules
 
-eval-switch-enum-known-v : (t : ℕ) → eval-switch-lts.Need-enum-known-v (eval-switch-with t) (eval-switch-at t) eval-switch.Post
+eval-switch-enum-known-v : (t : ℕ) → eval-switch-lts.Need-enum_known-v (eval-switch-with t) (eval-switch-at t) eval-switch.Post
 eval-switch-enum-known-v t c = search rules
 
 eval-switch-selected-requires : (t : ℕ) → eval-switch-lts.Need-selected-requires (eval-switch-with t) (eval-switch-at t) eval-switch.Post
 eval-switch-selected-requires t c κs =
-    let at-start = at-switch t c.before.before.before in
-    (at-start.pre.1.0.node, at-start.pre.1.1)
+    let at-start = at-switch t c.before in
+    (at-start.requires.1.0.node, at-start.requires.1.1)
 
-eval-switch-enum-known-q : (t : ℕ) → eval-switch-lts.Need-enum-known-q (eval-switch-with t) (eval-switch-at t) eval-switch.Post
+eval-switch-enum-known-q : (t : ℕ) → eval-switch-lts.Need-enum_known-q (eval-switch-with t) (eval-switch-at t) eval-switch.Post
 eval-switch-enum-known-q t c = search rules
 
-eval-switch-eval-node-requires : (t : ℕ) → eval-switch-lts.Need-eval-node-requires (eval-switch-with t) (eval-switch-at t) eval-switch.Post
+eval-switch-eval-node-requires : (t : ℕ) → eval-switch-lts.Need-eval_node-requires (eval-switch-with t) (eval-switch-at t) eval-switch.Post
 eval-switch-eval-node-requires t c κs =
-    let at-q = c.before.before.before in
-    let at-selected = at-q.before.before in
-    let r = at-selected.before.before.before.before in
+    let r = c.before.before.before.before.before in
     let ready = switch-node t r in
-    let picked = picked_node at-q.q.given.1 (at-selected.selected.ensures ready.node) in
-    (omega (arith, (at-switch t r).requires.0, picked.1), child_ready ready picked.0)
+    let picked = picked_node c.in-Node.is (c.selected.ensures ready.node) in
+    (omega (arith, c.requires.0, picked.1), child_ready ready picked.0)
 
-eval-switch-enum-told-2 : (t : ℕ) → eval-switch-lts.Need-enum-told-2 (eval-switch-with t) (eval-switch-at t) eval-switch.Post
+eval-switch-enum-told-2 : (t : ℕ) → eval-switch-lts.Need-enum_told-in-Nothing (eval-switch-with t) (eval-switch-at t) eval-switch.Post
 eval-switch-enum-told-2 t c = search rules
 
 eval-switch-low-requires : (t : ℕ) → eval-switch-lts.Need-low-requires (eval-switch-with t) (eval-switch-at t) eval-switch.Post
 eval-switch-low-requires t c κs = search rules
 
-eval-switch-refused-requires-2 : (t : ℕ) → eval-switch-lts.Need-refused-requires-2 (eval-switch-with t) (eval-switch-at t) eval-switch.Post
+eval-switch-refused-requires-2 : (t : ℕ) → eval-switch-lts.Need-refused-requires-in-Nothing (eval-switch-with t) (eval-switch-at t) eval-switch.Post
 eval-switch-refused-requires-2 t c κs = search rules
 
-eval-switch-same-length : (t : ℕ) → eval-switch-lts.Need-same-length (eval-switch-with t) (eval-switch-at t) eval-switch.Post
+eval-switch-same-length : (t : ℕ) → eval-switch-lts.Need-shape_of-words-in-Absent (eval-switch-with t) (eval-switch-at t) eval-switch.Post
 eval-switch-same-length t c = search rules
 
-eval-switch-returns : (t : ℕ) → eval-switch-lts.Need-returns (eval-switch-with t) (eval-switch-at t) eval-switch.Post
+eval-switch-returns : (t : ℕ) → eval-switch-lts.Need-returns-in-Absent (eval-switch-with t) (eval-switch-at t) eval-switch.Post
 eval-switch-returns t c =
-    let at-enum-told = c.before.before in
-    let r = at-enum-told.before.before in (
+    let r = c.before.before.before in (
       switch_kept t r,
       λ γ x u rd a. tells_as
           c.refused.ensures
           (switch_misses
-          (at-switch t r).requires.1.1 _
+          c.requires.1.1 _
           (layout_of u) _ γ a
-          ((tags t r).tag.ensures.0 γ x a)
-          at-enum-told.enum_told.given.1),
+          (c.tag.ensures.0 γ x a)
+          c.in-Absent.is),
     )
 
-eval-switch-same-length-2 : (t : ℕ) → eval-switch-lts.Need-same-length-2 (eval-switch-with t) (eval-switch-at t) eval-switch.Post
+eval-switch-same-length-2 : (t : ℕ) → eval-switch-lts.Need-shape_of-words-in-Node (eval-switch-with t) (eval-switch-at t) eval-switch.Post
 eval-switch-same-length-2 t c = search rules
 
-eval-switch-returns-2 : (t : ℕ) → eval-switch-lts.Need-returns-2 (eval-switch-with t) (eval-switch-at t) eval-switch.Post
+eval-switch-returns-2 : (t : ℕ) → eval-switch-lts.Need-returns-in-Node (eval-switch-with t) (eval-switch-at t) eval-switch.Post
 eval-switch-returns-2 t c =
-    let at-eval-node = c.before.before in
-    let at-q = at-eval-node.before.before.before.before in
-    let at-selected = at-q.before.before in
-    let at-v = at-selected.before.before in
-    let r = at-v.before.before in (
-      kept_both (switch_kept t r) at-eval-node.eval_node.ensures.0,
+    let r = c.before.before.before.before.before.before.before.before in (
+      kept_both (switch_kept t r) c.eval_node.ensures.0,
       λ γ x u rd a. switch_goes
-          (at-switch t r).requires.1.1 _
+          c.requires.1.1 _
           (layout_of u) _ γ a
-          ((tags t r).tag.ensures.0 γ x a)
-          at-v.v.given.1
-          at-q.q.given.1
-          (at-selected.selected.ensures a)
-          (at-eval-node.eval_node.ensures.1 γ (context_now (at-switch t r).requires.1.0 r.before.words.given (tags t r).tag.ensures.1 x) u rd),
+          (c.tag.ensures.0 γ x a)
+          c.in-Value.is
+          c.in-Node.is
+          (c.selected.ensures a)
+          (c.eval_node.ensures.1 γ (context_now c.requires.1.0 c.words-1.given c.tag.ensures.1 x) u rd),
     )
 
-eval-switch-same-length-3 : (t : ℕ) → eval-switch-lts.Need-same-length-3 (eval-switch-with t) (eval-switch-at t) eval-switch.Post
+eval-switch-same-length-3 : (t : ℕ) → eval-switch-lts.Need-shape_of-words-in-Nothing (eval-switch-with t) (eval-switch-at t) eval-switch.Post
 eval-switch-same-length-3 t c = search rules
 
-eval-switch-returns-3 : (t : ℕ) → eval-switch-lts.Need-returns-3 (eval-switch-with t) (eval-switch-at t) eval-switch.Post
+eval-switch-returns-3 : (t : ℕ) → eval-switch-lts.Need-returns-in-Nothing (eval-switch-with t) (eval-switch-at t) eval-switch.Post
 eval-switch-returns-3 t c =
-    let at_low = c.before.before in
-    let at-enum-told2 = at_low.before in
-    let at-selected = at-enum-told2.before.before in
-    let at-v = at-selected.before.before in
-    let r = at-v.before.before in (
+    let r = c.before.before.before.before.before.before in (
       switch_kept t r,
       λ γ x u rd a. tells_as
-          c.refused2.ensures
+          c.refused-in-Nothing.ensures
           (switch_ends
-          (at-switch t r).requires.1.1 _
+          c.requires.1.1 _
           (layout_of u) _ γ a
-          ((tags t r).tag.ensures.0 γ x a)
-          at-v.v.given.1
-          at-enum-told2.enum-told2.given.1
-          (at-selected.selected.ensures a)
-          at_low.low.ensures),
+          (c.tag.ensures.0 γ x a)
+          c.in-Value.is
+          c.in-Nothing.is
+          (c.selected.ensures a)
+          c.low.ensures),
     )
 
-pub +eval-align-eval-binary-eval-call-eval-kind-eval-node-eval-operand-eval-switch-spec : {M : Type 1} → statement M
-+eval-align-eval-binary-eval-call-eval-kind-eval-node-eval-operand-eval-switch-spec =
+pub +eval_align_eval_binary_eval_call_eval_kind_eval_node_eval_operand_eval_switch_spec : {M : Type 1} → statement M
++eval_align_eval_binary_eval_call_eval_kind_eval_node_eval_operand_eval_switch_spec =
     close μ-eval-align μ-eval-binary μ-eval-call μ-eval-kind μ-eval-node μ-eval-operand
     μ-eval-switch
     (λ t. eval-align-lts.spec (eval-align-with t) (eval-align-at t) eval-align.Post

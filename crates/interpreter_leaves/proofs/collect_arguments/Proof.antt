@@ -15,154 +15,139 @@ use borrow.Author.Rules.{rules}
 use Rattle.interpreter_leaves.proofs.collect_arguments.Statement.{statement}
 use Rattle.interpreter_leaves.proofs.collect_arguments.Tie as tie
 
-abbrev invariant-loop : tie.invariant-loop
+abbrev invariant-loop : tie.invariant-loop-left
 invariant-loop s values words₀ root f at list left₀ p₀ words left p =
     Going s values root.block root.len words₀ words f.depth (le2 s list) (list + 2) left p
 
-abbrev decreases-loop : tie.decreases-loop
+abbrev decreases-loop : tie.decreases-loop-left
 decreases-loop s values words₀ root f at list left₀ p₀ words left p = left
 
--- The places before the loop, seen from it.
-abbrev at-second-part : tie.At-loop invariant-loop decreases-loop → tie.After-second-part invariant-loop decreases-loop
-at-second-part r = r.before.before
-
-abbrev at-start : tie.At-loop invariant-loop decreases-loop → tie.Start invariant-loop decreases-loop
-at-start r = (at-second-part r).before.before.before.before
+abbrev at-start : tie.At-loop-left invariant-loop decreases-loop → tie.Start invariant-loop decreases-loop
+at-start r = r.before.before.before.before.before.before
 
 -- the arguments of the node, whatever accepted it
-arguments : (r : tie.At-loop invariant-loop decreases-loop) (a : Accepted (at-start r).args.s.now 128 144 (at-start r).args.at) →
-    ListAt a 164 164 3 (at-second-part r).second-part.result
-arguments r a = arguments_at (at-second-part r).second-part.ensures a (at-start r).requires.1
+arguments : (r : tie.At-loop-left invariant-loop decreases-loop) (a : Accepted r.args.s.now 128 144 r.args.at) →
+    ListAt a 164 164 3 r.second_part-list.result
+arguments r a = arguments_at r.second_part-list.ensures a r.requires.1
 
 -- inside the loop, the next argument
-next : (r : tie.In-loop invariant-loop decreases-loop) → Accepted (at-start r.before).args.s.now 164 164 r.before.loop.p
+next : (r : tie.In-loop-left invariant-loop decreases-loop) → Accepted r.args.s.now 164 164 r.loop-left.p
 next r =
     let at-loop = r.before in
-    next_one r.loop-test.true at-loop.loop.invariant.collecting (at-start at-loop).requires.2 (arguments at-loop (at-start at-loop).requires.0).list
+    next_one r.loop-left-test.true r.loop-left.invariant.collecting r.requires.2 (arguments at-loop r.requires.0).list
 
 -- the same, seen from behind the lookup
-abbrev at-find : tie.After-known-told invariant-loop decreases-loop → tie.After-find invariant-loop decreases-loop
-at-find r = r.before.before.before.before.before
+abbrev at-find : tie.In-Value invariant-loop decreases-loop → tie.After-find invariant-loop decreases-loop
+at-find r = r.before.before.before
 
-abbrev in-loop : tie.After-known-told invariant-loop decreases-loop → tie.In-loop invariant-loop decreases-loop
-in-loop r = (at-find r).before.before.before
+abbrev in-loop : tie.In-Value invariant-loop decreases-loop → tie.In-loop-left invariant-loop decreases-loop
+in-loop r = r.before.before.before.before.before.before
 
-second-part-requires : tie.Need-second-part-requires invariant-loop decreases-loop
-second-part-requires c κs =
-    let at-start = c.before.before.before in (
-      at-start.requires.0,
-      enough _ _ (omega (arith, at-start.requires.1)) (omega (arith, at-start.requires.1)) (omega arith),
-    )
+second-part-requires : tie.Need-second_part-list-requires invariant-loop decreases-loop
+second-part-requires c κs = (
+  c.requires.0,
+  enough _ _ (omega (arith, c.requires.1)) (omega (arith, c.requires.1)) (omega arith),
+)
 
-read2-requires : tie.Need-read2-requires invariant-loop decreases-loop
-read2-requires c κs = let at-start = c.before.before.before.before in
-    (arguments_at c.second-part.ensures at-start.requires.0 at-start.requires.1).inside
+read2-requires : tie.Need-read2-left-requires invariant-loop decreases-loop
+read2-requires c κs =
+    (arguments_at c.second_part-list.ensures c.requires.0 c.requires.1).inside
 
-add-p : tie.Need-overflow-add-p invariant-loop decreases-loop
+add-p : tie.Need-overflow_add-p invariant-loop decreases-loop
 add-p c =
-    let at-start = c.before.before.before.before.before in
     omega (
       arith,
-      (arguments_at c.before.second-part.ensures at-start.requires.0 at-start.requires.1).inside,
+      (arguments_at c.second_part-list.ensures c.requires.0 c.requires.1).inside,
     )
 
-loop-holds : tie.Need-loop-init invariant-loop decreases-loop
+loop-holds : tie.Need-loop-left-init invariant-loop decreases-loop
 loop-holds c =
-    let at-start = c.before.before.before.before.before in
-    record { collecting = begin c.read2.ensures.0; kept = kept_none (bottom at-start.requires.2.1).1; long = refl }
+    record { collecting = begin c.read2-left.ensures.0; kept = kept_none (bottom c.requires.2.1).1; long = refl }
 
-add-value : tie.Need-overflow-add-value invariant-loop decreases-loop
+add-value : tie.Need-overflow_add-value invariant-loop decreases-loop
 add-value c = omega (arith, (value_at refl (next c)).value)
 
-add-read2 : tie.Need-overflow-add-read2 invariant-loop decreases-loop
+add-read2 : tie.Need-overflow_add-p-in-loop-left invariant-loop decreases-loop
 add-read2 c = omega (arith, (value_at refl (next c)).value)
 
-read2-requires-2 : tie.Need-read2-requires-2 invariant-loop decreases-loop
+read2-requires-2 : tie.Need-read2-requires invariant-loop decreases-loop
 read2-requires-2 c κs = omega (arith, (value_at refl (next c)).value)
 
-add-value-2 : tie.Need-overflow-add-value-2 invariant-loop decreases-loop
-add-value-2 c = omega (arith, (value_at c.read22.ensures.0 (next c.before)).value)
+add-value-2 : tie.Need-overflow_add-value-in-loop-left invariant-loop decreases-loop
+add-value-2 c = omega (arith, (value_at c.read2.ensures.0 (next c.before)).value)
 
 find-requires : tie.Need-find-requires invariant-loop decreases-loop
 find-requires c κs =
-    let at-read22 = c.before in
-    let at-loop = at-read22.before.before in
+    let at-loop = c.before.before.before in
     let start = at-start at-loop in (
-      (value_at at-read22.read22.ensures.0 (next at-read22.before)).value,
-      (start.pre.2.0, still at-loop.loop.invariant start.pre.3 start.pre.2.1),
+      (value_at c.read2.ensures.0 (next c.before.before)).value,
+      (start.requires.2.0, still c.loop-left.invariant start.requires.3 start.requires.2.1),
     )
 
-enum-known-v : tie.Need-enum-known-v invariant-loop decreases-loop
+enum-known-v : tie.Need-enum_known-v invariant-loop decreases-loop
 enum-known-v c = search rules
 
-add-p-2 : tie.Need-overflow-add-p-2 invariant-loop decreases-loop
+add-p-2 : tie.Need-overflow_add-p-in-Value invariant-loop decreases-loop
 add-p-2 c = omega (arith, (ends (next (in-loop c))).0)
 
 read4-requires : tie.Need-read4-requires invariant-loop decreases-loop
 read4-requires c κs = omega (arith, (ends (next (in-loop c))).0)
 
-add-p-3 : tie.Need-overflow-add-p-3 invariant-loop decreases-loop
+add-p-3 : tie.Need-overflow_add-p-in-Value-2 invariant-loop decreases-loop
 add-p-3 c = omega (arith, (ends (next (in-loop c.before))).1, c.read4.ensures.0)
 
-sub-left : tie.Need-overflow-sub-left invariant-loop decreases-loop
+sub-left : tie.Need-overflow_sub-left invariant-loop decreases-loop
 sub-left c = omega arith
 
-loop-less : tie.Need-loop-smaller invariant-loop decreases-loop
+loop-less : tie.Need-loop-left-smaller invariant-loop decreases-loop
 loop-less c = omega arith
 
-loop-again : tie.Need-loop-preserved invariant-loop decreases-loop
+loop-again : tie.Need-loop-left-preserved invariant-loop decreases-loop
 loop-again c =
-    let at-v = c.before.before in
     let at-find = at-find c.before in
-    let at-read22 = at-find.before.before in
-    let in-loop = at-read22.before in
-    let at-loop = in-loop.before in
-    let inv = at-loop.loop.inv in
+    let inv = at-find.loop-left.invariant in
     record {
       collecting =
           found_one
-          in-loop.loop-test.taken
+          at-find.loop-left-test.true
           inv.collecting
-          at-read22.read22.ensures.0
-          (λ γ x. at-find.find.ensures.0 γ (still inv (at-start at-loop).pre.3 x))
-          at-v.v.given.1
+          at-find.read2.ensures.0
+          (λ γ x. at-find.find.ensures.0 γ (still inv at-find.requires.3 x))
+          c.in-Value.is
           c.read4.ensures.0;
       kept = kept_both inv.kept at-find.find.ensures.1;
       long = omega (arith, inv.long);
     }
 
-enum_told : tie.Need-enum-told invariant-loop decreases-loop
+enum_told : tie.Need-enum_told-1 invariant-loop decreases-loop
 enum_told c = search rules
 
-same_length : tie.Need-same-length invariant-loop decreases-loop
+same_length : tie.Need-shape_of-words-in-Absent invariant-loop decreases-loop
 same_length c = search rules
 
-same-length-2 : tie.Need-same-length-2 invariant-loop decreases-loop
+same-length-2 : tie.Need-shape_of-words invariant-loop decreases-loop
 same-length-2 c = search rules
 
-returns : tie.Need-returns invariant-loop decreases-loop
+returns : tie.Need-returns-in-Absent invariant-loop decreases-loop
 returns c =
-    let at-find = c.before.before.before.before in
-    let at-read22 = at-find.before.before in
-    let in-loop = at-read22.before in
-    let at-loop = in-loop.before in
-    let inv = at-loop.loop.invariant in (
+    let at-loop = c.before.before.before.before.before.before.before in
+    let inv = c.loop-left.invariant in (
       λ pl γ x a. of_call a (arguments at-loop a)
           (lacking_one
-          in-loop.loop-test.true
+          c.loop-left-test.true
           inv.collecting
-          at-read22.read22.ensures.0
-          (λ γ x. at-find.find.ensures.0 γ (still inv (at-start at-loop).requires.3 x))
-          c.enum_told.given.1 pl γ x
+          c.read2.ensures.0
+          (λ γ x. c.find.ensures.0 γ (still inv c.requires.3 x))
+          c.in-Absent.is pl γ x
           (arguments at-loop a).list),
-      kept_both inv.kept at-find.find.ensures.1,
+      kept_both inv.kept c.find.ensures.1,
     )
 
-returns-2 : tie.Need-returns-2 invariant-loop decreases-loop
+returns-2 : tie.Need-returns invariant-loop decreases-loop
 returns-2 c =
     let at-loop = c.before in
-    let inv = at-loop.loop.invariant in
-    ((λ pl γ x a. of_call a (arguments at-loop a) (no_more c.loop-test.false inv.collecting pl γ x (arguments at-loop a).list)), inv.kept)
+    let inv = c.loop-left.invariant in
+    ((λ pl γ x a. of_call a (arguments at-loop a) (no_more c.loop-left-test.false inv.collecting pl γ x (arguments at-loop a).list)), inv.kept)
 
 pub collect_arguments_spec : {M : Type 1} → statement M
 collect_arguments_spec =

@@ -6,13 +6,12 @@ use borrow.Author.Rules.{rules}
 use Rattle.interpreter_leaves.proofs.constant.Statement.{statement}
 use Rattle.interpreter_leaves.proofs.constant.Tie as tie
 
-first-part-requires : tie.Need-first-part-requires
-first-part-requires c κs = c.before.requires.0
+first-part-requires : tie.Need-first_part-p-requires
+first-part-requires c κs = c.requires.0
 
 read8-requires : tie.Need-read8-requires
 read8-requires c κs =
-    let at-start = c.before.before in
-    (const_at c.first_part.ensures at-start.requires.0 at-start.requires.1).0
+    (const_at c.first_part-p.ensures c.requires.0 c.requires.1).0
 
 of-requires : tie.Need-of-requires
 of-requires c κs = search rules
@@ -22,16 +21,12 @@ counted-requires c κs = search rules
 
 returns : tie.Need-returns
 returns c =
-    let at_of = c.before.before in
-    let at-read8 = at_of.before in
-    let at-first-part = at-read8.before in
-    let at-start = at-first-part.before.before in
     λ k pl γ a. tells_as
     c.counted.ensures
     (const_is
-    at-first-part.first_part.ensures
-    at-start.requires.1
-    (at_of.of.ensures ∙ at-read8.read8.ensures) k pl γ a)
+    c.first_part-p.ensures
+    c.requires.1
+    (c.of.ensures ∙ c.read8.ensures) k pl γ a)
 
 pub constant_spec : {M : Type 1} → statement M
 constant_spec = tie.close (tie.spec first-part-requires read8-requires of-requires counted-requires returns)

@@ -5,7 +5,7 @@ use Rattle.interpreter_leaves.proofs.counted.Statement.{statement}
 use Rattle.interpreter_leaves.proofs.counted.Tie as tie
 
 returns : tie.Need-returns
-returns c = left_count _ c.before.before.before.before.low.ensures
+returns c = left_count _ c.low.ensures
 
 pub counted_spec : {M : Type 1} → statement M
 counted_spec = tie.close (tie.spec (λ c κs. tt) (λ c. search rules) (λ c. search rules) (λ c. search rules) returns)

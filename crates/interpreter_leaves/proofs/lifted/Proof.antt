@@ -6,29 +6,27 @@ use borrow.Author.Rules.{rules}
 use Rattle.interpreter_leaves.proofs.lifted.Statement.{statement}
 use Rattle.interpreter_leaves.proofs.lifted.Tie as tie
 
-enum-known-n : tie.Need-enum-known-n
+enum-known-n : tie.Need-enum_known-n
 enum-known-n c = search rules
 
 counted-requires : tie.Need-counted-requires
 counted-requires c κs = search rules
 
-enum-known-n-2 : tie.Need-enum-known-n-2
+enum-known-n-2 : tie.Need-enum_known-n-in-Fault-1
 enum-known-n-2 c = search rules
 
 refused-requires : tie.Need-refused-requires
 refused-requires c κs = search rules
 
-returns : tie.Need-returns
+returns : tie.Need-returns-in-Value
 unfolding lift
 returns c =
-    let at_n = c.before.before.before in
-    tells_as c.counted.ensures (lifted_as _ _ at_n.n.given.1)
+    tells_as c.counted.ensures (lifted_as _ _ c.in-Value.is)
 
-returns-2 : tie.Need-returns-2
+returns-2 : tie.Need-returns-in-Fault
 unfolding lift
 returns-2 c =
-    let at-n2 = c.before.before.before in
-    tells_as c.refused.ensures (lifted_as _ _ at-n2.n2.given.1)
+    tells_as c.refused.ensures (lifted_as _ _ c.in-Fault.is)
 
 pub lifted_spec : {M : Type 1} → statement M
 lifted_spec =

@@ -5,17 +5,17 @@ use Rattle.interpreter_context.proofs.Lists.{tree_of}
 use Rattle.interpreter_leaves.proofs.root.Statement.{statement}
 use Rattle.interpreter_leaves.proofs.root.Tie as tie
 
-add-result : tie.Need-overflow-add-result
-add-result c = omega (arith, (tree_of c.before.requires refl).low)
+add-result : tie.Need-overflow_add-result
+add-result c = omega (arith, (tree_of c.requires refl).low)
 
-add-read2 : tie.Need-overflow-add-read2
-add-read2 c = omega (arith, (tree_of c.before.requires refl).low)
+add-read2 : tie.Need-overflow_add-callee
+add-read2 c = omega (arith, (tree_of c.requires refl).low)
 
 read2-requires : tie.Need-read2-requires
-read2-requires c κs = omega (arith, (tree_of c.before.requires refl).low)
+read2-requires c κs = omega (arith, (tree_of c.requires refl).low)
 
-add-result-2 : tie.Need-overflow-add-result-2
-add-result-2 c = omega (arith, (tree_of c.before.before.requires c.read2.ensures.0).low)
+add-result-2 : tie.Need-overflow_add-result-2
+add-result-2 c = omega (arith, (tree_of c.requires c.read2.ensures.0).low)
 
 returns : tie.Need-returns
 returns c = λ t. let x = tree_of t c.read2.ensures.0 in record { root = x.root; is = x.is }

@@ -10,126 +10,113 @@ use Rattle.interpreter_leaves.proofs.Cases.{same_tag, IsCase, SwitchAt, Tried, b
 use Rattle.interpreter_leaves.proofs.selected.Statement.{statement}
 use Rattle.interpreter_leaves.proofs.selected.Tie as tie
 
-abbrev invariant-loop : tie.invariant-loop
+abbrev invariant-loop : tie.invariant-loop-left
 invariant-loop s at wanted list left₀ p₀ left p = Tried s wanted (le2 s list) (list + 2) left p
 
-abbrev decreases-loop : tie.decreases-loop
+abbrev decreases-loop : tie.decreases-loop-left
 decreases-loop s at wanted list left₀ p₀ left p = left
 
--- The places before the loop, seen from it.
-abbrev at-second-part : tie.At-loop invariant-loop decreases-loop → tie.After-second-part invariant-loop decreases-loop
-at-second-part r = r.before.before
-
-abbrev at_low : tie.At-loop invariant-loop decreases-loop → tie.After-low invariant-loop decreases-loop
-at_low r = (at-second-part r).before
-
-abbrev at-start : tie.At-loop invariant-loop decreases-loop → tie.Start invariant-loop decreases-loop
-at-start r = (at_low r).before.before
+abbrev at-start : tie.At-loop-left invariant-loop decreases-loop → tie.Start invariant-loop decreases-loop
+at-start r = r.before.before.before.before.before
 
 -- the cases of the node, whatever accepted it
-cases : (r : tie.At-loop invariant-loop decreases-loop) (a : Accepted (at-start r).args.s.now 128 144 (at-start r).args.at) → SwitchAt a (at-second-part r).second-part.result
-cases r a = switch_at (at-second-part r).second-part.ensures a (at-start r).requires.1
+cases : (r : tie.At-loop-left invariant-loop decreases-loop) (a : Accepted r.args.s.now 128 144 r.args.at) → SwitchAt a r.second_part-list.result
+cases r a = switch_at r.second_part-list.ensures a r.requires.1
 
 -- inside the loop, the next case
-next : (r : tie.In-loop invariant-loop decreases-loop) → (c : Accepted (at-start r.before).args.s.now 163 163 r.before.loop.p) × IsCase c
-next r = next_case r.loop-test.true r.before.loop.invariant (cases r.before (at-start r.before).pre.0).list
+next : (r : tie.In-loop-left invariant-loop decreases-loop) → (c : Accepted r.args.s.now 163 163 r.loop-left.p) × IsCase c
+next r = next_case r.loop-left-test.true r.loop-left.invariant (cases r.before r.requires.0).list
 
-low-requires : tie.Need-low-requires invariant-loop decreases-loop
+low-requires : tie.Need-low-wanted-requires invariant-loop decreases-loop
 low-requires c κs = tt
 
-second-part-requires : tie.Need-second-part-requires invariant-loop decreases-loop
-second-part-requires c κs =
-    let at-start = c.before.before in (
-      at-start.requires.0,
-      enough _ _ (omega (arith, at-start.requires.1)) (omega (arith, at-start.requires.1)) (omega arith),
-    )
+second-part-requires : tie.Need-second_part-list-requires invariant-loop decreases-loop
+second-part-requires c κs = (
+  c.requires.0,
+  enough _ _ (omega (arith, c.requires.1)) (omega (arith, c.requires.1)) (omega arith),
+)
 
-read2-requires : tie.Need-read2-requires invariant-loop decreases-loop
-read2-requires c κs = let at-start = c.before.before.before in
-    (switch_at c.second-part.ensures at-start.requires.0 at-start.requires.1).inside
+read2-requires : tie.Need-read2-left-requires invariant-loop decreases-loop
+read2-requires c κs =
+    (switch_at c.second_part-list.ensures c.requires.0 c.requires.1).inside
 
-add-p : tie.Need-overflow-add-p invariant-loop decreases-loop
+add-p : tie.Need-overflow_add-p invariant-loop decreases-loop
 add-p c =
-    let at-start = c.before.before.before.before in
     omega (
       arith,
-      (switch_at c.before.second-part.ensures at-start.requires.0 at-start.requires.1).inside,
+      (switch_at c.second_part-list.ensures c.requires.0 c.requires.1).inside,
     )
 
-loop-holds : tie.Need-loop-init invariant-loop decreases-loop
-loop-holds c = begin _ c.read2.ensures.0
+loop-holds : tie.Need-loop-left-init invariant-loop decreases-loop
+loop-holds c = begin _ c.read2-left.ensures.0
 
-add-read8 : tie.Need-overflow-add-read8 invariant-loop decreases-loop
+add-read8 : tie.Need-overflow_add-p-in-loop-left invariant-loop decreases-loop
 add-read8 c = omega (arith, (next c).1.inside)
 
 read8-requires : tie.Need-read8-requires invariant-loop decreases-loop
 read8-requires c κs = omega (arith, (next c).1.inside)
 
-add-t14 : tie.Need-overflow-add-t14 invariant-loop decreases-loop
+add-t14 : tie.Need-overflow_add-result invariant-loop decreases-loop
 add-t14 c = omega (arith, (next c.before.before).1.inside)
 
-returns : tie.Need-returns invariant-loop decreases-loop
+returns : tie.Need-returns-then-read8-wanted invariant-loop decreases-loop
 returns c =
-    let in-loop = c.before.before in
-    let at-loop = in-loop.before in
-    λ a. same_tag (at_low at-loop).low.ensures (hit refl refl in-loop.loop-test.true c.before.read8.ensures c.if1.true at-loop.loop.invariant a (cases at-loop a))
+    let at-loop = c.before.before.before in
+    λ a. same_tag c.low-wanted.ensures (hit refl refl c.loop-left-test.true c.read8.ensures c.if-read8-wanted.true c.loop-left.invariant a (cases at-loop a))
 
-add-p-2 : tie.Need-overflow-add-p-2 invariant-loop decreases-loop
+add-p-2 : tie.Need-overflow_add-p-in-loop-left-2 invariant-loop decreases-loop
 add-p-2 c = omega (arith, (next c.before.before).1.inside)
 
 read4-requires : tie.Need-read4-requires invariant-loop decreases-loop
 read4-requires c κs = omega (arith, (next c.before.before).1.inside)
 
-add-p-3 : tie.Need-overflow-add-p-3 invariant-loop decreases-loop
+add-p-3 : tie.Need-overflow_add-p-in-loop-left-3 invariant-loop decreases-loop
 add-p-3 c = omega (arith, (next c.before.before.before).1.next, c.read4.ensures.0)
 
-sub-left : tie.Need-overflow-sub-left invariant-loop decreases-loop
+sub-left : tie.Need-overflow_sub-left invariant-loop decreases-loop
 sub-left c = omega arith
 
-loop-less : tie.Need-loop-smaller invariant-loop decreases-loop
+loop-less : tie.Need-loop-left-smaller invariant-loop decreases-loop
 loop-less c = omega arith
 
-loop-again : tie.Need-loop-preserved invariant-loop decreases-loop
+loop-again : tie.Need-loop-left-preserved invariant-loop decreases-loop
 loop-again c =
-    let at-read8 = c.before.before in
-    let in-loop = at-read8.before in
-    let at-loop = in-loop.before in
     another
-    in-loop.loop-test.true
-    at-read8.read8.ensures
-    c.before.if1.false
+    c.loop-left-test.true
+    c.read8.ensures
+    c.if-read8-wanted.false
     c.read4.ensures.0
-    at-loop.loop.invariant
+    c.loop-left.invariant
 
-third-part-requires : tie.Need-third-part-requires invariant-loop decreases-loop
-third-part-requires c κs = let start = at-start c.before in (start.pre.0, switch_long start.pre.1)
+third-part-requires : tie.Need-third_part-d-requires invariant-loop decreases-loop
+third-part-requires c κs = let start = at-start c.before in (start.requires.0, switch_long start.requires.1)
 
 -- behind the loop, the default of the node, whatever accepted it
-default : (r : tie.After-third-part invariant-loop decreases-loop) (a : Accepted (at-start r.before.before).args.s.now 128 144 (at-start r.before.before).args.at) →
-    Default a (at_low r.before.before).low.result r.third-part.result
+default : (r : tie.After-third_part-d invariant-loop decreases-loop) (a : Accepted r.args.s.now 128 144 r.args.at) →
+    Default a r.low-wanted.result r.third_part-d.result
 default r a =
     let at-loop = r.before.before in
-    default_at r.third-part.ensures a (at-start at-loop).requires.1 (ended r.before.loop-test.false at-loop.loop.invariant a (cases at-loop a))
+    default_at r.third_part-d.ensures a r.requires.1 (ended r.loop-left-test.false r.loop-left.invariant a (cases at-loop a))
 
-shared-slice-read-b : tie.Need-shared-slice-read-b invariant-loop decreases-loop
+shared-slice-read-b : tie.Need-bounds-s-d invariant-loop decreases-loop
 shared-slice-read-b c =
     let at-third-part = c.before in
-    omega (arith, flag_in (default at-third-part (at-start at-third-part.before.before).pre.0))
+    omega (arith, flag_in (default at-third-part c.requires.0))
 
-add-t18 : tie.Need-overflow-add-t18 invariant-loop decreases-loop
+add-t18 : tie.Need-overflow_add-result-then-b-eq1 invariant-loop decreases-loop
 add-t18 c =
     let at-third-part = c.before.before in
-    omega (arith, flag_in (default at-third-part (at-start at-third-part.before.before).pre.0))
+    omega (arith, flag_in (default at-third-part c.requires.0))
 
-returns-2 : tie.Need-returns-2 invariant-loop decreases-loop
+returns-2 : tie.Need-returns-then-b-eq1 invariant-loop decreases-loop
 returns-2 c =
     let at-third-part = c.before.before in
-    λ a. same_tag (at_low at-third-part.before.before).low.ensures (default_given (default at-third-part a) c.if2.true)
+    λ a. same_tag c.low-wanted.ensures (default_given (default at-third-part a) c.if-b-eq1.true)
 
-returns-3 : tie.Need-returns-3 invariant-loop decreases-loop
+returns-3 : tie.Need-returns invariant-loop decreases-loop
 returns-3 c =
     let at-third-part = c.before.before in
-    λ a. same_tag (at_low at-third-part.before.before).low.ensures (default_absent (default at-third-part a) c.if2.false)
+    λ a. same_tag c.low-wanted.ensures (default_absent (default at-third-part a) c.if-b-eq1.false)
 
 pub selected_spec : {M : Type 1} → statement M
 selected_spec =

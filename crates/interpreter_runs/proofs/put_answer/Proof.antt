@@ -5,45 +5,39 @@ use borrow.Author.Rules.{rules}
 use Rattle.interpreter_runs.proofs.put_answer.Statement.{statement}
 use Rattle.interpreter_runs.proofs.put_answer.Tie as tie
 
-enum-known-a : tie.Need-enum-known-a
+enum-known-a : tie.Need-enum_known-a
 enum-known-a c = search rules
 
 low-requires : tie.Need-low-requires
 low-requires c κs = search rules
 
-put-four-requires : tie.Need-put-four-requires
+put-four-requires : tie.Need-put_four-requires
 put-four-requires c κs = search rules
 
-enum-known-a-2 : tie.Need-enum-known-a-2
+enum-known-a-2 : tie.Need-enum_known-a-in-Refused-1
 enum-known-a-2 c = search rules
 
-low-requires-2 : tie.Need-low-requires-2
+low-requires-2 : tie.Need-low-requires-in-Refused
 low-requires-2 c κs = search rules
 
-put-four-requires-2 : tie.Need-put-four-requires-2
+put-four-requires-2 : tie.Need-put_four-requires-in-Refused
 put-four-requires-2 c κs = search rules
 
-same_length : tie.Need-same-length
+same_length : tie.Need-shape_of-out-in-Count
 same_length c = search rules
 
-returns : tie.Need-returns
+returns : tie.Need-returns-in-Count
 unfolding answer_words
 returns c =
-    let at-put-four = c.before.before in
-    let at_low = at-put-four.before in
-    let at_a = at_low.before.before.before in
-    rw (at_a.a.given.1, ← at_low.low.ensures) at-put-four.put_four.ensures
+    rw (c.in-Count.is, ← c.low.ensures) c.put_four.ensures
 
-same-length-2 : tie.Need-same-length-2
+same-length-2 : tie.Need-shape_of-out-in-Refused
 same-length-2 c = search rules
 
-returns-2 : tie.Need-returns-2
+returns-2 : tie.Need-returns-in-Refused
 unfolding answer_words refusal_of
 returns-2 c =
-    let at-put-four = c.before.before in
-    let at_low = at-put-four.before in
-    let at_a = at_low.before.before.before in
-    rw (at_a.a2.given.1, ← at_low.low2.ensures) at-put-four.put-four2.ensures
+    rw (c.in-Refused.is, ← c.low-in-Refused.ensures) c.put_four-in-Refused.ensures
 
 pub put_answer_spec : {M : Type 1} → statement M
 put_answer_spec =

@@ -6,43 +6,43 @@ use borrow.Author.Rules.{rules}
 use Rattle.interpreter_runs.proofs.put_four.Statement.{statement}
 use Rattle.interpreter_runs.proofs.put_four.Tie as tie
 
-add-b : tie.Need-overflow-add-b
+add-b : tie.Need-overflow_add-b
 add-b c = search rules
 
-add-c : tie.Need-overflow-add-c
+add-c : tie.Need-overflow_add-c
 add-c c = search rules
 
-add-d : tie.Need-overflow-add-d
+add-d : tie.Need-overflow_add-d
 add-d c = search rules
 
-mul-out : tie.Need-overflow-mul-out
+mul-out : tie.Need-offset_bounds-out-at
 mul-out c = search rules
 
-slice-write-out : tie.Need-slice-write-out
+slice-write-out : tie.Need-bounds-out-at
 slice-write-out c = search rules
 
-mul-out-2 : tie.Need-overflow-mul-out-2
+mul-out-2 : tie.Need-offset_bounds-out-b
 mul-out-2 c = search rules
 
-slice-write-out-2 : tie.Need-slice-write-out-2
+slice-write-out-2 : tie.Need-bounds-out-b
 slice-write-out-2 c = simp length-set (omega arith)
 
-mul-out-3 : tie.Need-overflow-mul-out-3
+mul-out-3 : tie.Need-offset_bounds-out-c
 mul-out-3 c = search rules
 
-slice-write-out-3 : tie.Need-slice-write-out-3
+slice-write-out-3 : tie.Need-bounds-out-c
 slice-write-out-3 c = simp length-set (omega arith)
 
-mul-out-4 : tie.Need-overflow-mul-out-4
+mul-out-4 : tie.Need-offset_bounds-out-d
 mul-out-4 c = search rules
 
-slice-write-out-4 : tie.Need-slice-write-out-4
+slice-write-out-4 : tie.Need-bounds-out-d
 slice-write-out-4 c = simp length-set (omega arith)
 
-add-result : tie.Need-overflow-add-result
+add-result : tie.Need-overflow_add-result
 add-result c = search rules
 
-same_length : tie.Need-same-length
+same_length : tie.Need-shape_of-out
 same_length c = search rules
 
 returns : tie.Need-returns

@@ -8,31 +8,29 @@ use borrow.Author.Rules.{rules}
 use Rattle.interpreter_runs.proofs.validate_runs.Statement.{statement}
 use Rattle.interpreter_runs.proofs.validate_runs.Tie as tie
 
-one-read-requires : tie.Need-one-read-requires
+one-read-requires : tie.Need-one_read-first-requires
 one-read-requires c κs = search rules
 
-answer-all-requires : tie.Need-answer-all-requires
-answer-all-requires c κs = (c.before.before.one_read.ensures, λ h. omega (arith, h))
+answer-all-requires : tie.Need-answer_all-end-requires
+answer-all-requires c κs = (c.one_read-first.ensures, λ h. omega (arith, h))
 
-clear-used-requires : tie.Need-clear-used-requires
+clear-used-requires : tie.Need-clear_used-requires
 clear-used-requires c κs = search rules
 
-same_length : tie.Need-same-length
+same_length : tie.Need-shape_of-words
 same_length c = search rules
 
-same-length-2 : tie.Need-same-length-2
+same-length-2 : tie.Need-shape_of-answers
 same-length-2 c = search rules
 
 returns : tie.Need-returns
-returns c =
-    let at-clear-used = c.before.before in
-    let at-answer-all = at-clear-used.before.before.before.before.before.before in (
-      answers_counted _ at-answer-all.answer-all.ensures.1,
-      (
-        answers_stand _ at-answer-all.answer-all.ensures.1,
-        at-clear-used.clear-used.ensures ∙ ap (λ (n : ℕ). replicate n 0) at-answer-all.answer-all.ensures.0,
-      ),
-    )
+returns c = (
+  answers_counted _ c.answer_all-end.ensures.1,
+  (
+    answers_stand _ c.answer_all-end.ensures.1,
+    c.clear_used.ensures ∙ ap (λ (n : ℕ). replicate n 0) c.answer_all-end.ensures.0,
+  ),
+)
 
 pub validate_runs_spec : {M : Type 1} → statement M
 validate_runs_spec =

@@ -10,36 +10,34 @@ use Rattle.interpreter_validate.proofs.answer_with.Statement.{statement}
 use Rattle.interpreter_validate.proofs.answer_with.Tie as tie
 
 -- The place before the questions, and that they are answered.
-abbrev at-start : tie.After-both-read → tie.Start
+abbrev at-start : tie.After-both_read-judged → tie.Start
 at-start r = r.before.before.before.before.before.before
 
-asked : (r : tie.After-both-read) →
-    Asked (at-start r).args.ask (at-start r).args.layout.now (at-start r).args.other.now r.both_read.result
+asked : (r : tie.After-both_read-judged) →
+    Asked (at-start r).args.ask (at-start r).args.layout.now (at-start r).args.other.now r.both_read-judged.result
     (at-start r).args.words.now (length (at-start r).args.words.now)
-asked r = record { questions = judged_of r.before.kind.ensures r.both_read.ensures; room = λ h. omega (arith, h) }
+asked r = record { questions = judged_of r.kind.ensures r.both_read-judged.ensures; room = λ h. omega (arith, h) }
 
 kind-requires : tie.Need-kind-requires
 kind-requires c κs = search rules
 
-both-read-requires : tie.Need-both-read-requires
+both-read-requires : tie.Need-both_read-judged-requires
 both-read-requires c κs = search rules
 
-counted-for-requires : tie.Need-counted-for-requires
+counted-for-requires : tie.Need-counted_for-a-requires
 counted-for-requires c κs = (_, asked c.before)
 
-clear-used-requires : tie.Need-clear-used-requires
+clear-used-requires : tie.Need-clear_used-requires
 clear-used-requires c κs = search rules
 
-same_length : tie.Need-same-length
+same_length : tie.Need-shape_of-words
 same_length c = search rules
 
 returns : tie.Need-returns
-returns c =
-    let at-clear-used = c.before.before in
-    let at-counted-for = at-clear-used.before.before.before.before in (
-      at-counted-for.counted-for.ensures.1 _ (asked at-counted-for.before.before),
-      at-clear-used.clear-used.ensures ∙ ap (λ (n : ℕ). replicate n 0) at-counted-for.counted-for.ensures.0,
-    )
+returns c = (
+  c.counted_for-a.ensures.1 _ (asked c.before.before.before.before.before.before.before.before),
+  c.clear_used.ensures ∙ ap (λ (n : ℕ). replicate n 0) c.counted_for-a.ensures.0,
+)
 
 pub answer_with_spec : {M : Type 1} → statement M
 answer_with_spec =

@@ -12,54 +12,53 @@ use Rattle.interpreter_validate.proofs.clear_used.Statement.{statement}
 use Rattle.interpreter_validate.proofs.clear_used.Tie as tie
 
 -- The places before the second part is cleared, and that the first is still within the words.
-abbrev at_first : tie.After-slice-known2 → tie.After-clear-words
+abbrev at_first : tie.After-slice_known-2-1 → tie.After-clear_words
 at_first c = c.before.before
 
-abbrev at-used : tie.After-clear-words → tie.After-used
+abbrev at-used : tie.After-clear_words → tie.After-used-calls
 at-used c = c.before.before
 
-fits : (c : tie.After-slice-known2) →
-    (at-used (at_first c)).used.result
-    ≤ length ((at_first c).clear-words.new.0 ++ drop (at-used (at_first c)).used.result (at-used (at_first c)).before.before.args.words.now)
+fits : (c : tie.After-slice_known-2-1) →
+    (at-used (at_first c)).used-calls.result
+    ≤ length ((at_first c).clear_words.new.words ++ drop (at-used (at_first c)).used-calls.result (at-used (at_first c)).args.words.now)
 fits c =
     let used = at-used (at_first c) in
-    first_fits used.before.before.args.words.now used.used.result (used_within used.used.ensures) (at_first c).clear-words.ensures
+    first_fits used.args.words.now used.used-calls.result (used_within used.used-calls.ensures) (at_first c).clear_words.ensures
 
-used-requires : tie.Need-used-requires
+used-requires : tie.Need-used-calls-requires
 used-requires c κs = search rules
 
-slice-relend-prefix-clear-words : tie.Need-slice-relend-prefix-clear-words
-slice-relend-prefix-clear-words c = used_within c.used.ensures
+slice-relend-prefix-clear-words : tie.Need-slice_bounds-clear_words-end
+slice-relend-prefix-clear-words c = used_within c.used-calls.ensures
 
-slice-aggregate-clear-words : tie.Need-slice-aggregate-clear-words
-slice-aggregate-clear-words c = sym (length-take-le _ _ (used_within c.before.used.ensures))
+slice-aggregate-clear-words : tie.Need-slice_bounds-clear_words-end-2
+slice-aggregate-clear-words c = sym (length-take-le _ _ (used_within c.used-calls.ensures))
 
-clear-words-requires : tie.Need-clear-words-requires
+clear-words-requires : tie.Need-clear_words-requires
 clear-words-requires c κs = search rules
 
-mul-clear-index : tie.Need-overflow-mul-clear-index
-mul-clear-index c = omega (arith, used_few (at-used (at_first c)).used.ensures)
+mul-clear-index : tie.Need-offset_bounds-words-calls
+mul-clear-index c = omega (arith, used_few (at-used (at_first c)).used-calls.ensures)
 
-sub-clear-index : tie.Need-overflow-sub-clear-index
+sub-clear-index : tie.Need-slice_bounds-clear_index-count
 sub-clear-index c = fits c
 
-part-clear-index-start : tie.Need-slice-bounds-clear-index-start
+part-clear-index-start : tie.Need-slice_bounds-clear_index-start
 part-clear-index-start c = fits c
 
-part-clear-index-end : tie.Need-slice-bounds-clear-index-end
+part-clear-index-end : tie.Need-slice_bounds-clear_index-end
 part-clear-index-end c = search rules
 
-clear-index-requires : tie.Need-clear-index-requires
+clear-index-requires : tie.Need-clear_index-requires
 clear-index-requires c κs = search rules
 
-same_length : tie.Need-same-length
+same_length : tie.Need-shape_of-words
 same_length c = search rules
 
 returns : tie.Need-returns
 returns c =
-    let at_second = c.before.before in
-    let first = at_first at_second.before.before in
-    cleared_apart _ _ _ (used_within (at-used first).used.ensures) first.clear-words.ensures _ _ refl at_second.clear-index.ensures
+    let first = at_first c.before.before.before.before in
+    cleared_apart _ _ _ (used_within (at-used first).used-calls.ensures) first.clear_words.ensures _ _ refl c.clear_index.ensures
 
 pub clear_used_spec : {M : Type 1} → statement M
 clear_used_spec =

@@ -4,40 +4,33 @@ use borrow.Author.Rules.{rules}
 use Rattle.interpreter_validate.proofs.counted_for.Statement.{statement}
 use Rattle.interpreter_validate.proofs.counted_for.Tie as tie
 
-enum-known-ask : tie.Need-enum-known-ask
+enum-known-ask : tie.Need-enum_known-ask
 enum-known-ask c = search rules
 
 counted-requires : tie.Need-counted-requires
 counted-requires c κs =
-    let at-ask = c.before.before in
-    let at-start = at-ask.before.before.before.before.before.before in
-    asked_as at-ask.ask.given.1 at-start.requires
+    asked_as c.in-Values.is c.requires
 
-enum_told : tie.Need-enum-told
+enum_told : tie.Need-enum_told-1
 enum_told c = search rules
 
-counted-run-requires : tie.Need-counted-run-requires
+counted-run-requires : tie.Need-counted_run-requires
 counted-run-requires c κs =
-    let at-start = c.before.before.before.before.before.before.before in
-    asked_as c.before.enum_told.given.1 at-start.requires
+    asked_as c.in-Run.is c.requires
 
-same_length : tie.Need-same-length
+same_length : tie.Need-shape_of-words-in-Values
 same_length c = search rules
 
-returns : tie.Need-returns
+returns : tie.Need-returns-in-Values
 returns c =
-    let at-counted = c.before.before in
-    let at-ask = at-counted.before.before.before in
-    (at-counted.counted.ensures.0, called_as at-ask.ask.given.1 _ _ _ _ _ at-counted.counted.result at-counted.counted.ensures.1)
+    (c.counted.ensures.0, called_as c.in-Values.is _ _ _ _ _ c.counted.result c.counted.ensures.1)
 
-same-length-2 : tie.Need-same-length-2
+same-length-2 : tie.Need-shape_of-words-in-Run
 same-length-2 c = search rules
 
-returns-2 : tie.Need-returns-2
+returns-2 : tie.Need-returns-in-Run
 returns-2 c =
-    let at-counted-run = c.before.before in
-    let at-enum-told = at-counted-run.before.before in
-    (at-counted-run.counted-run.ensures.0, called_as at-enum-told.enum_told.given.1 _ _ _ _ _ at-counted-run.counted-run.result at-counted-run.counted-run.ensures.1)
+    (c.counted_run.ensures.0, called_as c.in-Run.is _ _ _ _ _ c.counted_run.result c.counted_run.ensures.1)
 
 pub counted_for_spec : {M : Type 1} → statement M
 counted_for_spec =

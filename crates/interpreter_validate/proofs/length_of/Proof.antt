@@ -8,41 +8,36 @@ use Rattle.interpreter_validate.proofs.length_of.Statement.{statement}
 use Rattle.interpreter_validate.proofs.length_of.Tie as tie
 
 -- The questions are answered, seen from behind them.
-judged : (r : tie.After-both-read) →
-    let start = r.before.before.before.before in
-    Judged (ask.Values start.args.len) start.args.layout.now start.args.values.now r.both_read.result 8192
+judged : (r : tie.After-both_read) →
+    Judged (ask.Values r.args.len) r.args.layout.now r.args.values.now r.both_read.result 8192
 judged r = judged_of refl r.both_read.ensures
 
-both-read-requires : tie.Need-both-read-requires
+both-read-requires : tie.Need-both_read-requires
 both-read-requires c κs = search rules
 
-enum-known-q : tie.Need-enum-known-q
+enum-known-q : tie.Need-enum_known-q
 enum-known-q c = search rules
 
 unread-requires : tie.Need-unread-requires
 unread-requires c κs = search rules
 
-enum_told : tie.Need-enum-told
+enum_told : tie.Need-enum_told-1
 enum_told c = search rules
 
-type-alone-requires : tie.Need-type-alone-requires
+type-alone-requires : tie.Need-type_alone-requires
 type-alone-requires c κs =
-    let at-both-read = c.before.before in
-    values_located (given (judged at-both-read) c.enum_told.given.1)
+    values_located (given (judged c.before) c.in-Ok.is)
 
-returns : tie.Need-returns
+returns : tie.Need-returns-in-Refused
 returns c =
-    let at-q = c.before.before in
-    stops (judged at-q.before.before) _ _ at-q.q.given.1 c.unread.ensures
+    stops (judged c.before.before) _ _ c.in-Refused.is c.unread.ensures
 
-returns-2 : tie.Need-returns-2
+returns-2 : tie.Need-returns-in-Ok
 returns-2 c =
-    let at-enum-told = c.before in
-    let at-both-read = at-enum-told.before.before in
-    goes (judged at-both-read)
-    at-enum-told.enum_told.given.1 _
-    c.type-alone.result
-    (values_answer _ _ _ _ c.type-alone.result c.type-alone.ensures)
+    goes (judged c.before.before)
+    c.in-Ok.is _
+    c.type_alone.result
+    (values_answer _ _ _ _ c.type_alone.result c.type_alone.ensures)
 
 pub length_of_spec : {M : Type 1} → statement M
 length_of_spec =

@@ -4,14 +4,14 @@ use borrow.Author.Rules.{rules}
 use Rattle.interpreter_validate.proofs.long_tree.Statement.{statement}
 use Rattle.interpreter_validate.proofs.long_tree.Tie as tie
 
-slice-aggregate-evaluated-tree : tie.Need-slice-aggregate-evaluated-tree
+slice-aggregate-evaluated-tree : tie.Need-slice_bounds-evaluated_tree-end
 slice-aggregate-evaluated-tree c = search rules
 
-evaluated-tree-requires : tie.Need-evaluated-tree-requires
-evaluated-tree-requires c κs = let start = c.before.before.before in (start.requires, omega arith)
+evaluated-tree-requires : tie.Need-evaluated_tree-requires
+evaluated-tree-requires c κs = (c.requires, omega arith)
 
 returns : tie.Need-returns
-returns c = c.before.evaluated-tree.ensures.1
+returns c = c.evaluated_tree.ensures.1
 
 pub long_tree_spec : {M : Type 1} → statement M
 long_tree_spec =

@@ -4,19 +4,18 @@ use native.Mathlib.Omega.{arith}
 use Rattle.interpreter_validate.proofs.run_alone.Statement.{statement}
 use Rattle.interpreter_validate.proofs.run_alone.Tie as tie
 
-name-at-requires : tie.Need-name-at-requires
-name-at-requires c κs = omega (arith, run_inside _ c.before.before.requires.other_read)
+name-at-requires : tie.Need-name_at-requires
+name-at-requires c κs = omega (arith, run_inside _ c.requires.other_read)
 
-run-root-requires : tie.Need-run-root-requires
-run-root-requires c κs = c.before.before.before.requires.other_read
+run-root-requires : tie.Need-run_root-requires
+run-root-requires c κs = c.requires.other_read
 
-type-alone-requires : tie.Need-type-alone-requires
-type-alone-requires c κs = let start = c.before.before.before.before in run_located start.requires c.run-root.ensures
+type-alone-requires : tie.Need-type_alone-requires
+type-alone-requires c κs = run_located c.requires c.run_root.ensures
 
 returns : tie.Need-returns
 returns c =
-    let at-run-root = c.before in
-    run_answers _ at-run-root.run-root.ensures at-run-root.before.name_at.ensures c.type-alone.result c.type-alone.ensures
+    run_answers _ c.run_root.ensures c.name_at.ensures c.type_alone.result c.type_alone.ensures
 
 pub run_alone_spec : {M : Type 1} → statement M
 run_alone_spec =

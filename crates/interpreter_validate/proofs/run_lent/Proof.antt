@@ -5,28 +5,24 @@ use borrow.Author.Rules.{rules}
 use Rattle.interpreter_validate.proofs.run_lent.Statement.{statement}
 use Rattle.interpreter_validate.proofs.run_lent.Tie as tie
 
-name-at-requires : tie.Need-name-at-requires
-name-at-requires c κs = omega (arith, run_inside _ c.before.before.before.requires.0.other_read)
+name-at-requires : tie.Need-name_at-requires
+name-at-requires c κs = omega (arith, run_inside _ c.requires.0.other_read)
 
-run-root-requires : tie.Need-run-root-requires
-run-root-requires c κs = c.before.before.before.before.requires.0.other_read
+run-root-requires : tie.Need-run_root-requires
+run-root-requires c κs = c.requires.0.other_read
 
-type-lent-requires : tie.Need-type-lent-requires
+type-lent-requires : tie.Need-type_lent-requires
 type-lent-requires c κs =
-    let at-run-root = c.before in
-    let start = at-run-root.before.before.before.before.before in
-    (run_located start.requires.0 at-run-root.run-root.ensures, start.requires.1)
+    (run_located c.requires.0 c.run_root.ensures, c.requires.1)
 
-same_length : tie.Need-same-length
+same_length : tie.Need-shape_of-words
 same_length c = search rules
 
 returns : tie.Need-returns
-returns c =
-    let at-type-lent = c.before.before in
-    let at-run-root = at-type-lent.before.before in (
-      at-type-lent.type-lent.ensures.0,
-      run_answers _ at-run-root.run-root.ensures at-run-root.before.name_at.ensures at-type-lent.type-lent.result at-type-lent.type-lent.ensures.1,
-    )
+returns c = (
+  c.type_lent.ensures.0,
+  run_answers _ c.run_root.ensures c.name_at.ensures c.type_lent.result c.type_lent.ensures.1,
+)
 
 pub run_lent_spec : {M : Type 1} → statement M
 run_lent_spec =

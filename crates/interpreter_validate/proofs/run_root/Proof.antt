@@ -7,20 +7,19 @@ use native.Mathlib.Omega.{arith}
 use Rattle.interpreter_validate.proofs.run_root.Statement.{statement}
 use Rattle.interpreter_validate.proofs.run_root.Tie as tie
 
-behind-name-requires : tie.Need-behind-name-requires
-behind-name-requires c κs = omega (arith, run_inside _ c.before.requires)
+behind-name-requires : tie.Need-behind_name-at-requires
+behind-name-requires c κs = omega (arith, run_inside _ c.requires)
 
-add-t3 : tie.Need-overflow-add-t3
-add-t3 c = omega (arith, run_inside _ c.before.before.requires, c.behind_name.ensures)
+add-t3 : tie.Need-overflow_add-result
+add-t3 c = omega (arith, run_inside _ c.requires, c.behind_name-at.ensures)
 
 read8-requires : tie.Need-read8-requires
-read8-requires c κs = omega (arith, run_inside _ c.before.before.requires, c.behind_name.ensures)
+read8-requires c κs = omega (arith, run_inside _ c.requires, c.behind_name-at.ensures)
 
 returns : tie.Need-returns
 returns c =
-    let at-behind-name = c.before in
-    let run = at-behind-name.before.before.args.run.now in
-    let e : at-behind-name.behind_name.result ≡ 8 + le2 run 6 = omega (arith, at-behind-name.behind_name.ensures) in
+    let run = c.args.run.now in
+    let e : c.behind_name-at.result ≡ 8 + le2 run 6 = omega (arith, c.behind_name-at.ensures) in
     record {
       block = omega (arith, e);
       long = c.read8.ensures ∙ ap (le8 run) e;

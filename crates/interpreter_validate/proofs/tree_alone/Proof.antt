@@ -7,20 +7,20 @@ use Rattle.interpreter_validate.proofs.tree_alone.Tie as tie
 needed-requires : tie.Need-needed-requires
 needed-requires c κs = search rules
 
-long-tree-requires : tie.Need-long-tree-requires
+long-tree-requires : tie.Need-long_tree-requires
 long-tree-requires c κs = search rules
 
-returns : tie.Need-returns
-returns c = c.long-tree.ensures
+returns : tie.Need-returns-then-needed-gt-CALLS
+returns c = c.long_tree.ensures
 
-slice-aggregate-evaluated-tree : tie.Need-slice-aggregate-evaluated-tree
+slice-aggregate-evaluated-tree : tie.Need-slice_bounds-evaluated_tree-end
 slice-aggregate-evaluated-tree c = search rules
 
-evaluated-tree-requires : tie.Need-evaluated-tree-requires
-evaluated-tree-requires c κs = let start = c.before.before.before.before.before in (start.requires, omega arith)
+evaluated-tree-requires : tie.Need-evaluated_tree-requires
+evaluated-tree-requires c κs = (c.requires, omega arith)
 
-returns-2 : tie.Need-returns-2
-returns-2 c = c.before.evaluated-tree.ensures.1
+returns-2 : tie.Need-returns
+returns-2 c = c.evaluated_tree.ensures.1
 
 pub tree_alone_spec : {M : Type 1} → statement M
 tree_alone_spec =

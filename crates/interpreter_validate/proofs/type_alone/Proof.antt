@@ -4,32 +4,28 @@ use borrow.Author.Rules.{rules}
 use Rattle.interpreter_validate.proofs.type_alone.Statement.{statement}
 use Rattle.interpreter_validate.proofs.type_alone.Tie as tie
 
-lookup-type-requires : tie.Need-lookup-type-requires
+lookup-type-requires : tie.Need-lookup_type-requires
 lookup-type-requires c κs = search rules
 
-enum_told : tie.Need-enum-told
+enum_told : tie.Need-enum_told-1
 enum_told c = search rules
 
 plain-requires : tie.Need-plain-requires
 plain-requires c κs = search rules
 
-enum-known-place : tie.Need-enum-known-place
+enum-known-place : tie.Need-enum_known-place
 enum-known-place c = search rules
 
-tree-alone-requires : tie.Need-tree-alone-requires
+tree-alone-requires : tie.Need-tree_alone-requires
 tree-alone-requires c κs =
-    let at_place = c.before in
-    let at-lookup-type = at_place.before.before in
-    let at-start = at-lookup-type.before.before.before.before in
-    type_aimed at-lookup-type.lookup_type.ensures _ at_place.place.given.1 at-start.requires
+    type_aimed c.lookup_type.ensures _ c.in-At.is c.requires
 
-returns : tie.Need-returns
-returns c = λ t rd a. type_unknown c.before.before.before.lookup_type.ensures c.before.enum_told.given.1 t rd _ _ _ c.plain.ensures
+returns : tie.Need-returns-in-Missing
+returns c = λ t rd a. type_unknown c.lookup_type.ensures c.in-Missing.is t rd _ _ _ c.plain.ensures
 
-returns-2 : tie.Need-returns-2
+returns-2 : tie.Need-returns-in-At
 returns-2 c =
-    let at_place = c.before.before in
-    c.tree-alone.ensures _ (type_named at_place.before.before.lookup_type.ensures at_place.place.given.1)
+    c.tree_alone.ensures _ (type_named c.lookup_type.ensures c.in-At.is)
 
 pub type_alone_spec : {M : Type 1} → statement M
 type_alone_spec =

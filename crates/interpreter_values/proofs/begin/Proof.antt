@@ -12,48 +12,44 @@ use Rattle.interpreter_values.proofs.Index.{kept_index, index_none, same_table}
 use Rattle.interpreter_values.proofs.begin.Statement.{statement}
 use Rattle.interpreter_values.proofs.begin.Tie as tie
 
-slice-read-m : tie.Need-slice-read-m
+slice-read-m : tie.Need-bounds-words-16
 slice-read-m c = search rules
 
-sub-m : tie.Need-overflow-sub-m
+sub-m : tie.Need-overflow_sub-m
 sub-m c = search rules
 
-sub-clear : tie.Need-overflow-sub-clear
+sub-clear : tie.Need-slice_bounds-clear-count
 sub-clear c = search rules
 
-part-clear-start : tie.Need-slice-bounds-clear-start
+part-clear-start : tie.Need-slice_bounds-clear-start
 part-clear-start c = search rules
 
-part-clear-end : tie.Need-slice-bounds-clear-end
+part-clear-end : tie.Need-slice_bounds-clear-end
 part-clear-end c = search rules
 
 clear-requires : tie.Need-clear-requires
 clear-requires c κs = search rules
 
-same_length : tie.Need-same-length
+same_length : tie.Need-shape_of-words
 same_length c = search rules
 
-returns : tie.Need-returns
+returns : tie.Need-returns-then-m-eq0
 returns c =
-    let at_clear = c.before.before in
-    let at-then = at_clear.before.before in
-    let at-start = at-then.before.before.before in
-    let words = at-start.args.words.now in
-    let table = at_clear.clear.new.0 in
-    let none : get_or words 16 0 - 4 ≡ 0 = at-then.if1.true in
+    let words = c.args.words.now in
+    let table = c.clear.new.table in
+    let none : get_or words 16 0 - 4 ≡ 0 = c.if-m-eq0.true in
     let index : (s : List ℕ) (block : ℕ) → Indexed s block (get_or words 16 0 - 4) (drop 17 (put_mid 17 639 words table)) =
     λ s block. subst (λ (m : ℕ). Indexed s block m (drop 17 (put_mid 17 639 words table))) (sym none)
-    (index_none words table at-start.requires.0 at_clear.clear.auto.0 at_clear.clear.ensures) in
-    let counts : get_or words 16 0 ≡ get_or words 16 0 - 4 + 4 = omega (arith, at-start.requires.1) in (
+    (index_none words table c.requires.0 c.clear.auto.table c.clear.ensures) in
+    let counts : get_or words 16 0 ≡ get_or words 16 0 - 4 + 4 = omega (arith, c.requires.1) in (
       λ s block r. index s block,
       λ s block r.
-          kept_index (omega (arith, at-start.requires.0, same_len_mid 17 639 words table at_clear.clear.auto.0)) (same_table words table at-start.requires.0) counts (index s block),
+          kept_index (omega (arith, c.requires.0, same_len_mid 17 639 words table c.clear.auto.table)) (same_table words table c.requires.0) counts (index s block),
     )
 
-returns-2 : tie.Need-returns-2
+returns-2 : tie.Need-returns-else-m-eq0
 returns-2 c =
-    let at-start = c.before.before.before in
-    (λ s block r. r.index at-start.requires.0 (omega (arith, c.if1.false)), λ s block r. kept_none r)
+    (λ s block r. r.index c.requires.0 (omega (arith, c.if-m-eq0.false)), λ s block r. kept_none r)
 
 pub begin_spec : {M : Type 1} → statement M
 begin_spec =

@@ -12,55 +12,55 @@ use Rattle.interpreter_values.proofs.entry_offset.Statement.{statement}
 use Rattle.interpreter_values.proofs.entry_offset.Tie as tie
 
 -- The places, each seen from a later one: what was known there.
-abbrev from_then : tie.Then1 → tie.Start
+abbrev from_then : tie.Then-m-eq0 → tie.Start
 from_then r = r.before.before.before
 
-abbrev from-else : tie.Else1 → tie.Start
+abbrev from-else : tie.Else-m-eq0 → tie.Start
 from-else r = r.before.before.before
 
 -- the last entry of the index
-last-low : (r : tie.Else1) → (from-else r).args.m - 1 < (from-else r).args.m
-last-low r = omega (arith, r.if1.false)
+last-low : (r : tie.Else-m-eq0) → r.args.m - 1 < r.args.m
+last-low r = omega (arith, r.if-m-eq0.false)
 
 -- its word is one of the words
-last_word : (r : tie.Else1) → 656 + ((from-else r).args.m - 1) < length (from-else r).args.words.now
-last_word r = let at-start = from-else r in word_in at-start.pre.0 at-start.args.words.now at-start.pre.1 (last-low r)
+last_word : (r : tie.Else-m-eq0) → 656 + (r.args.m - 1) < length r.args.words.now
+last_word r = let at-start = from-else r in word_in at-start.requires.0 at-start.args.words.now at-start.requires.1 (last-low r)
 
-add-result : tie.Need-overflow-add-result
-add-result c = omega (arith, inside (from_then c).requires.0)
+add-result : tie.Need-overflow_add-result
+add-result c = omega (arith, inside c.requires.0)
 
-add-result-2 : tie.Need-overflow-add-result-2
-add-result-2 c = omega (arith, inside (from_then c).requires.0)
+add-result-2 : tie.Need-overflow_add-result-then-m-eq0
+add-result-2 c = omega (arith, inside c.requires.0)
 
-returns : tie.Need-returns
+returns : tie.Need-returns-then-m-eq0
 returns c =
     let at-start = from_then c in
-    entry_first at-start.args.values.now _ ∙ ap (entry_at at-start.args.values.now (at-start.args.block + 6 + 2)) (sym c.if1.true)
+    entry_first at-start.args.values.now _ ∙ ap (entry_at at-start.args.values.now (at-start.args.block + 6 + 2)) (sym c.if-m-eq0.true)
 
-sub_word : tie.Need-overflow-sub-word
+sub_word : tie.Need-overflow_sub-word
 sub_word c = search rules
 
-add-word : tie.Need-overflow-add-word
+add-word : tie.Need-overflow_add-word
 add-word c = omega (arith, last_word c)
 
-mul-behind-entry : tie.Need-overflow-mul-behind-entry
+mul-behind-entry : tie.Need-offset_bounds-words-word
 mul-behind-entry c = omega (arith, last_word c)
 
-shared-slice-read-behind-entry : tie.Need-shared-slice-read-behind-entry
+shared-slice-read-behind-entry : tie.Need-bounds-words-word
 shared-slice-read-behind-entry c = omega (arith, last_word c.before)
 
-behind-entry-requires : tie.Need-behind-entry-requires
+behind-entry-requires : tie.Need-behind_entry-requires
 behind-entry-requires c κs =
     let at-start = from-else c.before in
-    number_in at-start.pre.0 at-start.args.words.now at-start.pre.1 (last-low c.before)
+    number_in at-start.requires.0 at-start.args.words.now at-start.requires.1 (last-low c.before)
 
-returns-2 : tie.Need-returns-2
+returns-2 : tie.Need-returns
 returns-2 c =
     let there = c.before.before in
     let at-start = from-else there in
-    let here = offset_at at-start.pre.0 at-start.args.words.now at-start.pre.1 (last-low there) in
-    let e : at-start.args.m - 1 + 1 ≡ at-start.args.m = omega (arith, there.if1.false) in
-    entry_next at-start.args.values.now _ (at-start.args.m - 1) here c.behind-entry.ensures ∙ ap (entry_at at-start.args.values.now (at-start.args.block + 6 + 2)) e
+    let here = offset_at at-start.requires.0 at-start.args.words.now at-start.requires.1 (last-low there) in
+    let e : at-start.args.m - 1 + 1 ≡ at-start.args.m = omega (arith, c.if-m-eq0.false) in
+    entry_next at-start.args.values.now _ (at-start.args.m - 1) here c.behind_entry.ensures ∙ ap (entry_at at-start.args.values.now (at-start.args.block + 6 + 2)) e
 
 pub entry_offset_spec : {M : Type 1} → statement M
 entry_offset_spec =

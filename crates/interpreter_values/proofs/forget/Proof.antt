@@ -4,16 +4,16 @@ use Rattle.interpreter_values.proofs.Laws.{forgotten}
 use Rattle.interpreter_values.proofs.forget.Statement.{statement}
 use Rattle.interpreter_values.proofs.forget.Tie as tie
 
-slice-write-words : tie.Need-slice-write-words
+slice-write-words : tie.Need-bounds-words-16
 slice-write-words c = search rules
 
-same_length : tie.Need-same-length
+same_length : tie.Need-shape_of-words
 same_length c = search rules
 
-returns : tie.Need-returns
-returns c = λ s block. forgotten c.before.args.words.now c.if1.true
+returns : tie.Need-returns-then-words-gt-KNOWN
+returns c = λ s block. forgotten c.args.words.now c.if-words-gt-KNOWN.true
 
-returns-2 : tie.Need-returns-2
+returns-2 : tie.Need-returns-else-words-gt-KNOWN
 returns-2 c = search rules
 
 pub forget_spec : {M : Type 1} → statement M

@@ -13,90 +13,86 @@ use Rattle.interpreter_values.proofs.indexed.Statement.{statement}
 use Rattle.interpreter_values.proofs.indexed.Tie as tie
 
 -- The places, each seen from a later one: what was known there.
-abbrev from-begin : tie.After-begin → tie.Start
+abbrev from-begin : tie.After-begin-m → tie.Start
 from-begin r = r.before.before.before.before.before
 
-abbrev at-begin : tie.After-place → tie.After-begin
-at-begin r = r.before.before.before.before
+abbrev at-begin : tie.After-place-found → tie.After-begin-m
+at-begin r = r.before.before.before
 
-abbrev from_place : tie.After-place → tie.Start
+abbrev from_place : tie.After-place-found → tie.Start
 from_place r = from-begin (at-begin r)
 
 -- the index that stands when the search begins
-index : (r : tie.After-begin) → Indexed (from-begin r).args.values.now (from-begin r).args.block r.begin.result (drop 17 r.begin.new.0)
-index r = r.begin.ensures.0 _ _ (from-begin r).requires.1
+index : (r : tie.After-begin-m) → Indexed r.args.values.now r.args.block r.begin-m.result (drop 17 r.begin-m.new.words)
+index r = r.begin-m.ensures.0 _ _ r.requires.1
 
 -- the word of the entry that was found is one of the words
-found_word : (r : tie.Then1) → 656 + r.before.place.result < length (at-begin r.before).begin.new.0
-found_word r = let b = at-begin r.before in word_in (from-begin b).pre.0 b.begin.last.0 (index b) r.if1.true
+found_word : (r : tie.Then-found-m) → 656 + r.place-found.result < length r.begin-m.new.words
+found_word r = let b = at-begin r.before in word_in b.requires.0 b.begin-m.new.words (index b) r.if-found-m.true
 
-begin-requires : tie.Need-begin-requires
+begin-requires : tie.Need-begin-m-requires
 begin-requires c κs = search rules
 
-place-requires : tie.Need-place-requires
-place-requires c κs = let b = c.before.before.before in ((from-begin b).requires.0, index b)
+place-requires : tie.Need-place-found-requires
+place-requires c κs = (c.requires.0, index c.before.before)
 
-add-word : tie.Need-overflow-add-word
+add-word : tie.Need-overflow_add-word
 add-word c = omega (arith, found_word c)
 
-mul-behind-name : tie.Need-overflow-mul-behind-name
+mul-behind-name : tie.Need-offset_bounds-words-word
 mul-behind-name c = omega (arith, found_word c)
 
-slice-read-behind-name : tie.Need-slice-read-behind-name
+slice-read-behind-name : tie.Need-bounds-words-word
 slice-read-behind-name c = omega (arith, found_word c.before)
 
-behind-name-requires : tie.Need-behind-name-requires
+behind-name-requires : tie.Need-behind_name-requires
 behind-name-requires c κs =
-    let there = c.before in
-    let b = at-begin there.before in
-    name_in (from-begin b).pre.0 b.begin.last.0 (index b) there.if1.true
+    let b = at-begin c.before.before in
+    name_in b.requires.0 b.begin-m.new.words (index b) c.if-found-m.true
 
-same_length : tie.Need-same-length
+same_length : tie.Need-shape_of-words-then-found-m
 same_length c = search rules
 
-returns : tie.Need-returns
+returns : tie.Need-returns-then-found-m
 returns c =
-    let there = c.before.before in
-    let at_place = there.before in
+    let at_place = c.before.before.before in
     let b = at-begin at_place in
     let at-start = from-begin b in
-    let here = offset_at at-start.pre.0 b.begin.last.0 (index b) there.if1.true in
+    let here = offset_at at-start.requires.0 b.begin-m.new.words (index b) c.if-found-m.true in
     let low = (index b).within in (
-      Leaves.at (first_there _ _ _ (first_more _ _ at_place.place.ensures there.if1.true low) (omega (arith, there.if1.true, low)) here c.behind_name.ensures),
-      b.begin.ensures.1 _ _ at-start.pre.1,
+      Leaves.at (first_there _ _ _ (first_more _ _ c.place-found.ensures c.if-found-m.true low) (omega (arith, c.if-found-m.true, low)) here c.behind_name.ensures),
+      b.begin-m.ensures.1 _ _ at-start.requires.1,
     )
 
-extend-requires : tie.Need-extend-requires
+extend-requires : tie.Need-extend-at-requires
 extend-requires c κs =
     let b = at-begin c.before.before in
     let at-start = from-begin b in
-    (at-start.pre.0, index b, omega (arith, at-start.pre.2, c.before.before.before.before.before.words.given))
+    (at-start.requires.0, index b, omega (arith, at-start.requires.2, c.words-1.given))
 
 -- The place where no entry of the index had the name, seen from behind the index's growth.
-abbrev at_place : tie.After-slice-known4 → tie.After-place
+abbrev at_place : tie.After-slice_known-3-1 → tie.After-place-found
 at_place r = r.before.before.before.before.before
 
-add-read2 : tie.Need-overflow-add-read2
+add-read2 : tie.Need-overflow_add-block
 add-read2 c = omega (arith, inside (from_place (at_place c)).requires.0)
 
-read2-requires : tie.Need-read2-requires
+read2-requires : tie.Need-read2-n-requires
 read2-requires c κs = inside (from_place (at_place c)).requires.0
 
-sub-t22 : tie.Need-overflow-sub-t22
-sub-t22 c = omega (arith, c.read2.ensures.0, (index (at-begin (at_place c.before))).within)
+sub-t22 : tie.Need-overflow_sub-result
+sub-t22 c = omega (arith, c.read2-n.ensures.0, (index (at-begin (at_place c.before))).within)
 
-same-length-2 : tie.Need-same-length-2
+same-length-2 : tie.Need-shape_of-words
 same-length-2 c = search rules
 
-returns-2 : tie.Need-returns-2
+returns-2 : tie.Need-returns
 returns-2 c =
-    let at-extend = c.before.before.before in
-    let missed = at-extend.before.before in
-    let r = missed.before in
+    let r = c.before.before.before.before.before.before in
     let b = at-begin r in
     let at-start = from-begin b in (
-      leaves_rest at-start.pre.0 at-start.args.name.now (index b).within r.place.ensures missed.if1.false c.read2.ensures.0 at-extend.extend.ensures.0,
-      kept_both (b.begin.ensures.1 _ _ at-start.pre.1) at-extend.extend.ensures.1,
+      leaves_rest at-start.requires.0 at-start.args.name.now (index b).within c.place-found.ensures c.if-found-m.false c.read2-n.ensures.0 c.extend-at.ensures.0,
+      kept_both (b.begin-m.ensures.1 _ _ at-start.requires.1) c.extend-at.ensures.1,
     )
 
 pub indexed_spec : {M : Type 1} → statement M

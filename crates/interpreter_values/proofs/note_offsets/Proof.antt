@@ -11,62 +11,60 @@ use Rattle.interpreter_values.proofs.Index.{offsets_more}
 use Rattle.interpreter_values.proofs.note_offsets.Statement.{statement}
 use Rattle.interpreter_values.proofs.note_offsets.Tie as tie
 
-abbrev invariant-loop : tie.invariant-loop
+abbrev invariant-loop : tie.invariant-loop-i
 invariant-loop values block offsets₀ to at₀ i₀ offsets at i =
     Standing values block to i at × (Offsets values (block + 6 + 2) i₀ offsets₀ → Offsets values (block + 6 + 2) i offsets) × (length offsets ≡ length offsets₀)
 
-abbrev decreases-loop : tie.decreases-loop
+abbrev decreases-loop : tie.decreases-loop-i
 decreases-loop values block offsets₀ to at₀ i₀ offsets at i = to - i
 
 -- The place where the function begins, seen from the loop.
-abbrev from-loop : tie.At-loop invariant-loop decreases-loop → tie.Start invariant-loop decreases-loop
+abbrev from-loop : tie.At-loop-i invariant-loop decreases-loop → tie.Start invariant-loop decreases-loop
 from-loop r = r.before.before.before
 
-loop-holds : tie.Need-loop-init invariant-loop decreases-loop
-loop-holds c = (standing_first c.before.before.requires.1, λ o. o, refl)
+loop-holds : tie.Need-loop-i-init invariant-loop decreases-loop
+loop-holds c = (standing_first c.requires.1, λ o. o, refl)
 
 -- the entry lies in the bytes
-entry_here : (r : tie.In-loop invariant-loop decreases-loop) →
-    r.before.loop.at + 2 + le2 (from-loop r.before).args.values.now r.before.loop.at + 8 ≤ length (from-loop r.before).args.values.now
-entry_here r = let at-loop = r.before in standing_in at-loop.loop.invariant.0 r.loop-test.true (from-loop at-loop).requires.0
+entry_here : (r : tie.In-loop-i invariant-loop decreases-loop) →
+    r.loop-i.at + 2 + le2 r.args.values.now r.loop-i.at + 8 ≤ length r.args.values.now
+entry_here r = standing_in r.loop-i.invariant.0 r.loop-i-test.true r.requires.0
 
-mul-offsets : tie.Need-overflow-mul-offsets invariant-loop decreases-loop
+mul-offsets : tie.Need-offset_bounds-offsets-i invariant-loop decreases-loop
 mul-offsets c =
-    let at-loop = c.before in
-    omega (arith, few (from-loop at-loop).requires.0, at-loop.loop.invariant.0.most, c.loop-test.true)
+    omega (arith, few c.requires.0, c.loop-i.invariant.0.most, c.loop-i-test.true)
 
-slice-write-offsets : tie.Need-slice-write-offsets invariant-loop decreases-loop
+slice-write-offsets : tie.Need-bounds-offsets-i invariant-loop decreases-loop
 slice-write-offsets c =
     let at-loop = c.before in
     let at-start = from-loop at-loop in
-    omega (arith, few at-start.pre.0, at-loop.loop.invariant.0.most, c.loop-test.true, at-loop.loop.invariant.2, at-start.pre.2)
+    omega (arith, few at-start.requires.0, c.loop-i.invariant.0.most, c.loop-i-test.true, c.loop-i.invariant.2, at-start.requires.2)
 
-behind-entry-requires : tie.Need-behind-entry-requires invariant-loop decreases-loop
+behind-entry-requires : tie.Need-behind_entry-at-requires invariant-loop decreases-loop
 behind-entry-requires c κs = entry_here c
 
-add-i : tie.Need-overflow-add-i invariant-loop decreases-loop
+add-i : tie.Need-overflow_add-i invariant-loop decreases-loop
 add-i c = omega arith
 
-loop-less : tie.Need-loop-smaller invariant-loop decreases-loop
+loop-less : tie.Need-loop-i-smaller invariant-loop decreases-loop
 loop-less c = omega arith
 
-loop-again : tie.Need-loop-preserved invariant-loop decreases-loop
+loop-again : tie.Need-loop-i-preserved invariant-loop decreases-loop
 loop-again c =
     let in-loop = c.before in
-    let at-loop = in-loop.before in
-    let here = at-loop.loop.invariant.0 in (
-      standing_next here in-loop.loop-test.true c.behind-entry.ensures,
-      λ o. offsets_more _ _ _ _ at-loop.loop.offsets (at-loop.loop.invariant.1 o) here.here (slice-write-offsets in-loop),
-      length-set at-loop.loop.offsets at-loop.loop.i at-loop.loop.at ∙ at-loop.loop.invariant.2,
+    let here = c.loop-i.invariant.0 in (
+      standing_next here c.loop-i-test.true c.behind_entry-at.ensures,
+      λ o. offsets_more _ _ _ _ c.loop-i.offsets (c.loop-i.invariant.1 o) here.here (slice-write-offsets in-loop),
+      length-set c.loop-i.offsets c.loop-i.i c.loop-i.at ∙ c.loop-i.invariant.2,
     )
 
-same_length : tie.Need-same-length invariant-loop decreases-loop
-same_length c = c.before.loop.invariant.2
+same_length : tie.Need-shape_of-offsets invariant-loop decreases-loop
+same_length c = c.loop-i.invariant.2
 
 returns : tie.Need-returns invariant-loop decreases-loop
 returns c =
-    let inv = c.before.loop.invariant in
-    λ o k h. inv.1 o k (omega (arith, standing_end inv.0 c.loop-test.false))
+    let inv = c.loop-i.invariant in
+    λ o k h. inv.1 o k (omega (arith, standing_end inv.0 c.loop-i-test.false))
 
 pub note_offsets_spec : {M : Type 1} → statement M
 note_offsets_spec =

@@ -6,48 +6,41 @@ use Rattle.interpreter_values.proofs.Entries.{left_at, left_among}
 use Rattle.interpreter_values.proofs.value.Statement.{statement}
 use Rattle.interpreter_values.proofs.value.Tie as tie
 
--- The places, each seen from a later one: what was known there.
-abbrev at-left-of : tie.After-slice-known2 → tie.After-left-of
-at-left-of r = r.before.before
+abbrev from-left : tie.After-slice_known-2-1 → tie.Start
+from-left r = r.before.before.before.before.before.before.before
 
-abbrev from-left : tie.After-slice-known2 → tie.Start
-from-left r = (at-left-of r).before.before.before.before.before
-
-left-of-requires : tie.Need-left-of-requires
+left-of-requires : tie.Need-left_of-requires
 left-of-requires c κs = search rules
 
-enum-known-o : tie.Need-enum-known-o
+enum-known-o : tie.Need-enum_known-o
 enum-known-o c = search rules
 
-enum-known-at : tie.Need-enum-known-at
+enum-known-at : tie.Need-enum_known-at
 enum-known-at c = search rules
 
-value-from-requires : tie.Need-value-from-requires
+value-from-requires : tie.Need-value_from-requires
 value-from-requires c κs =
-    let known = c.before in
-    (left_among known.at.given.1 (at-left-of known.before.before).left-of.ensures.0).0
+    (left_among c.in-Among.is c.left_of.ensures.0).0
 
-same_length : tie.Need-same-length
+same_length : tie.Need-shape_of-words-in-At
 same_length c = search rules
 
-returns : tie.Need-returns
+returns : tie.Need-returns-in-At
 returns c =
-    let known = c.before in
-    let told = known.before.before in
+    let told = c.before in
     let at-start = from-left told in
-    let found = left_at known.o.given.1 (at-left-of told).left-of.ensures.0 in
-    (found, (λ a. first_found at-start.args.block at-start.args.name.now a found, (at-left-of told).left-of.ensures.1))
+    let found = left_at c.in-At.is c.left_of.ensures.0 in
+    (found, (λ a. first_found at-start.args.block at-start.args.name.now a found, c.left_of.ensures.1))
 
-same-length-2 : tie.Need-same-length-2
+same-length-2 : tie.Need-shape_of-words-in-Among
 same-length-2 c = search rules
 
-returns-2 : tie.Need-returns-2
+returns-2 : tie.Need-returns-in-Among
 returns-2 c =
-    let known = c.before.before in
-    let told = known.before.before in
+    let told = c.before.before in
     let at-start = from-left told in
-    let found = c.value-from.ensures ∙ sym (left_among known.at.given.1 (at-left-of told).left-of.ensures.0).1 in
-    (found, (λ a. first_found at-start.args.block at-start.args.name.now a found, (at-left-of told).left-of.ensures.1))
+    let found = c.value_from.ensures ∙ sym (left_among c.in-Among.is c.left_of.ensures.0).1 in
+    (found, (λ a. first_found at-start.args.block at-start.args.name.now a found, c.left_of.ensures.1))
 
 pub value_spec : {M : Type 1} → statement M
 value_spec =

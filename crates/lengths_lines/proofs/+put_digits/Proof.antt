@@ -31,47 +31,47 @@ put-digits-with t = (
   put-digits.Post,
 )
 
-put-digits-returns : (t : ℕ) → put-digits-lts.Need-returns (put-digits-with t) (put-digits-at t) put-digits.Post
-put-digits-returns t c = (digits_none _ _ _ _ c.if1.true, omega arith)
+put-digits-returns : (t : ℕ) → put-digits-lts.Need-returns-then-k-eq0 (put-digits-with t) (put-digits-at t) put-digits.Post
+put-digits-returns t c = (digits_none _ _ _ _ c.if-k-eq0.true, omega arith)
 
-put-digits-add-put-byte : (t : ℕ) → put-digits-lts.Need-overflow-add-put-byte (put-digits-with t) (put-digits-at t) put-digits.Post
+put-digits-add-put-byte : (t : ℕ) → put-digits-lts.Need-overflow_add-n (put-digits-with t) (put-digits-at t) put-digits.Post
 put-digits-add-put-byte t c = search rules
 
-put-digits-cast-put-byte : (t : ℕ) → put-digits-lts.Need-overflow-cast-put-byte (put-digits-with t) (put-digits-at t) put-digits.Post
+put-digits-cast-put-byte : (t : ℕ) → put-digits-lts.Need-overflow_cast-n (put-digits-with t) (put-digits-at t) put-digits.Post
 put-digits-cast-put-byte t c = search rules
 
-put-digits-put-byte-requires : (t : ℕ) → put-digits-lts.Need-put-byte-requires (put-digits-with t) (put-digits-at t) put-digits.Post
+put-digits-put-byte-requires : (t : ℕ) → put-digits-lts.Need-put_byte-requires (put-digits-with t) (put-digits-at t) put-digits.Post
 put-digits-put-byte-requires t c κs = search rules
 
-put-digits-same-length : (t : ℕ) → put-digits-lts.Need-same-length (put-digits-with t) (put-digits-at t) put-digits.Post
+put-digits-same-length : (t : ℕ) → put-digits-lts.Need-shape_of-out-then-n-lt10 (put-digits-with t) (put-digits-at t) put-digits.Post
 put-digits-same-length t c = search rules
 
-put-digits-returns-2 : (t : ℕ) → put-digits-lts.Need-returns-2 (put-digits-with t) (put-digits-at t) put-digits.Post
+put-digits-returns-2 : (t : ℕ) → put-digits-lts.Need-returns-then-n-lt10 (put-digits-with t) (put-digits-at t) put-digits.Post
 put-digits-returns-2 t c = (search (digits_one), omega arith)
 
-put-digits-sub-put-digits : (t : ℕ) → put-digits-lts.Need-overflow-sub-put-digits (put-digits-with t) (put-digits-at t) put-digits.Post
+put-digits-sub-put-digits : (t : ℕ) → put-digits-lts.Need-overflow_sub-k (put-digits-with t) (put-digits-at t) put-digits.Post
 put-digits-sub-put-digits t c = search rules
 
-put-digits-put-digits-requires : (t : ℕ) → put-digits-lts.Need-put-digits-requires (put-digits-with t) (put-digits-at t) put-digits.Post
+put-digits-put-digits-requires : (t : ℕ) → put-digits-lts.Need-put_digits-p-requires (put-digits-with t) (put-digits-at t) put-digits.Post
 put-digits-put-digits-requires t c κs = search rules
 
-put-digits-add-put-byte-2 : (t : ℕ) → put-digits-lts.Need-overflow-add-put-byte-2 (put-digits-with t) (put-digits-at t) put-digits.Post
+put-digits-add-put-byte-2 : (t : ℕ) → put-digits-lts.Need-overflow_add-n-2 (put-digits-with t) (put-digits-at t) put-digits.Post
 put-digits-add-put-byte-2 t c = search rules
 
-put-digits-cast-put-byte-2 : (t : ℕ) → put-digits-lts.Need-overflow-cast-put-byte-2 (put-digits-with t) (put-digits-at t) put-digits.Post
+put-digits-cast-put-byte-2 : (t : ℕ) → put-digits-lts.Need-overflow_cast-n-2 (put-digits-with t) (put-digits-at t) put-digits.Post
 put-digits-cast-put-byte-2 t c = search rules
 
-put-digits-put-byte-requires-2 : (t : ℕ) → put-digits-lts.Need-put-byte-requires-2 (put-digits-with t) (put-digits-at t) put-digits.Post
+put-digits-put-byte-requires-2 : (t : ℕ) → put-digits-lts.Need-put_byte-requires-2 (put-digits-with t) (put-digits-at t) put-digits.Post
 put-digits-put-byte-requires-2 t c κs = search rules
 
-put-digits-same-length-2 : (t : ℕ) → put-digits-lts.Need-same-length-2 (put-digits-with t) (put-digits-at t) put-digits.Post
+put-digits-same-length-2 : (t : ℕ) → put-digits-lts.Need-shape_of-out (put-digits-with t) (put-digits-at t) put-digits.Post
 put-digits-same-length-2 t c = search rules
 
-put-digits-returns-3 : (t : ℕ) → put-digits-lts.Need-returns-3 (put-digits-with t) (put-digits-at t) put-digits.Post
+put-digits-returns-3 : (t : ℕ) → put-digits-lts.Need-returns (put-digits-with t) (put-digits-at t) put-digits.Post
 put-digits-returns-3 t c = (search (digits_more), omega arith)
 
-pub +put-digits-spec : {M : Type 1} → statement M
-+put-digits-spec =
+pub +put_digits_spec : {M : Type 1} → statement M
++put_digits_spec =
     close μ-put-digits
     (λ t. put-digits-lts.spec (put-digits-with t) (put-digits-at t) put-digits.Post
     (put-digits-returns t) (put-digits-add-put-byte t) (put-digits-cast-put-byte t)

@@ -5,29 +5,29 @@ use borrow.Author.Rules.{rules}
 use Rattle.lengths_lines.proofs.fill.Statement.{statement}
 use Rattle.lengths_lines.proofs.fill.Tie as tie
 
-returns : tie.Need-returns
-returns c = fill_none _ _ c.if1.true
+returns : tie.Need-returns-then-len-eq0
+returns c = fill_none _ _ c.if-len-eq0.true
 
-mul-hundred : tie.Need-overflow-mul-hundred
+mul-hundred : tie.Need-overflow_mul-hundred
 mul-hundred c = search rules
 
-div-nearest : tie.Need-nonzero-div-nearest
+div-nearest : tie.Need-nonzero_div-hundred
 div-nearest c = search rules
 
-rem-nearest : tie.Need-nonzero-rem-nearest
+rem-nearest : tie.Need-nonzero_rem-hundred
 rem-nearest c = search rules
 
 nearest-requires : tie.Need-nearest-requires
 nearest-requires c κs =
-    parts_fit _ _ c.before.if1.false (omega (arith, c.if2.true, c.before.before.requires))
+    parts_fit _ _ c.if-len-eq0.false (omega (arith, c.if-len-lt72057594037927936.true, c.requires))
 
-returns-2 : tie.Need-returns-2
-returns-2 c = fill_parts _ _ c.before.before.if1.false c.nearest.ensures
+returns-2 : tie.Need-returns-then-len-lt72057594037927936
+returns-2 c = fill_parts _ _ c.if-len-eq0.false c.nearest.ensures
 
-long-fill-requires : tie.Need-long-fill-requires
+long-fill-requires : tie.Need-long_fill-requires
 long-fill-requires c κs = search rules
 
-returns-3 : tie.Need-returns-3
+returns-3 : tie.Need-returns
 returns-3 c = search rules
 
 pub fill_spec : {M : Type 1} → statement M

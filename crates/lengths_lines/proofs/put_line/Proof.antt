@@ -5,19 +5,19 @@ use borrow.Author.Rules.{rules}
 use Rattle.lengths_lines.proofs.put_line.Statement.{statement}
 use Rattle.lengths_lines.proofs.put_line.Tie as tie
 
-put-number-requires : tie.Need-put-number-requires
+put-number-requires : tie.Need-put_number-p-requires
 put-number-requires c κs = search rules
 
-put-number-requires-2 : tie.Need-put-number-requires-2
+put-number-requires-2 : tie.Need-put_number-q-requires
 put-number-requires-2 c κs = search rules
 
-put-number-requires-3 : tie.Need-put-number-requires-3
+put-number-requires-3 : tie.Need-put_number-r-requires
 put-number-requires-3 c κs = search rules
 
-put-number-requires-4 : tie.Need-put-number-requires-4
+put-number-requires-4 : tie.Need-put_number-requires
 put-number-requires-4 c κs = search rules
 
-same_length : tie.Need-same-length
+same_length : tie.Need-shape_of-out
 same_length c = search rules
 
 returns : tie.Need-returns

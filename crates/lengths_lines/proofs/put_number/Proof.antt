@@ -5,13 +5,13 @@ use borrow.Author.Rules.{rules}
 use Rattle.lengths_lines.proofs.put_number.Statement.{statement}
 use Rattle.lengths_lines.proofs.put_number.Tie as tie
 
-put-decimal-requires : tie.Need-put-decimal-requires
+put-decimal-requires : tie.Need-put_decimal-p-requires
 put-decimal-requires c κs = search rules
 
-put-byte-requires : tie.Need-put-byte-requires
+put-byte-requires : tie.Need-put_byte-requires
 put-byte-requires c κs = search rules
 
-same_length : tie.Need-same-length
+same_length : tie.Need-shape_of-out
 same_length c = search rules
 
 returns : tie.Need-returns

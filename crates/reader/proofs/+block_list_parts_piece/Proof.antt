@@ -115,97 +115,77 @@ piece-with t = (
 block-heading-requires : (t : ℕ) → block-lts.Need-heading-requires (block_with t) (block_at t) block.Post
 block-heading-requires t c κs = omega arith
 
-block-enum-known-q : (t : ℕ) → block-lts.Need-enum-known-q (block_with t) (block_at t) block.Post
+block-enum-known-q : (t : ℕ) → block-lts.Need-enum_known-q (block_with t) (block_at t) block.Post
 block-enum-known-q t c = search rules
 
-block-enum-known-k : (t : ℕ) → block-lts.Need-enum-known-k (block_with t) (block_at t) block.Post
+block-enum-known-k : (t : ℕ) → block-lts.Need-enum_known-k (block_with t) (block_at t) block.Post
 block-enum-known-k t c = search rules
 
-block-returns : (t : ℕ) → block-lts.Need-returns (block_with t) (block_at t) block.Post
-block-returns t c =
-    let at-k = c.before.before in
-    let at-heading = at-k.before.before in (
-      sym
-          (block_full _ _ _ _ _ _
-          (sym at-heading.heading.ensures.0 ∙ at-k.k.given.1) _
-          c.if1.true),
-      tt,
-    )
+block-returns : (t : ℕ) → block-lts.Need-returns-then-room-eq0 (block_with t) (block_at t) block.Post
+block-returns t c = (
+  sym
+      (block_full _ _ _ _ _ _
+      (sym c.heading.ensures.0 ∙ c.in-Found.is) _
+      c.if-room-eq0.true),
+  tt,
+)
 
-block-sub-parts : (t : ℕ) → block-lts.Need-overflow-sub-parts (block_with t) (block_at t) block.Post
+block-sub-parts : (t : ℕ) → block-lts.Need-overflow_sub-room (block_with t) (block_at t) block.Post
 block-sub-parts t c = omega arith
 
-block-add-parts : (t : ℕ) → block-lts.Need-overflow-add-parts (block_with t) (block_at t) block.Post
+block-add-parts : (t : ℕ) → block-lts.Need-overflow_add-at (block_with t) (block_at t) block.Post
 block-add-parts t c = omega arith
 
 block-parts-requires : (t : ℕ) → block-lts.Need-parts-requires (block_with t) (block_at t) block.Post
 block-parts-requires t c κs =
-    let at-k = c.before.before in
-    let at-heading = at-k.before.before in
-    let at-start = at-heading.before.before in
-    let h = rw at-k.k.given.1 at at-heading.heading.ensures.1 in
-    (omega arith, (omega arith, omega arith, at-start.requires.1.2, at-start.requires.1.3))
+    let h = rw c.in-Found.is at c.heading.ensures.1 in
+    (omega arith, (omega arith, omega arith, c.requires.1.2, c.requires.1.3))
 
-block-enum-known-q-2 : (t : ℕ) → block-lts.Need-enum-known-q-2 (block_with t) (block_at t) block.Post
+block-enum-known-q-2 : (t : ℕ) → block-lts.Need-enum_known-q-in-Refused-1 (block_with t) (block_at t) block.Post
 block-enum-known-q-2 t c = search rules
 
-block-enum-known-next : (t : ℕ) → block-lts.Need-enum-known-next (block_with t) (block_at t) block.Post
+block-enum-known-next : (t : ℕ) → block-lts.Need-enum_known-next (block_with t) (block_at t) block.Post
 block-enum-known-next t c = search rules
 
-block-returns-2 : (t : ℕ) → block-lts.Need-returns-2 (block_with t) (block_at t) block.Post
-block-returns-2 t c =
-    let at-heading = c.before.before.before in (
-      sym (block_no _ _ _ _ _ _ _ (sym at-heading.heading.ensures.0 ∙ c.before.q.given.1)),
-      tt,
-    )
+block-returns-2 : (t : ℕ) → block-lts.Need-returns-in-No (block_with t) (block_at t) block.Post
+block-returns-2 t c = (
+  sym (block_no _ _ _ _ _ _ _ (sym c.heading.ensures.0 ∙ c.in-No.is)),
+  tt,
+)
 
-block-returns-3 : (t : ℕ) → block-lts.Need-returns-3 (block_with t) (block_at t) block.Post
-block-returns-3 t c =
-    let at-parts = c.before.before.before in
-    let at-else1 = at-parts.before in
-    let at-k = at-else1.before.before in
-    let at-heading = at-k.before.before in (
-      sym
-          (block_stop _ _ _ _ _ _
-          (sym at-heading.heading.ensures.0 ∙ at-k.k.given.1) _
-          at-else1.if1.false
-          (sym at-parts.parts.ensures.0 ∙ c.before.q2.given.1)),
-      tt,
-    )
+block-returns-3 : (t : ℕ) → block-lts.Need-returns-in-Refused (block_with t) (block_at t) block.Post
+block-returns-3 t c = (
+  sym
+      (block_stop _ _ _ _ _ _
+      (sym c.heading.ensures.0 ∙ c.in-Found.is) _
+      c.if-room-eq0.false
+      (sym c.parts.ensures.0 ∙ c.in-Refused.is)),
+  tt,
+)
 
-block-returns-4 : (t : ℕ) → block-lts.Need-returns-4 (block_with t) (block_at t) block.Post
-block-returns-4 t c =
-    let at_next = c.before.before in
-    let at-parts = at_next.before.before in
-    let at-else1 = at-parts.before in
-    let at-k = at-else1.before.before in
-    let at-heading = at-k.before.before in (
-      sym
-          (block_ok _ _ _ _ _ _
-          (sym at-heading.heading.ensures.0 ∙ at-k.k.given.1) _
-          at-else1.if1.false
-          (sym at-parts.parts.ensures.0 ∙ at_next.next.given.1)
-          c.if2.true),
-      (rw at-k.k.given.1 at at-heading.heading.ensures.1).1,
-    )
+block-returns-4 : (t : ℕ) → block-lts.Need-returns-then-next-stop (block_with t) (block_at t) block.Post
+block-returns-4 t c = (
+  sym
+      (block_ok _ _ _ _ _ _
+      (sym c.heading.ensures.0 ∙ c.in-Found.is) _
+      c.if-room-eq0.false
+      (sym c.parts.ensures.0 ∙ c.in-Ok.is)
+      c.if-next-stop.true),
+  (rw c.in-Found.is at c.heading.ensures.1).1,
+)
 
-block-returns-5 : (t : ℕ) → block-lts.Need-returns-5 (block_with t) (block_at t) block.Post
-block-returns-5 t c =
-    let at_next = c.before.before in
-    let at-parts = at_next.before.before in
-    let at-else1 = at-parts.before in
-    let at-k = at-else1.before.before in
-    let at-heading = at-k.before.before in (
-      sym
-          (block_rest _ _ _ _ _ _
-          (sym at-heading.heading.ensures.0 ∙ at-k.k.given.1) _
-          at-else1.if1.false
-          (sym at-parts.parts.ensures.0 ∙ at_next.next.given.1)
-          c.if2.false),
-      tt,
-    )
+block-returns-5 : (t : ℕ) → block-lts.Need-returns-else-next-stop (block_with t) (block_at t) block.Post
+block-returns-5 t c = (
+  sym
+      (block_rest _ _ _ _ _ _
+      (sym c.heading.ensures.0 ∙ c.in-Found.is) _
+      c.if-room-eq0.false
+      (sym c.parts.ensures.0 ∙ c.in-Ok.is)
+      c.if-next-stop.false),
+  tt,
+)
 
-abbrev list-Inv-loop : list-lts.invariant-loop
+abbrev list-Inv-loop : list-lts.invariant-loop-left
 list-Inv-loop s room lo hi limit start at end n i₀ before₀ left₀ i before left =
     (i ≤ end) × Before s before lo hi i ×
     (forget
@@ -213,338 +193,293 @@ list-Inv-loop s room lo hi limit start at end n i₀ before₀ left₀ i before 
     forget
     (read_entries (λ f a. read_block room s f lo hi a end) (earlier_of s before) left i))
 
-abbrev list-μ-loop : list-lts.decreases-loop
+abbrev list-μ-loop : list-lts.decreases-loop-left
 list-μ-loop s room lo hi limit start at end n i₀ before₀ left₀ i before left = left
 
 list-counted-requires : (t : ℕ) → list-lts.Need-counted-requires (list-with t) (list_at t) list.Post list-Inv-loop list-μ-loop
 list-counted-requires t c κs = omega arith
 
-list-enum-known-q : (t : ℕ) → list-lts.Need-enum-known-q (list-with t) (list_at t) list.Post list-Inv-loop list-μ-loop
+list-enum-known-q : (t : ℕ) → list-lts.Need-enum_known-q (list-with t) (list_at t) list.Post list-Inv-loop list-μ-loop
 list-enum-known-q t c = search rules
 
-list-enum-known-n : (t : ℕ) → list-lts.Need-enum-known-n (list-with t) (list_at t) list.Post list-Inv-loop list-μ-loop
+list-enum-known-n : (t : ℕ) → list-lts.Need-enum_known-n (list-with t) (list_at t) list.Post list-Inv-loop list-μ-loop
 list-enum-known-n t c = search rules
 
-list-add-i : (t : ℕ) → list-lts.Need-overflow-add-i (list-with t) (list_at t) list.Post list-Inv-loop list-μ-loop
+list-add-i : (t : ℕ) → list-lts.Need-overflow_add-i (list-with t) (list_at t) list.Post list-Inv-loop list-μ-loop
 list-add-i t c = omega arith
 
-list-loop-holds : (t : ℕ) → list-lts.Need-loop-init (list-with t) (list_at t) list.Post list-Inv-loop list-μ-loop
-list-loop-holds t c =
-    let at-counted = c.before.before.before in
-    let at-start = at-counted.before.before in (
-      rw c.before.n.given.1 at at-counted.counted.ensures.1,
-      at-start.requires.1.2,
-      list_of _ _ _ _ _ _ _ (sym at-counted.counted.ensures.0 ∙ c.before.n.given.1),
-    )
+list-loop-holds : (t : ℕ) → list-lts.Need-loop-left-init (list-with t) (list_at t) list.Post list-Inv-loop list-μ-loop
+list-loop-holds t c = (
+  rw c.in-Of.is at c.counted.ensures.1,
+  c.requires.1.2,
+  list_of _ _ _ _ _ _ _ (sym c.counted.ensures.0 ∙ c.in-Of.is),
+)
 
 list-block-requires : (t : ℕ) → list-lts.Need-block-requires (list-with t) (list_at t) list.Post list-Inv-loop list-μ-loop
 list-block-requires t c κs = (
   omega arith,
-  (c.before.loop.invariant.0, omega arith, c.before.loop.invariant.1.valid, c.before.loop.invariant.1.here),
+  (c.loop-left.invariant.0, omega arith, c.loop-left.invariant.1.valid, c.loop-left.invariant.1.here),
 )
 
-list-enum-known-next : (t : ℕ) → list-lts.Need-enum-known-next (list-with t) (list_at t) list.Post list-Inv-loop list-μ-loop
+list-enum-known-next : (t : ℕ) → list-lts.Need-enum_known-next (list-with t) (list_at t) list.Post list-Inv-loop list-μ-loop
 list-enum-known-next t c = search rules
 
-list-grown-requires : (t : ℕ) → list-lts.Need-grown-requires (list-with t) (list_at t) list.Post list-Inv-loop list-μ-loop
+list-grown-requires : (t : ℕ) → list-lts.Need-grown-before-requires (list-with t) (list_at t) list.Post list-Inv-loop list-μ-loop
 list-grown-requires t c κs =
-    let at_block = c.before.before.before in
-    let at-loop = at_block.before.before in
-    let at-start = at-loop.before.before.before.before.before.before in
     list_grows _ _ _ _ _
-    at-start.requires.1.1
-    at-loop.loop.invariant.1
-    (sym at_block.block.ensures.0 ∙ c.before.next.given.1)
+    c.requires.1.1
+    c.loop-left.invariant.1
+    (sym c.block.ensures.0 ∙ c.in-Ok.is)
 
-list-enum-known-q-2 : (t : ℕ) → list-lts.Need-enum-known-q-2 (list-with t) (list_at t) list.Post list-Inv-loop list-μ-loop
+list-enum-known-q-2 : (t : ℕ) → list-lts.Need-enum_known-q-in-Refused-1 (list-with t) (list_at t) list.Post list-Inv-loop list-μ-loop
 list-enum-known-q-2 t c = search rules
 
-list-returns : (t : ℕ) → list-lts.Need-returns (list-with t) (list_at t) list.Post list-Inv-loop list-μ-loop
-list-returns t c =
-    let at_block = c.before.before.before in
-    let in-loop = at_block.before in
-    let at-loop = in-loop.before in (
-      sym
-          (at-loop.loop.invariant.2
-          ∙ entries_stop _ _ _ _
-          in-loop.loop-test.true
-          (sym at_block.block.ensures.0 ∙ c.before.q2.given.1)),
-      tt,
-    )
-
-list-sub-left : (t : ℕ) → list-lts.Need-overflow-sub-left (list-with t) (list_at t) list.Post list-Inv-loop list-μ-loop
-list-sub-left t c = omega arith
-
-list-loop-less : (t : ℕ) → list-lts.Need-loop-smaller (list-with t) (list_at t) list.Post list-Inv-loop list-μ-loop
-list-loop-less t c = omega arith
-
-list-loop-again : (t : ℕ) → list-lts.Need-loop-preserved (list-with t) (list_at t) list.Post list-Inv-loop list-μ-loop
-list-loop-again t c =
-    let at_next = c.before.before in
-    let at_block = at_next.before.before in
-    let in-loop = at_block.before in
-    let at-loop = in-loop.before in
-    let at-start = at-loop.before.before.before.before.before.before in
-    let g = list_go _ _ _ _ _
-    at-start.requires.1.1
-    at-loop.loop.invariant.1
-    (sym at_block.block.ensures.0 ∙ at_next.next.given.1) _
-    in-loop.loop-test.true
-    c.grown.ensures in (
-      rw at_next.next.given.1 at at_block.block.ensures.1,
-      g.0,
-      at-loop.loop.invariant.2 ∙ g.1,
-    )
-
-list-returns-2 : (t : ℕ) → list-lts.Need-returns-2 (list-with t) (list_at t) list.Post list-Inv-loop list-μ-loop
-list-returns-2 t c =
-    let at-counted = c.before.before.before in (
-      sym (list_bad _ _ _ _ _ _ _ (sym at-counted.counted.ensures.0 ∙ c.before.q.given.1)),
-      tt,
-    )
-
-list-returns-3 : (t : ℕ) → list-lts.Need-returns-3 (list-with t) (list_at t) list.Post list-Inv-loop list-μ-loop
-list-returns-3 t c = (
-  sym (c.before.loop.invariant.2 ∙ entries_none _ _ _ _ c.loop-test.false),
-  c.before.loop.invariant.0,
+list-returns : (t : ℕ) → list-lts.Need-returns-in-Refused (list-with t) (list_at t) list.Post list-Inv-loop list-μ-loop
+list-returns t c = (
+  sym
+      (c.loop-left.invariant.2
+      ∙ entries_stop _ _ _ _
+      c.loop-left-test.true
+      (sym c.block.ensures.0 ∙ c.in-Refused.is)),
+  tt,
 )
 
-abbrev parts-Inv-loop : parts-lts.invariant-loop
+list-sub-left : (t : ℕ) → list-lts.Need-overflow_sub-left (list-with t) (list_at t) list.Post list-Inv-loop list-μ-loop
+list-sub-left t c = omega arith
+
+list-loop-less : (t : ℕ) → list-lts.Need-loop-left-smaller (list-with t) (list_at t) list.Post list-Inv-loop list-μ-loop
+list-loop-less t c = omega arith
+
+list-loop-again : (t : ℕ) → list-lts.Need-loop-left-preserved (list-with t) (list_at t) list.Post list-Inv-loop list-μ-loop
+list-loop-again t c =
+    let g = list_go _ _ _ _ _
+    c.requires.1.1
+    c.loop-left.invariant.1
+    (sym c.block.ensures.0 ∙ c.in-Ok.is) _
+    c.loop-left-test.true
+    c.grown-before.ensures in (
+      rw c.in-Ok.is at c.block.ensures.1,
+      g.0,
+      c.loop-left.invariant.2 ∙ g.1,
+    )
+
+list-returns-2 : (t : ℕ) → list-lts.Need-returns-in-Bad (list-with t) (list_at t) list.Post list-Inv-loop list-μ-loop
+list-returns-2 t c = (
+  sym (list_bad _ _ _ _ _ _ _ (sym c.counted.ensures.0 ∙ c.in-Bad.is)),
+  tt,
+)
+
+list-returns-3 : (t : ℕ) → list-lts.Need-returns-after-loop-left (list-with t) (list_at t) list.Post list-Inv-loop list-μ-loop
+list-returns-3 t c = (
+  sym (c.loop-left.invariant.2 ∙ entries_none _ _ _ _ c.loop-left-test.false),
+  c.loop-left.invariant.0,
+)
+
+abbrev parts-Inv-loop : parts-lts.invariant-loop-row
 parts-Inv-loop s room seen kind start at end here₀ row₀ here row =
     (here ≤ end) × Left (Here s seen) (read_block room s) s (earlier_of s seen) start end kind at row here
 
-abbrev parts-μ-loop : parts-lts.decreases-loop
+abbrev parts-μ-loop : parts-lts.decreases-loop-row
 parts-μ-loop s room seen kind start at end here₀ row₀ here row = row
 
-parts-row-requires : (t : ℕ) → parts-lts.Need-row-requires (parts-with t) (parts_at t) parts.Post parts-Inv-loop parts-μ-loop
+parts-row-requires : (t : ℕ) → parts-lts.Need-row-row-requires (parts-with t) (parts_at t) parts.Post parts-Inv-loop parts-μ-loop
 parts-row-requires t c κs = search rules
 
-parts-loop-holds : (t : ℕ) → parts-lts.Need-loop-init (parts-with t) (parts_at t) parts.Post parts-Inv-loop parts-μ-loop
+parts-loop-holds : (t : ℕ) → parts-lts.Need-loop-row-init (parts-with t) (parts_at t) parts.Post parts-Inv-loop parts-μ-loop
 parts-loop-holds t c =
-    let at-start = c.before.before in
-    (omega arith, all_left _ _ _ _ _ _ _ _ at-start.requires.1.3 c.row.ensures)
+    (omega arith, all_left _ _ _ _ _ _ _ _ c.requires.1.3 c.row-row.ensures)
 
 parts-piece-requires : (t : ℕ) → parts-lts.Need-piece-requires (parts-with t) (parts_at t) parts.Post parts-Inv-loop parts-μ-loop
-parts-piece-requires t c κs =
-    let at-loop = c.before in
-    let at-start = at-loop.before.before.before in (
-      omega arith,
-      (
-        at-loop.loop.invariant.0,
-        omega arith,
-        at-start.requires.1.2,
-        left_key _ _ _ _ _ _ _ _ at-loop.loop.invariant.1 c.loop-test.true,
-      ),
-    )
-
-parts-enum-known-next : (t : ℕ) → parts-lts.Need-enum-known-next (parts-with t) (parts_at t) parts.Post parts-Inv-loop parts-μ-loop
-parts-enum-known-next t c = search rules
-
-parts-enum-known-q : (t : ℕ) → parts-lts.Need-enum-known-q (parts-with t) (parts_at t) parts.Post parts-Inv-loop parts-μ-loop
-parts-enum-known-q t c = search rules
-
-parts-returns : (t : ℕ) → parts-lts.Need-returns (parts-with t) (parts_at t) parts.Post parts-Inv-loop parts-μ-loop
-parts-returns t c =
-    let at_piece = c.before.before.before in
-    let in-loop = at_piece.before in
-    let at-loop = in-loop.before in (
-      sym
-          (left_stop _ _ _ _ _ _ _ _
-          at-loop.loop.invariant.1
-          in-loop.loop-test.true
-          (sym at_piece.piece.ensures.0 ∙ c.before.q.given.1)),
-      tt,
-    )
-
-parts-loop-less : (t : ℕ) → parts-lts.Need-loop-smaller (parts-with t) (parts_at t) parts.Post parts-Inv-loop parts-μ-loop
-parts-loop-less t c = omega arith
-
-parts-loop-again : (t : ℕ) → parts-lts.Need-loop-preserved (parts-with t) (parts_at t) parts.Post parts-Inv-loop parts-μ-loop
-parts-loop-again t c =
-    let at_piece = c.before.before.before in
-    let in-loop = at_piece.before in
-    let at-loop = in-loop.before in (
-      rw c.before.next.given.1 at at_piece.piece.ensures.1,
-      left_go _ _ _ _ _ _ _ _
-          at-loop.loop.invariant.1
-          in-loop.loop-test.true
-          (sym at_piece.piece.ensures.0 ∙ c.before.next.given.1),
-    )
-
-parts-returns-2 : (t : ℕ) → parts-lts.Need-returns-2 (parts-with t) (parts_at t) parts.Post parts-Inv-loop parts-μ-loop
-parts-returns-2 t c = (
-  sym (none_left _ _ _ _ _ _ _ _ c.before.loop.invariant.1 c.loop-test.false),
-  c.before.loop.invariant.0,
+parts-piece-requires t c κs = (
+  omega arith,
+  (
+    c.loop-row.invariant.0,
+    omega arith,
+    c.requires.1.2,
+    left_key _ _ _ _ _ _ _ _ c.loop-row.invariant.1 c.loop-row-test.true,
+  ),
 )
 
-piece-part-of-requires : (t : ℕ) → piece-lts.Need-part-of-requires (piece-with t) (piece-at t) piece.Post
+parts-enum-known-next : (t : ℕ) → parts-lts.Need-enum_known-next (parts-with t) (parts_at t) parts.Post parts-Inv-loop parts-μ-loop
+parts-enum-known-next t c = search rules
+
+parts-enum-known-q : (t : ℕ) → parts-lts.Need-enum_known-q (parts-with t) (parts_at t) parts.Post parts-Inv-loop parts-μ-loop
+parts-enum-known-q t c = search rules
+
+parts-returns : (t : ℕ) → parts-lts.Need-returns-in-Refused (parts-with t) (parts_at t) parts.Post parts-Inv-loop parts-μ-loop
+parts-returns t c = (
+  sym
+      (left_stop _ _ _ _ _ _ _ _
+      c.loop-row.invariant.1
+      c.loop-row-test.true
+      (sym c.piece.ensures.0 ∙ c.in-Refused.is)),
+  tt,
+)
+
+parts-loop-less : (t : ℕ) → parts-lts.Need-loop-row-smaller (parts-with t) (parts_at t) parts.Post parts-Inv-loop parts-μ-loop
+parts-loop-less t c = omega arith
+
+parts-loop-again : (t : ℕ) → parts-lts.Need-loop-row-preserved (parts-with t) (parts_at t) parts.Post parts-Inv-loop parts-μ-loop
+parts-loop-again t c = (
+  rw c.in-Ok.is at c.piece.ensures.1,
+  left_go _ _ _ _ _ _ _ _
+      c.loop-row.invariant.1
+      c.loop-row-test.true
+      (sym c.piece.ensures.0 ∙ c.in-Ok.is),
+)
+
+parts-returns-2 : (t : ℕ) → parts-lts.Need-returns (parts-with t) (parts_at t) parts.Post parts-Inv-loop parts-μ-loop
+parts-returns-2 t c = (
+  sym (none_left _ _ _ _ _ _ _ _ c.loop-row.invariant.1 c.loop-row-test.false),
+  c.loop-row.invariant.0,
+)
+
+piece-part-of-requires : (t : ℕ) → piece-lts.Need-part_of-p-requires (piece-with t) (piece-at t) piece.Post
 piece-part-of-requires t c κs = search rules
 
-piece-enum-known-p : (t : ℕ) → piece-lts.Need-enum-known-p (piece-with t) (piece-at t) piece.Post
+piece-enum-known-p : (t : ℕ) → piece-lts.Need-enum_known-p (piece-with t) (piece-at t) piece.Post
 piece-enum-known-p t c = search rules
 
 piece-block-requires : (t : ℕ) → piece-lts.Need-block-requires (piece-with t) (piece-at t) piece.Post
 piece-block-requires t c κs = (omega arith, (omega arith, omega arith, nothing_valid _ 0 0 0, nothing_here _ 0 0 _))
 
-piece-enum-known-p-2 : (t : ℕ) → piece-lts.Need-enum-known-p-2 (piece-with t) (piece-at t) piece.Post
+piece-enum-known-p-2 : (t : ℕ) → piece-lts.Need-enum_known-p-in-OptBlock-1 (piece-with t) (piece-at t) piece.Post
 piece-enum-known-p-2 t c = search rules
 
 piece-flag-requires : (t : ℕ) → piece-lts.Need-flag-requires (piece-with t) (piece-at t) piece.Post
 piece-flag-requires t c κs = omega arith
 
-piece-enum-known-q : (t : ℕ) → piece-lts.Need-enum-known-q (piece-with t) (piece-at t) piece.Post
+piece-enum-known-q : (t : ℕ) → piece-lts.Need-enum_known-q (piece-with t) (piece-at t) piece.Post
 piece-enum-known-q t c = search rules
 
-piece-enum-known-next : (t : ℕ) → piece-lts.Need-enum-known-next (piece-with t) (piece-at t) piece.Post
+piece-enum-known-next : (t : ℕ) → piece-lts.Need-enum_known-next (piece-with t) (piece-at t) piece.Post
 piece-enum-known-next t c = search rules
 
-piece-shared-slice-read-if1 : (t : ℕ) → piece-lts.Need-shared-slice-read-if1 (piece-with t) (piece-at t) piece.Post
+piece-shared-slice-read-if1 : (t : ℕ) → piece-lts.Need-bounds-s-at (piece-with t) (piece-at t) piece.Post
 piece-shared-slice-read-if1 t c =
-    let at_next = c.before.before in
-    let at_flag = at_next.before.before in
-    let h = rw at_next.next.given.1 at at_flag.flag.ensures.1 in
+    let h = rw c.in-Ok.is at c.flag.ensures.1 in
     omega arith
 
-piece-block-requires-2 : (t : ℕ) → piece-lts.Need-block-requires-2 (piece-with t) (piece-at t) piece.Post
+piece-block-requires-2 : (t : ℕ) → piece-lts.Need-block-requires-then-s-at-eq1 (piece-with t) (piece-at t) piece.Post
 piece-block-requires-2 t c κs =
-    let at_next = c.before.before.before in
-    let at_flag = at_next.before.before in
-    let h = rw at_next.next.given.1 at at_flag.flag.ensures.1 in
+    let h = rw c.in-Ok.is at c.flag.ensures.1 in
     (omega arith, (omega arith, omega arith, nothing_valid _ 0 0 0, nothing_here _ 0 0 _))
 
-piece-enum-known-p-3 : (t : ℕ) → piece-lts.Need-enum-known-p-3 (piece-with t) (piece-at t) piece.Post
+piece-enum-known-p-3 : (t : ℕ) → piece-lts.Need-enum_known-p-in-Blocks-1 (piece-with t) (piece-at t) piece.Post
 piece-enum-known-p-3 t c = search rules
 
 piece-list-requires : (t : ℕ) → piece-lts.Need-list-requires (piece-with t) (piece-at t) piece.Post
 piece-list-requires t c κs = (omega arith, (omega arith, omega arith, nothing_before _ _ _ _))
 
-piece-enum-known-p-4 : (t : ℕ) → piece-lts.Need-enum-known-p-4 (piece-with t) (piece-at t) piece.Post
+piece-enum-known-p-4 : (t : ℕ) → piece-lts.Need-enum_known-p-in-Ascending-1 (piece-with t) (piece-at t) piece.Post
 piece-enum-known-p-4 t c = search rules
 
-piece-add-first : (t : ℕ) → piece-lts.Need-overflow-add-first (piece-with t) (piece-at t) piece.Post
+piece-add-first : (t : ℕ) → piece-lts.Need-overflow_add-first (piece-with t) (piece-at t) piece.Post
 piece-add-first t c = omega arith
 
-piece-list-requires-2 : (t : ℕ) → piece-lts.Need-list-requires-2 (piece-with t) (piece-at t) piece.Post
-piece-list-requires-2 t c κs =
-    let at-part-of = c.before.before.before in (
-      omega arith,
-      (
-        omega arith,
-        omega arith,
-        owners_before _ _ _ _ (owners _ _ _ _ (sym at-part-of.part_of.ensures ∙ c.before.p4.given.1)),
-      ),
-    )
+piece-list-requires-2 : (t : ℕ) → piece-lts.Need-list-requires-in-Ascending (piece-with t) (piece-at t) piece.Post
+piece-list-requires-2 t c κs = (
+  omega arith,
+  (
+    omega arith,
+    omega arith,
+    owners_before _ _ _ _ (owners _ _ _ _ (sym c.part_of-p.ensures ∙ c.in-Ascending.is)),
+  ),
+)
 
-piece-enum-known-p-5 : (t : ℕ) → piece-lts.Need-enum-known-p-5 (piece-with t) (piece-at t) piece.Post
+piece-enum-known-p-5 : (t : ℕ) → piece-lts.Need-enum_known-p-in-Distinct-1 (piece-with t) (piece-at t) piece.Post
 piece-enum-known-p-5 t c = search rules
 
-piece-add-first-2 : (t : ℕ) → piece-lts.Need-overflow-add-first-2 (piece-with t) (piece-at t) piece.Post
+piece-add-first-2 : (t : ℕ) → piece-lts.Need-overflow_add-first-in-Distinct (piece-with t) (piece-at t) piece.Post
 piece-add-first-2 t c = omega arith
 
-piece-fresh-requires : (t : ℕ) → piece-lts.Need-fresh-requires (piece-with t) (piece-at t) piece.Post
+piece-fresh-requires : (t : ℕ) → piece-lts.Need-fresh-fresh-requires (piece-with t) (piece-at t) piece.Post
 piece-fresh-requires t c κs = omega arith
 
-piece-list-requires-3 : (t : ℕ) → piece-lts.Need-list-requires-3 (piece-with t) (piece-at t) piece.Post
-piece-list-requires-3 t c κs =
-    let at-p5 = c.before.before in
-    let at-part-of = at-p5.before.before in (
-      omega arith,
-      (
-        omega arith,
-        omega arith,
-        types_before _ _ _ _ c.fresh.ensures (types _ _ _ _ (sym at-part-of.part_of.ensures ∙ at-p5.p5.given.1)),
-      ),
-    )
+piece-list-requires-3 : (t : ℕ) → piece-lts.Need-list-requires-in-Distinct (piece-with t) (piece-at t) piece.Post
+piece-list-requires-3 t c κs = (
+  omega arith,
+  (
+    omega arith,
+    omega arith,
+    types_before _ _ _ _ c.fresh-fresh.ensures (types _ _ _ _ (sym c.part_of-p.ensures ∙ c.in-Distinct.is)),
+  ),
+)
 
 piece-plain-requires : (t : ℕ) → piece-lts.Need-plain-requires (piece-with t) (piece-at t) piece.Post
-piece-plain-requires t c κs =
-    let at-part-of = c.before in
-    let at-start = at-part-of.before.before in (
-      omega arith,
-      omega arith,
-      at-start.requires.1.2,
-      plain _ c.match.keys6,
-      λ e. at-start.requires.1.3 (sym at-part-of.part_of.ensures ∙ e),
-    )
+piece-plain-requires t c κs = (
+  omega arith,
+  omega arith,
+  c.requires.1.2,
+  plain _ c.in_default.in_default-own.keys6,
+  λ e. c.requires.1.3 (sym c.part_of-p.ensures ∙ e),
+)
 
-piece-returns : (t : ℕ) → piece-lts.Need-returns (piece-with t) (piece-at t) piece.Post
+piece-returns : (t : ℕ) → piece-lts.Need-returns-in-Block (piece-with t) (piece-at t) piece.Post
 unfolding read_part earlier_of
 piece-returns t c =
-    let at_p = c.before.before in
-    let e = sym at_p.before.before.part_of.ensures ∙ at_p.p.given.1 in
+    let e = sym c.part_of-p.ensures ∙ c.in-Block.is in
     (rw e c.block.ensures.0, c.block.ensures.1)
 
-piece-returns-2 : (t : ℕ) → piece-lts.Need-returns-2 (piece-with t) (piece-at t) piece.Post
+piece-returns-2 : (t : ℕ) → piece-lts.Need-returns-in-Refused (piece-with t) (piece-at t) piece.Post
 unfolding read_part
 piece-returns-2 t c =
-    let at_flag = c.before.before.before in
-    let at-p2 = at_flag.before.before in
-    let e = sym at-p2.before.before.part_of.ensures ∙ at-p2.p2.given.1 in (
+    let e = sym c.part_of-p.ensures ∙ c.in-OptBlock.is in (
       rw e
           (sym
-          (optional_stop _ _ _ _ _ _ (sym at_flag.flag.ensures.0 ∙ c.before.q.given.1))),
+          (optional_stop _ _ _ _ _ _ (sym c.flag.ensures.0 ∙ c.in-Refused.is))),
       tt,
     )
 
-piece-returns-3 : (t : ℕ) → piece-lts.Need-returns-3 (piece-with t) (piece-at t) piece.Post
+piece-returns-3 : (t : ℕ) → piece-lts.Need-returns-then-s-at-eq1 (piece-with t) (piece-at t) piece.Post
 unfolding read_part earlier_of
 piece-returns-3 t c =
-    let at_next = c.before.before.before.before in
-    let at_flag = at_next.before.before in
-    let at-p2 = at_flag.before.before in
-    let e = sym at-p2.before.before.part_of.ensures ∙ at-p2.p2.given.1 in (
+    let e = sym c.part_of-p.ensures ∙ c.in-OptBlock.is in (
       rw e
-          (c.block2.ensures.0
+          (c.block-then-s-at-eq1.ensures.0
           ∙ sym
           (optional_on _ _ _ _ _ _
-          (sym at_flag.flag.ensures.0 ∙ at_next.next.given.1)
-          c.before.if1.true)),
-      c.block2.ensures.1,
+          (sym c.flag.ensures.0 ∙ c.in-Ok.is)
+          c.if-s-at-eq1.true)),
+      c.block-then-s-at-eq1.ensures.1,
     )
 
-piece-returns-4 : (t : ℕ) → piece-lts.Need-returns-4 (piece-with t) (piece-at t) piece.Post
+piece-returns-4 : (t : ℕ) → piece-lts.Need-returns-else-s-at-eq1 (piece-with t) (piece-at t) piece.Post
 unfolding read_part
 piece-returns-4 t c =
-    let at_next = c.before.before.before in
-    let at_flag = at_next.before.before in
-    let at-p2 = at_flag.before.before in
-    let e = sym at-p2.before.before.part_of.ensures ∙ at-p2.p2.given.1 in (
+    let e = sym c.part_of-p.ensures ∙ c.in-OptBlock.is in (
       rw e
           (sym
           (optional_off _ _ _ _ _ _
-          (sym at_flag.flag.ensures.0 ∙ at_next.next.given.1)
-          c.if1.false)),
-      (rw at_next.next.given.1 at at_flag.flag.ensures.1).1,
+          (sym c.flag.ensures.0 ∙ c.in-Ok.is)
+          c.if-s-at-eq1.false)),
+      (rw c.in-Ok.is at c.flag.ensures.1).1,
     )
 
-piece-returns-5 : (t : ℕ) → piece-lts.Need-returns-5 (piece-with t) (piece-at t) piece.Post
+piece-returns-5 : (t : ℕ) → piece-lts.Need-returns-in-Blocks (piece-with t) (piece-at t) piece.Post
 unfolding read_part earlier_of
 piece-returns-5 t c =
-    let at-p3 = c.before.before in
-    let e = sym at-p3.before.before.part_of.ensures ∙ at-p3.p3.given.1 in
+    let e = sym c.part_of-p.ensures ∙ c.in-Blocks.is in
     (rw e c.list.ensures.0, c.list.ensures.1)
 
-piece-returns-6 : (t : ℕ) → piece-lts.Need-returns-6 (piece-with t) (piece-at t) piece.Post
+piece-returns-6 : (t : ℕ) → piece-lts.Need-returns-in-Ascending (piece-with t) (piece-at t) piece.Post
 unfolding read_part earlier_of names_before
 piece-returns-6 t c =
-    let at-p4 = c.before.before in
-    let e = sym at-p4.before.before.part_of.ensures ∙ at-p4.p4.given.1 in
-    (rw e c.list2.ensures.0, c.list2.ensures.1)
+    let e = sym c.part_of-p.ensures ∙ c.in-Ascending.is in
+    (rw e c.list-in-Ascending.ensures.0, c.list-in-Ascending.ensures.1)
 
-piece-returns-7 : (t : ℕ) → piece-lts.Need-returns-7 (piece-with t) (piece-at t) piece.Post
+piece-returns-7 : (t : ℕ) → piece-lts.Need-returns-in-Distinct (piece-with t) (piece-at t) piece.Post
 unfolding read_part earlier_of names_before
 piece-returns-7 t c =
-    let at-p5 = c.before.before.before in
-    let e = sym at-p5.before.before.part_of.ensures ∙ at-p5.p5.given.1 in
-    (rw e c.list3.ensures.0, c.list3.ensures.1)
+    let e = sym c.part_of-p.ensures ∙ c.in-Distinct.is in
+    (rw e c.list-in-Distinct.ensures.0, c.list-in-Distinct.ensures.1)
 
-piece-returns-8 : (t : ℕ) → piece-lts.Need-returns-8 (piece-with t) (piece-at t) piece.Post
+piece-returns-8 : (t : ℕ) → piece-lts.Need-returns-in_default (piece-with t) (piece-at t) piece.Post
 piece-returns-8 t c =
-    let at-part-of = c.before.before in
-    (rw (sym at-part-of.part_of.ensures) (c.plain.ensures.0 _), c.plain.ensures.1)
+    (rw (sym c.part_of-p.ensures) (c.plain.ensures.0 _), c.plain.ensures.1)
 
-pub +block-list-parts-piece-spec : {M : Type 1} → statement M
-+block-list-parts-piece-spec =
+pub +block_list_parts_piece_spec : {M : Type 1} → statement M
++block_list_parts_piece_spec =
     close μ-block μ-list μ-parts μ-piece
     (λ t. block-lts.spec (block_with t) (block_at t) block.Post (block-heading-requires t)
     (block-enum-known-q t) (block-enum-known-k t) (block-returns t) (block-sub-parts t)

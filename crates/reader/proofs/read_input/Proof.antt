@@ -11,39 +11,34 @@ use Rattle.reader.proofs.read_input.Tie as tie
 block-requires : tie.Need-block-requires
 block-requires c κs = (omega arith, omega arith, nothing_valid _ 0 0 0, nothing_here _ 0 0 _)
 
-enum-known-q : tie.Need-enum-known-q
+enum-known-q : tie.Need-enum_known-q
 enum-known-q c = search rules
 
-enum-known-next : tie.Need-enum-known-next
+enum-known-next : tie.Need-enum_known-next
 enum-known-next c = search rules
 
--- The places, each seen from a later one: what was known there.
-abbrev at_block : tie.At-match-keys2 → tie.After-block
-at_block r = r.before
-
-returns : tie.Need-returns
+returns : tie.Need-returns-in-Refused
 unfolding earlier_of
 returns c =
-    let at_block = c.before.before.before in
-    sym (input_stop _ _ _ (sym at_block.block.ensures.0 ∙ c.before.q.given.1))
+    sym (input_stop _ _ _ (sym c.block.ensures.0 ∙ c.in-Refused.is))
 
-returns-2 : tie.Need-returns-2
+returns-2 : tie.Need-returns-then-next-n
 unfolding earlier_of
 returns-2 c =
     sym
     (input_ok _ _ _
-    (sym (at_block c.before.before.before).block.ensures.0
-    ∙ c.before.before.next.given.1)
-    c.if1.true)
+    (sym c.block.ensures.0
+    ∙ c.in-Ok.is)
+    c.if-next-n.true)
 
-returns-3 : tie.Need-returns-3
+returns-3 : tie.Need-returns-else-next-n
 unfolding earlier_of
 returns-3 c =
     sym
     (input_rest _ _ _
-    (sym (at_block c.before.before.before).block.ensures.0
-    ∙ c.before.before.next.given.1)
-    c.if1.false)
+    (sym c.block.ensures.0
+    ∙ c.in-Ok.is)
+    c.if-next-n.false)
 
 pub read_input_spec : {M : Type 1} → statement M
 read_input_spec =

@@ -7,16 +7,16 @@ use Rattle.reader_calls.proofs.one_read.Tie as tie
 asked-requires : tie.Need-asked-requires
 asked-requires c κs = search rules
 
-then-read-requires : tie.Need-then-read-requires
+then-read-requires : tie.Need-then_read-requires
 then-read-requires c κs = search rules
 
 returns : tie.Need-returns
 returns c =
     one_passed _ _ _ _
-    c.before.asked.result
-    c.then-read.result
-    c.before.asked.ensures
-    c.then-read.ensures
+    c.asked.result
+    c.then_read.result
+    c.asked.ensures
+    c.then_read.ensures
 
 pub one_read_spec : {M : Type 1} → statement M
 one_read_spec = tie.close (tie.spec asked-requires then-read-requires returns)

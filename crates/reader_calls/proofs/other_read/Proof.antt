@@ -7,29 +7,26 @@ use Rattle.reader_calls.proofs.other_read.Tie as tie
 asked-requires : tie.Need-asked-requires
 asked-requires c κs = search rules
 
-enum-known-q : tie.Need-enum-known-q
+enum-known-q : tie.Need-enum_known-q
 enum-known-q c = search rules
 
-enum_told : tie.Need-enum-told
+enum_told : tie.Need-enum_told-1
 enum_told c = search rules
 
-then-read-requires : tie.Need-then-read-requires
+then-read-requires : tie.Need-then_read-requires
 then-read-requires c κs = search rules
 
-returns : tie.Need-returns
+returns : tie.Need-returns-in-Refused
 returns c l d =
-    let at-asked = c.before.before.before in
-    other_no _ l _ _ at-asked.asked.ensures c.before.q.given.1
+    other_no _ l _ _ c.asked.ensures c.in-Refused.is
 
-returns-2 : tie.Need-returns-2
+returns-2 : tie.Need-returns-in-Ok
 returns-2 c l d =
-    let at-enum-told = c.before in
-    let at-asked = at-enum-told.before.before in
     other_yes _ l _ _
-    at-asked.asked.ensures _
-    c.then-read.result
-    at-enum-told.enum_told.given.1 d
-    c.then-read.ensures
+    c.asked.ensures _
+    c.then_read.result
+    c.in-Ok.is d
+    c.then_read.ensures
 
 pub other_read_spec : {M : Type 1} → statement M
 other_read_spec =

@@ -181,417 +181,368 @@ piece-with t = (
 abbrev pieces-with : ℕ → pieces-lts.Claims
 pieces-with t = (piece-below t, piece.Post, closed-reads.Asked, closed-reads.Learnt)
 
-body-add-closed : (t : ℕ) → body-lts.Need-overflow-add-closed (body-with t) (body_at t) body.Post
+body-add-closed : (t : ℕ) → body-lts.Need-overflow_add-at (body-with t) (body_at t) body.Post
 body-add-closed t c = search rules
 
 body-closed-requires : (t : ℕ) → body-lts.Need-closed-requires (body-with t) (body_at t) body.Post
 body-closed-requires t c κs = search rules
 
-body-returns : (t : ℕ) → body-lts.Need-returns (body-with t) (body_at t) body.Post
+body-returns : (t : ℕ) → body-lts.Need-returns-then-row-eq-CONST_ROW (body-with t) (body_at t) body.Post
 body-returns t c = (
-  const_row _ _ _ _ c.closed.ensures.0 c.before.if1.true refl,
+  const_row _ _ _ _ c.closed.ensures.0 c.if-row-eq-CONST_ROW.true refl,
   c.closed.ensures.1,
 )
 
-body-text-requires : (t : ℕ) → body-lts.Need-text-requires (body-with t) (body_at t) body.Post
+body-text-requires : (t : ℕ) → body-lts.Need-text-i-requires (body-with t) (body_at t) body.Post
 body-text-requires t c κs = search rules
 
-body-returns-2 : (t : ℕ) → body-lts.Need-returns-2 (body-with t) (body_at t) body.Post
+body-returns-2 : (t : ℕ) → body-lts.Need-returns-then-i-eq0 (body-with t) (body_at t) body.Post
 body-returns-2 t c = (λ z. absurd (omega arith), omega arith)
 
-body-returns-3 : (t : ℕ) → body-lts.Need-returns-3 (body-with t) (body_at t) body.Post
+body-returns-3 : (t : ℕ) → body-lts.Need-returns-then-room-eq0 (body-with t) (body_at t) body.Post
 body-returns-3 t c = (λ z. absurd (omega arith), omega arith)
 
 body-entries-requires : (t : ℕ) → body-lts.Need-entries-requires (body-with t) (body_at t) body.Post
 body-entries-requires t c κs =
-    let at-text = c.before.before in
-    let at-start = at-text.before.before.before.before in
-    (at-text.text.ensures.1, at-start.requires.1.1)
+    (c.text-i.ensures.1, c.requires.1.1)
 
-body-closed-requires-2 : (t : ℕ) → body-lts.Need-closed-requires-2 (body-with t) (body_at t) body.Post
+body-closed-requires-2 : (t : ℕ) → body-lts.Need-closed-requires-then-row-eq-CALL_ROW (body-with t) (body_at t) body.Post
 body-closed-requires-2 t c κs = search rules
 
-body-returns-4 : (t : ℕ) → body-lts.Need-returns-4 (body-with t) (body_at t) body.Post
-body-returns-4 t c =
-    let at-else4 = c.before.before in
-    let at-else3 = at-else4.before in
-    let at-text = at-else3.before in
-    let at-then2 = at-text.before in (
-      call_row _ _ _ _
-          c.closed2.ensures.0
-          (omega (arith, at-else3.if3.false))
-          at-text.text.ensures.0
-          at-then2.if2.true
-          (omega (arith, at-else4.if4.false))
-          c.before.entries.ensures.0,
-      c.closed2.ensures.1,
-    )
+body-returns-4 : (t : ℕ) → body-lts.Need-returns-then-row-eq-CALL_ROW (body-with t) (body_at t) body.Post
+body-returns-4 t c = (
+  call_row _ _ _ _
+      c.closed-then-row-eq-CALL_ROW.ensures.0
+      (omega (arith, c.if-i-eq0.false))
+      c.text-i.ensures.0
+      c.if-row-eq-CALL_ROW.true
+      (omega (arith, c.if-room-eq0.false))
+      c.entries.ensures.0,
+  c.closed-then-row-eq-CALL_ROW.ensures.1,
+)
 
-body-text-requires-2 : (t : ℕ) → body-lts.Need-text-requires-2 (body-with t) (body_at t) body.Post
+body-text-requires-2 : (t : ℕ) → body-lts.Need-text-i-requires-then-row-eq-FIELD_ROW (body-with t) (body_at t) body.Post
 body-text-requires-2 t c κs = search rules
 
-body-returns-5 : (t : ℕ) → body-lts.Need-returns-5 (body-with t) (body_at t) body.Post
+body-returns-5 : (t : ℕ) → body-lts.Need-returns-then-i-eq0-2 (body-with t) (body_at t) body.Post
 body-returns-5 t c = (λ z. absurd (omega arith), omega arith)
 
 body-optional-requires : (t : ℕ) → body-lts.Need-optional-requires (body-with t) (body_at t) body.Post
 body-optional-requires t c κs =
-    let at-start = c.before.before.before.before.before.before in
-    (c.before.text2.ensures.1, at-start.requires.1.1)
+    (c.text-i-then-row-eq-FIELD_ROW.ensures.1, c.requires.1.1)
 
-body-closed-requires-3 : (t : ℕ) → body-lts.Need-closed-requires-3 (body-with t) (body_at t) body.Post
+body-closed-requires-3 : (t : ℕ) → body-lts.Need-closed-requires-then-row-eq-FIELD_ROW (body-with t) (body_at t) body.Post
 body-closed-requires-3 t c κs = search rules
 
-body-returns-6 : (t : ℕ) → body-lts.Need-returns-6 (body-with t) (body_at t) body.Post
-body-returns-6 t c =
-    let at-else6 = c.before.before in
-    let at-text2 = at-else6.before in
-    let at-then5 = at-text2.before in (
-      field_row _ _ _ _
-          c.closed3.ensures.0
-          (omega (arith, at-else6.if6.false))
-          at-text2.text2.ensures.0
-          at-then5.if5.true
-          c.before.optional.ensures.0,
-      c.closed3.ensures.1,
-    )
+body-returns-6 : (t : ℕ) → body-lts.Need-returns-then-row-eq-FIELD_ROW (body-with t) (body_at t) body.Post
+body-returns-6 t c = (
+  field_row _ _ _ _
+      c.closed-then-row-eq-FIELD_ROW.ensures.0
+      (omega (arith, c.if-i-eq0-2.false))
+      c.text-i-then-row-eq-FIELD_ROW.ensures.0
+      c.if-row-eq-FIELD_ROW.true
+      c.optional.ensures.0,
+  c.closed-then-row-eq-FIELD_ROW.ensures.1,
+)
 
 body-pieces-requires : (t : ℕ) → body-lts.Need-pieces-requires (body-with t) (body_at t) body.Post
 body-pieces-requires t c κs =
-    let at-start = c.before.before.before.before in
-    (omega arith, at-start.requires.1)
+    (omega arith, c.requires.1)
 
-body-returns-7 : (t : ℕ) → body-lts.Need-returns-7 (body-with t) (body_at t) body.Post
+body-returns-7 : (t : ℕ) → body-lts.Need-returns (body-with t) (body_at t) body.Post
 body-returns-7 t c = c.pieces.ensures
 
-case-sized-requires : (t : ℕ) → case-lts.Need-sized-requires (case-with t) (case_at t) case.Post
+case-sized-requires : (t : ℕ) → case-lts.Need-sized-stop-requires (case-with t) (case_at t) case.Post
 case-sized-requires t c κs = search rules
 
-case-add-if1 : (t : ℕ) → case-lts.Need-overflow-add-if1 (case-with t) (case_at t) case.Post
+case-add-if1 : (t : ℕ) → case-lts.Need-overflow_add-at (case-with t) (case_at t) case.Post
 case-add-if1 t c = search rules
 
-case-returns : (t : ℕ) → case-lts.Need-returns (case-with t) (case_at t) case.Post
+case-returns : (t : ℕ) → case-lts.Need-returns-then-stop-at (case-with t) (case_at t) case.Post
 case-returns t c = (λ e z. absurd (omega arith), omega arith)
 
-case-add-read2 : (t : ℕ) → case-lts.Need-overflow-add-read2 (case-with t) (case_at t) case.Post
+case-add-read2 : (t : ℕ) → case-lts.Need-overflow_add-at-2 (case-with t) (case_at t) case.Post
 case-add-read2 t c = search rules
 
 case-read2-requires : (t : ℕ) → case-lts.Need-read2-requires (case-with t) (case_at t) case.Post
 case-read2-requires t c κs =
-    let at-start = c.before.before.before in
     let w = ends
-    at-start.args.s.now _ _ _
-    c.before.sized.ensures.0
-    (λ z. omega (arith, z, c.if1.false)) in
+    c.args.s.now _ _ _
+    c.sized-stop.ensures.0
+    (λ z. omega (arith, z, c.if-stop-at.false)) in
     omega (arith, w.0, w.1)
 
-case-returns-2 : (t : ℕ) → case-lts.Need-returns-2 (case-with t) (case_at t) case.Post
+case-returns-2 : (t : ℕ) → case-lts.Need-returns-then-read2-ne163 (case-with t) (case_at t) case.Post
 case-returns-2 t c = (λ e z. absurd (omega arith), omega arith)
 
-case-returns-3 : (t : ℕ) → case-lts.Need-returns-3 (case-with t) (case_at t) case.Post
+case-returns-3 : (t : ℕ) → case-lts.Need-returns-then-room-lt2 (case-with t) (case_at t) case.Post
 case-returns-3 t c = (λ e z. absurd (omega arith), omega arith)
 
-case-sub-node : (t : ℕ) → case-lts.Need-overflow-sub-node (case-with t) (case_at t) case.Post
+case-sub-node : (t : ℕ) → case-lts.Need-overflow_sub-room (case-with t) (case_at t) case.Post
 case-sub-node t c = search rules
 
-case-add-node : (t : ℕ) → case-lts.Need-overflow-add-node (case-with t) (case_at t) case.Post
+case-add-node : (t : ℕ) → case-lts.Need-overflow_add-at-3 (case-with t) (case_at t) case.Post
 case-add-node t c =
-    let at-else1 = c.before.before.before in
-    omega (arith, at-else1.if1.false)
+    omega (arith, c.if-stop-at.false)
 
-case-node-requires : (t : ℕ) → case-lts.Need-node-requires (case-with t) (case_at t) case.Post
+case-node-requires : (t : ℕ) → case-lts.Need-node-i-requires (case-with t) (case_at t) case.Post
 case-node-requires t c κs =
-    let at-else1 = c.before.before.before in
-    let at-sized = at-else1.before in
-    (omega (arith, c.if3.false), (at-else1.if1.false, omega (arith, at-sized.sized.ensures.1)))
+    (omega (arith, c.if-room-lt2.false), (c.if-stop-at.false, omega (arith, c.sized-stop.ensures.1)))
 
-case-returns-4 : (t : ℕ) → case-lts.Need-returns-4 (case-with t) (case_at t) case.Post
+case-returns-4 : (t : ℕ) → case-lts.Need-returns-then-i-eq0 (case-with t) (case_at t) case.Post
 case-returns-4 t c = (λ e z. absurd (omega arith), omega arith)
 
 case-entries-requires : (t : ℕ) → case-lts.Need-entries-requires (case-with t) (case_at t) case.Post
 case-entries-requires t c κs =
-    let at-sized = c.before.before.before.before.before.before in
-    (c.before.node.ensures.1, omega (arith, at-sized.sized.ensures.1))
+    (c.node-i.ensures.1, omega (arith, c.sized-stop.ensures.1))
 
 case-closed-requires : (t : ℕ) → case-lts.Need-closed-requires (case-with t) (case_at t) case.Post
 case-closed-requires t c κs = search rules
 
-case-returns-5 : (t : ℕ) → case-lts.Need-returns-5 (case-with t) (case_at t) case.Post
-case-returns-5 t c =
-    let at-else4 = c.before.before in
-    let at-node = at-else4.before in
-    let at-else3 = at-node.before in
-    let at-else2 = at-else3.before in
-    let at-read2 = at-else2.before in
-    let at-else1 = at-read2.before in
-    let at-sized = at-else1.before in (
-      case_yes _ _ _ _ _
-          at-sized.sized.ensures.0
-          at-else1.if1.false
-          at-read2.read2.ensures.0
-          at-else2.if2.false
-          at-else3.if3.false
-          (omega (arith, at-else4.if4.false))
-          at-node.node.ensures.0
-          c.before.entries.ensures.0
-          c.closed.ensures.0,
-      omega (arith, at-sized.sized.ensures.1, c.closed.ensures.1),
-    )
+case-returns-5 : (t : ℕ) → case-lts.Need-returns (case-with t) (case_at t) case.Post
+case-returns-5 t c = (
+  case_yes _ _ _ _ _
+      c.sized-stop.ensures.0
+      c.if-stop-at.false
+      c.read2.ensures.0
+      c.if-read2-ne163.false
+      c.if-room-lt2.false
+      (omega (arith, c.if-i-eq0.false))
+      c.node-i.ensures.0
+      c.entries.ensures.0
+      c.closed.ensures.0,
+  omega (arith, c.sized-stop.ensures.1, c.closed.ensures.1),
+)
 
-abbrev cases-Inv-loop : cases-lts.invariant-loop
+abbrev cases-Inv-loop : cases-lts.invariant-loop-left
 cases-Inv-loop s room at end n i₀ left₀ i left =
     (i ≤ end) × Rest room s 163 64 end at left i
 
-abbrev cases-μ-loop : cases-lts.decreases-loop
+abbrev cases-μ-loop : cases-lts.decreases-loop-left
 cases-μ-loop s room at end n i₀ left₀ i left = left
 
-cases-add-if1 : (t : ℕ) → cases-lts.Need-overflow-add-if1 (cases-with t) (cases-at t) cases.Post cases-Inv-loop cases-μ-loop
+cases-add-if1 : (t : ℕ) → cases-lts.Need-overflow_add-at (cases-with t) (cases-at t) cases.Post cases-Inv-loop cases-μ-loop
 cases-add-if1 t c = search rules
 
-cases-returns : (t : ℕ) → cases-lts.Need-returns (cases-with t) (cases-at t) cases.Post cases-Inv-loop cases-μ-loop
+cases-returns : (t : ℕ) → cases-lts.Need-returns-then-end-at (cases-with t) (cases-at t) cases.Post cases-Inv-loop cases-μ-loop
 cases-returns t c = (λ start z. absurd (omega arith), omega arith)
 
-cases-read2-requires : (t : ℕ) → cases-lts.Need-read2-requires (cases-with t) (cases-at t) cases.Post cases-Inv-loop cases-μ-loop
+cases-read2-requires : (t : ℕ) → cases-lts.Need-read2-n-requires (cases-with t) (cases-at t) cases.Post cases-Inv-loop cases-μ-loop
 cases-read2-requires t c κs = search rules
 
-cases-returns-2 : (t : ℕ) → cases-lts.Need-returns-2 (cases-with t) (cases-at t) cases.Post cases-Inv-loop cases-μ-loop
+cases-returns-2 : (t : ℕ) → cases-lts.Need-returns-then-n-gt64 (cases-with t) (cases-at t) cases.Post cases-Inv-loop cases-μ-loop
 cases-returns-2 t c = (λ start z. absurd (omega arith), omega arith)
 
-cases-add-i : (t : ℕ) → cases-lts.Need-overflow-add-i (cases-with t) (cases-at t) cases.Post cases-Inv-loop cases-μ-loop
+cases-add-i : (t : ℕ) → cases-lts.Need-overflow_add-i (cases-with t) (cases-at t) cases.Post cases-Inv-loop cases-μ-loop
 cases-add-i t c = search rules
 
-cases-loop-holds : (t : ℕ) → cases-lts.Need-loop-init (cases-with t) (cases-at t) cases.Post cases-Inv-loop cases-μ-loop
+cases-loop-holds : (t : ℕ) → cases-lts.Need-loop-left-init (cases-with t) (cases-at t) cases.Post cases-Inv-loop cases-μ-loop
 cases-loop-holds t c = (
   omega arith,
   rest_all _ _ _ _ _ _
-      c.before.before.if1.false
-      c.before.read2.ensures.0
-      c.if2.false,
+      c.if-end-at.false
+      c.read2-n.ensures.0
+      c.if-n-gt64.false,
 )
 
-cases-case-requires : (t : ℕ) → cases-lts.Need-case-requires (cases-with t) (cases-at t) cases.Post cases-Inv-loop cases-μ-loop
-cases-case-requires t c κs = (omega arith, (c.before.loop.invariant.0, omega arith))
+cases-case-requires : (t : ℕ) → cases-lts.Need-case-i-requires (cases-with t) (cases-at t) cases.Post cases-Inv-loop cases-μ-loop
+cases-case-requires t c κs = (omega arith, (c.loop-left.invariant.0, omega arith))
 
-cases-returns-3 : (t : ℕ) → cases-lts.Need-returns-3 (cases-with t) (cases-at t) cases.Post cases-Inv-loop cases-μ-loop
+cases-returns-3 : (t : ℕ) → cases-lts.Need-returns-then-i-eq0 (cases-with t) (cases-at t) cases.Post cases-Inv-loop cases-μ-loop
 cases-returns-3 t c = (λ start z. absurd (omega arith), omega arith)
 
-cases-sub-left : (t : ℕ) → cases-lts.Need-overflow-sub-left (cases-with t) (cases-at t) cases.Post cases-Inv-loop cases-μ-loop
+cases-sub-left : (t : ℕ) → cases-lts.Need-overflow_sub-left (cases-with t) (cases-at t) cases.Post cases-Inv-loop cases-μ-loop
 cases-sub-left t c = omega arith
 
-cases-loop-less : (t : ℕ) → cases-lts.Need-loop-smaller (cases-with t) (cases-at t) cases.Post cases-Inv-loop cases-μ-loop
+cases-loop-less : (t : ℕ) → cases-lts.Need-loop-left-smaller (cases-with t) (cases-at t) cases.Post cases-Inv-loop cases-μ-loop
 cases-loop-less t c = omega arith
 
-cases-loop-again : (t : ℕ) → cases-lts.Need-loop-preserved (cases-with t) (cases-at t) cases.Post cases-Inv-loop cases-μ-loop
-cases-loop-again t c =
-    let in-loop = c.before.before in
-    let at-loop = in-loop.before in (
-      c.before.case.ensures.1,
-      rest_next _ _ _ _ _ _
-          at-loop.loop.invariant.1
-          in-loop.loop-test.true
-          (c.before.case.ensures.0 Earlier.any (omega (arith, c.if3.false))),
-    )
-
-cases-returns-4 : (t : ℕ) → cases-lts.Need-returns-4 (cases-with t) (cases-at t) cases.Post cases-Inv-loop cases-μ-loop
-cases-returns-4 t c = (
-  λ start z. rest_none _ _ _ _ _ _ c.before.loop.invariant.1 c.loop-test.false start,
-  c.before.loop.invariant.0,
+cases-loop-again : (t : ℕ) → cases-lts.Need-loop-left-preserved (cases-with t) (cases-at t) cases.Post cases-Inv-loop cases-μ-loop
+cases-loop-again t c = (
+  c.case-i.ensures.1,
+  rest_next _ _ _ _ _ _
+      c.loop-left.invariant.1
+      c.loop-left-test.true
+      (c.case-i.ensures.0 Earlier.any (omega (arith, c.if-i-eq0.false))),
 )
 
-leading-add-if2 : (t : ℕ) → leading-lts.Need-overflow-add-if2 (leading-with t) (leading_at t) leading.Post
+cases-returns-4 : (t : ℕ) → cases-lts.Need-returns (cases-with t) (cases-at t) cases.Post cases-Inv-loop cases-μ-loop
+cases-returns-4 t c = (
+  λ start z. rest_none _ _ _ _ _ _ c.loop-left.invariant.1 c.loop-left-test.false start,
+  c.loop-left.invariant.0,
+)
+
+leading-add-if2 : (t : ℕ) → leading-lts.Need-overflow_add-at (leading-with t) (leading_at t) leading.Post
 leading-add-if2 t c = search rules
 
-leading-returns : (t : ℕ) → leading-lts.Need-returns (leading-with t) (leading_at t) leading.Post
+leading-returns : (t : ℕ) → leading-lts.Need-returns-then-end-at (leading-with t) (leading_at t) leading.Post
 leading-returns t c = (λ e start z. absurd (omega arith), omega arith)
 
-leading-add-result : (t : ℕ) → leading-lts.Need-overflow-add-result (leading-with t) (leading_at t) leading.Post
+leading-add-result : (t : ℕ) → leading-lts.Need-overflow_add-result (leading-with t) (leading_at t) leading.Post
 leading-add-result t c = search rules
 
-leading-returns-2 : (t : ℕ) → leading-lts.Need-returns-2 (leading-with t) (leading_at t) leading.Post
-leading-returns-2 t c = (number_part _ _ _ _ _ c.before.if1.true c.if2.false, c.if2.false)
+leading-returns-2 : (t : ℕ) → leading-lts.Need-returns-then-digit-eq-NUMBER (leading-with t) (leading_at t) leading.Post
+leading-returns-2 t c = (number_part _ _ _ _ _ c.if-digit-eq-NUMBER.true c.if-end-at.false, c.if-end-at.false)
 
 leading-node-requires : (t : ℕ) → leading-lts.Need-node-requires (leading-with t) (leading_at t) leading.Post
 leading-node-requires t c κs =
-    let at-start = c.before.before.before in
-    (omega arith, at-start.requires.1)
+    (omega arith, c.requires.1)
 
-leading-returns-3 : (t : ℕ) → leading-lts.Need-returns-3 (leading-with t) (leading_at t) leading.Post
+leading-returns-3 : (t : ℕ) → leading-lts.Need-returns-then-digit-eq-NODE (leading-with t) (leading_at t) leading.Post
 leading-returns-3 t c = (
-  node_part _ _ _ _ _ c.before.if3.true c.node.ensures.0,
+  node_part _ _ _ _ _ c.if-digit-eq-NODE.true c.node.ensures.0,
   c.node.ensures.1,
 )
 
 leading-piece-requires : (t : ℕ) → leading-lts.Need-piece-requires (leading-with t) (leading_at t) leading.Post
 leading-piece-requires t c κs =
-    let at-start = c.before.before.before in
-    (omega arith, at-start.requires.1)
+    (omega arith, c.requires.1)
 
-leading-returns-4 : (t : ℕ) → leading-lts.Need-returns-4 (leading-with t) (leading_at t) leading.Post
+leading-returns-4 : (t : ℕ) → leading-lts.Need-returns (leading-with t) (leading_at t) leading.Post
 leading-returns-4 t c = c.piece.ensures
 
-abbrev node-Inv-loop : node-lts.invariant-loop
+abbrev node-Inv-loop : node-lts.invariant-loop-row
 node-Inv-loop s room at end stop i₀ left₀ row₀ i left row =
     (i ≤ stop) ×
     (left < room) ×
     (Body left s row i stop → (e : Earlier) → forget (read_block room s e 128 144 at end) ≡ Ok stop) ×
     (stop ≤ end)
 
-abbrev node-μ-loop : node-lts.decreases-loop
+abbrev node-μ-loop : node-lts.decreases-loop-row
 node-μ-loop s room at end stop i₀ left₀ row₀ i left row = left
 
-node-sized-requires : (t : ℕ) → node-lts.Need-sized-requires (node-with t) (node_at t) node.Post node-Inv-loop node-μ-loop
+node-sized-requires : (t : ℕ) → node-lts.Need-sized-stop-requires (node-with t) (node_at t) node.Post node-Inv-loop node-μ-loop
 node-sized-requires t c κs = search rules
 
-node-returns : (t : ℕ) → node-lts.Need-returns (node-with t) (node_at t) node.Post node-Inv-loop node-μ-loop
+node-returns : (t : ℕ) → node-lts.Need-returns-then-stop-eq0 (node-with t) (node_at t) node.Post node-Inv-loop node-μ-loop
 node-returns t c = (λ e z. absurd (omega arith), omega arith)
 
-node-begun-requires : (t : ℕ) → node-lts.Need-begun-requires (node-with t) (node_at t) node.Post node-Inv-loop node-μ-loop
+node-begun-requires : (t : ℕ) → node-lts.Need-begun-i-requires (node-with t) (node_at t) node.Post node-Inv-loop node-μ-loop
 node-begun-requires t c κs =
-    let at-start = c.before.before.before in
-    let w = ends at-start.args.s.now _ _ _ c.before.sized.ensures.0 c.if1.false in
+    let w = ends c.args.s.now _ _ _ c.sized-stop.ensures.0 c.if-stop-eq0.false in
     (omega (arith, w.0), omega (arith, w.1))
 
-node-returns-2 : (t : ℕ) → node-lts.Need-returns-2 (node-with t) (node_at t) node.Post node-Inv-loop node-μ-loop
+node-returns-2 : (t : ℕ) → node-lts.Need-returns-then-i-eq0 (node-with t) (node_at t) node.Post node-Inv-loop node-μ-loop
 node-returns-2 t c = (λ e z. absurd (omega arith), omega arith)
 
-node-sub-left : (t : ℕ) → node-lts.Need-overflow-sub-left (node-with t) (node_at t) node.Post node-Inv-loop node-μ-loop
+node-sub-left : (t : ℕ) → node-lts.Need-overflow_sub-left (node-with t) (node_at t) node.Post node-Inv-loop node-μ-loop
 node-sub-left t c =
-    let b = c.before.begun.ensures.0 (omega (arith, c.if2.false)) in
+    let b = c.begun-i.ensures.0 (omega (arith, c.if-i-eq0.false)) in
     omega (arith, b.allowed)
 
-node-add-read2 : (t : ℕ) → node-lts.Need-overflow-add-read2 (node-with t) (node_at t) node.Post node-Inv-loop node-μ-loop
+node-add-read2 : (t : ℕ) → node-lts.Need-overflow_add-at (node-with t) (node_at t) node.Post node-Inv-loop node-μ-loop
 node-add-read2 t c = search rules
 
 node-read2-requires : (t : ℕ) → node-lts.Need-read2-requires (node-with t) (node_at t) node.Post node-Inv-loop node-μ-loop
 node-read2-requires t c κs =
-    let at-sized = c.before.before.before in
-    let b = c.before.begun.ensures.0 (omega (arith, c.if2.false)) in
-    omega (arith, b.inside, at-sized.sized.ensures.1)
+    let b = c.begun-i.ensures.0 (omega (arith, c.if-i-eq0.false)) in
+    omega (arith, b.inside, c.sized-stop.ensures.1)
 
-node-node-row-requires : (t : ℕ) → node-lts.Need-node-row-requires (node-with t) (node_at t) node.Post node-Inv-loop node-μ-loop
+node-node-row-requires : (t : ℕ) → node-lts.Need-node_row-row-requires (node-with t) (node_at t) node.Post node-Inv-loop node-μ-loop
 node-node-row-requires t c κs =
-    let b = c.before.before.begun.ensures.0 (omega (arith, c.before.if2.false)) in
+    let b = c.begun-i.ensures.0 (omega (arith, c.if-i-eq0.false)) in
     (omega (arith, b.least, c.read2.ensures.0), omega (arith, b.most, c.read2.ensures.0))
 
-node-loop-holds : (t : ℕ) → node-lts.Need-loop-init (node-with t) (node_at t) node.Post node-Inv-loop node-μ-loop
+node-loop-holds : (t : ℕ) → node-lts.Need-loop-row-init (node-with t) (node_at t) node.Post node-Inv-loop node-μ-loop
 node-loop-holds t c =
-    let at-else2 = c.before.before in
-    let at-begun = at-else2.before in
-    let at-else1 = at-begun.before in
-    let at-sized = at-else1.before in
-    let b = at-begun.begun.ensures.0 (omega (arith, at-else2.if2.false)) in (
-      at-begun.begun.ensures.1,
+    let b = c.begun-i.ensures.0 (omega (arith, c.if-i-eq0.false)) in (
+      c.begun-i.ensures.1,
       omega (arith, b.allowed),
       node_yes _ _ _ _
-          (omega (arith, at-else1.if1.false))
-          at-sized.sized.ensures.0
-          (omega (arith, at-else2.if2.false)) b
-          c.before.read2.ensures.0
-          c.node_row.ensures,
-      at-sized.sized.ensures.1,
+          (omega (arith, c.if-stop-eq0.false))
+          c.sized-stop.ensures.0
+          (omega (arith, c.if-i-eq0.false)) b
+          c.read2.ensures.0
+          c.node_row-row.ensures,
+      c.sized-stop.ensures.1,
     )
 
-node-leading-requires : (t : ℕ) → node-lts.Need-leading-requires (node-with t) (node_at t) node.Post node-Inv-loop node-μ-loop
+node-leading-requires : (t : ℕ) → node-lts.Need-leading-q-requires (node-with t) (node_at t) node.Post node-Inv-loop node-μ-loop
 node-leading-requires t c κs =
-    let inv = c.before.loop.invariant in
+    let inv = c.loop-row.invariant in
     (omega (arith, inv.1), (inv.0, omega (arith, inv.3)))
 
-node-returns-3 : (t : ℕ) → node-lts.Need-returns-3 (node-with t) (node_at t) node.Post node-Inv-loop node-μ-loop
+node-returns-3 : (t : ℕ) → node-lts.Need-returns-then-q-eq0 (node-with t) (node_at t) node.Post node-Inv-loop node-μ-loop
 node-returns-3 t c = (λ e z. absurd (omega arith), omega arith)
 
 node-fills-requires : (t : ℕ) → node-lts.Need-fills-requires (node-with t) (node_at t) node.Post node-Inv-loop node-μ-loop
 node-fills-requires t c κs =
-    let at-loop = c.before.before.before in
-    (c.before.leading.ensures.1, omega (arith, at-loop.loop.invariant.3))
+    (c.leading-q.ensures.1, omega (arith, c.loop-row.invariant.3))
 
-node-returns-4 : (t : ℕ) → node-lts.Need-returns-4 (node-with t) (node_at t) node.Post node-Inv-loop node-μ-loop
+node-returns-4 : (t : ℕ) → node-lts.Need-returns-then-not-fills (node-with t) (node_at t) node.Post node-Inv-loop node-μ-loop
 node-returns-4 t c = (λ e z. absurd (omega arith), omega arith)
 
-node-begun-requires-2 : (t : ℕ) → node-lts.Need-begun-requires-2 (node-with t) (node_at t) node.Post node-Inv-loop node-μ-loop
+node-begun-requires-2 : (t : ℕ) → node-lts.Need-begun-i-requires-in-loop-row (node-with t) (node_at t) node.Post node-Inv-loop node-μ-loop
 node-begun-requires-2 t c κs =
-    let at-leading = c.before.before.before in
-    let at-loop = at-leading.before.before in
-    let at-start = at-loop.before.before.before.before.before.before.before.before in
-    (at-leading.leading.ensures.1, omega (arith, at-loop.loop.invariant.3, at-start.requires.1.1))
+    (c.leading-q.ensures.1, omega (arith, c.loop-row.invariant.3, c.requires.1.1))
 
-node-returns-5 : (t : ℕ) → node-lts.Need-returns-5 (node-with t) (node_at t) node.Post node-Inv-loop node-μ-loop
+node-returns-5 : (t : ℕ) → node-lts.Need-returns-then-i-eq0-2 (node-with t) (node_at t) node.Post node-Inv-loop node-μ-loop
 node-returns-5 t c = (λ e z. absurd (omega arith), omega arith)
 
-node-sub-left-2 : (t : ℕ) → node-lts.Need-overflow-sub-left-2 (node-with t) (node_at t) node.Post node-Inv-loop node-μ-loop
+node-sub-left-2 : (t : ℕ) → node-lts.Need-overflow_sub-left-in-loop-row (node-with t) (node_at t) node.Post node-Inv-loop node-μ-loop
 node-sub-left-2 t c =
-    let b = c.before.begun2.ensures.0 (omega (arith, c.if5.false)) in
+    let b = c.begun-i-in-loop-row.ensures.0 (omega (arith, c.if-i-eq0-2.false)) in
     omega (arith, b.allowed)
 
-node-add-read2-2 : (t : ℕ) → node-lts.Need-overflow-add-read2-2 (node-with t) (node_at t) node.Post node-Inv-loop node-μ-loop
+node-add-read2-2 : (t : ℕ) → node-lts.Need-overflow_add-q (node-with t) (node_at t) node.Post node-Inv-loop node-μ-loop
 node-add-read2-2 t c =
-    let b = c.before.begun2.ensures.0 (omega (arith, c.if5.false)) in
+    let b = c.begun-i-in-loop-row.ensures.0 (omega (arith, c.if-i-eq0-2.false)) in
     omega (arith, b.inside)
 
-node-read2-requires-2 : (t : ℕ) → node-lts.Need-read2-requires-2 (node-with t) (node_at t) node.Post node-Inv-loop node-μ-loop
+node-read2-requires-2 : (t : ℕ) → node-lts.Need-read2-requires-in-loop-row (node-with t) (node_at t) node.Post node-Inv-loop node-μ-loop
 node-read2-requires-2 t c κs =
-    let at-loop = c.before.before.before.before.before.before.before in
-    let b = c.before.begun2.ensures.0 (omega (arith, c.if5.false)) in
-    omega (arith, b.inside, at-loop.loop.invariant.3)
+    let b = c.begun-i-in-loop-row.ensures.0 (omega (arith, c.if-i-eq0-2.false)) in
+    omega (arith, b.inside, c.loop-row.invariant.3)
 
-node-node-row-requires-2 : (t : ℕ) → node-lts.Need-node-row-requires-2 (node-with t) (node_at t) node.Post node-Inv-loop node-μ-loop
+node-node-row-requires-2 : (t : ℕ) → node-lts.Need-node_row-row-requires-in-loop-row (node-with t) (node_at t) node.Post node-Inv-loop node-μ-loop
 node-node-row-requires-2 t c κs =
-    let b = c.before.before.begun2.ensures.0 (omega (arith, c.before.if5.false)) in
-    (omega (arith, b.least, c.read22.ensures.0), omega (arith, b.most, c.read22.ensures.0))
+    let b = c.begun-i-in-loop-row.ensures.0 (omega (arith, c.if-i-eq0-2.false)) in
+    (omega (arith, b.least, c.read2-in-loop-row.ensures.0), omega (arith, b.most, c.read2-in-loop-row.ensures.0))
 
-node-loop-less : (t : ℕ) → node-lts.Need-loop-smaller (node-with t) (node_at t) node.Post node-Inv-loop node-μ-loop
+node-loop-less : (t : ℕ) → node-lts.Need-loop-row-smaller (node-with t) (node_at t) node.Post node-Inv-loop node-μ-loop
 node-loop-less t c =
-    let at-else5 = c.before.before in
-    let at-begun2 = at-else5.before in
-    let b = at-begun2.begun2.ensures.0 (omega (arith, at-else5.if5.false)) in
+    let b = c.begun-i-in-loop-row.ensures.0 (omega (arith, c.if-i-eq0-2.false)) in
     omega (arith, b.allowed)
 
-node-loop-again : (t : ℕ) → node-lts.Need-loop-preserved (node-with t) (node_at t) node.Post node-Inv-loop node-μ-loop
-node-loop-again t c =
-    let at-else5 = c.before.before in
-    let at-begun2 = at-else5.before in
-    let at-else4 = at-begun2.before in
-    let at-fills = at-else4.before in
-    let at-else3 = at-fills.before in
-    let at-leading = at-else3.before in
-    let in-loop = at-leading.before in
-    let at-loop = in-loop.before in
-    let at-else1 = at-loop.before.before.before.before.before in (
-      at-begun2.begun2.ensures.1,
-      omega (arith, at-loop.loop.invariant.1),
-      λ b. at-loop.loop.invariant.2
-          (row_child _ _ _ _
-          in-loop.loop-test.true
-          (omega (arith, at-else3.if3.false))
-          (omega (arith, at-else1.if1.false))
-          at-leading.leading.ensures.0
-          (node_yes _ _ _ _
-          (omega (arith, at-else1.if1.false))
-          (at-fills.fills.ensures (not_not _ at-else4.if4.false))
-          (omega (arith, at-else5.if5.false))
-          (at-begun2.begun2.ensures.0 (omega (arith, at-else5.if5.false)))
-          c.before.read22.ensures.0
-          c.node-row2.ensures b)),
-      at-loop.loop.invariant.3,
-    )
+node-loop-again : (t : ℕ) → node-lts.Need-loop-row-preserved (node-with t) (node_at t) node.Post node-Inv-loop node-μ-loop
+node-loop-again t c = (
+  c.begun-i-in-loop-row.ensures.1,
+  omega (arith, c.loop-row.invariant.1),
+  λ b. c.loop-row.invariant.2
+      (row_child _ _ _ _
+      c.loop-row-test.true
+      (omega (arith, c.if-q-eq0.false))
+      (omega (arith, c.if-stop-eq0.false))
+      c.leading-q.ensures.0
+      (node_yes _ _ _ _
+      (omega (arith, c.if-stop-eq0.false))
+      (c.fills.ensures (c.if-not-fills.false))
+      (omega (arith, c.if-i-eq0-2.false))
+      (c.begun-i-in-loop-row.ensures.0 (omega (arith, c.if-i-eq0-2.false)))
+      c.read2-in-loop-row.ensures.0
+      c.node_row-row-in-loop-row.ensures b)),
+  c.loop-row.invariant.3,
+)
 
 node-body-requires : (t : ℕ) → node-lts.Need-body-requires (node-with t) (node_at t) node.Post node-Inv-loop node-μ-loop
 node-body-requires t c κs =
-    let inv = c.before.loop.invariant in
+    let inv = c.loop-row.invariant in
     (omega (arith, inv.1), (inv.0, omega (arith, inv.3)))
 
-node-returns-6 : (t : ℕ) → node-lts.Need-returns-6 (node-with t) (node_at t) node.Post node-Inv-loop node-μ-loop
+node-returns-6 : (t : ℕ) → node-lts.Need-returns (node-with t) (node_at t) node.Post node-Inv-loop node-μ-loop
 node-returns-6 t c =
-    let inv = c.before.before.loop.invariant in (
+    let inv = c.loop-row.invariant in (
       λ e z. let q = c.body.ensures.0 z in rw q.0 (inv.2 q.1 e),
       omega (arith, inv.3, c.body.ensures.1),
     )
 
-piece-add-if1 : (t : ℕ) → piece-lts.Need-overflow-add-if1 (piece-with t) (piece-at t) piece.Post
+piece-add-if1 : (t : ℕ) → piece-lts.Need-overflow_add-at (piece-with t) (piece-at t) piece.Post
 piece-add-if1 t c = search rules
 
-piece-returns : (t : ℕ) → piece-lts.Need-returns (piece-with t) (piece-at t) piece.Post
+piece-returns : (t : ℕ) → piece-lts.Need-returns-then-end-at (piece-with t) (piece-at t) piece.Post
 piece-returns t c = (λ e start z. absurd (omega arith), omega arith)
 
-piece-add-result : (t : ℕ) → piece-lts.Need-overflow-add-result (piece-with t) (piece-at t) piece.Post
+piece-add-result : (t : ℕ) → piece-lts.Need-overflow_add-result (piece-with t) (piece-at t) piece.Post
 piece-add-result t c = search rules
 
 piece-text-requires : (t : ℕ) → piece-lts.Need-text-requires (piece-with t) (piece-at t) piece.Post
@@ -601,146 +552,134 @@ piece-optional-requires : (t : ℕ) → piece-lts.Need-optional-requires (piece-
 piece-optional-requires t c κs = search rules
 
 piece-node-requires : (t : ℕ) → piece-lts.Need-node-requires (piece-with t) (piece-at t) piece.Post
-piece-node-requires t c κs = (omega arith, c.before.before.requires.1)
+piece-node-requires t c κs = (omega arith, c.requires.1)
 
 piece-cases-requires : (t : ℕ) → piece-lts.Need-cases-requires (piece-with t) (piece-at t) piece.Post
-piece-cases-requires t c κs = (omega arith, c.before.before.requires.1)
+piece-cases-requires t c κs = (omega arith, c.requires.1)
 
-piece-returns-2 : (t : ℕ) → piece-lts.Need-returns-2 (piece-with t) (piece-at t) piece.Post
+piece-returns-2 : (t : ℕ) → piece-lts.Need-returns-then-room-eq0 (piece-with t) (piece-at t) piece.Post
 piece-returns-2 t c = (λ e start z. absurd (omega arith), omega arith)
 
 piece-entries-requires : (t : ℕ) → piece-lts.Need-entries-requires (piece-with t) (piece-at t) piece.Post
 piece-entries-requires t c κs = search rules
 
-piece-flag-requires : (t : ℕ) → piece-lts.Need-flag-requires (piece-with t) (piece-at t) piece.Post
+piece-flag-requires : (t : ℕ) → piece-lts.Need-flag-i-requires (piece-with t) (piece-at t) piece.Post
 piece-flag-requires t c κs = search rules
 
-piece-returns-3 : (t : ℕ) → piece-lts.Need-returns-3 (piece-with t) (piece-at t) piece.Post
+piece-returns-3 : (t : ℕ) → piece-lts.Need-returns-then-i-eq0 (piece-with t) (piece-at t) piece.Post
 piece-returns-3 t c = (λ e start z. absurd (omega arith), omega arith)
 
-piece-shared-slice-read-if4 : (t : ℕ) → piece-lts.Need-shared-slice-read-if4 (piece-with t) (piece-at t) piece.Post
+piece-shared-slice-read-if4 : (t : ℕ) → piece-lts.Need-bounds-s-at (piece-with t) (piece-at t) piece.Post
 piece-shared-slice-read-if4 t c =
-    let at_flag = c.before.before in
-    let q = at_flag.flag.ensures.2 (omega (arith, c.before.if3.false)) in
-    omega (arith, q.0, at_flag.flag.ensures.1)
+    let q = c.flag-i.ensures.2 (omega (arith, c.if-i-eq0.false)) in
+    omega (arith, q.0, c.flag-i.ensures.1)
 
-piece-returns-4 : (t : ℕ) → piece-lts.Need-returns-4 (piece-with t) (piece-at t) piece.Post
+piece-returns-4 : (t : ℕ) → piece-lts.Need-returns-then-s-at-eq0 (piece-with t) (piece-at t) piece.Post
 piece-returns-4 t c =
-    let at-else3 = c.before.before in
-    let at_flag = at-else3.before in
-    let at-match-keys7 = at_flag.before in
-    let q = at_flag.flag.ensures.2 (omega (arith, at-else3.if3.false)) in (
+    let q = c.flag-i.ensures.2 (omega (arith, c.if-i-eq0.false)) in (
       default_off _ _ _ _ _
-          at-match-keys7.match.keys7 q
-          at_flag.flag.ensures.1
-          c.if4.true,
-      at_flag.flag.ensures.1,
+          c.in-14.is q
+          c.flag-i.ensures.1
+          c.if-s-at-eq0.true,
+      c.flag-i.ensures.1,
     )
 
-piece-node-requires-2 : (t : ℕ) → piece-lts.Need-node-requires-2 (piece-with t) (piece-at t) piece.Post
+piece-node-requires-2 : (t : ℕ) → piece-lts.Need-node-requires-in-14 (piece-with t) (piece-at t) piece.Post
 piece-node-requires-2 t c κs =
-    let at_flag = c.before.before.before in
-    let at-start = at_flag.before.before.before in
-    (omega arith, (at_flag.flag.ensures.1, at-start.requires.1.1))
+    (omega arith, (c.flag-i.ensures.1, c.requires.1.1))
 
-piece-returns-5 : (t : ℕ) → piece-lts.Need-returns-5 (piece-with t) (piece-at t) piece.Post
-piece-returns-5 t c = (number_part _ _ _ _ _ c.before.match.keys1 c.if1.false, c.if1.false)
+piece-returns-5 : (t : ℕ) → piece-lts.Need-returns-else-end-at (piece-with t) (piece-at t) piece.Post
+piece-returns-5 t c = (number_part _ _ _ _ _ c.in-3.is c.if-end-at.false, c.if-end-at.false)
 
-piece-returns-6 : (t : ℕ) → piece-lts.Need-returns-6 (piece-with t) (piece-at t) piece.Post
+piece-returns-6 : (t : ℕ) → piece-lts.Need-returns-in-1 (piece-with t) (piece-at t) piece.Post
 piece-returns-6 t c = (
-  text_part _ _ _ _ _ c.before.match.keys2 c.text.ensures.0,
+  text_part _ _ _ _ _ c.in-1.is c.text.ensures.0,
   c.text.ensures.1,
 )
 
-piece-returns-7 : (t : ℕ) → piece-lts.Need-returns-7 (piece-with t) (piece-at t) piece.Post
+piece-returns-7 : (t : ℕ) → piece-lts.Need-returns-in-7 (piece-with t) (piece-at t) piece.Post
 piece-returns-7 t c = (
-  optional_part _ _ _ _ _ c.before.match.keys3 c.optional.ensures.0,
+  optional_part _ _ _ _ _ c.in-7.is c.optional.ensures.0,
   c.optional.ensures.1,
 )
 
-piece-returns-8 : (t : ℕ) → piece-lts.Need-returns-8 (piece-with t) (piece-at t) piece.Post
+piece-returns-8 : (t : ℕ) → piece-lts.Need-returns-in-12 (piece-with t) (piece-at t) piece.Post
 piece-returns-8 t c = (
-  node_part _ _ _ _ _ c.before.match.keys4 c.node.ensures.0,
+  node_part _ _ _ _ _ c.in-12.is c.node.ensures.0,
   c.node.ensures.1,
 )
 
-piece-returns-9 : (t : ℕ) → piece-lts.Need-returns-9 (piece-with t) (piece-at t) piece.Post
+piece-returns-9 : (t : ℕ) → piece-lts.Need-returns-in-19 (piece-with t) (piece-at t) piece.Post
 piece-returns-9 t c = (
-  cases_part _ _ _ _ _ c.before.match.keys5 c.cases.ensures.0,
+  cases_part _ _ _ _ _ c.in-19.is c.cases.ensures.0,
   c.cases.ensures.1,
 )
 
-piece-returns-10 : (t : ℕ) → piece-lts.Need-returns-10 (piece-with t) (piece-at t) piece.Post
+piece-returns-10 : (t : ℕ) → piece-lts.Need-returns-else-room-eq0 (piece-with t) (piece-at t) piece.Post
 piece-returns-10 t c = (
   arguments_part _ _ _ _ _
-      c.before.before.match.keys6
-      (omega (arith, c.before.if2.false))
+      c.in-20.is
+      (omega (arith, c.if-room-eq0.false))
       c.entries.ensures.0,
   c.entries.ensures.1,
 )
 
-piece-returns-11 : (t : ℕ) → piece-lts.Need-returns-11 (piece-with t) (piece-at t) piece.Post
+piece-returns-11 : (t : ℕ) → piece-lts.Need-returns-else-s-at-eq0 (piece-with t) (piece-at t) piece.Post
 piece-returns-11 t c =
-    let at-else3 = c.before.before.before in
-    let at_flag = at-else3.before in
-    let at-match-keys7 = at_flag.before in
-    let q = at_flag.flag.ensures.2 (omega (arith, at-else3.if3.false)) in (
+    let q = c.flag-i.ensures.2 (omega (arith, c.if-i-eq0.false)) in (
       default_on _ _ _ _ _
-          at-match-keys7.match.keys7 q
-          at_flag.flag.ensures.1
-          c.before.if4.false
-          c.node2.ensures.0,
-      c.node2.ensures.1,
+          c.in-14.is q
+          c.flag-i.ensures.1
+          c.if-s-at-eq0.false
+          c.node-in-14.ensures.0,
+      c.node-in-14.ensures.1,
     )
 
-piece-returns-12 : (t : ℕ) → piece-lts.Need-returns-12 (piece-with t) (piece-at t) piece.Post
+piece-returns-12 : (t : ℕ) → piece-lts.Need-returns-in_default (piece-with t) (piece-at t) piece.Post
 piece-returns-12 t c = (λ e start z. absurd (omega arith), omega arith)
 
-abbrev pieces-Inv-loop : pieces-lts.invariant-loop
+abbrev pieces-Inv-loop : pieces-lts.invariant-loop-digits
 pieces-Inv-loop s room row at stop i₀ digits₀ i digits =
     (i ≤ stop) × (Body room s digits i stop → Body room s row at stop)
 
-abbrev pieces-μ-loop : pieces-lts.decreases-loop
+abbrev pieces-μ-loop : pieces-lts.decreases-loop-digits
 pieces-μ-loop s room row at stop i₀ digits₀ i digits = digits
 
-pieces-loop-holds : (t : ℕ) → pieces-lts.Need-loop-init (pieces-with t) (pieces-at t) pieces.Post pieces-Inv-loop pieces-μ-loop
-pieces-loop-holds t c = (c.before.requires.1.0, λ b. b)
+pieces-loop-holds : (t : ℕ) → pieces-lts.Need-loop-digits-init (pieces-with t) (pieces-at t) pieces.Post pieces-Inv-loop pieces-μ-loop
+pieces-loop-holds t c = (c.requires.1.0, λ b. b)
 
-pieces-piece-requires : (t : ℕ) → pieces-lts.Need-piece-requires (pieces-with t) (pieces-at t) pieces.Post pieces-Inv-loop pieces-μ-loop
+pieces-piece-requires : (t : ℕ) → pieces-lts.Need-piece-i-requires (pieces-with t) (pieces-at t) pieces.Post pieces-Inv-loop pieces-μ-loop
 pieces-piece-requires t c κs =
-    let at-start = c.before.before.before in
-    (omega arith, (c.before.loop.invariant.0, at-start.requires.1.1))
+    (omega arith, (c.loop-digits.invariant.0, c.requires.1.1))
 
-pieces-returns : (t : ℕ) → pieces-lts.Need-returns (pieces-with t) (pieces-at t) pieces.Post pieces-Inv-loop pieces-μ-loop
+pieces-returns : (t : ℕ) → pieces-lts.Need-returns-then-i-eq0 (pieces-with t) (pieces-at t) pieces.Post pieces-Inv-loop pieces-μ-loop
 pieces-returns t c = (λ z. absurd (omega arith), omega arith)
 
-pieces-loop-less : (t : ℕ) → pieces-lts.Need-loop-smaller (pieces-with t) (pieces-at t) pieces.Post pieces-Inv-loop pieces-μ-loop
-pieces-loop-less t c = omega (arith, c.before.before.loop-test.true)
+pieces-loop-less : (t : ℕ) → pieces-lts.Need-loop-digits-smaller (pieces-with t) (pieces-at t) pieces.Post pieces-Inv-loop pieces-μ-loop
+pieces-loop-less t c = omega (arith, c.loop-digits-test.true)
 
-pieces-loop-again : (t : ℕ) → pieces-lts.Need-loop-preserved (pieces-with t) (pieces-at t) pieces.Post pieces-Inv-loop pieces-μ-loop
-pieces-loop-again t c =
-    let in-loop = c.before.before in
-    let at-loop = in-loop.before in (
-      c.before.piece.ensures.1,
-      λ b. at-loop.loop.invariant.1
-          (row_go _ _ _ _
-          in-loop.loop-test.true
-          (omega (arith, c.if1.false))
-          c.before.piece.ensures.0 b),
-    )
+pieces-loop-again : (t : ℕ) → pieces-lts.Need-loop-digits-preserved (pieces-with t) (pieces-at t) pieces.Post pieces-Inv-loop pieces-μ-loop
+pieces-loop-again t c = (
+  c.piece-i.ensures.1,
+  λ b. c.loop-digits.invariant.1
+      (row_go _ _ _ _
+      c.loop-digits-test.true
+      (omega (arith, c.if-i-eq0.false))
+      c.piece-i.ensures.0 b),
+)
 
 pieces-closed-requires : (t : ℕ) → pieces-lts.Need-closed-requires (pieces-with t) (pieces-at t) pieces.Post pieces-Inv-loop pieces-μ-loop
 pieces-closed-requires t c κs = search rules
 
-pieces-returns-2 : (t : ℕ) → pieces-lts.Need-returns-2 (pieces-with t) (pieces-at t) pieces.Post pieces-Inv-loop pieces-μ-loop
+pieces-returns-2 : (t : ℕ) → pieces-lts.Need-returns (pieces-with t) (pieces-at t) pieces.Post pieces-Inv-loop pieces-μ-loop
 pieces-returns-2 t c = (
   λ z. let q = c.closed.ensures.0 z in
-      (q.0, c.before.before.loop.invariant.1 (row_none _ _ _ c.before.loop-test.false q.1)),
+      (q.0, c.loop-digits.invariant.1 (row_none _ _ _ c.loop-digits-test.false q.1)),
   c.closed.ensures.1,
 )
 
-pub +body-case-cases-leading-node-piece-pieces-spec : {M : Type 1} → statement M
-+body-case-cases-leading-node-piece-pieces-spec =
+pub +body_case_cases_leading_node_piece_pieces_spec : {M : Type 1} → statement M
++body_case_cases_leading_node_piece_pieces_spec =
     close μ-body μ-case μ-cases μ-leading μ-node μ-piece μ-pieces
     (λ t. body-lts.spec (body-with t) (body_at t) body.Post (body-add-closed t)
     (body-closed-requires t) (body-returns t) (body-text-requires t) (body-returns-2 t)

@@ -5,18 +5,18 @@ use borrow.Author.Rules.{rules}
 use Rattle.reader_quick.proofs.described.Statement.{statement}
 use Rattle.reader_quick.proofs.described.Tie as tie
 
-optional-requires : tie.Need-optional-requires
+optional-requires : tie.Need-optional-i-requires
 optional-requires c κs = search rules
 
-returns : tie.Need-returns
+returns : tie.Need-returns-then-i-eq0
 returns c = (λ rb e start z. absurd (omega arith), omega arith)
 
 flag-requires : tie.Need-flag-requires
 flag-requires c κs = search rules
 
-returns-2 : tie.Need-returns-2
+returns-2 : tie.Need-returns
 returns-2 c = (
-  described_yes _ _ _ (omega arith) c.before.before.optional.ensures.0 c.flag.ensures.0,
+  described_yes _ _ _ (omega arith) c.optional-i.ensures.0 c.flag.ensures.0,
   c.flag.ensures.1,
 )
 

@@ -6,78 +6,68 @@ use borrow.Author.Rules.{rules}
 use Rattle.reader_quick.proofs.entry.Statement.{statement}
 use Rattle.reader_quick.proofs.entry.Tie as tie
 
-of-kind-requires : tie.Need-of-kind-requires
+of-kind-requires : tie.Need-of_kind-stop-requires
 of-kind-requires c κs = search rules
 
-returns : tie.Need-returns
+returns : tie.Need-returns-then-stop-eq0
 returns c = (λ room e h z. absurd (omega arith), omega arith)
 
-add-text : tie.Need-overflow-add-text
+add-text : tie.Need-overflow_add-at
 add-text c = search rules
 
-text-requires : tie.Need-text-requires
+text-requires : tie.Need-text-i-requires
 text-requires c κs =
-    let block = c.before.of-kind.ensures in
-    ((block.1 (omega (arith, c.if1.false))).1, omega (arith, block.2))
+    let block = c.of_kind-stop.ensures in
+    ((block.1 (omega (arith, c.if-stop-eq0.false))).1, omega (arith, block.2))
 
-returns-2 : tie.Need-returns-2
+returns-2 : tie.Need-returns-then-i-eq0
 returns-2 c = (λ room e h z. absurd (omega arith), omega arith)
 
 described-requires : tie.Need-described-requires
 described-requires c κs =
-    let at-text = c.before.before in
-    (at-text.text.ensures.1, omega (arith, at-text.before.before.of-kind.ensures.2))
+    (c.text-i.ensures.1, omega (arith, c.of_kind-stop.ensures.2))
 
 closed-requires : tie.Need-closed-requires
 closed-requires c κs = search rules
 
-returns-3 : tie.Need-returns-3
+returns-3 : tie.Need-returns-then-kind-eq162
 returns-3 c =
-    let at-then3 = c.before.before in
-    let at-else2 = at-then3.before in
-    let at-text = at-else2.before in
-    let at-else1 = at-text.before in
-    let block = at-else1.before.of-kind.ensures in (
+    let block = c.of_kind-stop.ensures in (
       parameter_yes _ _ _ _ _ _
-          (omega (arith, at-else1.if1.false))
+          (omega (arith, c.if-stop-eq0.false))
           block.0
-          (block.1 (omega (arith, at-else1.if1.false))).0
-          (omega (arith, at-else2.if2.false))
-          at-text.text.ensures.0
-          at-then3.if3.true
-          c.before.described.ensures.0
+          (block.1 (omega (arith, c.if-stop-eq0.false))).0
+          (omega (arith, c.if-i-eq0.false))
+          c.text-i.ensures.0
+          c.if-kind-eq162.true
+          c.described.ensures.0
           c.closed.ensures.0,
       omega (arith, block.2, c.closed.ensures.1),
     )
 
-text-requires-2 : tie.Need-text-requires-2
+text-requires-2 : tie.Need-text-requires
 text-requires-2 c κs =
-    let at-text = c.before.before.before in
-    (at-text.text.ensures.1, omega (arith, at-text.before.before.of-kind.ensures.2))
+    (c.text-i.ensures.1, omega (arith, c.of_kind-stop.ensures.2))
 
-closed-requires-2 : tie.Need-closed-requires-2
+closed-requires-2 : tie.Need-closed-requires-then-kind-eq164
 closed-requires-2 c κs = search rules
 
-returns-4 : tie.Need-returns-4
+returns-4 : tie.Need-returns-then-kind-eq164
 returns-4 c =
-    let at-then4 = c.before.before in
-    let at-else2 = at-then4.before.before in
-    let at-text = at-else2.before in
-    let at-else1 = at-text.before in
-    let block = at-else1.before.of-kind.ensures in (
+    let block = c.of_kind-stop.ensures in (
       argument_yes _ _ _ _ _ _
-          (omega (arith, at-else1.if1.false))
+          (omega (arith, c.if-stop-eq0.false))
           block.0
-          (block.1 (omega (arith, at-else1.if1.false))).0
-          (omega (arith, at-else2.if2.false))
-          at-text.text.ensures.0
-          at-then4.if4.true
-          c.before.text2.ensures.0
-          c.closed2.ensures.0,
-      omega (arith, block.2, c.closed2.ensures.1),
+          (block.1 (omega (arith, c.if-stop-eq0.false))).0
+          (omega (arith, c.if-i-eq0.false))
+          c.text-i.ensures.0
+          c.if-kind-eq164.true
+          c.text.ensures.0
+          c.closed-then-kind-eq164.ensures.0,
+      omega (arith, block.2, c.closed-then-kind-eq164.ensures.1),
     )
 
-returns-5 : tie.Need-returns-5
+returns-5 : tie.Need-returns
 returns-5 c = (λ room e h z. absurd (omega arith), omega arith)
 
 pub entry_spec : {M : Type 1} → statement M

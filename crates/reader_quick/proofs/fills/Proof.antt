@@ -6,27 +6,26 @@ use Rattle.reader_quick.proofs.Laws.{fills_yes}
 use Rattle.reader_quick.proofs.fills.Statement.{statement}
 use Rattle.reader_quick.proofs.fills.Tie as tie
 
-add-if1 : tie.Need-overflow-add-if1
+add-if1 : tie.Need-overflow_add-at
 add-if1 c = search rules
 
-returns : tie.Need-returns
+returns : tie.Need-returns-then-stop-at
 returns c = λ z. false_true z
 
-add-result : tie.Need-overflow-add-result
+add-result : tie.Need-overflow_add-result
 add-result c = search rules
 
 read4-requires : tie.Need-read4-requires
 read4-requires c κs = search rules
 
-add-result-2 : tie.Need-overflow-add-result-2
+add-result-2 : tie.Need-overflow_add-result-2
 add-result-2 c = search rules
 
-returns-2 : tie.Need-returns-2
+returns-2 : tie.Need-returns
 returns-2 c =
-    let at-start = c.before.before.before in
     λ z. fills_yes
-    at-start.args.s.now _ _
-    c.before.if1.false
+    c.args.s.now _ _
+    c.if-stop-at.false
     c.read4.ensures.0
     (eqb-true _ _ z)
 

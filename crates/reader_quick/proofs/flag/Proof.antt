@@ -6,26 +6,26 @@ use borrow.Author.Rules.{rules}
 use Rattle.reader_quick.proofs.flag.Statement.{statement}
 use Rattle.reader_quick.proofs.flag.Tie as tie
 
-add-if1 : tie.Need-overflow-add-if1
+add-if1 : tie.Need-overflow_add-at
 add-if1 c = search rules
 
-returns : tie.Need-returns
+returns : tie.Need-returns-then-end-at
 returns c = (λ start z. absurd (omega arith), omega arith, λ z. absurd (omega arith))
 
-shared-slice-read-b : tie.Need-shared-slice-read-b
+shared-slice-read-b : tie.Need-bounds-s-at
 shared-slice-read-b c = search rules
 
-returns-2 : tie.Need-returns-2
+returns-2 : tie.Need-returns-then-b-gt1
 returns-2 c = (λ start z. absurd (omega arith), omega arith, λ z. absurd (omega arith))
 
-add-result : tie.Need-overflow-add-result
+add-result : tie.Need-overflow_add-result
 add-result c = search rules
 
-returns-3 : tie.Need-returns-3
+returns-3 : tie.Need-returns
 returns-3 c = (
-  flag_yes _ _ _ c.before.before.if1.false c.if2.false,
+  flag_yes _ _ _ c.if-end-at.false c.if-b-gt1.false,
   omega arith,
-  λ z. (refl, c.if2.false),
+  λ z. (refl, c.if-b-gt1.false),
 )
 
 pub flag_spec : {M : Type 1} → statement M

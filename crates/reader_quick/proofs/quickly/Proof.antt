@@ -11,33 +11,33 @@ layout-requires c κs = search rules
 values-requires : tie.Need-values-requires
 values-requires c κs = search rules
 
-all-read-requires : tie.Need-all-read-requires
+all-read-requires : tie.Need-all_read-requires
 all-read-requires c κs = search rules
 
 run-requires : tie.Need-run-requires
 run-requires c κs = search rules
 
-all-read-requires-2 : tie.Need-all-read-requires-2
+all-read-requires-2 : tie.Need-all_read-requires-in-193
 all-read-requires-2 c κs = search rules
 
-returns : tie.Need-returns
-returns c = λ z. layout_is _ _ c.before.match.keys1 (c.layout.ensures z)
+returns : tie.Need-returns-in-160
+returns c = λ z. layout_is _ _ c.in-160.is (c.layout.ensures z)
 
-returns-2 : tie.Need-returns-2
+returns-2 : tie.Need-returns-in-192
 returns-2 c =
     λ z. all_yes _ _
-    c.before.before.match.keys2
-    c.before.values.ensures.0
+    c.in-192.is
+    c.values.ensures.0
     (c.all_read.ensures z)
 
-returns-3 : tie.Need-returns-3
+returns-3 : tie.Need-returns-in-193
 returns-3 c =
     λ z. all_yes _ _
-    c.before.before.match.keys3
-    c.before.run.ensures.0
-    (c.all-read2.ensures z)
+    c.in-193.is
+    c.run.ensures.0
+    (c.all_read-in-193.ensures z)
 
-returns-4 : tie.Need-returns-4
+returns-4 : tie.Need-returns-in_default
 returns-4 c = λ z. false_true z
 
 pub quickly_spec : {M : Type 1} → statement M

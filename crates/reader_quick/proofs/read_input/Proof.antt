@@ -7,14 +7,14 @@ use Rattle.reader_quick.proofs.read_input.Tie as tie
 quickly-requires : tie.Need-quickly-requires
 quickly-requires c κs = search rules
 
-returns : tie.Need-returns
-returns c = input_yes _ _ _ (c.before.quickly.ensures c.if1.true)
+returns : tie.Need-returns-then-quickly
+returns c = input_yes _ _ _ (c.quickly.ensures c.if-quickly.true)
 
-read-input-requires : tie.Need-read-input-requires
+read-input-requires : tie.Need-read_input-requires
 read-input-requires c κs = search rules
 
-returns-2 : tie.Need-returns-2
-returns-2 c = c.read-input.ensures
+returns-2 : tie.Need-returns
+returns-2 c = c.read_input.ensures
 
 pub read_input_spec : {M : Type 1} → statement M
 read_input_spec = tie.close (tie.spec quickly-requires returns read-input-requires returns-2)

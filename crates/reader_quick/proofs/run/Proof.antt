@@ -5,67 +5,60 @@ use borrow.Author.Rules.{rules}
 use Rattle.reader_quick.proofs.run.Statement.{statement}
 use Rattle.reader_quick.proofs.run.Tie as tie
 
-of-kind-requires : tie.Need-of-kind-requires
+of-kind-requires : tie.Need-of_kind-stop-requires
 of-kind-requires c κs = search rules
 
-returns : tie.Need-returns
+returns : tie.Need-returns-then-stop-eq0
 returns c = (λ e z. absurd (omega arith), omega arith)
 
-returns-2 : tie.Need-returns-2
+returns-2 : tie.Need-returns-then-room-lt2
 returns-2 c = (λ e z. absurd (omega arith), omega arith)
 
-add-text : tie.Need-overflow-add-text
+add-text : tie.Need-overflow_add-at
 add-text c = search rules
 
-text-requires : tie.Need-text-requires
+text-requires : tie.Need-text-i-requires
 text-requires c κs =
-    let at-else1 = c.before in
-    let block = at-else1.before.of-kind.ensures in
-    ((block.1 (omega (arith, at-else1.if1.false))).1, omega (arith, block.2))
+    let block = c.of_kind-stop.ensures in
+    ((block.1 (omega (arith, c.if-stop-eq0.false))).1, omega (arith, block.2))
 
-returns-3 : tie.Need-returns-3
+returns-3 : tie.Need-returns-then-i-eq0
 returns-3 c = (λ e z. absurd (omega arith), omega arith)
 
-add-if4 : tie.Need-overflow-add-if4
+add-if4 : tie.Need-overflow_add-i
 add-if4 c =
-    let at-text = c.before in
-    let block = at-text.before.before.before.of-kind.ensures in
-    omega (arith, block.2, at-text.text.ensures.1)
+    let block = c.of_kind-stop.ensures in
+    omega (arith, block.2, c.text-i.ensures.1)
 
-returns-4 : tie.Need-returns-4
+returns-4 : tie.Need-returns-then-stop-i
 returns-4 c = (λ e z. absurd (omega arith), omega arith)
 
-sub-values : tie.Need-overflow-sub-values
+sub-values : tie.Need-overflow_sub-room
 sub-values c = search rules
 
-add-values : tie.Need-overflow-add-values
+add-values : tie.Need-overflow_add-i-2
 add-values c = search rules
 
 values-requires : tie.Need-values-requires
 values-requires c κs =
-    let block = c.before.before.before.before.before.of-kind.ensures in
-    (c.if4.false, omega (arith, block.2))
+    let block = c.of_kind-stop.ensures in
+    (c.if-stop-i.false, omega (arith, block.2))
 
 closed-requires : tie.Need-closed-requires
 closed-requires c κs = search rules
 
-returns-5 : tie.Need-returns-5
+returns-5 : tie.Need-returns
 returns-5 c =
-    let at-else4 = c.before.before in
-    let at-else3 = at-else4.before in
-    let at-text = at-else3.before in
-    let at-else2 = at-text.before in
-    let at-else1 = at-else2.before in
-    let block = at-else1.before.of-kind.ensures in (
+    let block = c.of_kind-stop.ensures in (
       run_yes _ _ _ _
-          (omega (arith, at-else1.if1.false))
+          (omega (arith, c.if-stop-eq0.false))
           block.0 _
-          (block.1 (omega (arith, at-else1.if1.false))).0
-          at-else2.if2.false
-          (omega (arith, at-else3.if3.false))
-          at-text.text.ensures.0
-          at-else4.if4.false
-          c.before.values.ensures.0
+          (block.1 (omega (arith, c.if-stop-eq0.false))).0
+          c.if-room-lt2.false
+          (omega (arith, c.if-i-eq0.false))
+          c.text-i.ensures.0
+          c.if-stop-i.false
+          c.values.ensures.0
           c.closed.ensures.0,
       omega (arith, block.2, c.closed.ensures.1),
     )
