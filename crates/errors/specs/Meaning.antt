@@ -7,7 +7,7 @@ use Rattle.errors.specs.declared.Refusal.{Refusal}
 use Rattle.errors.specs.declared.Answer.{Answer}
 use Rattle.errors.specs.declared.Answer.TheVariants as answer
 use Rattle.errors.specs.declared.Length.{Length}
-use Rattle.errors.specs.declared.Length.TheVariants as length
+use Rattle.errors.specs.declared.Length.TheVariants as length_answer
 
 -- "A refusal gives number, type place in the set or layout (65,535 if none), offset and value."
 unfoldable pub refusal_of : Refusal → definition.Refusal
@@ -20,5 +20,5 @@ outcome_of (answer.Refused r) = refused (refusal_of r)
 
 -- a length, or a refusal
 abbrev pub length_of : Length → Outcome ℕ
-length_of (length.Bytes n) = done n
-length_of (length.Refused r) = refused (refusal_of r)
+length_of (length_answer.Bytes n) = done n
+length_of (length_answer.Refused r) = refused (refusal_of r)
