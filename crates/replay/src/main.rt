@@ -75,20 +75,16 @@ fn word_count(s: &[u8], words: &[u64]) -> usize
 
 // Puts something into every word, so that a call has to clear them all.
 fn fill_words(words: &mut [u64]) {
-    let mut i = 0;
-    while i < words.len() {
-        words[i] = u64::MAX;
-        i += 1;
+    for word in words.iter_mut() {
+        *word = u64::MAX;
     }
 }
 
 fn is_clean(words: &[u64]) -> bool {
-    let mut i = 0;
-    while i < words.len() {
-        if words[i] != 0 {
+    for word in words {
+        if *word != 0 {
             return false;
         }
-        i += 1;
     }
     true
 }
@@ -197,21 +193,17 @@ fn verdict(same: bool) -> Held {
 
 // Puts something into every byte, so that it is seen which of them a call writes.
 fn fill_bytes(out: &mut [u8]) {
-    let mut i = 0;
-    while i < out.len() {
-        out[i] = 0xA5;
-        i += 1;
+    for byte in out.iter_mut() {
+        *byte = 0xA5;
     }
 }
 
 // Whether every byte is this one.
 fn is_all(out: &[u8], b: u8) -> bool {
-    let mut i = 0;
-    while i < out.len() {
-        if out[i] != b {
+    for byte in out {
+        if *byte != b {
             return false;
         }
-        i += 1;
     }
     true
 }
@@ -544,7 +536,7 @@ fn say<W: Write>(writer: &mut W, number: u64, text: &str) -> io::Result<()> {
 }
 
 // How often a number was met, if it was.
-fn say_number<W: Write>(writer: &mut W, number: u64, count: u64) -> io::Result<()> {
+fn say_number<W: Write>(writer: &mut W, number: usize, count: u64) -> io::Result<()> {
     if count != 0 {
         write!(writer, " {number}:{count}")?;
     }
@@ -553,15 +545,8 @@ fn say_number<W: Write>(writer: &mut W, number: u64, count: u64) -> io::Result<(
 
 // The counts of the numbers 0 to 27, which stand from a place of the tally on.
 fn say_numbers<W: Write>(writer: &mut W, tally: &[u64; 62], from: usize) -> io::Result<()> {
-    let mut i = from;
-    let mut number: u64 = 0;
-    while number < 28 {
-        if 61 < i {
-            return Ok(());
-        }
-        say_number(writer, number, tally[i])?;
-        i += 1;
-        number += 1;
+    for (number, count) in tally.iter().skip(from).take(28).enumerate() {
+        say_number(writer, number, *count)?;
     }
     Ok(())
 }
