@@ -528,12 +528,6 @@ eval-call-collect-arguments-requires t c κs =
 abbrev Collected : ℕ → Type 0
 Collected t = eval-call-lts.After-slice_known-2-1 (eval-call-with t) (eval-call-at t) eval_call.Post
 
-abbrev collects : (t : ℕ) → Collected t → eval-call-lts.After-collect_arguments (eval-call-with t) (eval-call-at t) eval_call.Post
-collects t r = r.before.before
-
-abbrev at_call : (t : ℕ) → Collected t → eval-call-lts.Start (eval-call-with t) (eval-call-at t) eval_call.Post
-at_call t r = r.before.before.before.before.before.before.before
-
 call_kept : (t : ℕ) (r : Collected t) →
     Kept r.args.values.now r.args.root.block r.args.f.depth r.args.words.now r.collect_arguments.new.words
 call_kept t r = kept_now r.requires.1.0 r.words-1.given r.collect_arguments.ensures.1
@@ -597,18 +591,12 @@ eval-call-root-requires t c κs =
 abbrev AtRoot : ℕ → Type 0
 AtRoot t = eval-call-lts.After-root-top (eval-call-with t) (eval-call-at t) eval_call.Post
 
-abbrev at-enum-told : (t : ℕ) → AtRoot t → eval-call-lts.In-All (eval-call-with t) (eval-call-at t) eval_call.Post
-at-enum-told t r = r.before.before.before.before
-
 abbrev collected : (t : ℕ) → AtRoot t → Collected t
 collected t r = r.before.before.before.before.before
 
-abbrev at-start : (t : ℕ) → AtRoot t → eval-call-lts.Start (eval-call-with t) (eval-call-at t) eval_call.Post
-at-start t r = at_call t (collected t r)
-
 -- the words of then
 abbrev words-then : (t : ℕ) → AtRoot t → List ℕ
-words-then t r = (collects t (collected t r)).collect_arguments.new.words
+words-then t r = r.collect_arguments.new.words
 
 -- the call may open
 opening : (t : ℕ) (r : AtRoot t) →
@@ -618,9 +606,9 @@ opening t r = call_opens (call-node t (collected t r)) r.in-At.is r.called.ensur
 -- the arguments, over the words of then
 arguments : (t : ℕ) (r : AtRoot t) (p : ℕ) (γ : ParamMap) →
     Context r.args.s.now r.args.values.now r.args.root.block r.args.root.len (words-then t r) r.args.f.depth γ →
-    (a : Accepted r.args.s.now 128 144 r.args.at) → Bound p γ (arguments_of (tree a)) (collects t (collected t r)).collect_arguments.result
+    (a : Accepted r.args.s.now 128 144 r.args.at) → Bound p γ (arguments_of (tree a)) r.collect_arguments.result
 arguments t r =
-    bound_now r.requires.1.0 r.words-1.given (collects t (collected t r)).collect_arguments.ensures.1 (collects t (collected t r)).collect_arguments.ensures.0
+    bound_now r.requires.1.0 r.words-1.given r.collect_arguments.ensures.1 r.collect_arguments.ensures.0
 
 eval-call-mul-words : (t : ℕ) → eval-call-lts.Need-overflow_mul-words (eval-call-with t) (eval-call-at t) eval_call.Post
 eval-call-mul-words t c = let o = opening t c in omega arith
@@ -705,7 +693,7 @@ eval-call-returns-4 t c =
           (kept_both
           (kept_set _ _ o.more (remembers (call-node t (collected t r))))
           (kept_fewer (omega arith) c.eval_node.ensures.0)),
-      evaluates_now c.requires.1.0 c.words-1.given (collects t (collected t r)).collect_arguments.ensures.1
+      evaluates_now c.requires.1.0 c.words-1.given c.collect_arguments.ensures.1
           (call_answers _ _
           o.word
           (omega arith) refl
@@ -929,9 +917,6 @@ eval-switch-tag-requires t c κs =
 abbrev Tagged : ℕ → Type 0
 Tagged t = eval-switch-lts.After-slice_known-2-1 (eval-switch-with t) (eval-switch-at t) eval-switch.Post
 
-abbrev at-switch : (t : ℕ) → Tagged t → eval-switch-lts.Start (eval-switch-with t) (eval-switch-at t) eval-switch.Post
-at-switch t r = r.before.before.before.before.before.before.before
-
 switch_kept : (t : ℕ) (r : Tagged t) →
     Kept r.args.values.now r.args.root.block r.args.f.depth r.args.words.now r.tag.new.words
 switch_kept t r = kept_now r.requires.1.0 r.words-1.given r.tag.ensures.1
@@ -951,8 +936,7 @@ eval-switch-enum-known-v t c = search rules
 
 eval-switch-selected-requires : (t : ℕ) → eval-switch-lts.Need-selected-requires (eval-switch-with t) (eval-switch-at t) eval-switch.Post
 eval-switch-selected-requires t c κs =
-    let at-start = at-switch t c.before in
-    (at-start.requires.1.0.node, at-start.requires.1.1)
+    (c.requires.1.0.node, c.requires.1.1)
 
 eval-switch-enum-known-q : (t : ℕ) → eval-switch-lts.Need-enum_known-q (eval-switch-with t) (eval-switch-at t) eval-switch.Post
 eval-switch-enum-known-q t c = search rules

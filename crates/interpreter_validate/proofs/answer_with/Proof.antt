@@ -9,13 +9,9 @@ use borrow.Author.Rules.{rules}
 use Rattle.interpreter_validate.proofs.answer_with.Statement.{statement}
 use Rattle.interpreter_validate.proofs.answer_with.Tie as tie
 
--- The place before the questions, and that they are answered.
-abbrev at-start : tie.After-both_read-judged → tie.Start
-at-start r = r.before.before.before.before.before.before
-
 asked : (r : tie.After-both_read-judged) →
-    Asked (at-start r).args.ask (at-start r).args.layout.now (at-start r).args.other.now r.both_read-judged.result
-    (at-start r).args.words.now (length (at-start r).args.words.now)
+    Asked r.args.ask r.args.layout.now r.args.other.now r.both_read-judged.result
+    r.args.words.now (length r.args.words.now)
 asked r = record { questions = judged_of r.kind.ensures r.both_read-judged.ensures; room = λ h. omega (arith, h) }
 
 kind-requires : tie.Need-kind-requires

@@ -15,12 +15,6 @@ use Rattle.interpreter_values.proofs.extend.Statement.{statement}
 use Rattle.interpreter_values.proofs.extend.Tie as tie
 
 -- The places, each seen from a later one: what was known there.
-abbrev from-offset : tie.After-entry_offset-at → tie.Start
-from-offset r = r.before.before.before
-
-abbrev from_step : tie.After-after_step-to → tie.Start
-from_step r = from-offset r.before.before
-
 abbrev at-step : tie.After-note_offsets → tie.After-after_step-to
 at-step r = r.before.before
 
@@ -34,9 +28,8 @@ counted-room r = omega (arith, r.requires.2, length-set r.args.words.now 16 (r.a
 
 counted-index : (r : tie.After-after_step-to) → Indexed r.args.values.now r.args.block r.args.m (drop 17 (counted r))
 counted-index r =
-    let at-start = from_step r in
-    subst (Indexed at-start.args.values.now at-start.args.block at-start.args.m)
-    (sym (drop-set-lt 17 at-start.args.words.now 16 (r.after_step-to.result + 4) (omega arith))) at-start.requires.1
+    subst (Indexed r.args.values.now r.args.block r.args.m)
+    (sym (drop-set-lt 17 r.args.words.now 16 (r.after_step-to.result + 4) (omega arith))) r.requires.1
 
 entry-offset-requires : tie.Need-entry_offset-at-requires
 entry-offset-requires c κs = search rules
@@ -88,25 +81,24 @@ same_length c =
     let r = at-step at-note in
     linked_length (counted r) c.note_offsets.new.offsets c.link_names.new.table (counted-room r)
     c.note_offsets.auto.offsets c.link_names.auto.table
-    ∙ length-set r.args.words.now 16 (r.after_step-to.result + 4)
+    ∙ length-set c.args.words.now 16 (c.after_step-to.result + 4)
 
 returns : tie.Need-returns
 returns c =
     let at-note = c.before.before.before.before.before.before in
     let r = at-step at-note in
-    let at-start = from_step r in
-    let most = few at-start.requires.0 in
+    let most = few c.requires.0 in
     let zs = c.note_offsets.new.offsets in
     let ys = c.link_names.new.table in
     let lz = c.note_offsets.auto.offsets in
     let ly = c.link_names.auto.table in
     let index =
-    built (counted r) zs ys (counted-room r) lz ly at-start.args.values.now at-start.args.block r.after_step-to.result
-    (omega (arith, r.after_step-to.ensures.1, r.read2.ensures.0)) most
-    (c.note_offsets.ensures (offsets_part (counted r) (counted-room r) (counted-index r) (omega (arith, most, at-start.requires.1.within))))
+    built (counted r) zs ys (counted-room r) lz ly c.args.values.now c.args.block c.after_step-to.result
+    (omega (arith, c.after_step-to.ensures.1, c.read2.ensures.0)) most
+    (c.note_offsets.ensures (offsets_part (counted r) (counted-room r) (counted-index r) (omega (arith, most, c.requires.1.within))))
     (c.link_names.ensures (table_part (counted r) (counted-room r) (counted-index r) zs lz)) in (
-      r.entry_offset-at.ensures,
-      kept_more r.after_step-to.result at-start.requires.2 (same_length c) (built_same (counted r) zs ys (counted-room r) lz ly) index,
+      c.entry_offset-at.ensures,
+      kept_more c.after_step-to.result c.requires.2 (same_length c) (built_same (counted r) zs ys (counted-room r) lz ly) index,
     )
 
 pub extend_spec : {M : Type 1} → statement M

@@ -8,9 +8,6 @@ use Rattle.interpreter_values.proofs.Entries.{leaves_all}
 use Rattle.interpreter_values.proofs.left_of.Statement.{statement}
 use Rattle.interpreter_values.proofs.left_of.Tie as tie
 
-abbrev from-asked : tie.After-slice_known-2-1 → tie.Start
-from-asked r = r.before.before.before.before.before.before.before
-
 -- The search that is counted keeps what is remembered.
 counted : (r : tie.After-slice_known-2-1) →
     Kept r.args.values.now r.args.block 16 r.args.words.now r.by_index.new.words
@@ -51,8 +48,7 @@ same-length-2 c = search rules
 returns-2 : tie.Need-returns
 returns-2 c =
     let asked = c.before.before in
-    let at-start = from-asked asked in
-    (leaves_all at-start.requires.0 at-start.args.name.now c.read2-n.ensures.0, counted asked)
+    (leaves_all c.requires.0 c.args.name.now c.read2-n.ensures.0, counted asked)
 
 pub left_of_spec : {M : Type 1} → statement M
 left_of_spec =
