@@ -12,10 +12,6 @@ invariant-loop s at left₀ q₀ left q = Passed s (le2 s at) (at + 2) left q
 abbrev decreases-loop : tie.decreases-loop-left
 decreases-loop s at left₀ q₀ left q = left
 
--- The start, seen from the loop.
-abbrev at-start : tie.At-loop-left invariant-loop decreases-loop → tie.Start invariant-loop decreases-loop
-at-start r = r.before.before.before
-
 read2-requires : tie.Need-read2-left-requires invariant-loop decreases-loop
 read2-requires c κs = count_in c.requires.2 c.requires.3
 
@@ -27,18 +23,15 @@ loop-holds c = none_passed c.read2-left.ensures.0
 
 add-q-2 : tie.Need-overflow_add-q-in-loop-left invariant-loop decreases-loop
 add-q-2 c =
-    let start = at-start c.before in
-    omega (arith, (next_in start.requires.2 start.requires.3 c.loop-left-test.true c.loop-left.invariant).0)
+    omega (arith, (next_in c.requires.2 c.requires.3 c.loop-left-test.true c.loop-left.invariant).0)
 
 read4-requires : tie.Need-read4-requires invariant-loop decreases-loop
 read4-requires c κs =
-    let start = at-start c.before in
-    (next_in start.requires.2 start.requires.3 c.loop-left-test.true c.loop-left.invariant).0
+    (next_in c.requires.2 c.requires.3 c.loop-left-test.true c.loop-left.invariant).0
 
 add-q-3 : tie.Need-overflow_add-q-in-loop-left-2 invariant-loop decreases-loop
 add-q-3 c =
-    let start = at-start c.before.before in
-    omega (arith, (next_in start.requires.2 start.requires.3 c.loop-left-test.true c.loop-left.invariant).1, c.read4.ensures.0)
+    omega (arith, (next_in c.requires.2 c.requires.3 c.loop-left-test.true c.loop-left.invariant).1, c.read4.ensures.0)
 
 sub-left : tie.Need-overflow_sub-left invariant-loop decreases-loop
 sub-left c = omega arith

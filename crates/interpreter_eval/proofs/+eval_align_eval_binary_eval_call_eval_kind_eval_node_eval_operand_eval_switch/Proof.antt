@@ -11,10 +11,8 @@ use Rattle.ir.specs.Layout.{layout_of}
 use mathlib.Core.List.{List}
 use Rattle.accepted.specs.Accepted.{Accepted, tree}
 use Rattle.interpreter.specs.Eval.{ParamMap}
-use Rattle.interpreter_values.specs.Remembered.{Kept}
 use Rattle.interpreter_context.specs.Context.{Context, arguments_of}
 use Rattle.interpreter_leaves.specs.Steps.{Bound}
-use Rattle.interpreter_eval.specs.Evaluates.{Ready}
 use Rattle.interpreter_context.proofs.Lists.{ends}
 use Rattle.interpreter_context.proofs.Calls.{context_kept}
 use Rattle.interpreter_values.proofs.Laws.{kept_fewer, kept_both, kept_set}
@@ -524,24 +522,6 @@ eval-call-collect-arguments-requires : (t : ℕ) → eval-call-lts.Need-collect_
 eval-call-collect-arguments-requires t c κs =
     (c.requires.1.0.node, c.requires.1.1, c.requires.1.0.context, c.requires.1.0.calls)
 
--- eval_call, where its arguments were collected: the places before it, and what is ready over the words of then.
-abbrev Collected : ℕ → Type 0
-Collected t = eval-call-lts.After-slice_known-2-1 (eval-call-with t) (eval-call-at t) eval_call.Post
-
-abbrev collects : (t : ℕ) → Collected t → eval-call-lts.After-collect_arguments (eval-call-with t) (eval-call-at t) eval_call.Post
-collects t r = r.before.before
-
-abbrev at_call : (t : ℕ) → Collected t → eval-call-lts.Start (eval-call-with t) (eval-call-at t) eval_call.Post
-at_call t r = r.before.before.before.before.before.before.before
-
-call_kept : (t : ℕ) (r : Collected t) →
-    Kept r.args.values.now r.args.root.block r.args.f.depth r.args.words.now r.collect_arguments.new.words
-call_kept t r = kept_now r.requires.1.0 r.words-1.given r.collect_arguments.ensures.1
-
-call-node : (t : ℕ) (r : Collected t) →
-    Ready r.args.s.now r.args.values.now r.collect_arguments.new.words r.args.root r.args.f r.args.at
-call-node t r = still_ready r.requires.1.0 r.requires.1.0.node r.words-1.given (call_kept t r)
-
 eval-call-enum-known-q : (t : ℕ) → eval-call-lts.Need-enum_known-q (eval-call-with t) (eval-call-at t) eval_call.Post
 eval-call-enum-known-q t c = search rules
 
@@ -553,8 +533,8 @@ eval-call-enum-told t c = search rules
 
 eval-call-called-requires : (t : ℕ) → eval-call-lts.Need-called-requires (eval-call-with t) (eval-call-at t) eval_call.Post
 eval-call-called-requires t c κs =
-    let r = c.before in
-    let ready = call-node t r in
+    let kept = kept_now c.requires.1.0 c.words-1.given c.collect_arguments.ensures.1 in
+    let ready = still_ready c.requires.1.0 c.requires.1.0.node c.words-1.given kept in
     (ready.node, c.requires.1.1, ready.layout, ready.here)
 
 eval-call-enum-told-2 : (t : ℕ) → eval-call-lts.Need-enum_told-in-Missing (eval-call-with t) (eval-call-at t) eval_call.Post
@@ -574,8 +554,8 @@ eval-call-same-length t c = search rules
 
 eval-call-returns : (t : ℕ) → eval-call-lts.Need-returns-then-depth-eq16 (eval-call-with t) (eval-call-at t) eval_call.Post
 eval-call-returns t c =
-    let r = c.before.before.before.before.before.before in (
-      call_kept t r,
+    let kept = kept_now c.requires.1.0 c.words-1.given c.collect_arguments.ensures.1 in (
+      kept,
       λ γ x u rd a. tells_as
           c.refused-then-depth-eq16.ensures
           (call_stops
@@ -590,37 +570,32 @@ eval-call-returns t c =
 
 eval-call-root-requires : (t : ℕ) → eval-call-lts.Need-root-top-requires (eval-call-with t) (eval-call-at t) eval_call.Post
 eval-call-root-requires t c κs =
-    let ready = call-node t c.before.before.before.before in
+    let kept = kept_now c.requires.1.0 c.words-1.given c.collect_arguments.ensures.1 in
+    let ready = still_ready c.requires.1.0 c.requires.1.0.node c.words-1.given kept in
     (found_at_lem c.in-At.is (c.called.ensures ready.layout.0 ready.layout.1 ready.node)).0
 
 -- eval_call, where the root of the called type was found: the places before it.
 abbrev AtRoot : ℕ → Type 0
 AtRoot t = eval-call-lts.After-root-top (eval-call-with t) (eval-call-at t) eval_call.Post
 
-abbrev at-enum-told : (t : ℕ) → AtRoot t → eval-call-lts.In-All (eval-call-with t) (eval-call-at t) eval_call.Post
-at-enum-told t r = r.before.before.before.before
-
-abbrev collected : (t : ℕ) → AtRoot t → Collected t
-collected t r = r.before.before.before.before.before
-
-abbrev at-start : (t : ℕ) → AtRoot t → eval-call-lts.Start (eval-call-with t) (eval-call-at t) eval_call.Post
-at-start t r = at_call t (collected t r)
-
 -- the words of then
 abbrev words-then : (t : ℕ) → AtRoot t → List ℕ
-words-then t r = (collects t (collected t r)).collect_arguments.new.words
+words-then t r = r.collect_arguments.new.words
 
 -- the call may open
 opening : (t : ℕ) (r : AtRoot t) →
     Opening r.args.s.now (words-then t r) r.args.f r.args.at r.in-At.callee
-opening t r = call_opens (call-node t (collected t r)) r.in-At.is r.called.ensures r.if-depth-eq16.false
+opening t r =
+    let kept = kept_now r.requires.1.0 r.words-1.given r.collect_arguments.ensures.1 in
+    let ready = still_ready r.requires.1.0 r.requires.1.0.node r.words-1.given kept in
+    call_opens ready r.in-At.is r.called.ensures r.if-depth-eq16.false
 
 -- the arguments, over the words of then
 arguments : (t : ℕ) (r : AtRoot t) (p : ℕ) (γ : ParamMap) →
     Context r.args.s.now r.args.values.now r.args.root.block r.args.root.len (words-then t r) r.args.f.depth γ →
-    (a : Accepted r.args.s.now 128 144 r.args.at) → Bound p γ (arguments_of (tree a)) (collects t (collected t r)).collect_arguments.result
+    (a : Accepted r.args.s.now 128 144 r.args.at) → Bound p γ (arguments_of (tree a)) r.collect_arguments.result
 arguments t r =
-    bound_now r.requires.1.0 r.words-1.given (collects t (collected t r)).collect_arguments.ensures.1 (collects t (collected t r)).collect_arguments.ensures.0
+    bound_now r.requires.1.0 r.words-1.given r.collect_arguments.ensures.1 r.collect_arguments.ensures.0
 
 eval-call-mul-words : (t : ℕ) → eval-call-lts.Need-overflow_mul-words (eval-call-with t) (eval-call-at t) eval_call.Post
 eval-call-mul-words t c = let o = opening t c in omega arith
@@ -641,7 +616,8 @@ eval-call-eval-node-requires : (t : ℕ) → eval-call-lts.Need-eval_node-requir
 eval-call-eval-node-requires t c κs =
     let r = c.before.before in
     let o = opening t r in
-    let ready = call-node t (collected t r) in
+    let kept = kept_now c.requires.1.0 c.words-1.given c.collect_arguments.ensures.1 in
+    let ready = still_ready c.requires.1.0 c.requires.1.0.node c.words-1.given kept in
     let type = (found_at_lem c.in-At.is (c.called.ensures ready.layout.0 ready.layout.1 ready.node)).0 in (
       omega (arith, c.requires.0, ready.small, (ends (c.root-top.ensures type).root).1),
       call_ready _ _
@@ -661,8 +637,8 @@ eval-call-same-length-2 t c = search rules
 
 eval-call-returns-2 : (t : ℕ) → eval-call-lts.Need-returns-in-Lacking (eval-call-with t) (eval-call-at t) eval_call.Post
 eval-call-returns-2 t c =
-    let r = c.before.before.before in (
-      call_kept t r,
+    let kept = kept_now c.requires.1.0 c.words-1.given c.collect_arguments.ensures.1 in (
+      kept,
       λ γ x u rd a. tells_as
           c.refused.ensures
           (call_lacks
@@ -677,8 +653,8 @@ eval-call-same-length-3 t c = search rules
 
 eval-call-returns-3 : (t : ℕ) → eval-call-lts.Need-returns-in-Missing (eval-call-with t) (eval-call-at t) eval_call.Post
 eval-call-returns-3 t c =
-    let r = c.before.before.before.before.before in (
-      call_kept t r,
+    let kept = kept_now c.requires.1.0 c.words-1.given c.collect_arguments.ensures.1 in (
+      kept,
       λ γ x u rd a. tells_as
           c.refused-in-Missing.ensures
           (call_unknown
@@ -693,19 +669,20 @@ eval-call-returns-3 t c =
 
 eval-call-same-length-4 : (t : ℕ) → eval-call-lts.Need-shape_of-words-else-depth-eq16 (eval-call-with t) (eval-call-at t) eval_call.Post
 eval-call-same-length-4 t c =
-    let r = c.before.before.before.before.before in
-    c.words-in-At-1.given ∙ length-set (words-then t r) c.args.f.depth _ ∙ c.words-1.given
+    c.words-in-At-1.given ∙ length-set c.collect_arguments.new.words c.args.f.depth _ ∙ c.words-1.given
 
 eval-call-returns-4 : (t : ℕ) → eval-call-lts.Need-returns-else-depth-eq16 (eval-call-with t) (eval-call-at t) eval_call.Post
 eval-call-returns-4 t c =
     let r = c.before.before.before.before.before in
-    let o = opening t r in (
+    let o = opening t r in
+    let kept = kept_now c.requires.1.0 c.words-1.given c.collect_arguments.ensures.1 in
+    let ready = still_ready c.requires.1.0 c.requires.1.0.node c.words-1.given kept in (
       kept_both
-          (call_kept t (collected t r))
+          kept
           (kept_both
-          (kept_set _ _ o.more (remembers (call-node t (collected t r))))
+          (kept_set _ _ o.more (remembers ready))
           (kept_fewer (omega arith) c.eval_node.ensures.0)),
-      evaluates_now c.requires.1.0 c.words-1.given (collects t (collected t r)).collect_arguments.ensures.1
+      evaluates_now c.requires.1.0 c.words-1.given c.collect_arguments.ensures.1
           (call_answers _ _
           o.word
           (omega arith) refl
@@ -925,21 +902,6 @@ eval-switch-tag-requires : (t : ℕ) → eval-switch-lts.Need-tag-requires (eval
 eval-switch-tag-requires t c κs =
     (c.requires.1.0.node, c.requires.1.1, c.requires.1.0.context)
 
--- eval_switch, where its tag was looked for: the places before it, and what is ready over the words of then.
-abbrev Tagged : ℕ → Type 0
-Tagged t = eval-switch-lts.After-slice_known-2-1 (eval-switch-with t) (eval-switch-at t) eval-switch.Post
-
-abbrev at-switch : (t : ℕ) → Tagged t → eval-switch-lts.Start (eval-switch-with t) (eval-switch-at t) eval-switch.Post
-at-switch t r = r.before.before.before.before.before.before.before
-
-switch_kept : (t : ℕ) (r : Tagged t) →
-    Kept r.args.values.now r.args.root.block r.args.f.depth r.args.words.now r.tag.new.words
-switch_kept t r = kept_now r.requires.1.0 r.words-1.given r.tag.ensures.1
-
-switch-node : (t : ℕ) (r : Tagged t) →
-    Ready r.args.s.now r.args.values.now r.tag.new.words r.args.root r.args.f r.args.at
-switch-node t r = still_ready r.requires.1.0 r.requires.1.0.node r.words-1.given (switch_kept t r)
-
 eval-switch-enum-told : (t : ℕ) → eval-switch-lts.Need-enum_told-1 (eval-switch-with t) (eval-switch-at t) eval-switch.Post
 eval-switch-enum-told t c = search rules
 
@@ -951,16 +913,15 @@ eval-switch-enum-known-v t c = search rules
 
 eval-switch-selected-requires : (t : ℕ) → eval-switch-lts.Need-selected-requires (eval-switch-with t) (eval-switch-at t) eval-switch.Post
 eval-switch-selected-requires t c κs =
-    let at-start = at-switch t c.before in
-    (at-start.requires.1.0.node, at-start.requires.1.1)
+    (c.requires.1.0.node, c.requires.1.1)
 
 eval-switch-enum-known-q : (t : ℕ) → eval-switch-lts.Need-enum_known-q (eval-switch-with t) (eval-switch-at t) eval-switch.Post
 eval-switch-enum-known-q t c = search rules
 
 eval-switch-eval-node-requires : (t : ℕ) → eval-switch-lts.Need-eval_node-requires (eval-switch-with t) (eval-switch-at t) eval-switch.Post
 eval-switch-eval-node-requires t c κs =
-    let r = c.before.before.before.before.before in
-    let ready = switch-node t r in
+    let kept = kept_now c.requires.1.0 c.words-1.given c.tag.ensures.1 in
+    let ready = still_ready c.requires.1.0 c.requires.1.0.node c.words-1.given kept in
     let picked = picked_node c.in-Node.is (c.selected.ensures ready.node) in
     (omega (arith, c.requires.0, picked.1), child_ready ready picked.0)
 
@@ -978,8 +939,8 @@ eval-switch-same-length t c = search rules
 
 eval-switch-returns : (t : ℕ) → eval-switch-lts.Need-returns-in-Absent (eval-switch-with t) (eval-switch-at t) eval-switch.Post
 eval-switch-returns t c =
-    let r = c.before.before.before in (
-      switch_kept t r,
+    let kept = kept_now c.requires.1.0 c.words-1.given c.tag.ensures.1 in (
+      kept,
       λ γ x u rd a. tells_as
           c.refused.ensures
           (switch_misses
@@ -994,8 +955,8 @@ eval-switch-same-length-2 t c = search rules
 
 eval-switch-returns-2 : (t : ℕ) → eval-switch-lts.Need-returns-in-Node (eval-switch-with t) (eval-switch-at t) eval-switch.Post
 eval-switch-returns-2 t c =
-    let r = c.before.before.before.before.before.before.before.before in (
-      kept_both (switch_kept t r) c.eval_node.ensures.0,
+    let kept = kept_now c.requires.1.0 c.words-1.given c.tag.ensures.1 in (
+      kept_both kept c.eval_node.ensures.0,
       λ γ x u rd a. switch_goes
           c.requires.1.1 _
           (layout_of u) _ γ a
@@ -1011,8 +972,8 @@ eval-switch-same-length-3 t c = search rules
 
 eval-switch-returns-3 : (t : ℕ) → eval-switch-lts.Need-returns-in-Nothing (eval-switch-with t) (eval-switch-at t) eval-switch.Post
 eval-switch-returns-3 t c =
-    let r = c.before.before.before.before.before.before in (
-      switch_kept t r,
+    let kept = kept_now c.requires.1.0 c.words-1.given c.tag.ensures.1 in (
+      kept,
       λ γ x u rd a. tells_as
           c.refused-in-Nothing.ensures
           (switch_ends

@@ -8,7 +8,6 @@ use Rattle.interpreter_leaves.proofs.Nodes.{enough}
 use Rattle.accepted.specs.Accepted.{Accepted}
 use Rattle.interpreter_values.proofs.Laws.{kept_none, kept_both}
 use Rattle.interpreter_context.proofs.Calls.{bottom}
-use Rattle.interpreter_context.proofs.Shape.{ListAt}
 use Rattle.interpreter_context.proofs.Lists.{arguments_at, ends}
 use Rattle.interpreter_leaves.proofs.Binding.{Going, still, begin, value_at, next_one, found_one, lacking_one, no_more, of_call}
 use borrow.Author.Rules.{rules}
@@ -22,24 +21,12 @@ invariant-loop s values words₀ root f at list left₀ p₀ words left p =
 abbrev decreases-loop : tie.decreases-loop-left
 decreases-loop s values words₀ root f at list left₀ p₀ words left p = left
 
-abbrev at-start : tie.At-loop-left invariant-loop decreases-loop → tie.Start invariant-loop decreases-loop
-at-start r = r.before.before.before.before.before.before
-
--- the arguments of the node, whatever accepted it
-arguments : (r : tie.At-loop-left invariant-loop decreases-loop) (a : Accepted r.args.s.now 128 144 r.args.at) →
-    ListAt a 164 164 3 r.second_part-list.result
-arguments r a = arguments_at r.second_part-list.ensures a r.requires.1
-
 -- inside the loop, the next argument
 next : (r : tie.In-loop-left invariant-loop decreases-loop) → Accepted r.args.s.now 164 164 r.loop-left.p
 next r =
-    let at-loop = r.before in
-    next_one r.loop-left-test.true r.loop-left.invariant.collecting r.requires.2 (arguments at-loop r.requires.0).list
+    next_one r.loop-left-test.true r.loop-left.invariant.collecting r.requires.2 (arguments_at r.second_part-list.ensures r.requires.0 r.requires.1).list
 
 -- the same, seen from behind the lookup
-abbrev at-find : tie.In-Value invariant-loop decreases-loop → tie.After-find invariant-loop decreases-loop
-at-find r = r.before.before.before
-
 abbrev in-loop : tie.In-Value invariant-loop decreases-loop → tie.In-loop-left invariant-loop decreases-loop
 in-loop r = r.before.before.before.before.before.before
 
@@ -77,12 +64,10 @@ add-value-2 : tie.Need-overflow_add-value-in-loop-left invariant-loop decreases-
 add-value-2 c = omega (arith, (value_at c.read2.ensures.0 (next c.before)).value)
 
 find-requires : tie.Need-find-requires invariant-loop decreases-loop
-find-requires c κs =
-    let at-loop = c.before.before.before in
-    let start = at-start at-loop in (
-      (value_at c.read2.ensures.0 (next c.before.before)).value,
-      (start.requires.2.0, still c.loop-left.invariant start.requires.3 start.requires.2.1),
-    )
+find-requires c κs = (
+  (value_at c.read2.ensures.0 (next c.before.before)).value,
+  (c.requires.2.0, still c.loop-left.invariant c.requires.3 c.requires.2.1),
+)
 
 enum-known-v : tie.Need-enum_known-v invariant-loop decreases-loop
 enum-known-v c = search rules
@@ -104,18 +89,17 @@ loop-less c = omega arith
 
 loop-again : tie.Need-loop-left-preserved invariant-loop decreases-loop
 loop-again c =
-    let at-find = at-find c.before in
-    let inv = at-find.loop-left.invariant in
+    let inv = c.loop-left.invariant in
     record {
       collecting =
           found_one
-          at-find.loop-left-test.true
+          c.loop-left-test.true
           inv.collecting
-          at-find.read2.ensures.0
-          (λ γ x. at-find.find.ensures.0 γ (still inv at-find.requires.3 x))
+          c.read2.ensures.0
+          (λ γ x. c.find.ensures.0 γ (still inv c.requires.3 x))
           c.in-Value.is
           c.read4.ensures.0;
-      kept = kept_both inv.kept at-find.find.ensures.1;
+      kept = kept_both inv.kept c.find.ensures.1;
       long = omega (arith, inv.long);
     }
 
@@ -130,24 +114,25 @@ same-length-2 c = search rules
 
 returns : tie.Need-returns-in-Absent invariant-loop decreases-loop
 returns c =
-    let at-loop = c.before.before.before.before.before.before.before in
     let inv = c.loop-left.invariant in (
-      λ pl γ x a. of_call a (arguments at-loop a)
+      λ pl γ x a. of_call a (arguments_at c.second_part-list.ensures a c.requires.1)
           (lacking_one
           c.loop-left-test.true
           inv.collecting
           c.read2.ensures.0
           (λ γ x. c.find.ensures.0 γ (still inv c.requires.3 x))
           c.in-Absent.is pl γ x
-          (arguments at-loop a).list),
+          (arguments_at c.second_part-list.ensures a c.requires.1).list),
       kept_both inv.kept c.find.ensures.1,
     )
 
 returns-2 : tie.Need-returns invariant-loop decreases-loop
 returns-2 c =
-    let at-loop = c.before in
-    let inv = c.loop-left.invariant in
-    ((λ pl γ x a. of_call a (arguments at-loop a) (no_more c.loop-left-test.false inv.collecting pl γ x (arguments at-loop a).list)), inv.kept)
+    let inv = c.loop-left.invariant in (
+      λ pl γ x a. of_call a (arguments_at c.second_part-list.ensures a c.requires.1)
+          (no_more c.loop-left-test.false inv.collecting pl γ x (arguments_at c.second_part-list.ensures a c.requires.1).list),
+      inv.kept,
+    )
 
 pub collect_arguments_spec : {M : Type 1} → statement M
 collect_arguments_spec =

@@ -5,9 +5,6 @@ use borrow.Author.Rules.{rules}
 use Rattle.interpreter_leaves.proofs.field.Statement.{statement}
 use Rattle.interpreter_leaves.proofs.field.Tie as tie
 
-abbrev at-field-name : tie.After-find → tie.After-field_name
-at-field-name r = r.before.before
-
 field-name-requires : tie.Need-field_name-requires
 field-name-requires c κs = (c.requires.0, c.requires.1)
 
@@ -30,35 +27,31 @@ same_length : tie.Need-shape_of-words-in-Value
 same_length c = search rules
 
 returns : tie.Need-returns-in-Value
-returns c =
-    let at-find = c.before.before.before.before.before in
-    let at_name = at-field-name at-find in (
-      λ k γ x a. tells_as
-          c.counted.ensures
-          (ref_found _
-          at_name.field_name.ensures
-          at_name.requires.1
-          c.find.ensures.0 k γ x a
-          c.in-Value.is),
-      c.find.ensures.1,
-    )
+returns c = (
+  λ k γ x a. tells_as
+      c.counted.ensures
+      (ref_found _
+      c.field_name.ensures
+      c.requires.1
+      c.find.ensures.0 k γ x a
+      c.in-Value.is),
+  c.find.ensures.1,
+)
 
 same-length-2 : tie.Need-shape_of-words-in-Absent
 same-length-2 c = search rules
 
 returns-2 : tie.Need-returns-in-Absent
-returns-2 c =
-    let at-find = c.before.before.before.before.before in
-    let at_name = at-field-name at-find in (
-      λ k γ x a. tells_as
-          c.refused.ensures
-          (ref_absent _
-          at_name.field_name.ensures
-          at_name.requires.1
-          c.find.ensures.0 k γ x a
-          c.in-Absent.is),
-      c.find.ensures.1,
-    )
+returns-2 c = (
+  λ k γ x a. tells_as
+      c.refused.ensures
+      (ref_absent _
+      c.field_name.ensures
+      c.requires.1
+      c.find.ensures.0 k γ x a
+      c.in-Absent.is),
+  c.find.ensures.1,
+)
 
 pub field_spec : {M : Type 1} → statement M
 field_spec =

@@ -16,9 +16,6 @@ invariant-loop s at wanted list left₀ p₀ left p = Tried s wanted (le2 s list
 abbrev decreases-loop : tie.decreases-loop-left
 decreases-loop s at wanted list left₀ p₀ left p = left
 
-abbrev at-start : tie.At-loop-left invariant-loop decreases-loop → tie.Start invariant-loop decreases-loop
-at-start r = r.before.before.before.before.before
-
 -- the cases of the node, whatever accepted it
 cases : (r : tie.At-loop-left invariant-loop decreases-loop) (a : Accepted r.args.s.now 128 144 r.args.at) → SwitchAt a r.second_part-list.result
 cases r a = switch_at r.second_part-list.ensures a r.requires.1
@@ -89,7 +86,7 @@ loop-again c =
     c.loop-left.invariant
 
 third-part-requires : tie.Need-third_part-d-requires invariant-loop decreases-loop
-third-part-requires c κs = let start = at-start c.before in (start.requires.0, switch_long start.requires.1)
+third-part-requires c κs = (c.requires.0, switch_long c.requires.1)
 
 -- behind the loop, the default of the node, whatever accepted it
 default : (r : tie.After-third_part-d invariant-loop decreases-loop) (a : Accepted r.args.s.now 128 144 r.args.at) →

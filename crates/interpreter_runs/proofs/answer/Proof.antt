@@ -8,12 +8,8 @@ use Rattle.interpreter_validate.proofs.Laws.{judged_of, stops, goes, given, enou
 use Rattle.interpreter_runs.proofs.answer.Statement.{statement}
 use Rattle.interpreter_runs.proofs.answer.Tie as tie
 
--- The place before the questions, and that they are answered.
-abbrev at-start : tie.After-other_read → tie.Start
-at-start r = r.before.before.before.before
-
-judged : (r : tie.After-other_read) → Judged ask.Run (at-start r).args.layout.now (at-start r).args.run.now r.other_read.result (at-start r).args.n
-judged r = judged_of refl (r.other_read.ensures _ (at-start r).requires.0)
+judged : (r : tie.After-other_read) → Judged ask.Run r.args.layout.now r.args.run.now r.other_read.result r.args.n
+judged r = judged_of refl (r.other_read.ensures _ r.requires.0)
 
 other-read-requires : tie.Need-other_read-requires
 other-read-requires c κs = search rules
@@ -30,7 +26,7 @@ enum_told c = search rules
 run-lent-requires : tie.Need-run_lent-requires
 run-lent-requires c κs =
     let e = c.in-Ok.is in
-    (given (judged c.before.before) e, (at-start c.before.before).requires.1 (enough_words (judged c.before.before) e))
+    (given (judged c.before.before) e, c.requires.1 (enough_words (judged c.before.before) e))
 
 returns : tie.Need-returns-in-Refused
 returns c =

@@ -1,22 +1,12 @@
 -- `answer_with` meets its contract: the questions are put, then the record is counted, and all words are cleared behind it.
 use Rattle.interpreter_validate.proofs.Laws.{judged_of}
-use Rattle.interpreter_validate.specs.Validator.{Asked}
 use mathlib.Core.Path.{ap, ◌∙◌}
 use native.Mathlib.Omega.{arith}
 use Prim.Native.Nat.{ℕ}
-use lib.ListN.{length, replicate}
+use lib.ListN.{replicate}
 use borrow.Author.Rules.{rules}
 use Rattle.interpreter_validate.proofs.answer_with.Statement.{statement}
 use Rattle.interpreter_validate.proofs.answer_with.Tie as tie
-
--- The place before the questions, and that they are answered.
-abbrev at-start : tie.After-both_read-judged → tie.Start
-at-start r = r.before.before.before.before.before.before
-
-asked : (r : tie.After-both_read-judged) →
-    Asked (at-start r).args.ask (at-start r).args.layout.now (at-start r).args.other.now r.both_read-judged.result
-    (at-start r).args.words.now (length (at-start r).args.words.now)
-asked r = record { questions = judged_of r.kind.ensures r.both_read-judged.ensures; room = λ h. omega (arith, h) }
 
 kind-requires : tie.Need-kind-requires
 kind-requires c κs = search rules
@@ -25,7 +15,7 @@ both-read-requires : tie.Need-both_read-judged-requires
 both-read-requires c κs = search rules
 
 counted-for-requires : tie.Need-counted_for-a-requires
-counted-for-requires c κs = (_, asked c.before)
+counted-for-requires c κs = (_, record { questions = judged_of c.kind.ensures c.both_read-judged.ensures; room = λ h. omega (arith, h) })
 
 clear-used-requires : tie.Need-clear_used-requires
 clear-used-requires c κs = search rules
@@ -35,7 +25,7 @@ same_length c = search rules
 
 returns : tie.Need-returns
 returns c = (
-  c.counted_for-a.ensures.1 _ (asked c.before.before.before.before.before.before.before.before),
+  c.counted_for-a.ensures.1 _ (record { questions = judged_of c.kind.ensures c.both_read-judged.ensures; room = λ h. omega (arith, h) }),
   c.clear_used.ensures ∙ ap (λ (n : ℕ). replicate n 0) c.counted_for-a.ensures.0,
 )
 

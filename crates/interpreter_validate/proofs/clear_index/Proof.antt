@@ -11,19 +11,11 @@ use borrow.Author.Rules.{rules}
 use Rattle.interpreter_validate.proofs.clear_index.Statement.{statement}
 use Rattle.interpreter_validate.proofs.clear_index.Tie as tie
 
--- The places before the second part is cleared, and that the first is still within the words.
-abbrev at_first : tie.After-slice_known-2-1 → tie.After-clear_words
-at_first c = c.before.before
-
-abbrev at-used : tie.After-clear_words → tie.After-used-n
-at-used c = c.before.before
-
 fits : (c : tie.After-slice_known-2-1) →
-    (at-used (at_first c)).used-n.result
-    ≤ length ((at_first c).clear_words.new.words ++ drop (at-used (at_first c)).used-n.result (at-used (at_first c)).args.words.now)
+    c.used-n.result
+    ≤ length (c.clear_words.new.words ++ drop c.used-n.result c.args.words.now)
 fits c =
-    let used = at-used (at_first c) in
-    first_fits used.args.words.now used.used-n.result (used_within used.used-n.ensures) (at_first c).clear_words.ensures
+    first_fits c.args.words.now c.used-n.result (used_within c.used-n.ensures) c.clear_words.ensures
 
 used-requires : tie.Need-used-n-requires
 used-requires c κs = search rules
@@ -38,7 +30,7 @@ clear-words-requires : tie.Need-clear_words-requires
 clear-words-requires c κs = search rules
 
 mul-clear-words : tie.Need-offset_bounds-words-n
-mul-clear-words c = omega (arith, used_few (at-used (at_first c)).used-n.ensures)
+mul-clear-words c = omega (arith, used_few c.used-n.ensures)
 
 sub-clear-words : tie.Need-slice_bounds-clear_words-count
 sub-clear-words c = fits c
@@ -57,8 +49,7 @@ same_length c = search rules
 
 returns : tie.Need-returns
 returns c =
-    let first = at_first c.before.before.before.before in
-    cleared_apart _ _ _ (used_within (at-used first).used-n.ensures) first.clear_words.ensures _ _ refl c.clear_words-2.ensures
+    cleared_apart _ _ _ (used_within c.used-n.ensures) c.clear_words.ensures _ _ refl c.clear_words-2.ensures
 
 pub clear_index_spec : {M : Type 1} → statement M
 clear_index_spec =

@@ -11,19 +11,11 @@ use borrow.Author.Rules.{rules}
 use Rattle.interpreter_validate.proofs.clear_used.Statement.{statement}
 use Rattle.interpreter_validate.proofs.clear_used.Tie as tie
 
--- The places before the second part is cleared, and that the first is still within the words.
-abbrev at_first : tie.After-slice_known-2-1 → tie.After-clear_words
-at_first c = c.before.before
-
-abbrev at-used : tie.After-clear_words → tie.After-used-calls
-at-used c = c.before.before
-
 fits : (c : tie.After-slice_known-2-1) →
-    (at-used (at_first c)).used-calls.result
-    ≤ length ((at_first c).clear_words.new.words ++ drop (at-used (at_first c)).used-calls.result (at-used (at_first c)).args.words.now)
+    c.used-calls.result
+    ≤ length (c.clear_words.new.words ++ drop c.used-calls.result c.args.words.now)
 fits c =
-    let used = at-used (at_first c) in
-    first_fits used.args.words.now used.used-calls.result (used_within used.used-calls.ensures) (at_first c).clear_words.ensures
+    first_fits c.args.words.now c.used-calls.result (used_within c.used-calls.ensures) c.clear_words.ensures
 
 used-requires : tie.Need-used-calls-requires
 used-requires c κs = search rules
@@ -38,7 +30,7 @@ clear-words-requires : tie.Need-clear_words-requires
 clear-words-requires c κs = search rules
 
 mul-clear-index : tie.Need-offset_bounds-words-calls
-mul-clear-index c = omega (arith, used_few (at-used (at_first c)).used-calls.ensures)
+mul-clear-index c = omega (arith, used_few c.used-calls.ensures)
 
 sub-clear-index : tie.Need-slice_bounds-clear_index-count
 sub-clear-index c = fits c
@@ -57,8 +49,7 @@ same_length c = search rules
 
 returns : tie.Need-returns
 returns c =
-    let first = at_first c.before.before.before.before in
-    cleared_apart _ _ _ (used_within (at-used first).used-calls.ensures) first.clear_words.ensures _ _ refl c.clear_index.ensures
+    cleared_apart _ _ _ (used_within c.used-calls.ensures) c.clear_words.ensures _ _ refl c.clear_index.ensures
 
 pub clear_used_spec : {M : Type 1} → statement M
 clear_used_spec =

@@ -4,48 +4,41 @@ use Rattle.interpreter_validate.proofs.Laws.{tree_header, values_header, words_f
 use Rattle.interpreter_validate.proofs.needed.Statement.{statement}
 use Rattle.interpreter_validate.proofs.needed.Tie as tie
 
--- The places, each seen from a later one: what was known there.
-abbrev at-start : tie.After-struct_known-1 → tie.Start
-at-start r = r.before.before.before
-
-abbrev at_count : tie.Else-n-lt-MANY → tie.After-read2-n
-at_count r = r.before
-
 add-read2 : tie.Need-overflow_add-t
-add-read2 c = omega (arith, values_header (at-start c).requires)
+add-read2 c = omega (arith, values_header c.requires)
 
 read2-requires : tie.Need-read2-n-requires
-read2-requires c κs = values_header (at-start c).requires
+read2-requires c κs = values_header c.requires
 
 returns : tie.Need-returns-then-n-lt-MANY
 returns c = rw (← c.read2-n.ensures.0) (words_few _ _ _ c.if-n-lt-MANY.true)
 
 read4-requires : tie.Need-read4-requires
-read4-requires c κs = omega (arith, values_header (at-start (at_count c).before).requires)
+read4-requires c κs = omega (arith, values_header c.requires)
 
 mul_most : tie.Need-overflow_mul-most
-mul_most c = omega (arith, (at_count c.before).read2-n.ensures.1)
+mul_most c = omega (arith, c.read2-n.ensures.1)
 
 add_most : tie.Need-overflow_add-most
-add_most c = omega (arith, (at_count c.before).read2-n.ensures.1, c.read4.ensures.1)
+add_most c = omega (arith, c.read2-n.ensures.1, c.read4.ensures.1)
 
 mul-most-2 : tie.Need-overflow_mul-most-2
-mul-most-2 c = omega (arith, (at_count c.before).read2-n.ensures.1, c.read4.ensures.1)
+mul-most-2 c = omega (arith, c.read2-n.ensures.1, c.read4.ensures.1)
 
 read4-requires-2 : tie.Need-read4-requires-2
-read4-requires-2 c κs = tree_header (at-start (at_count c.before).before).requires
+read4-requires-2 c κs = tree_header c.requires
 
 mul-if2 : tie.Need-overflow_mul-read4
-mul-if2 c = omega (arith, product_small c.read4-2.ensures.1 (at_count c.before.before).read2-n.ensures.1)
+mul-if2 c = omega (arith, product_small c.read4-2.ensures.1 c.read2-n.ensures.1)
 
 returns-2 : tie.Need-returns-then-read4-n
 returns-2 c =
-    rw (← (at_count c.before.before.before).read2-n.ensures.0, ← c.read4.ensures.0, ← c.read4-2.ensures.0)
+    rw (← c.read2-n.ensures.0, ← c.read4.ensures.0, ← c.read4-2.ensures.0)
     (words_short _ _ _ c.if-n-lt-MANY.false c.if-read4-n.true)
 
 returns-3 : tie.Need-returns
 returns-3 c =
-    rw (← (at_count c.before.before.before).read2-n.ensures.0, ← c.read4.ensures.0, ← c.read4-2.ensures.0)
+    rw (← c.read2-n.ensures.0, ← c.read4.ensures.0, ← c.read4-2.ensures.0)
     (words_many _ _ _ c.if-n-lt-MANY.false c.if-read4-n.false)
 
 pub needed_spec : {M : Type 1} → statement M

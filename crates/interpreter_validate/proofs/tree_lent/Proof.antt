@@ -9,12 +9,8 @@ use borrow.Author.Rules.{rules}
 use Rattle.interpreter_validate.proofs.tree_lent.Statement.{statement}
 use Rattle.interpreter_validate.proofs.tree_lent.Tie as tie
 
--- The place before the part was lent, and how long the part is.
-abbrev at-start : tie.After-needed-n → tie.Start
-at-start r = r.before.before.before.before
-
-fits : (r : tie.After-needed-n) → r.needed-n.result ≤ length (at-start r).args.words.now
-fits r = omega (arith, (words_for_lem _ _ _ r.needed-n.ensures).1, (at-start r).requires.1)
+fits : (r : tie.After-needed-n) → r.needed-n.result ≤ length r.args.words.now
+fits r = omega (arith, (words_for_lem _ _ _ r.needed-n.ensures).1, r.requires.1)
 
 needed-requires : tie.Need-needed-n-requires
 needed-requires c κs = search rules
@@ -27,14 +23,14 @@ slice-aggregate-evaluated-tree c = sym (length-take-le _ _ (fits c.before))
 
 evaluated-tree-requires : tie.Need-evaluated_tree-requires
 evaluated-tree-requires c κs =
-    ((at-start c.before).requires.0, omega (arith, (words_for_lem _ _ _ c.needed-n.ensures).0, length-take-le c.needed-n.result (at-start c.before).args.words.now (fits c.before)))
+    (c.requires.0, omega (arith, (words_for_lem _ _ _ c.needed-n.ensures).0, length-take-le c.needed-n.result c.args.words.now (fits c.before)))
 
 same_length : tie.Need-shape_of-words
 same_length c = search rules
 
 returns : tie.Need-returns
 returns c = (
-  length_front (at-start c.before.before.before.before).args.words.now c.evaluated_tree.new.words c.needed-n.result c.evaluated_tree.ensures.0,
+  length_front c.args.words.now c.evaluated_tree.new.words c.needed-n.result c.evaluated_tree.ensures.0,
   c.evaluated_tree.ensures.1,
 )
 

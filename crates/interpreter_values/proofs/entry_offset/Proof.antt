@@ -11,20 +11,13 @@ use Rattle.interpreter_values.proofs.Index.{word_in, offset_at, number_in}
 use Rattle.interpreter_values.proofs.entry_offset.Statement.{statement}
 use Rattle.interpreter_values.proofs.entry_offset.Tie as tie
 
--- The places, each seen from a later one: what was known there.
-abbrev from_then : tie.Then-m-eq0 → tie.Start
-from_then r = r.before.before.before
-
-abbrev from-else : tie.Else-m-eq0 → tie.Start
-from-else r = r.before.before.before
-
 -- the last entry of the index
 last-low : (r : tie.Else-m-eq0) → r.args.m - 1 < r.args.m
 last-low r = omega (arith, r.if-m-eq0.false)
 
 -- its word is one of the words
 last_word : (r : tie.Else-m-eq0) → 656 + (r.args.m - 1) < length r.args.words.now
-last_word r = let at-start = from-else r in word_in at-start.requires.0 at-start.args.words.now at-start.requires.1 (last-low r)
+last_word r = word_in r.requires.0 r.args.words.now r.requires.1 (last-low r)
 
 add-result : tie.Need-overflow_add-result
 add-result c = omega (arith, inside c.requires.0)
@@ -34,8 +27,7 @@ add-result-2 c = omega (arith, inside c.requires.0)
 
 returns : tie.Need-returns-then-m-eq0
 returns c =
-    let at-start = from_then c in
-    entry_first at-start.args.values.now _ ∙ ap (entry_at at-start.args.values.now (at-start.args.block + 6 + 2)) (sym c.if-m-eq0.true)
+    entry_first c.args.values.now _ ∙ ap (entry_at c.args.values.now (c.args.block + 6 + 2)) (sym c.if-m-eq0.true)
 
 sub_word : tie.Need-overflow_sub-word
 sub_word c = search rules
@@ -51,16 +43,14 @@ shared-slice-read-behind-entry c = omega (arith, last_word c.before)
 
 behind-entry-requires : tie.Need-behind_entry-requires
 behind-entry-requires c κs =
-    let at-start = from-else c.before in
-    number_in at-start.requires.0 at-start.args.words.now at-start.requires.1 (last-low c.before)
+    number_in c.requires.0 c.args.words.now c.requires.1 (last-low c.before)
 
 returns-2 : tie.Need-returns
 returns-2 c =
     let there = c.before.before in
-    let at-start = from-else there in
-    let here = offset_at at-start.requires.0 at-start.args.words.now at-start.requires.1 (last-low there) in
-    let e : at-start.args.m - 1 + 1 ≡ at-start.args.m = omega (arith, c.if-m-eq0.false) in
-    entry_next at-start.args.values.now _ (at-start.args.m - 1) here c.behind_entry.ensures ∙ ap (entry_at at-start.args.values.now (at-start.args.block + 6 + 2)) e
+    let here = offset_at c.requires.0 c.args.words.now c.requires.1 (last-low there) in
+    let e : c.args.m - 1 + 1 ≡ c.args.m = omega (arith, c.if-m-eq0.false) in
+    entry_next c.args.values.now _ (c.args.m - 1) here c.behind_entry.ensures ∙ ap (entry_at c.args.values.now (c.args.block + 6 + 2)) e
 
 pub entry_offset_spec : {M : Type 1} → statement M
 entry_offset_spec =

@@ -14,29 +14,18 @@ use Rattle.interpreter_values.proofs.Index.{linked_length, built_same, built, of
 use Rattle.interpreter_values.proofs.extend.Statement.{statement}
 use Rattle.interpreter_values.proofs.extend.Tie as tie
 
--- The places, each seen from a later one: what was known there.
-abbrev from-offset : tie.After-entry_offset-at → tie.Start
-from-offset r = r.before.before.before
-
-abbrev from_step : tie.After-after_step-to → tie.Start
-from_step r = from-offset r.before.before
-
-abbrev at-step : tie.After-note_offsets → tie.After-after_step-to
-at-step r = r.before.before
-
 -- the words with their count
-abbrev counted : tie.After-after_step-to → List ℕ
-counted r = set r.args.words.now 16 (r.after_step-to.result + 4)
+abbrev counted : List ℕ → ℕ → List ℕ
+counted words to = set words 16 (to + 4)
 
 -- they are as many, and the index is in them as before
-counted-room : (r : tie.After-after_step-to) → 1168 ≤ length (counted r)
-counted-room r = omega (arith, r.requires.2, length-set r.args.words.now 16 (r.after_step-to.result + 4))
+counted-room : (words : List ℕ) (to : ℕ) → 1168 ≤ length words → 1168 ≤ length (counted words to)
+counted-room words to h = omega (arith, h, length-set words 16 (to + 4))
 
-counted-index : (r : tie.After-after_step-to) → Indexed r.args.values.now r.args.block r.args.m (drop 17 (counted r))
-counted-index r =
-    let at-start = from_step r in
-    subst (Indexed at-start.args.values.now at-start.args.block at-start.args.m)
-    (sym (drop-set-lt 17 at-start.args.words.now 16 (r.after_step-to.result + 4) (omega arith))) at-start.requires.1
+counted-index : {values : List ℕ} {block m : ℕ} (words : List ℕ) (to : ℕ) →
+    1168 ≤ length words → Indexed values block m (drop 17 words) → Indexed values block m (drop 17 (counted words to))
+counted-index {values = values} {block = block} {m = m} words to h index =
+    subst (Indexed values block m) (sym (drop-set-lt 17 words 16 (to + 4) (omega arith))) index
 
 entry-offset-requires : tie.Need-entry_offset-at-requires
 entry-offset-requires c κs = search rules
@@ -76,37 +65,38 @@ part-link-names-start c = search rules
 
 part-link-names-end : tie.Need-slice_bounds-link_names-end
 part-link-names-end c =
-    let at-note = c.before.before in
-    omega (arith, counted-room (at-step at-note), c.words-1.given)
+    omega (arith, counted-room c.args.words.now c.after_step-to.result c.requires.2, c.words-1.given)
 
 link-names-requires : tie.Need-link_names-requires
 link-names-requires c κs = search rules
 
 same_length : tie.Need-shape_of-words
 same_length c =
-    let at-note = c.before.before.before.before.before.before in
-    let r = at-step at-note in
-    linked_length (counted r) c.note_offsets.new.offsets c.link_names.new.table (counted-room r)
+    let words = c.args.words.now in
+    let to = c.after_step-to.result in
+    linked_length (counted words to) c.note_offsets.new.offsets c.link_names.new.table (counted-room words to c.requires.2)
     c.note_offsets.auto.offsets c.link_names.auto.table
-    ∙ length-set r.args.words.now 16 (r.after_step-to.result + 4)
+    ∙ length-set words 16 (to + 4)
 
 returns : tie.Need-returns
 returns c =
-    let at-note = c.before.before.before.before.before.before in
-    let r = at-step at-note in
-    let at-start = from_step r in
-    let most = few at-start.requires.0 in
+    let words = c.args.words.now in
+    let to = c.after_step-to.result in
+    let ws = counted words to in
+    let room = counted-room words to c.requires.2 in
+    let before = counted-index words to c.requires.2 c.requires.1 in
+    let most = few c.requires.0 in
     let zs = c.note_offsets.new.offsets in
     let ys = c.link_names.new.table in
     let lz = c.note_offsets.auto.offsets in
     let ly = c.link_names.auto.table in
     let index =
-    built (counted r) zs ys (counted-room r) lz ly at-start.args.values.now at-start.args.block r.after_step-to.result
-    (omega (arith, r.after_step-to.ensures.1, r.read2.ensures.0)) most
-    (c.note_offsets.ensures (offsets_part (counted r) (counted-room r) (counted-index r) (omega (arith, most, at-start.requires.1.within))))
-    (c.link_names.ensures (table_part (counted r) (counted-room r) (counted-index r) zs lz)) in (
-      r.entry_offset-at.ensures,
-      kept_more r.after_step-to.result at-start.requires.2 (same_length c) (built_same (counted r) zs ys (counted-room r) lz ly) index,
+    built ws zs ys room lz ly c.args.values.now c.args.block c.after_step-to.result
+    (omega (arith, c.after_step-to.ensures.1, c.read2.ensures.0)) most
+    (c.note_offsets.ensures (offsets_part ws room before (omega (arith, most, c.requires.1.within))))
+    (c.link_names.ensures (table_part ws room before zs lz)) in (
+      c.entry_offset-at.ensures,
+      kept_more c.after_step-to.result c.requires.2 (same_length c) (built_same ws zs ys room lz ly) index,
     )
 
 pub extend_spec : {M : Type 1} → statement M

@@ -2,9 +2,8 @@
 use Prim.Native.Nat.{◌+◌, ◌<◌}
 use native.Mathlib.Omega.{arith}
 use borrow.Author.Rules.{rules}
-use lib.ListN.{length, drop}
+use lib.ListN.{length}
 use Rattle.lookup.proofs.Values.{inside}
-use Rattle.interpreter_values.specs.Remembered.{Indexed}
 use Rattle.interpreter_values.specs.Entries.{Leaves}
 use Rattle.interpreter_values.proofs.Laws.{kept_both}
 use Rattle.interpreter_values.proofs.Entries.{first_more, first_there, leaves_rest}
@@ -12,29 +11,15 @@ use Rattle.interpreter_values.proofs.Index.{word_in, offset_at, name_in}
 use Rattle.interpreter_values.proofs.indexed.Statement.{statement}
 use Rattle.interpreter_values.proofs.indexed.Tie as tie
 
--- The places, each seen from a later one: what was known there.
-abbrev from-begin : tie.After-begin-m → tie.Start
-from-begin r = r.before.before.before.before.before
-
-abbrev at-begin : tie.After-place-found → tie.After-begin-m
-at-begin r = r.before.before.before
-
-abbrev from_place : tie.After-place-found → tie.Start
-from_place r = from-begin (at-begin r)
-
--- the index that stands when the search begins
-index : (r : tie.After-begin-m) → Indexed r.args.values.now r.args.block r.begin-m.result (drop 17 r.begin-m.new.words)
-index r = r.begin-m.ensures.0 _ _ r.requires.1
-
--- the word of the entry that was found is one of the words
+-- The index that stands when the search begins is in the words as `begin` leaves them: the word of the entry that was found is one of the words
 found_word : (r : tie.Then-found-m) → 656 + r.place-found.result < length r.begin-m.new.words
-found_word r = let b = at-begin r.before in word_in b.requires.0 b.begin-m.new.words (index b) r.if-found-m.true
+found_word r = word_in r.requires.0 r.begin-m.new.words (r.begin-m.ensures.0 _ _ r.requires.1) r.if-found-m.true
 
 begin-requires : tie.Need-begin-m-requires
 begin-requires c κs = search rules
 
 place-requires : tie.Need-place-found-requires
-place-requires c κs = (c.requires.0, index c.before.before)
+place-requires c κs = (c.requires.0, c.begin-m.ensures.0 _ _ c.requires.1)
 
 add-word : tie.Need-overflow_add-word
 add-word c = omega (arith, found_word c)
@@ -47,52 +32,41 @@ slice-read-behind-name c = omega (arith, found_word c.before)
 
 behind-name-requires : tie.Need-behind_name-requires
 behind-name-requires c κs =
-    let b = at-begin c.before.before in
-    name_in b.requires.0 b.begin-m.new.words (index b) c.if-found-m.true
+    name_in c.requires.0 c.begin-m.new.words (c.begin-m.ensures.0 _ _ c.requires.1) c.if-found-m.true
 
 same_length : tie.Need-shape_of-words-then-found-m
 same_length c = search rules
 
 returns : tie.Need-returns-then-found-m
 returns c =
-    let at_place = c.before.before.before in
-    let b = at-begin at_place in
-    let at-start = from-begin b in
-    let here = offset_at at-start.requires.0 b.begin-m.new.words (index b) c.if-found-m.true in
-    let low = (index b).within in (
+    let index = c.begin-m.ensures.0 _ _ c.requires.1 in
+    let here = offset_at c.requires.0 c.begin-m.new.words index c.if-found-m.true in
+    let low = index.within in (
       Leaves.at (first_there _ _ _ (first_more _ _ c.place-found.ensures c.if-found-m.true low) (omega (arith, c.if-found-m.true, low)) here c.behind_name.ensures),
-      b.begin-m.ensures.1 _ _ at-start.requires.1,
+      c.begin-m.ensures.1 _ _ c.requires.1,
     )
 
 extend-requires : tie.Need-extend-at-requires
 extend-requires c κs =
-    let b = at-begin c.before.before in
-    let at-start = from-begin b in
-    (at-start.requires.0, index b, omega (arith, at-start.requires.2, c.words-1.given))
-
--- The place where no entry of the index had the name, seen from behind the index's growth.
-abbrev at_place : tie.After-slice_known-3-1 → tie.After-place-found
-at_place r = r.before.before.before.before.before
+    (c.requires.0, c.begin-m.ensures.0 _ _ c.requires.1, omega (arith, c.requires.2, c.words-1.given))
 
 add-read2 : tie.Need-overflow_add-block
-add-read2 c = omega (arith, inside (from_place (at_place c)).requires.0)
+add-read2 c = omega (arith, inside c.requires.0)
 
 read2-requires : tie.Need-read2-n-requires
-read2-requires c κs = inside (from_place (at_place c)).requires.0
+read2-requires c κs = inside c.requires.0
 
 sub-t22 : tie.Need-overflow_sub-result
-sub-t22 c = omega (arith, c.read2-n.ensures.0, (index (at-begin (at_place c.before))).within)
+sub-t22 c = omega (arith, c.read2-n.ensures.0, (c.begin-m.ensures.0 _ _ c.requires.1).within)
 
 same-length-2 : tie.Need-shape_of-words
 same-length-2 c = search rules
 
 returns-2 : tie.Need-returns
 returns-2 c =
-    let r = c.before.before.before.before.before.before in
-    let b = at-begin r in
-    let at-start = from-begin b in (
-      leaves_rest at-start.requires.0 at-start.args.name.now (index b).within c.place-found.ensures c.if-found-m.false c.read2-n.ensures.0 c.extend-at.ensures.0,
-      kept_both (b.begin-m.ensures.1 _ _ at-start.requires.1) c.extend-at.ensures.1,
+    let index = c.begin-m.ensures.0 _ _ c.requires.1 in (
+      leaves_rest c.requires.0 c.args.name.now index.within c.place-found.ensures c.if-found-m.false c.read2-n.ensures.0 c.extend-at.ensures.0,
+      kept_both (c.begin-m.ensures.1 _ _ c.requires.1) c.extend-at.ensures.1,
     )
 
 pub indexed_spec : {M : Type 1} → statement M

@@ -2,36 +2,27 @@
 use native.Mathlib.Omega.{arith}
 use borrow.Author.Rules.{rules}
 use Rattle.lookup.proofs.Values.{inside}
-use Rattle.interpreter_values.specs.Remembered.{Kept}
 use Rattle.interpreter_values.proofs.Laws.{kept_both}
 use Rattle.interpreter_values.proofs.Entries.{leaves_all}
 use Rattle.interpreter_values.proofs.left_of.Statement.{statement}
 use Rattle.interpreter_values.proofs.left_of.Tie as tie
 
-abbrev from-asked : tie.After-slice_known-2-1 → tie.Start
-from-asked r = r.before.before.before.before.before.before.before
-
--- The search that is counted keeps what is remembered.
-counted : (r : tie.After-slice_known-2-1) →
-    Kept r.args.values.now r.args.block 16 r.args.words.now r.by_index.new.words
-counted r = r.by_index.ensures.1 _ _ r.requires.1
-
 by-index-requires : tie.Need-by_index-requires
 by-index-requires c κs = search rules
 
+-- The search that is counted keeps what is remembered.
 indexed-requires : tie.Need-indexed-requires
 indexed-requires c κs =
-    let asked = c.before.before in
+    let counted = c.by_index.ensures.1 _ _ c.requires.1 in
     let room = c.by_index.ensures.0 c.if-by_index.true in
-    (c.requires.0, (counted asked).remembered, room.0, room.1)
+    (c.requires.0, counted.remembered, room.0, room.1)
 
 same_length : tie.Need-shape_of-words-then-by_index
 same_length c = search rules
 
 returns : tie.Need-returns-then-by_index
 returns c =
-    let asked = c.before.before.before.before.before in
-    (c.indexed.ensures.0, kept_both (counted asked) c.indexed.ensures.1)
+    (c.indexed.ensures.0, kept_both (c.by_index.ensures.1 _ _ c.requires.1) c.indexed.ensures.1)
 
 add-read2 : tie.Need-overflow_add-block
 add-read2 c = omega (arith, inside c.requires.0)
@@ -50,9 +41,7 @@ same-length-2 c = search rules
 
 returns-2 : tie.Need-returns
 returns-2 c =
-    let asked = c.before.before in
-    let at-start = from-asked asked in
-    (leaves_all at-start.requires.0 at-start.args.name.now c.read2-n.ensures.0, counted asked)
+    (leaves_all c.requires.0 c.args.name.now c.read2-n.ensures.0, c.by_index.ensures.1 _ _ c.requires.1)
 
 pub left_of_spec : {M : Type 1} → statement M
 left_of_spec =

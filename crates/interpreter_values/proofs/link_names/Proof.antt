@@ -21,9 +21,6 @@ abbrev decreases-loop : tie.decreases-loop-i
 decreases-loop values block table₀ to at₀ i₀ table at i = to - i
 
 -- The places, each seen from a later one: what was known there.
-abbrev from-loop : tie.At-loop-i invariant-loop decreases-loop → tie.Start invariant-loop decreases-loop
-from-loop r = r.before.before.before
-
 abbrev from-linked : tie.After-slice_known-in-loop-i-1 invariant-loop decreases-loop → tie.In-loop-i invariant-loop decreases-loop
 from-linked r = r.before.before.before.before.before.before
 
@@ -43,11 +40,9 @@ sum-mark-requires c κs = search rules
 
 link-requires : tie.Need-link-requires invariant-loop decreases-loop
 link-requires c κs =
-    let at-loop = c.before.before.before.before in
-    let at-start = from-loop at-loop in
     let inv = c.loop-i.invariant in (
-      omega (arith, few at-start.requires.0, inv.0.most, c.loop-i-test.true),
-      omega (arith, few at-start.requires.0, inv.0.most, c.loop-i-test.true, inv.2, at-start.requires.2),
+      omega (arith, few c.requires.0, inv.0.most, c.loop-i-test.true),
+      omega (arith, few c.requires.0, inv.0.most, c.loop-i-test.true, inv.2, c.requires.2),
     )
 
 behind-entry-requires : tie.Need-behind_entry-at-requires invariant-loop decreases-loop
@@ -61,11 +56,10 @@ loop-less c = omega arith
 
 loop-again : tie.Need-loop-i-preserved invariant-loop decreases-loop
 loop-again c =
-    let in-loop = from-linked c.before in
-    let here = in-loop.loop-i.invariant.0 in (
-      standing_next here in-loop.loop-i-test.true c.behind_entry-at.ensures,
-      λ l. c.link.ensures _ (in-loop.loop-i.invariant.1 l) (standing_mark here c.name_at.ensures c.sum_mark.ensures),
-      c.link.auto.table ∙ in-loop.loop-i.invariant.2,
+    let here = c.loop-i.invariant.0 in (
+      standing_next here c.loop-i-test.true c.behind_entry-at.ensures,
+      λ l. c.link.ensures _ (c.loop-i.invariant.1 l) (standing_mark here c.name_at.ensures c.sum_mark.ensures),
+      c.link.auto.table ∙ c.loop-i.invariant.2,
     )
 
 same_length : tie.Need-shape_of-table invariant-loop decreases-loop
@@ -73,9 +67,7 @@ same_length c = c.loop-i.invariant.2
 
 returns : tie.Need-returns invariant-loop decreases-loop
 returns c =
-    let at-loop = c.before in
-    let at-start = from-loop at-loop in
-    λ l. subst (Linked c.loop-i.table (entry_mark at-start.args.values.now (at-start.args.block + 6 + 2)))
+    λ l. subst (Linked c.loop-i.table (entry_mark c.args.values.now (c.args.block + 6 + 2)))
     (standing_end c.loop-i.invariant.0 c.loop-i-test.false)
     (c.loop-i.invariant.1 l)
 

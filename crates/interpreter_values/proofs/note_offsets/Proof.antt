@@ -18,10 +18,6 @@ invariant-loop values block offsets₀ to at₀ i₀ offsets at i =
 abbrev decreases-loop : tie.decreases-loop-i
 decreases-loop values block offsets₀ to at₀ i₀ offsets at i = to - i
 
--- The place where the function begins, seen from the loop.
-abbrev from-loop : tie.At-loop-i invariant-loop decreases-loop → tie.Start invariant-loop decreases-loop
-from-loop r = r.before.before.before
-
 loop-holds : tie.Need-loop-i-init invariant-loop decreases-loop
 loop-holds c = (standing_first c.requires.1, λ o. o, refl)
 
@@ -36,9 +32,7 @@ mul-offsets c =
 
 slice-write-offsets : tie.Need-bounds-offsets-i invariant-loop decreases-loop
 slice-write-offsets c =
-    let at-loop = c.before in
-    let at-start = from-loop at-loop in
-    omega (arith, few at-start.requires.0, c.loop-i.invariant.0.most, c.loop-i-test.true, c.loop-i.invariant.2, at-start.requires.2)
+    omega (arith, few c.requires.0, c.loop-i.invariant.0.most, c.loop-i-test.true, c.loop-i.invariant.2, c.requires.2)
 
 behind-entry-requires : tie.Need-behind_entry-at-requires invariant-loop decreases-loop
 behind-entry-requires c κs = entry_here c

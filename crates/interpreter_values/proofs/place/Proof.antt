@@ -15,16 +15,6 @@ invariant-loop values block words m name mark table j₀ j = Searching values bl
 abbrev decreases-loop : tie.decreases-loop-j
 decreases-loop values block words m name mark table j₀ j = j
 
--- The places, each seen from a later one: what was known there.
-abbrev from-mark : tie.After-sum_mark-mark invariant-loop decreases-loop → tie.Start invariant-loop decreases-loop
-from-mark r = r.before.before.before.before
-
-abbrev from_last : tie.After-last-j invariant-loop decreases-loop → tie.Start invariant-loop decreases-loop
-from_last r = from-mark r.before.before
-
-abbrev from-loop : tie.At-loop-j invariant-loop decreases-loop → tie.Start invariant-loop decreases-loop
-from-loop r = from_last r.before
-
 sum-mark-requires : tie.Need-sum_mark-mark-requires invariant-loop decreases-loop
 sum-mark-requires c κs = search rules
 
@@ -52,7 +42,7 @@ sub-k c = omega arith
 
 -- its word is one of the words
 asked-word : (r : tie.In-loop-j invariant-loop decreases-loop) → 656 + (r.loop-j.j - 1) < length r.args.words.now
-asked-word r = let at-start = from-loop r.before in word_in at-start.requires.0 at-start.args.words.now at-start.requires.1 (asked r)
+asked-word r = word_in r.requires.0 r.args.words.now r.requires.1 (asked r)
 
 add-word : tie.Need-overflow_add-word invariant-loop decreases-loop
 add-word c = omega (arith, asked-word c)
@@ -65,16 +55,13 @@ shared-slice-read-is-named c = omega (arith, asked-word c.before)
 
 is-named-requires : tie.Need-is_named-requires invariant-loop decreases-loop
 is-named-requires c κs =
-    let at-start = from-loop c.before.before in
-    name_in at-start.requires.0 at-start.args.words.now at-start.requires.1 (asked c.before)
+    name_in c.requires.0 c.args.words.now c.requires.1 (asked c.before)
 
 returns : tie.Need-returns-then-is_named invariant-loop decreases-loop
 returns c =
     let in-loop = c.before.before.before in
-    let at-loop = c.before.before.before.before in
-    let at-start = from-loop at-loop in
-    let here = offset_at at-start.requires.0 at-start.args.words.now at-start.requires.1 (asked in-loop) in
-    searching_hit c.loop-j.invariant c.loop-j-test.true c.is_named.ensures here at-start.requires.0 at-start.requires.1.within c.if-is_named.true
+    let here = offset_at c.requires.0 c.args.words.now c.requires.1 (asked in-loop) in
+    searching_hit c.loop-j.invariant c.loop-j-test.true c.is_named.ensures here c.requires.0 c.requires.1.within c.if-is_named.true
 
 before-requires : tie.Need-before-j-requires invariant-loop decreases-loop
 before-requires c κs =
@@ -88,10 +75,8 @@ loop-less c =
 loop-again : tie.Need-loop-j-preserved invariant-loop decreases-loop
 loop-again c =
     let in-loop = c.before.before.before.before in
-    let at-loop = c.before.before.before.before.before in
-    let at-start = from-loop at-loop in
-    let prior = c.before-j.ensures (walk_chain c.loop-j.invariant.walk at-start.requires.1.linked) in
-    let here = offset_at at-start.requires.0 at-start.args.words.now at-start.requires.1 (asked in-loop) in
+    let prior = c.before-j.ensures (walk_chain c.loop-j.invariant.walk c.requires.1.linked) in
+    let here = offset_at c.requires.0 c.args.words.now c.requires.1 (asked in-loop) in
     searching_miss c.loop-j.invariant c.loop-j-test.true c.is_named.ensures here prior c.if-is_named.false
 
 returns-2 : tie.Need-returns invariant-loop decreases-loop

@@ -6,9 +6,6 @@ use Rattle.interpreter_values.proofs.Entries.{left_at, left_among}
 use Rattle.interpreter_values.proofs.value.Statement.{statement}
 use Rattle.interpreter_values.proofs.value.Tie as tie
 
-abbrev from-left : tie.After-slice_known-2-1 → tie.Start
-from-left r = r.before.before.before.before.before.before.before
-
 left-of-requires : tie.Need-left_of-requires
 left-of-requires c κs = search rules
 
@@ -27,20 +24,16 @@ same_length c = search rules
 
 returns : tie.Need-returns-in-At
 returns c =
-    let told = c.before in
-    let at-start = from-left told in
     let found = left_at c.in-At.is c.left_of.ensures.0 in
-    (found, (λ a. first_found at-start.args.block at-start.args.name.now a found, c.left_of.ensures.1))
+    (found, (λ a. first_found c.args.block c.args.name.now a found, c.left_of.ensures.1))
 
 same-length-2 : tie.Need-shape_of-words-in-Among
 same-length-2 c = search rules
 
 returns-2 : tie.Need-returns-in-Among
 returns-2 c =
-    let told = c.before.before in
-    let at-start = from-left told in
     let found = c.value_from.ensures ∙ sym (left_among c.in-Among.is c.left_of.ensures.0).1 in
-    (found, (λ a. first_found at-start.args.block at-start.args.name.now a found, c.left_of.ensures.1))
+    (found, (λ a. first_found c.args.block c.args.name.now a found, c.left_of.ensures.1))
 
 pub value_spec : {M : Type 1} → statement M
 value_spec =

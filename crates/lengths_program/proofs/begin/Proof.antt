@@ -38,13 +38,6 @@ put-stopped-requires-2 c κs = search rules
 enum-known-m : tie.Need-enum_known-m
 enum-known-m c = search rules
 
--- The places, each seen from a later one: what was known there.
-abbrev at-start : tie.After-next_block → tie.Start
-at-start r = r.before.before.before.before
-
-abbrev at_n : tie.After-layout_of → tie.In-Block
-at_n r = r.before.before
-
 returns : tie.Need-returns-in-Part
 returns c = begins_part c.next_block.ensures _ _ c.in-Part.is
 
@@ -58,7 +51,7 @@ returns-2 c =
     c.in-Refused.is
     c.put_stopped.ensures.0
     c.put_stopped.ensures.1
-    (at-start c.before.before.before.before.before).requires.1.line
+    c.requires.1.line
 
 same-length-2 : tie.Need-shape_of-layout-in-Refused-layout_of
 same-length-2 c = search rules
@@ -68,30 +61,28 @@ same-length-3 c = search rules
 
 returns-3 : tie.Need-returns-in-Refused-layout_of
 returns-3 c =
-    let at-next-block = (at_n c.before.before.before.before.before.before.before) in
     begins_refused
-    at-next-block.next_block.ensures
-    (at_n c.before.before.before.before.before.before.before).in-Block.is
-    (at-start at-next-block.before).args.layout.now
+    c.next_block.ensures
+    c.in-Block.is
+    c.args.layout.now
     c.layout_of.ensures.0
-    (at-start at-next-block.before).requires.0
+    c.requires.0
     c.in-Refused-layout_of.is
     c.put_stopped-in-Refused-layout_of.ensures.0
     c.put_stopped-in-Refused-layout_of.ensures.1
-    (at-start at-next-block.before).requires.1.line
+    c.requires.1.line
 
 same-length-4 : tie.Need-shape_of-layout-in-Bytes
 same-length-4 c = search rules
 
 returns-4 : tie.Need-returns-in-Bytes
 returns-4 c =
-    let at-next-block = (at_n c.before.before.before) in
     begins_built
-    at-next-block.next_block.ensures
-    (at_n c.before.before.before).in-Block.is
-    (at-start at-next-block.before).args.layout.now
+    c.next_block.ensures
+    c.in-Block.is
+    c.args.layout.now
     c.layout_of.ensures.0
-    (at-start at-next-block.before).requires.0
+    c.requires.0
     c.in-Bytes.is
     c.layout_of.ensures.1
 

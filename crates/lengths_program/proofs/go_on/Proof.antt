@@ -27,23 +27,14 @@ ended-requires c κs = search rules
 enum-known-wants : tie.Need-enum_known-wants
 enum-known-wants c = search rules
 
--- The places, each seen from a later one: what was known there.
-abbrev at-run-lines : tie.In-More → tie.After-run_lines
-at-run-lines r = r.before.before.before
-
-abbrev at-start : tie.After-run_lines → tie.Start
-at-start r = r.before.before.before.before.before.before
-
 add-keep : tie.Need-overflow_add-from
 add-keep c =
-    let r = at-run-lines c.before in
-    let u = used_within (at-start r).args.input.now r.run_lines.ensures c.in-More.is (at-start r).requires.2 in
+    let u = used_within c.args.input.now c.run_lines.ensures c.in-More.is c.requires.2 in
     omega (arith, u.order, u.inside, u.few)
 
 keep-requires : tie.Need-keep-requires
 keep-requires c κs =
-    let r = at-run-lines c.before in
-    used_within (at-start r).args.input.now r.run_lines.ensures c.in-More.is (at-start r).requires.2
+    used_within c.args.input.now c.run_lines.ensures c.in-More.is c.requires.2
 
 same_length : tie.Need-shape_of-input-in-Ended
 same_length c = search rules
@@ -63,13 +54,12 @@ same-length-4 c = search rules
 
 returns-2 : tie.Need-returns-in-More
 returns-2 c =
-    let r = at-run-lines c.before.before.before.before in
     go_more
-    (at-start r).args.input.now _
-    r.run_lines.ensures
+    c.args.input.now _
+    c.run_lines.ensures
     c.in-More.is
-    (at-start r).requires.2
-    (at-start r).requires.0
+    c.requires.2
+    c.requires.0
     c.keep.ensures.0
     c.keep.ensures.1
     refl refl refl refl refl

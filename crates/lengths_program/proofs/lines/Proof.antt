@@ -16,27 +16,17 @@ ended-requires c κs = search rules
 enum-known-stage : tie.Need-enum_known-stage
 enum-known-stage c = search rules
 
--- The places, each seen from a later one: what was known there.
-abbrev at-start : tie.In-Runs → tie.Start
-at-start r = r.before.before.before.before
-
-abbrev set-start : tie.After-begin → tie.Start
-set-start r = r.before.before.before.before.before.before.before
-
-abbrev at-begin : tie.In-Built → tie.After-begin
-at-begin r = r.before.before.before.before.before
-
 slice-reshare-prefix-go-on : tie.Need-slice_bounds-go_on-end
-slice-reshare-prefix-go-on c = (ready_read (at-start c).requires.ready c.in-Runs.is).0
+slice-reshare-prefix-go-on c = (ready_read c.requires.ready c.in-Runs.is).0
 
 slice-aggregate-go-on : tie.Need-slice_bounds-go_on-end-in-Runs
-slice-aggregate-go-on c = sym (length-take-le _ _ (ready_read (at-start c).requires.ready c.in-Runs.is).0)
+slice-aggregate-go-on c = sym (length-take-le _ _ (ready_read c.requires.ready c.in-Runs.is).0)
 
 go-on-requires : tie.Need-go_on-requires
 go-on-requires c κs = (
-  (ready_read (at-start c.before.before).requires.ready c.in-Runs.is).1,
-  (at-start c.before.before).requires.room,
-  record { order = omega arith; inside = (at-start c.before.before).requires.held; few = (at-start c.before.before).requires.few },
+  (ready_read c.requires.ready c.in-Runs.is).1,
+  c.requires.room,
+  record { order = omega arith; inside = c.requires.held; few = c.requires.few },
 )
 
 enum-told-2 : tie.Need-enum_told-in-Set
@@ -65,21 +55,18 @@ enum-known-from c = search rules
 
 slice-reshare-prefix-go-on-2 : tie.Need-slice_bounds-go_on-end-in-Built
 slice-reshare-prefix-go-on-2 c =
-    let r = at-begin c in
-    (built_read r.in-Set.is (set-start r).args.state.held (set-start r).args.layout.now (set-start r).args.input.now r.begin.ensures c.in-Built.is).0
+    (built_read c.in-Set.is c.args.state.held c.args.layout.now c.args.input.now c.begin.ensures c.in-Built.is).0
 
 slice-aggregate-go-on-2 : tie.Need-slice_bounds-go_on-end-in-Built-2
 slice-aggregate-go-on-2 c =
-    let r = at-begin c in
-    sym (length-take-le _ _ (built_read r.in-Set.is (set-start r).args.state.held (set-start r).args.layout.now (set-start r).args.input.now r.begin.ensures c.in-Built.is).0)
+    sym (length-take-le _ _ (built_read c.in-Set.is c.args.state.held c.args.layout.now c.args.input.now c.begin.ensures c.in-Built.is).0)
 
 go-on-requires-2 : tie.Need-go_on-requires-in-Built
 go-on-requires-2 c κs =
-    let r = at-begin c.before.before in
-    let is_set = r.in-Set.is in (
-      (built_read is_set (set-start r).args.state.held (set-start r).args.layout.now (set-start r).args.input.now r.begin.ensures c.in-Built.is).1,
-      room_again (set-start r).requires.room r.begin.auto.out,
-      built_within is_set (set-start r).args.state.held (set-start r).args.layout.now (set-start r).args.input.now r.begin.ensures c.in-Built.is (set-start r).requires.held (set-start r).requires.few,
+    let is_set = c.in-Set.is in (
+      (built_read is_set c.args.state.held c.args.layout.now c.args.input.now c.begin.ensures c.in-Built.is).1,
+      room_again c.requires.room c.begin.auto.out,
+      built_within is_set c.args.state.held c.args.layout.now c.args.input.now c.begin.ensures c.in-Built.is c.requires.held c.requires.few,
     )
 
 returns : tie.Need-returns-in-Ended
@@ -96,7 +83,7 @@ same-length-3 c = search rules
 
 returns-2 : tie.Need-returns-in-Runs
 returns-2 c =
-    lines_runs (at-start c.before.before.before.before.before.before.before).args.state.held (at-start c.before.before.before.before.before.before.before).args.layout.now (at-start c.before.before.before.before.before.before.before).args.input.now c.in-Runs.is c.go_on.ensures
+    lines_runs c.args.state.held c.args.layout.now c.args.input.now c.in-Runs.is c.go_on.ensures
 
 same-length-4 : tie.Need-shape_of-input-in-Part
 same-length-4 c = search rules
@@ -111,10 +98,10 @@ returns-3 : tie.Need-returns-in-Part
 returns-3 c =
     lines_part
     c.in-Set.is
-    (set-start c.before.before.before.before.before).args.state.held (set-start c.before.before.before.before.before).args.layout.now (set-start c.before.before.before.before.before).args.input.now
+    c.args.state.held c.args.layout.now c.args.input.now
     c.begin.ensures
     c.in-Part.is
-    (set-start c.before.before.before.before.before).requires.held
+    c.requires.held
     refl refl refl refl refl
 
 same-length-7 : tie.Need-shape_of-input-in-Ended-begin
@@ -130,7 +117,7 @@ returns-4 : tie.Need-returns-in-Ended-begin
 returns-4 c =
     lines_stopped
     c.in-Set.is
-    (set-start c.before.before.before.before.before.before).args.state.held (set-start c.before.before.before.before.before.before).args.layout.now (set-start c.before.before.before.before.before.before).args.input.now
+    c.args.state.held c.args.layout.now c.args.input.now
     c.begin.ensures
     c.in-Ended-begin.is
     c.ended-in-Ended-begin.ensures
@@ -146,13 +133,12 @@ same-length-12 c = search rules
 
 returns-5 : tie.Need-returns-in-Built
 returns-5 c =
-    let r = at-begin c.before.before.before.before.before.before.before in
     lines_built
-    r.in-Set.is
-    (set-start r).args.state.held (set-start r).args.layout.now (set-start r).args.input.now
-    r.begin.ensures
+    c.in-Set.is
+    c.args.state.held c.args.layout.now c.args.input.now
+    c.begin.ensures
     c.in-Built.is
-    (set-start r).requires.held
+    c.requires.held
     c.go_on-in-Built.ensures
 
 pub lines_spec : {M : Type 1} → statement M

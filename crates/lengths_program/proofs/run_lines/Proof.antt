@@ -51,24 +51,11 @@ enum_told c = search rules
 same-length-3 : tie.Need-shape_of-out-in-Part invariant-loop decreases-loop
 same-length-3 c = search rules
 
--- The places inside the loop, each seen from where the next block was looked at.
-abbrev at_room : tie.After-next_block invariant-loop decreases-loop → tie.Else-out-at-lt84 invariant-loop decreases-loop
-at_room r = r.before.before.before
-
-abbrev in-loop : tie.After-next_block invariant-loop decreases-loop → tie.In-loop-i invariant-loop decreases-loop
-in-loop r = (at_room r).before
-
-abbrev at-loop : tie.After-next_block invariant-loop decreases-loop → tie.At-loop-i invariant-loop decreases-loop
-at-loop r = (in-loop r).before
-
-abbrev at_entry : tie.After-next_block invariant-loop decreases-loop → tie.Start invariant-loop decreases-loop
-at_entry r = (at-loop r).before.before.before.before
-
 returns-3 : tie.Need-returns-in-Part invariant-loop decreases-loop
 returns-3 c =
     running_part
-    (at-loop c.before).loop-i.invariant
-    (in-loop c.before).loop-i-test.true
+    c.loop-i.invariant
+    c.loop-i-test.true
     c.next_block.ensures
     c.in-Part.is
 
@@ -76,7 +63,7 @@ enum-known-q : tie.Need-enum_known-q invariant-loop decreases-loop
 enum-known-q c = search rules
 
 put-stopped-requires : tie.Need-put_stopped-requires invariant-loop decreases-loop
-put-stopped-requires c κs = omega (arith, (at-loop c.before.before).loop-i.invariant.fits, (at_entry c.before.before).requires.1.few)
+put-stopped-requires c κs = omega (arith, c.loop-i.invariant.fits, c.requires.1.few)
 
 same-length-4 : tie.Need-shape_of-out-in-Refused invariant-loop decreases-loop
 same-length-4 c = search rules
@@ -84,13 +71,13 @@ same-length-4 c = search rules
 returns-4 : tie.Need-returns-in-Refused invariant-loop decreases-loop
 returns-4 c =
     running_stop
-    (at-loop c.before.before.before.before.before).loop-i.invariant
-    (in-loop c.before.before.before.before.before).loop-i-test.true
+    c.loop-i.invariant
+    c.loop-i-test.true
     c.next_block.ensures
     c.in-Refused.is
     c.put_stopped.ensures.0
     c.put_stopped.ensures.1
-    (at_room c.before.before.before.before.before).if-out-at-lt84.false
+    c.if-out-at-lt84.false
 
 enum-known-n : tie.Need-enum_known-n invariant-loop decreases-loop
 enum-known-n c = search rules
@@ -114,7 +101,7 @@ part-answer-at-end c = omega (arith, (inside c).1)
 
 answer-at-requires : tie.Need-answer_at-requires invariant-loop decreases-loop
 answer-at-requires c κs =
-    ((at_entry c.before.before.before).requires.0, omega (arith, (at-loop c.before.before.before).loop-i.invariant.fits, (at_entry c.before.before.before).requires.1.few))
+    (c.requires.0, omega (arith, c.loop-i.invariant.fits, c.requires.1.few))
 
 enum-known-p : tie.Need-enum_known-p invariant-loop decreases-loop
 enum-known-p c = search rules
@@ -125,13 +112,13 @@ same-length-5 c = search rules
 returns-5 : tie.Need-returns-in-Last invariant-loop decreases-loop
 returns-5 c =
     running_last
-    (at-loop c.before.before.before.before.before.before.before).loop-i.invariant
-    (in-loop c.before.before.before.before.before.before.before).loop-i-test.true
+    c.loop-i.invariant
+    c.loop-i-test.true
     c.next_block.ensures
     c.in-Block.is
     c.answer_at.ensures.0
     c.answer_at.ensures.1
-    (at_room c.before.before.before.before.before.before.before).if-out-at-lt84.false
+    c.if-out-at-lt84.false
     c.in-Last.is
 
 enum-known-p-2 : tie.Need-enum_known-p-in-Line-1 invariant-loop decreases-loop
@@ -142,19 +129,19 @@ add-run c = search rules
 
 loop-less : tie.Need-loop-i-smaller invariant-loop decreases-loop
 loop-less c =
-    let k = inside c.before.before.before.before.before.before in
+    let k = block_inside c.loop-i.invariant c.loop-i-test.true c.next_block.ensures c.in-Block.is in
     omega arith
 
 loop-again : tie.Need-loop-i-preserved invariant-loop decreases-loop
 loop-again c =
     running_more
-    (at-loop c.before.before.before.before.before.before.before).loop-i.invariant
-    (in-loop c.before.before.before.before.before.before.before).loop-i-test.true
+    c.loop-i.invariant
+    c.loop-i-test.true
     c.next_block.ensures
     c.in-Block.is
     c.answer_at.ensures.0
     c.answer_at.ensures.1
-    (at_room c.before.before.before.before.before.before.before).if-out-at-lt84.false
+    c.if-out-at-lt84.false
     c.in-Line.is
 
 same-length-6 : tie.Need-shape_of-out-then-last invariant-loop decreases-loop
