@@ -59,7 +59,7 @@ told() {
     case $1 in
     'rt: chose --jobs '*' for '*) crate=${1##* for } from=$(date +%s) ;;
     'logic=proved '*) echo "$crate proved, $(($(date +%s) - from)) s" >&2 ;;
-    'rt: running '* | 'rt: nothing has changed '* | 'rt: '*': begins with what a check kept '*) ;;
+    'rt: running '* | 'rt: rt '* | 'rt: nothing has changed '* | 'rt: '*': begins with what a check kept '*) ;;
     'rt: '* | 'logic=not-proved'* | *': error'*) echo "$1" >&2 ;;
     esac
 }

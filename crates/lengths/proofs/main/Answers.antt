@@ -1,8 +1,7 @@
 -- Before anything was read nothing is held.
 use Rattle.std.proofs.Common.{ℕ, arith}
 use Rattle.std.proofs.lemmas.List.{length-replicate}
-use Rattle.lengths_program.specs.Parts.{Room, Ready}
-use Rattle.lengths_program.specs.Calls.{Given}
+use Rattle.lengths_program.specs.Parts.{Ready}
 use Rattle.lengths.proofs.main.Goals as goal
 
 pub loop-init : goal.loop-init

@@ -1,5 +1,4 @@
 -- What is held, the layout and the lines lie in their arrays.
-use Rattle.std.proofs.Common.{◌≡◌, length}
 use Rattle.lengths_program.specs.Calls.{Given}
 use Rattle.lengths.proofs.main.Given as goal
 
