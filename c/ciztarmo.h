@@ -21,12 +21,12 @@
  * - The answer is four words, see enum ciztarmo_answer; ciztarmo_validate_runs gives four for each run.
  * - Reading, building and evaluating recurse over nested blocks, of which at most 32 are open in a set and 256 in a layout;
  *   evaluating also over calls of types, of which at most 16 are open. So the stack is bounded, but not small. Measured by
- *   `c/test --stack` on hostile inputs: reading 12,775 bytes for a set and 98,791 for a layout of 256 open blocks; building 121,431
- *   with ciztarmo_layout_of and 108,135 with ciztarmo_build_set, where the first of 64 fields with padding calls a type of 64 owners
- *   and 64 paths; validating 1,184,247, where a type of 254 nested nodes calls itself. On the type Trip of document 01
- *   ciztarmo_layout_of takes 21,671, ciztarmo_length_of and ciztarmo_length_of_run 10,735 (of which 9,344 are words in which they may
- *   remember where values stand), ciztarmo_build_set 8,375, and no other call more than 2,711. A thread that validates with sets
- *   or layouts from somebody whom it does not trust should have CIZTARMO_STACK_BYTES left. The proofs say nothing of the stack.
+ *   `c/test --stack` on hostile inputs: reading 12,711 bytes for a set and 98,727 for a layout of 256 open blocks; building 101,743
+ *   with ciztarmo_layout_of and 88,495 with ciztarmo_build_set, where the first of 64 fields with padding calls a type of 64 owners
+ *   and 64 paths; validating 835,703, where a type of 254 nested nodes calls itself. On the type Trip of document 01
+ *   ciztarmo_layout_of takes 22,463, ciztarmo_length_of 10,375 and ciztarmo_length_of_run 10,295 (of which 9,344 are words in which
+ *   they may remember where values stand), ciztarmo_build_set 9,215, and no other call more than 3,887. A thread that validates with
+ *   sets or layouts from somebody whom it does not trust should have CIZTARMO_STACK_BYTES left. The proofs say nothing of the stack.
  *
  * What the calls answer is proved (README.md, "What is proved"); what is said here of stack and NULL is measured and tested. The
  * archive is for x86-64, or for 64-bit Arm (`archive --target aarch64`; c/README.md says what that rests on).
