@@ -2,7 +2,7 @@
 // only the reads and the writes.
 #![tactic(auto)]
 
-ghost use Rattle.std.specs.Prelude.{◌≡◌, ◌^◌, ◌≤◌, ◌<◌, length, take, IfOk, OnOk};
+ghost use Rattle.std.specs.Prelude.{◌≡◌, ◌^◌, ◌≤◌, ◌<◌, length, take, IfOk, OnErr, OnOk};
 ghost use Rattle.std.specs.Io.KnownBytes.{Appends};
 
 use lengths_program::State;
@@ -12,7 +12,8 @@ use std::io::{Read, Write};
 // Reads what is there behind the bytes that are held, if the program wants more.
 fn read_more<R: Read>(reader: &mut R, state: State, input: &mut [u8]) -> io::Result<State>
     requires { (state.held ≤ length input.old) × (length input.old < 2 ^ 63) }
-    ensures { IfOk result (λ next. (next.stage ≡ state.stage) × (next.held ≤ length input.new)) }
+    ensures ok { IfOk result (λ next. (next.stage ≡ state.stage) × (next.held ≤ length input.new)) }
+    ensures err { OnErr result (length input.new ≡ length input.old) }
 {
     if !state.wants {
         return Ok(state);

@@ -3,7 +3,7 @@
 // against its stored lines.
 #![tactic(auto)]
 
-ghost use Rattle.std.specs.Prelude.{◌≡◌, ◌^◌, ◌≤◌, ◌<◌, length, take, IfOk};
+ghost use Rattle.std.specs.Prelude.{◌≡◌, ◌^◌, ◌≤◌, ◌<◌, length, take, IfOk, OnErr};
 ghost use Rattle.lengths_program.specs.Parts.{Room};
 
 use errors::{Answer, Length, Refusal};
@@ -462,7 +462,8 @@ fn hold_record(words: &mut [u64], tally: &mut [u64; 62], kind: u8, s: &[u8]) -> 
 
 // Reads until s is full or the input ends: how many bytes it put at the start of s.
 fn read_full<R: Read>(reader: &mut R, s: &mut [u8]) -> io::Result<usize>
-    ensures { IfOk result (λ n. n ≤ length s.new) }
+    ensures ok { IfOk result (λ n. n ≤ length s.new) }
+    ensures err { OnErr result (length s.new ≡ length s.old) }
 {
     let mut done = 0;
     while done < s.len() {
