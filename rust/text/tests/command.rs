@@ -330,4 +330,6 @@ fn output_through_a_link() {
         .file_type()
         .is_symlink());
     assert_eq!(std::fs::read(&file).unwrap(), read("examples/trip"));
+    // `rt ci` refuses links, also below target/
+    std::fs::remove_file(&link).unwrap();
 }
