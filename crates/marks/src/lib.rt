@@ -1,35 +1,30 @@
 // Slots found by the marks of their names: a table in a slice of words. A client walks `j = last(table, mark)`, then, while 0 < j, asks
-// slot j - 1 and goes on at `j = before(table, mark, j)`.
+// slot j - 1 and goes on at `j = before(table, mark, j)`. (A slot is told as the table's words hold it, plus 1, and 0 for none: an
+// Option would be made and taken apart at each step of the walk. The words may be a table of other marks too, and the contracts hold for
+// each: an invariant of a struct of table and mark would say no more than that there is one.)
 #![tactic(auto)]
 
 ghost use Rattle.std.specs.Prelude.{◌≡◌, ℕ, ◌+◌, ◌-◌, ◌≤◌, ◌<◌, length};
 ghost use Rattle.marks.specs.Mark.{step, mark_of};
 ghost use Rattle.marks.specs.Table.{Linked, Table, Chain, Prior};
 
-// A byte as a number.
-fn wide(x: u8) -> u64
-    ensures { (result ≡ x) × (result < 256) }
-{
-    x as u64
-}
-
 // The mark with a byte more.
-fn step(h: u64, b: u64) -> u64
-    requires { b < 256 }
+#[tactic(auto, unfolding(crate::specs::Mark::step))]
+fn step(h: u64, b: u8) -> u64
     ensures { result ≡ step h b }
 {
+    let b = u64::from(b);
     h % 4294967296 * (2654435769 + b) + h / 4294967296 + b
 }
 
 // The mark of a name behind bytes whose mark is h; 0 is the mark of none.
+#[tactic(auto, unfolding(crate::specs::Mark::mark_of))]
 pub fn mark(h: u64, name: &[u8]) -> u64
     ensures { result ≡ mark_of h name.now }
 {
     let mut m = h;
-    let mut i = 0;
-    while i < name.len() {
-        m = step(m, wide(name[i]));
-        i += 1;
+    for b in name {
+        m = step(m, *b);
     }
     m
 }
@@ -39,11 +34,7 @@ pub fn clear(table: &mut [u64])
     requires { 127 ≤ length table.old }
     ensures { (f : ℕ → ℕ) → Linked table.new f 0 }
 {
-    let mut p = 0;
-    while p < 127 {
-        table[p] = 0;
-        p += 1;
-    }
+    table[..127].fill(0);
 }
 
 // The slot gets its mark, and the link to the last slot of its place; that place then leads to it.
@@ -52,9 +43,8 @@ pub fn link(table: &mut [u64], slot: usize, mark: u64)
     ensures { (f : ℕ → ℕ) → Linked table.old f slot → f slot ≡ mark → Linked table.new f (slot + 1) }
 {
     let p = (mark % 127) as usize;
-    let k = 127 + slot;
     let w = mark % 281474976710656 * 65536 + table[p] % 65536;
-    table[k] = w;
+    table[127 + slot] = w;
     table[p] = slot as u64 + 1;
 }
 
@@ -65,8 +55,7 @@ fn reach(table: &[u64], mark: u64, j: usize) -> usize
 {
     let mut i = j;
     while 0 < i {
-        let k = 126 + i;
-        let w = table[k];
+        let w = table[126 + i];
         if w / 65536 == mark % 281474976710656 {
             return i;
         }
@@ -90,7 +79,6 @@ pub fn before(table: &[u64], mark: u64, j: usize) -> usize
     requires { (0 < j) × Chain table.now mark j }
     ensures { (c : Chain table.now mark j) → Prior c.table.marks mark (j - 1) result }
 {
-    let k = 126 + j;
-    let link = (table[k] % 65536) as usize;
+    let link = (table[126 + j] % 65536) as usize;
     reach(table, mark, link)
 }

@@ -1,9 +1,8 @@
 -- The mark of a name, step by step. Assumes nothing.
-use Rattle.std.proofs.Common.{◌≡◌, ℕ, zero, suc, ◌+◌, ◌-◌, ◌*◌, ◌%◌, ◌^◌, ◌<◌, ◌≤◌, length, get_or, sym, refl, ◌∙◌, mul-le-mul, arith, le-ltb, lt-ltb}
-use lib.ListN.{get_or-eq_default}
-use Rattle.blocks.specs.Bytes.{le2, le4, le8}
+use Rattle.std.proofs.Common.{◌≡◌, ℕ, zero, suc, ◌+◌, ◌-◌, ◌*◌, ◌%◌, ◌^◌, ◌<◌, ◌≤◌, length, refl, ◌∙◌, mul-le-mul, arith, le-ltb, lt-ltb}
+use Rattle.blocks.specs.Bytes.{le8}
 use Rattle.blocks.specs.Name.{Name}
-use Rattle.name_marks.specs.Mark.{step, short_of, length_of, short_mark, last_step, mark_from, mark_of, sum_from, sum_mark_of}
+use Rattle.name_marks.specs.Mark.{step, length_of, last_step, mark_from, mark_of, sum_from, sum_mark_of}
 
 -- the product in a step is bounded by its factors
 pub step_product : (h x : ℕ) → (4294967296 + h % 4294967296) * (x % 2147483648) ≤ 18446744062972133377
@@ -14,33 +13,7 @@ step_product h x =
     omega arith
 
 module _ (n : Name) where
-  -- the number of a short name: of four bytes or more, of two or three, of one, of none
-  pub short_four : 4 ≤ length n → {a b : ℕ} → a ≡ le4 n 0 → b ≡ le4 n (length n - 4) → a + 4294967296 * b ≡ short_of n
-  unfolding short_of
-  short_four h e f = rw (le-ltb (length n) 2 (omega arith), le-ltb (length n) 4 h, e, f)
-
-  pub short_two : 2 ≤ length n → length n < 4 → {a b : ℕ} → a ≡ le2 n 0 → b ≡ le2 n (length n - 2) → a + 4294967296 * b ≡ short_of n
-  unfolding short_of
-  short_two h g e f = rw (le-ltb (length n) 2 h, lt-ltb (length n) 4 g, e, f)
-
-  pub short_one : length n < 2 → get_or n 0 0 ≡ short_of n
-  unfolding short_of
-  short_one h = rw (lt-ltb (length n) 2 h)
-
-  pub short_none : length n ≤ 0 → 0 ≡ short_of n
-  short_none h = sym (get_or-eq_default n 0 {n = 0} h) ∙ short_one (omega arith)
-
-  -- the steps of a short name
-  pub short_mark_lem : {r q x : ℕ} → r ≡ step q (length_of n) → q ≡ step 0 x → x ≡ short_of n → r ≡ short_mark n
-  unfolding short_mark
-  short_mark_lem e f g = rw (e, f, g)
-
   module _ (apart : ℕ) where
-    -- the mark of a short name
-    pub mark_short : length n < 8 → {r : ℕ} → r ≡ short_mark n → r ≡ mark_of apart n
-    unfolding mark_of
-    mark_short h e = rw (lt-ltb (length n) 8 h, e)
-
     -- the steps before i have made h and g
     pub record Marked (i h g : ℕ) : Type 0 where
       pub steps : ℕ
@@ -74,11 +47,6 @@ module _ (n : Name) where
       pub mark_long : 8 ≤ length n → length n ≤ i + 8 → {r w x : ℕ} → r ≡ step w g → w ≡ step h x → x ≡ le8 n (length n - 8) → r ≡ mark_of apart n
       unfolding mark_of
       mark_long l b e u f = rw (le-ltb (length n) 8 l, marked_all b, e, u, f)
-
-  -- the mark of a short name by a sum
-  pub sum_short : length n < 8 → {r : ℕ} → r ≡ short_mark n → r ≡ sum_mark_of n
-  unfolding sum_mark_of
-  sum_short h e = rw (lt-ltb (length n) 8 h, e)
 
   -- the eights before i have the sum h
   pub record Summed (i h : ℕ) : Type 0 where

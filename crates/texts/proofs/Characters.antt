@@ -2,20 +2,23 @@
 use mathlib.Core.Path.{◌≡◌, refl, sym, ◌∙◌, ap}
 use mathlib.Core.Bool.{Bool, true, false, ◌&&◌}
 use mathlib.Core.List.{List, [], ◌∷◌}
-use mathlib.Core.Option.{Option, some, none}
-use Prim.Native.Nat.{ℕ, zero, suc, ◌+◌, ◌-◌, ◌<◌, ◌≤◌}
+use mathlib.Core.Logic.{◌⊎◌, inl, inr}
+use mathlib.Core.Option as grammar
+use mathlib.Core.Option.{some, none}
+use Prim.Native.Nat.{ℕ, zero, suc, ◌-◌, ◌<◌, ◌≤◌}
 use native.Mathlib.Omega.{arith}
-use native.Mathlib.Numerals.{add-one}
 use lib.Dec.{leb, eqb}
-use lib.ListN.{length, get_or, take, drop, replicate, drop_of_length-le}
-use lib.Seq.{drop-cons, take_all}
-use borrow.Author.Tests.{le-leb, lt-leb, leb-true, leb-false, eq-eqb, ne_eqb}
+use lib.ListN.{length, replicate}
+use borrow.Author.Tests.{le-leb, leb-true, leb-false, eq-eqb, ne_eqb}
 use Rattle.blocks.specs.Utf8.{Range, Form, range, utf8_tail, utf8_char, in_range, begun, rest_of, utf8_octets}
-use Rattle.blocks.specs.Name.{allowed, well_formed, is_text}
-use Rattle.blocks.proofs.Utf8.{FormIn, begun_char, range_in}
-use Rattle.texts.specs.Left.{ranges_of, form, well, well_behind, goes, High}
+use Rattle.blocks.specs.Name.{allowed, well_formed}
+use Rattle.blocks.proofs.Name.{and_left, and_right}
+use Rattle.blocks.proofs.Utf8.{FormIn, begun_char, begun_tail, begun_above, range_in, range_before, range_past}
+use Rattle.texts.specs.Clear.{Clear}
+use Rattle.texts.specs.Triples.{clear_byte}
+use Rattle.texts.specs.Left.{ranges_of, form, well, well_behind, goes}
 use Rattle.texts.specs.declared.Left.{Left}
-use Rattle.texts.specs.declared.Left.TheVariants.{Bytes, Never}
+use Rattle.std.specs.Prelude.{Option}
 
 -- a conjunction whose second test fails
 and_no : (a : Bool) → (a && false) ≡ false
@@ -34,28 +37,29 @@ may : (b : ℕ) (bs : List ℕ) → 0x20 ≤ b → (b ≡ 0x7F → ⊥) → allo
 unfolding allowed
 may b bs l n = rw (le-leb 0x20 b l, ne_eqb b 0x7F n) refl
 
--- no bytes are well-formed with a byte below 0x20
-pub low_byte : (f : Form) (b : ℕ) (bs : List ℕ) → b < 0x20 → well f (b ∷ bs) ≡ false
+-- no bytes are well-formed with a byte below 0x80 that is not clear
+pub unclear_byte : (f : Form) (b : ℕ) (bs : List ℕ) → clear_byte b ≡ false → b < 0x80 → well f (b ∷ bs) ≡ false
 unfolding allowed
-low_byte f b bs l = rw (lt-leb 0x20 b l) (and_no (rest_of f (b ∷ bs)))
-
--- nor with 0x7F
-pub delete_byte : (f : Form) (b : ℕ) (bs : List ℕ) → b ≡ 0x7F → well f (b ∷ bs) ≡ false
-unfolding allowed
-delete_byte f b bs e = rw (le-leb 0x20 b (omega arith), eq-eqb b 0x7F e) (and_no (rest_of f (b ∷ bs)))
+unclear_byte f b bs e l = go (leb 0x20 b) refl e
+  where
+    go : (t : Bool) → leb 0x20 b ≡ t → (t && leb b 0x7E) ≡ false → well f (b ∷ bs) ≡ false
+    go true g n = rw (g, eq-eqb b 0x7F (omega (arith, leb-false b 0x7E n, l))) (and_no (rest_of f (b ∷ bs)))
+    go false g n = rw g (and_no (rest_of f (b ∷ bs)))
 
 -- a clear byte is a character
-pub clear_byte_lem : (b : ℕ) (bs : List ℕ) → 0x20 ≤ b → b ≤ 0x7E → well [] (b ∷ bs) ≡ well [] bs
+pub clear_char : (b : ℕ) (bs : List ℕ) → clear_byte b ≡ true → well [] (b ∷ bs) ≡ well [] bs
 unfolding rest_of utf8_char
-clear_byte_lem b bs l h =
-    let c : begun utf8_char b ≡ some [] = begun_char b FormIn.this (omega arith) (omega arith) in rw (may b bs l (λ e. omega arith), c, rest_of) refl
+clear_char b bs e =
+    let l : 0x20 ≤ b = leb-true 0x20 b (and_left (leb 0x20 b) _ e) in
+    let h : b ≤ 0x7E = leb-true b 0x7E (and_right (leb 0x20 b) _ e) in
+    let c : begun utf8_char b ≡ some [] = begun_char b FormIn.this (omega arith) (omega arith) in rw (may b bs l (λ n. omega arith), c, rest_of) refl
 
 -- a byte from 0x80 on begins what the grammar says
 pub begun_byte : (b : ℕ) (bs : List ℕ) → 0x80 ≤ b → well [] (b ∷ bs) ≡ well_behind (begun utf8_char b) bs
 unfolding rest_of
 begun_byte b bs l = rw (may b bs (omega arith) (λ e. omega arith)) (go (begun utf8_char b))
   where
-    go : (o : Option Form) → (elim o [ none ↦ false | some rs ↦ rest_of rs bs ] && allowed bs) ≡ well_behind o bs
+    go : (o : grammar.Option Form) → (elim o [ none ↦ false | some rs ↦ rest_of rs bs ] && allowed bs) ≡ well_behind o bs
     go none = refl
     go (some rs) = refl
 
@@ -112,82 +116,52 @@ module _ (b : ℕ) where
   begins_F4 e =
       begun_char b (FormIn.later (FormIn.later (FormIn.later (FormIn.later (FormIn.later (FormIn.later (FormIn.later (FormIn.later FormIn.this)))))))) (omega arith) (omega arith)
 
+-- 0x80 to 0xC1: nothing
+pub begins_none : (b : ℕ) → 0x80 ≤ b → b < 0xC2 → begun utf8_char b ≡ none
+begins_none = begun_tail
+
+-- 0xF5 and above: nothing
+pub begins_above : (b : ℕ) → 0xF4 < b → begun utf8_char b ≡ none
+begins_above = begun_above
+
+pub ruleset begins = (begins_2, begins_E0, begins_ED, begins_3, begins_F0, begins_4, begins_F4, begins_none, begins_above)
+
 -- ---- what is left
 
 -- of a character that a byte begins
-pub left_begun : (r : Left) (b : ℕ) (bs : List ℕ) → 0x80 ≤ b → begun utf8_char b ≡ form r → goes (Bytes 0 0x80 0xBF) (b ∷ bs) ≡ goes r bs
-left_begun r b bs l e = begun_byte b bs l ∙ ap (λ (o : Option Form). well_behind o bs) e
+pub left_begun : (r : Option Left) (b : ℕ) (bs : List ℕ) → 0x80 ≤ b → begun utf8_char b ≡ form r → well [] (b ∷ bs) ≡ goes r bs
+left_begun r b bs l e = begun_byte b bs l ∙ ap (λ (o : grammar.Option Form). well_behind o bs) e
+
+-- what a byte begins, whichever it is
+pub ruleset first_byte = (clear_char, unclear_byte, left_begun)
 
 -- behind a byte in the range that is next: tails
-pub left_next : (n lo hi b : ℕ) (bs : List ℕ) → (n ≡ 0 → ⊥) → 0x80 ≤ lo → lo ≤ b → b ≤ hi → goes (Bytes n lo hi) (b ∷ bs) ≡ goes (Bytes (n - 1) 0x80 0xBF) bs
+pub left_next : (n lo hi b : ℕ) (bs : List ℕ) → (n ≡ 0 → ⊥) → 0x80 ≤ lo → lo ≤ b → b ≤ hi → well (ranges_of n lo hi) (b ∷ bs) ≡ well (ranges_of (n - 1) 0x80 0xBF) bs
 left_next zero lo hi b bs z t l h = absurd (z refl)
 left_next (suc zero) lo hi b bs z t l h = range_byte (range lo hi) [] b bs t l h
 left_next (suc (suc n)) lo hi b bs z t l h =
     let e : suc (suc n) - 1 ≡ suc n = omega arith in rw e (range_byte (range lo hi) (replicate (suc n) utf8_tail) b bs t l h)
 
 -- behind a byte outside of it: nothing
-pub left_never : (n lo hi b : ℕ) (bs : List ℕ) → (n ≡ 0 → ⊥) → in_range (range lo hi) b ≡ false → goes (Bytes n lo hi) (b ∷ bs) ≡ false
-left_never zero lo hi b bs z e = absurd (z refl)
-left_never (suc n) lo hi b bs z e = outside_byte (range lo hi) (replicate n utf8_tail) b bs e
+pub left_never : (n lo hi b : ℕ) (bs : List ℕ) → (n ≡ 0 → ⊥) → (b < lo) ⊎ ((lo ≤ b) × (hi < b)) → well (ranges_of n lo hi) (b ∷ bs) ≡ false
+left_never zero lo hi b bs z o = absurd (z refl)
+left_never (suc n) lo hi b bs z (inl l) = outside_byte (range lo hi) (replicate n utf8_tail) b bs (range_before (range lo hi) b l)
+left_never (suc n) lo hi b bs z (inr h) = outside_byte (range lo hi) (replicate n utf8_tail) b bs (range_past (range lo hi) b h.1)
 
--- ---- one step, where the code found that so much is left
-
-module _ (left : Left) {n lo hi : ℕ} (e : left ≡ Bytes n lo hi) (b : ℕ) where
-  -- nothing is left, so the byte begins a character
-  pub on_begin : n ≡ 0 → (r : Left) → ((bs : List ℕ) → goes (Bytes 0 0x80 0xBF) (b ∷ bs) ≡ goes r bs) → (bs : List ℕ) → goes left (b ∷ bs) ≡ goes r bs
-  on_begin z r g bs = rw (e, z) (g bs)
-
-  -- the byte is outside of the range that is next
-  pub on_never : (n ≡ 0 → ⊥) → in_range (range lo hi) b ≡ false → (bs : List ℕ) → goes left (b ∷ bs) ≡ false
-  on_never z o bs = rw e (left_never n lo hi b bs z o)
-
-  -- the byte is in it
-  pub on_next : High left → (n ≡ 0 → ⊥) → lo ≤ b → b ≤ hi → (bs : List ℕ) → goes left (b ∷ bs) ≡ goes (Bytes (n - 1) 0x80 0xBF) bs
-  on_next t z l h bs = let t' : 0x80 ≤ lo = rw e at t in rw e (left_next n lo hi b bs z t' l h)
-
--- nothing makes it a character any more
-pub on_none : (left : Left) → left ≡ Never → (b : ℕ) (bs : List ℕ) → goes left (b ∷ bs) ≡ false
-on_none left e b bs = rw e refl
-
--- ---- the loop: the bytes before i leave l
-
-module _ (s : List ℕ) (l : Left) (i : ℕ) (e : well_formed s ≡ goes l (drop i s)) where
-  -- a byte more
-  pub chars_more : (b : ℕ) (r : Left) → i < length s → b ≡ get_or s i 0 → ((bs : List ℕ) → goes l (b ∷ bs) ≡ goes r bs) → well_formed s ≡ goes r (drop (i + 1) s)
-  chars_more b r h f g =
-      let d : drop i s ≡ b ∷ drop (i + 1) s = drop-cons s i 0 h ∙ rw (f, add-one i) refl in
-      e ∙ ap (λ (bs : List ℕ). goes l bs) d ∙ g (drop (i + 1) s)
-
-  -- behind the last byte
-  pub chars_end : length s ≤ i → well_formed s ≡ goes l []
-  chars_end h = e ∙ ap (λ (bs : List ℕ). goes l bs) (drop_of_length-le s h)
-
--- nothing is left exactly where no byte is
-nothing_left : (n lo hi : ℕ) → goes (Bytes n lo hi) [] ≡ eqb n 0
+-- nothing is left exactly where no byte must follow
+pub nothing_left : (n lo hi : ℕ) → well (ranges_of n lo hi) [] ≡ eqb n 0
 unfolding rest_of allowed
 nothing_left zero lo hi = refl
 nothing_left (suc n) lo hi = sym (ne_eqb (suc n) 0 (λ e. omega arith))
 
--- the answer behind the last byte, by what is left
-pub ended : (left : Left) {n lo hi : ℕ} → left ≡ Bytes n lo hi → goes left [] ≡ eqb n 0
-ended left {n} {lo} {hi} e = rw e (nothing_left n lo hi)
+-- ---- clear bytes
 
--- it is none where nothing makes it a character
-pub ended_none : (left : Left) → left ≡ Never → goes left [] ≡ false
-ended_none left e = rw e refl
+-- they are characters
+clear_chars : (s : List ℕ) → Clear s 0 (length s) → well [] s ≡ true
+unfolding rest_of allowed
+clear_chars [] h = refl
+clear_chars (b ∷ bs) h = clear_char b bs (h zero (omega arith) (omega arith)) ∙ clear_chars bs (λ k l g. h (suc k) (omega arith) (omega arith))
 
--- ---- texts
-
--- more than 255 bytes are no text
-pub text_long : (s : List ℕ) → 255 < length s → false ≡ is_text s
-unfolding is_text
-text_long s h = rw (lt-leb _ _ h)
-
--- of at most 255 bytes the well-formed ones are
-pub text_all : (s : List ℕ) → length s ≤ 255 → {r : Bool} → r ≡ well_formed s → r ≡ is_text s
-unfolding is_text
-text_all s l e = rw (le-leb _ _ l) e
-
--- the same of the part that is all of them
-pub text_whole : (s : List ℕ) → length s ≤ 255 → {r : Bool} → r ≡ well_formed (take (length s) s) → r ≡ is_text s
-text_whole s l e = text_all s l (e ∙ ap well_formed (take_all (length s) s (omega arith)))
+-- bytes that are all clear are well-formed
+pub clear_well : (s : List ℕ) → Clear s 0 (length s) → well_formed s ≡ true
+clear_well s h = well_is s ∙ clear_chars s h

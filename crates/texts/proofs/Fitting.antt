@@ -13,7 +13,7 @@ use Rattle.blocks.specs.Name.{allowed, well_formed}
 use Rattle.blocks.proofs.Name.{and_left, and_right, false_true}
 use Rattle.texts.specs.Triples.{leads, leads3, tail, clear_byte, unended, narrow, fits, triple1, Tripled}
 use Rattle.texts.specs.Left.{well, well_behind}
-use Rattle.texts.proofs.Characters.{well_is, clear_byte_lem, begun_byte, begins_2, begins_E0, begins_ED, begins_3, range_byte}
+use Rattle.texts.proofs.Characters.{well_is, clear_char, begun_byte, begins_2, begins_E0, begins_ED, begins_3, range_byte}
 
 -- ---- a byte by its place in the characters
 
@@ -122,14 +122,17 @@ More q a b bs = (well (left q a) (b ∷ bs) ≡ well (left a b) bs) × (leads3 a
 module _ (q a b : ℕ) (bs : List ℕ) (i : leads3 q ≡ true → tail a ≡ true) (f : fits q a b ≡ true) where
   -- a character that has not ended goes on
   on : unended q a ≡ true → tail b ≡ true
+  unfolding fits
   on o = pick (unended q a) (tail b) (clear_byte b || leads b) (and_left ((unended q a && tail b) || (not (unended q a) && (clear_byte b || leads b))) _ f) o
 
   -- and another begins
   new : unended q a ≡ false → (clear_byte b || leads b) ≡ true
+  unfolding fits
   new o = pick_other (unended q a) (tail b) (clear_byte b || leads b) (and_left ((unended q a && tail b) || (not (unended q a) && (clear_byte b || leads b))) _ f) o
 
   -- the second byte
   second : leads a ≡ true → Leads a → More q a b bs
+  unfolding fits
   second e (Leads.of_two l g) =
       let t = on (rw e refl) in
       let h = bounds 0x80 0xBF b t in
@@ -155,7 +158,7 @@ module _ (q a b : ℕ) (bs : List ℕ) (i : leads3 q ≡ true → tail a ≡ tru
   clear_first e g c =
       let h = bounds 0x20 0x7E b c in
       let z = below 0xC2 0xEF b (omega (arith, h.1)) in
-      (rw (left_none q a e g, left_none a b z (not_leads a e)) (clear_byte_lem b bs h.0 h.1), λ x. false_true (sym (not_leads a e) ∙ x))
+      (rw (left_none q a e g, left_none a b z (not_leads a e)) (clear_char b bs c), λ x. false_true (sym (not_leads a e) ∙ x))
 
   -- the first of a character, by what it leaves
   led : leads a ≡ false → leads3 q ≡ false → leads b ≡ true → {f : Form} → begun utf8_char b ≡ some f → More q a b bs
@@ -207,6 +210,7 @@ all_behind q a (b ∷ bs) i p e g =
 -- what the code asks of the first two bytes, of the last two, and of all
 pub triples_well : (s : List ℕ) → 2 ≤ length s → (clear_byte (get_or s 0 0) || leads (get_or s 0 0)) ≡ true → fits 0x20 (get_or s 0 0) (get_or s 1 0) ≡ true
     → leads (get_or s (length s - 1) 0) ≡ false → leads3 (get_or s (length s - 2) 0) ≡ false → Tripled s 0 (length s - 2) → well_formed s ≡ true
+unfolding fits
 triples_well [] l b f e g p = absurd (omega arith)
 triples_well (x ∷ []) l b f e g p = absurd (omega arith)
 triples_well (x ∷ (y ∷ zs)) l b f e g p =

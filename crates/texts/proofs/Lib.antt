@@ -1,3 +1,2 @@
 mod Characters
-mod Steps
 mod Fitting

@@ -26,7 +26,7 @@ abbrev pub narrow : ℕ → ℕ → Bool
 narrow a b = not ((eqb a 0xE0 && not (leb 0xA0 b)) || (eqb a 0xED && leb 0xA0 b))
 
 -- b goes with q and a before it
-abbrev pub fits : ℕ → ℕ → ℕ → Bool
+unfoldable pub fits : ℕ → ℕ → ℕ → Bool
 fits q a b = ((unended q a && tail b) || (not (unended q a) && (clear_byte b || leads b))) && narrow a b
 
 -- the byte behind the two at an offset

@@ -1,18 +1,19 @@
 -- The laws of writing. Assumes nothing.
 use mathlib.Core.Path.{◌≡◌, refl, sym, ap, ◌∙◌}
 use mathlib.Core.Bool.{Bool, true, false, cond}
-use mathlib.Core.List.{List, [], ◌∷◌, ◌++◌, append_assoc, append-nil}
-use Prim.Native.Nat.{ℕ, zero, suc, ◌+◌, ◌-◌, ◌*◌, ◌%◌, ◌/◌, ◌<◌, ◌≤◌}
-use native.Mathlib.Numerals.{add-one, sub-one}
+use mathlib.Core.List.{List, [], ◌∷◌, ◌++◌, append_assoc}
+use Prim.Native.Nat.{min, ℕ, zero, suc, ◌+◌, ◌-◌, ◌*◌, ◌%◌, ◌/◌, ◌<◌, ◌≤◌}
+use native.Mathlib.Numerals.{sub-one}
 use native.Mathlib.Nat.{add-zero, zero-add, one-mul, suc-mul, not-suc-le-zero}
 use native.Mathlib.Omega.{arith}
 use borrow.Author.Count.{below_more}
-use borrow.Author.Fill.{fill_none, fill_more}
 use borrow.Author.Tests.{leb-true, leb-false}
+use Rattle.std.proofs.lemmas.List.{take_more, take-append-drop}
+use Rattle.std.specs.Int.{from_bool}
 use lib.Dec.{leb}
-use lib.ListN.{length, set, drop, get_or, replicate, take, length-set, length-append, length-replicate, length-drop, get_or-replicate, drop_of_length-le}
+use lib.ListN.{length, set, drop, get_or, replicate, take, length-append, length-replicate, length-drop, get_or-replicate}
 use lib.Bits.{bit_and, bit_or, or_add_and, and_le_l, and_le_r}
-use lib.Seq.{sets-eq, length-sets, set_comm, set-set, set_out, drop-cons, get_or-drop, ext_get_or, take_all, length-take-le}
+use lib.Seq.{sets-eq, length-sets, set_comm, set-set, set_out, get_or-drop, ext_get_or, take_all, length-take-le}
 use Rattle.blocks.specs.Bytes.{bytes}
 use Rattle.blocks.specs.Tree.{Tree, name, num, block, nil, cons}
 use Rattle.blocks.specs.Write.{write}
@@ -116,14 +117,6 @@ unfolding bytes
 le_more xs ys zs at p zero v r h f g = absurd (not-suc-le-zero h)
 le_more xs ys zs at p (suc k) v r h f g = both f (rw sub-one at g)
 
--- no byte of the text is left to be written
-pub from_none : (xs s : List ℕ) (at i : ℕ) → length s ≤ i → Wrote xs at (drop i s) xs at
-from_none xs s at i h = rw (drop_of_length-le s h) (none xs at)
-
--- the byte at i, and then those behind it, are the text from i on
-pub from_more : (xs ys zs s : List ℕ) (at p i r : ℕ) → i < length s → Wrote xs at (get_or s i 0 ∷ []) ys p → Wrote ys p (drop (i + 1) s) zs r → Wrote xs at (drop i s) zs r
-from_more xs ys zs s at p i r h f g = rw (drop-cons s i 0 h, ← add-one) (both f g)
-
 -- behind the slice's end all bytes are only counted
 pub all_out : (xs bs : List ℕ) (at : ℕ) → length xs ≤ at → Wrote xs at bs xs (at + length bs)
 all_out xs [] at h = rw (add-zero at) (none xs at)
@@ -131,52 +124,44 @@ all_out xs (b ∷ bs) at h =
     let e : at + 1 + length bs ≡ at + suc (length bs) = omega arith in
     rw (← e) (both (byte_out xs at b h) (all_out xs bs (at + 1) (omega arith)))
 
+-- the first k bytes of bs were written: one more is
+pub first_more : (xs ys bs : List ℕ) (at k : ℕ) → ys ≡ poke xs at (take k bs) → k < length bs → set ys (at + k) (get_or bs k 0) ≡ poke xs at (take (k + 1) bs)
+unfolding poke
+first_more xs ys bs at k e h =
+    let n : length (take k bs) ≡ k = length-take-le k bs (omega arith) in
+    rw (e, take_more bs k 0 h) (rw n at (poke_then xs at (take k bs) (get_or bs k 0 ∷ [])))
+
+-- all of them were, as far as the slice goes
+pub first_all : (xs ys bs : List ℕ) (at k : ℕ) → ys ≡ poke xs at (take k bs) → k ≡ min (length bs) (length xs - at) → Wrote xs at bs ys (at + length bs)
+first_all xs ys bs at k e h = record { end = refl; left = e ∙ go (leb (length bs) k) refl }
+  where
+    go : (t : Bool) → leb (length bs) k ≡ t → poke xs at (take k bs) ≡ poke xs at bs
+    go true q = rw (take_all k bs (leb-true _ _ q))
+    go false q =
+        let l : k < length bs = omega (arith, leb-false _ _ q) in
+        let n : length (take k bs) ≡ k = length-take-le k bs (omega arith) in
+        let m : length (poke xs at (take k bs)) ≤ at + k = rw poke_length (omega arith) in
+        (all_out (poke xs at (take k bs)) (drop k bs) (at + k) m).left
+        ∙ rw n at (poke_then xs at (take k bs) (drop k bs))
+        ∙ ap (poke xs at) (take-append-drop k bs)
+
 -- a name is its length and its bytes
 pub name_puts : (xs ys zs s : List ℕ) (at p r : ℕ) → Wrote xs at (bytes 2 (length s)) ys p → Wrote ys p (drop 0 s) zs r → Wrote xs at (write (name s)) zs r
 unfolding write
 name_puts xs ys zs s at p r f g = both f g
 
--- a flag that is on is a 1
-pub flag_on : (xs ys : List ℕ) (at r : ℕ) (on : Bool) → on ≡ true → Wrote xs at (1 ∷ []) ys r → Wrote xs at (write (num 1 (cond on 1 0))) ys r
+-- a flag is a 1 or a 0
+pub flag_puts : (xs ys : List ℕ) (at r b : ℕ) (on : Bool) → b ≡ from_bool on → Wrote xs at (b ∷ []) ys r → Wrote xs at (write (num 1 (cond on 1 0))) ys r
 unfolding write bytes
-flag_on xs ys at r on h f = rw h f
-
--- a flag that is off is a 0
-pub flag_off : (xs ys : List ℕ) (at r : ℕ) (on : Bool) → on ≡ false → Wrote xs at (0 ∷ []) ys r → Wrote xs at (write (num 1 (cond on 1 0))) ys r
-unfolding write bytes
-flag_off xs ys at r on h f = rw h f
+flag_puts xs ys at r b true e f = rw e at f
+flag_puts xs ys at r b false e f = rw e at f
 
 -- the head of a block is a length that is yet to be written and its kind
 pub open_puts : (xs ys zs : List ℕ) (at p r k : ℕ) → Wrote xs at (bytes 4 0) ys p → Wrote ys p (bytes 2 k) zs r → Wrote xs at (opened k) zs r
 unfolding opened
 open_puts xs ys zs at p r k f g = both f g
 
-pub ruleset writes = (byte_in, byte_out, name_puts, flag_on, flag_off, open_puts)
-
--- ---- clearing
-
--- us is ws with its first i entries cleared
-pub record Cleared (ws us : List ℕ) (i : ℕ) : Type 0 where
-  pub within : i ≤ length ws
-  pub long : length us ≡ length ws
-  pub holds : us ≡ replicate i 0 ++ drop i ws
-
--- at the start nothing is cleared
-pub clear_none : (ws : List ℕ) → Cleared ws ws 0
-clear_none ws = record { within = omega arith; long = refl; holds = fill_none ws 0 }
-
--- one more entry is cleared
-pub clear_more : (ws us : List ℕ) (i : ℕ) → i < length us → Cleared ws us i → Cleared ws (set us i 0) (i + 1)
-clear_more ws us i h c =
-    record { within = omega arith; long = length-set us i 0 ∙ c.long; holds = rw c.holds (fill_more i 0 ws (omega arith)) }
-
--- where all are cleared, the list is zeros
-pub clear_end : (ws us : List ℕ) (i : ℕ) → length us ≤ i → Cleared ws us i → us ≡ replicate (length ws) 0
-clear_end ws us i h c =
-    let z : i ≡ length ws = omega arith in
-    c.holds ∙ rw (drop_of_length-le ws {i = i} (omega arith), append-nil {A = ℕ} (replicate i 0), z)
-
-pub ruleset clears = (clear_none, clear_more, clear_end)
+pub ruleset writes = (byte_in, byte_out, name_puts, open_puts)
 
 -- ---- bits
 
@@ -195,10 +180,6 @@ or_none a b h =
     let l : bit_and a b ≤ a = and_le_l a b in
     let r : bit_and a b ≤ b = and_le_r a b in
     (omega arith, omega arith)
-
--- of no numbers nothing is said
-pub bits_none : (f : ℕ → ℕ) → Bits f 0 0
-bits_none f e k h = absurd (not-suc-le-zero h)
 
 -- one more number is taken in
 pub bits_more : (f : ℕ → ℕ) (bits i : ℕ) → Bits f bits i → Bits f (bit_or bits (f i)) (i + 1)

@@ -1,4 +1,5 @@
 pub mod Names
+mod Numbers
 mod Order
 mod Search
 pub mod Laws

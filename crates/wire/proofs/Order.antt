@@ -2,19 +2,21 @@
 use mathlib.Core.Path.{◌≡◌, refl, sym, ◌∙◌, ap}
 use mathlib.Core.Bool.{Bool, true, false, ◌&&◌, ◌||◌, cond, or-false}
 use mathlib.Core.List.{List, [], ◌∷◌}
-use Prim.Native.Nat.{ℕ, zero, suc, ◌+◌, ◌-◌, ◌*◌, ◌/◌, ◌%◌, ◌^◌, ◌<◌, ◌≤◌}
+use Prim.Native.Nat.{min, ℕ, zero, suc, ◌+◌, ◌-◌, ◌*◌, ◌^◌, ◌<◌, ◌≤◌}
 use native.Mathlib.Numerals.{add-one}
-use native.Mathlib.Nat.{add-zero, zero-add, suc-add, suc-mul, add-mul, mul_assoc, mul-le-mul_right, pow-succ', one-le-pow, mod-eq_of_lt, div-eq_of_lt, add-mul-mod_self_left, add-mul-div_left}
+use native.Mathlib.Nat.{add-zero, zero-add, suc-add, suc-mul, add-mul, mul_assoc, mul-le-mul_right, pow-succ'}
 use native.Mathlib.Omega.{arith}
+use Rattle.std.proofs.Common.{Fits, w8, Some}
+use Rattle.std.specs.Ordering.{nat_cmp, partial_ordering_then, is_lt, is_some_and}
+use Rattle.std.specs.declared.cmp.Ordering.TheVariants.{Less, Equal, Greater}
 use lib.Dec.{leb, ltb, eqb}
 use lib.Pow.{pow-add}
 use lib.ListN.{length, drop, get_or, drop_of_length-le}
 use lib.Seq.{drop-cons}
 use borrow.Author.Tests.{lt-ltb, le-ltb, eq-eqb, ne_eqb, ltb-true, ltb-false, eqb-true, eqb-false, leb-true, leb-false, le-leb, lt-leb}
-use Rattle.blocks.specs.Bytes.{le}
-use Rattle.blocks.specs.Name.{less}
-use Rattle.blocks.proofs.Bytes.{le_one, le_join, below}
-use Rattle.wire.specs.Order.{be, Turned, ends, first_bytes, Shorter}
+use Rattle.blocks.specs.Name.{less, same}
+use Rattle.wire.specs.Order.{be, ends, first_bytes}
+use Rattle.wire.proofs.Names.{differ, Alike, alike_none, alike_more, alike_same}
 
 -- ---- numbers in two parts
 
@@ -69,35 +71,15 @@ module _ (s : List ℕ) where
       rw (suc-add, i, pow-add, add-mul, mul_assoc) (omega (arith, be_join j k (at + 1)))
 
 -- a number of k bytes is below what k bytes hold
-pub be_below : (s : List ℕ) → ((i : ℕ) → get_or s i 0 < 256) → (k at : ℕ) → be k s at < 256 ^ k
+pub be_below : (s : List ℕ) → ((i : ℕ) → Fits w8 (get_or s i 0)) → (k at : ℕ) → be k s at < 256 ^ k
 unfolding be
 be_below s small zero at = omega arith
 be_below s small (suc k) at =
-    rw pow-succ' (omega (arith, lower (256 ^ k) (get_or s at 0) (be k s (at + 1)) 256 0 (small at) (be_below s small k (at + 1))))
-
--- a byte is its own number in both orders
-pub turn_one : {x : ℕ} → Turned 1 x x
-turn_one = record { is = λ s small at e. e ∙ le_one s at ∙ sym (be_one s at) }
-
--- a number is turned by halves: so four bytes are turned as two and two, eight as four and four
-pub turn_halves : (k : ℕ) {x u v : ℕ} → Turned k (x % 256 ^ k) u → Turned k (x / 256 ^ k) v → Turned (k + k) x (u * 256 ^ k + v)
-turn_halves k {x} {u} {v} f g = record { is = λ s small at e. go s small at (e ∙ le_join s k k at) }
-  where
-    go : (s : List ℕ) → ((i : ℕ) → get_or s i 0 < 256) → (at : ℕ) → x ≡ le k s at + 256 ^ k * le k s (at + k) → u * 256 ^ k + v ≡ be (k + k) s at
-    go s small at e =
-        let p : 0 < 256 ^ k = one-le-pow k 256 (omega arith) in
-        let l : le k s at < 256 ^ k = below s small k at in
-        let m : x % 256 ^ k ≡ le k s at = rw (e, add-mul-mod_self_left) (mod-eq_of_lt l) in
-        let d : x / 256 ^ k ≡ le k s (at + k) = rw (e, add-mul-div_left (le k s at) (le k s (at + k)) p, div-eq_of_lt l) (zero-add (le k s (at + k))) in
-        rw (f.is s small at m, g.is s small (at + k) d) (sym (be_join s k k at))
+    rw pow-succ' (omega (arith, lower (256 ^ k) (get_or s at 0) (be k s (at + 1)) 256 0 (small at).fits (be_below s small k (at + 1))))
 
 -- ---- two names, whose elements are bytes
 
--- they begin with i bytes alike
-abbrev pub Alike : List ℕ → List ℕ → ℕ → Type 0
-Alike a b i = (m : ℕ) → m < i → get_or a m 0 ≡ get_or b m 0
-
-module _ (a b : List ℕ) (bytes_a : (i : ℕ) → get_or a i 0 < 256) (bytes_b : (i : ℕ) → get_or b i 0 < 256) where
+module _ (a b : List ℕ) (bytes_a : (i : ℕ) → Fits w8 (get_or a i 0)) (bytes_b : (i : ℕ) → Fits w8 (get_or b i 0)) where
   -- equal numbers have equal bytes
   equal_bytes : (k i : ℕ) → be k a i ≡ be k b i → (m : ℕ) → i ≤ m → m < i + k → get_or a m 0 ≡ get_or b m 0
   unfolding be
@@ -134,36 +116,32 @@ module _ (a b : List ℕ) (bytes_a : (i : ℕ) → get_or a i 0 < 256) (bytes_b 
           ap (λ (t : Bool). ltb (get_or a i 0) (get_or b i 0) || t) (r u)
       go r false d = refl
 
+  -- as many bytes, or fewer
+  alike_fewer : {i : ℕ} → Alike a b i → (j : ℕ) → j ≤ i → Alike a b j
+  alike_fewer f j h = record { byte = λ m l. f.byte m (omega arith) }
+
   -- bytes that are alike take nothing from the order
   alike_less : (i : ℕ) → i ≤ length a → i ≤ length b → Alike a b i → less a b ≡ less (drop i a) (drop i b)
   alike_less zero h g f = refl
   alike_less (suc i) h g f =
-      let z : get_or a i 0 ≡ get_or b i 0 = f i (omega arith) in
-      alike_less i (omega arith) (omega arith) (λ m l. f m (omega arith))
+      let z : get_or a i 0 ≡ get_or b i 0 = f.byte i (omega arith) in
+      alike_less i (omega arith) (omega arith) (alike_fewer f i (omega arith))
       ∙ rw (less_at i h g, z, le-ltb (get_or b i 0) (get_or b i 0) (omega arith), eq-eqb (get_or b i 0) (get_or b i 0) refl, add-one)
 
-  -- none is needed to begin with
-  pub alike_none : Alike a b 0
-  alike_none m h = absurd (let z : ⊥ = omega arith in z)
-
-  -- k bytes at j that make one number are alike: so are all before j + k, if those before i are
-  pub alike_step : (k i j : ℕ) → Alike a b i → j ≤ i → {x y : ℕ} → x ≡ be k a j → y ≡ be k b j → x ≡ y → Alike a b (j + k)
-  alike_step k i j f h ea eb e m l = go (ltb m i) refl
-    where
-      go : (t : Bool) → ltb m i ≡ t → get_or a m 0 ≡ get_or b m 0
-      go true d = f m (ltb-true m i d)
-      go false d = equal_bytes k j (sym ea ∙ e ∙ eb) m (omega (arith, ltb-false m i d)) l
+  -- k bytes more, where they make one number
+  pub alike_big : {i : ℕ} → Alike a b i → (k j : ℕ) → j ≤ i → {x y : ℕ} → x ≡ be k a j → y ≡ be k b j → x ≡ y → Alike a b (j + k)
+  alike_big f k j h ea eb e = alike_more f j k h (equal_bytes k j (sym ea ∙ e ∙ eb))
 
   -- k bytes at j that make two numbers decide, if those before i are alike
-  pub alike_decide : (k i j : ℕ) → Alike a b i → j ≤ i → j + k ≤ length a → j + k ≤ length b → {x y : ℕ} → x ≡ be k a j → y ≡ be k b j → (x ≡ y → ⊥) → ltb x y ≡ less a b
-  alike_decide k i j f h g l ea eb n =
+  pub alike_decide : {i : ℕ} → Alike a b i → (k j : ℕ) → j ≤ i → j + k ≤ length a → j + k ≤ length b → {x y : ℕ} → x ≡ be k a j → y ≡ be k b j → (x ≡ y → ⊥) → ltb x y ≡ less a b
+  alike_decide f k j h g l ea eb n =
       let d : ltb (be k a j) (be k b j) ≡ less (drop j a) (drop j b) = numbers_decide k j g l (λ e. n (ea ∙ e ∙ sym eb)) in
-      rw (ea, eb) (d ∙ sym (alike_less j (omega arith) (omega arith) (λ m o. f m (omega arith))))
+      rw (ea, eb) (d ∙ sym (alike_less j (omega arith) (omega arith) (alike_fewer f j h)))
 
   -- where the shorter name has ended, the lengths decide
-  pub alike_end : (n : ℕ) → Shorter a b n → Alike a b n → ltb (length a) (length b) ≡ less a b
+  pub alike_end : {n : ℕ} → Alike a b n → n ≡ min (length a) (length b) → ltb (length a) (length b) ≡ less a b
   unfolding less
-  alike_end n s f = go (ltb (length a) (length b)) refl
+  alike_end {n} f e = go (ltb (length a) (length b)) refl
     where
       never : (x : List ℕ) → false ≡ less x []
       never [] = refl
@@ -172,12 +150,12 @@ module _ (a b : List ℕ) (bytes_a : (i : ℕ) → get_or a i 0 < 256) (bytes_b 
       go : (t : Bool) → ltb (length a) (length b) ≡ t → t ≡ less a b
       go true d =
           let l : length a < length b = ltb-true _ _ d in
-          let u : length a ≤ n = s.is_first l in
-          let v : n < length b = omega (arith, s.first) in
-          rw (alike_less n s.first s.second f, drop_of_length-le a {i = n} u, drop-cons b n 0 v)
+          let u : length a ≤ n = omega arith in
+          rw (alike_less n (omega arith) (omega arith) f, drop_of_length-le a {i = n} u, drop-cons b n 0 (omega arith))
       go false d =
-          let u : length b ≤ n = s.is_second (ltb-false _ _ d) in
-          rw (alike_less n s.first s.second f, drop_of_length-le b {i = n} u) (never (drop n a))
+          let l : length b ≤ length a = ltb-false _ _ d in
+          let u : length b ≤ n = omega arith in
+          rw (alike_less n (omega arith) (omega arith) f, drop_of_length-le b {i = n} u) (never (drop n a))
 
   -- ---- the first k bytes and the last k of n, between which is none
 
@@ -188,9 +166,9 @@ module _ (a b : List ℕ) (bytes_a : (i : ℕ) → get_or a i 0 < 256) (bytes_b 
     -- the same number of both: n bytes are alike
     ends_alike : ends k a n ≡ ends k b n → Alike a b n
     ends_alike e =
-        let f : Alike a b (0 + k) = alike_step k 0 0 alike_none (omega arith) refl refl (ends_parts e).0 in
+        let f : Alike a b (0 + k) = alike_big alike_none k 0 (omega arith) refl refl (ends_parts e).0 in
         let z : n - k + k ≡ n = omega arith in
-        rw z at (alike_step k (0 + k) (n - k) f (omega arith) refl refl (ends_parts e).1)
+        rw z at (alike_big f k (n - k) (omega arith) refl refl (ends_parts e).1)
 
     -- two numbers: they decide
     ends_decide : n ≤ length a → n ≤ length b → (ends k a n ≡ ends k b n → ⊥) → ltb (ends k a n) (ends k b n) ≡ less a b
@@ -200,11 +178,11 @@ module _ (a b : List ℕ) (bytes_a : (i : ℕ) → get_or a i 0 < 256) (bytes_b 
         go : (t : Bool) → eqb (be k a 0) (be k b 0) ≡ t → (ltb (be k a 0) (be k b 0) || (t && ltb (be k a (n - k)) (be k b (n - k)))) ≡ less a b
         go true e =
             let z : be k a 0 ≡ be k b 0 = eqb-true _ _ e in
-            let f : Alike a b (0 + k) = alike_step k 0 0 alike_none (omega arith) refl refl z in
+            let f : Alike a b (0 + k) = alike_big alike_none k 0 (omega arith) refl refl z in
             rw (le-ltb (be k a 0) (be k b 0) (omega arith))
-            (alike_decide k (0 + k) (n - k) f (omega arith) (omega arith) (omega arith) refl refl (λ w. d (cc)))
+            (alike_decide f k (n - k) (omega arith) (omega arith) (omega arith) refl refl (λ w. d (cc)))
         go false e =
-            or-false (ltb (be k a 0) (be k b 0)) ∙ alike_decide k 0 0 alike_none (omega arith) (omega arith) (omega arith) refl refl (eqb-false _ _ e)
+            or-false (ltb (be k a 0) (be k b 0)) ∙ alike_decide alike_none k 0 (omega arith) (omega arith) (omega arith) refl refl (eqb-false _ _ e)
 
   -- ---- the first bytes, less than eight, as a number
 
@@ -217,7 +195,7 @@ module _ (a b : List ℕ) (bytes_a : (i : ℕ) → get_or a i 0 < 256) (bytes_b 
           → cond t (ends 4 a n) (cond u (ends 2 a n) (be n a 0)) ≡ cond t (ends 4 b n) (cond u (ends 2 b n) (be n b 0)) → Alike a b n
       go true f u d e = ends_alike 4 n (leb-true 4 n f) (omega arith) e
       go false f true d e = ends_alike 2 n (leb-true 2 n d) (omega (arith, leb-false 4 n f)) e
-      go false f false d e = rw zero-add at (alike_step n 0 0 alike_none (omega arith) refl refl e)
+      go false f false d e = rw zero-add at (alike_big alike_none n 0 (omega arith) refl refl e)
 
   -- two numbers: they decide
   pub first_decide : (n : ℕ) → n < 8 → n ≤ length a → n ≤ length b → {x y : ℕ} → x ≡ first_bytes a n → y ≡ first_bytes b n → (x ≡ y → ⊥) → ltb x y ≡ less a b
@@ -229,7 +207,15 @@ module _ (a b : List ℕ) (bytes_a : (i : ℕ) → get_or a i 0 < 256) (bytes_b 
           → ltb (cond t (ends 4 a n) (cond u (ends 2 a n) (be n a 0))) (cond t (ends 4 b n) (cond u (ends 2 b n) (be n b 0))) ≡ less a b
       go true f u e r = ends_decide 4 n (leb-true 4 n f) (omega arith) h g r
       go false f true e r = ends_decide 2 n (leb-true 2 n e) (omega (arith, leb-false 4 n f)) h g r
-      go false f false e r = alike_decide n 0 0 alike_none (omega arith) (omega arith) (omega arith) refl refl r
+      go false f false e r = alike_decide alike_none n 0 (omega arith) (omega arith) (omega arith) refl refl r
+
+  -- in names of one length it decides whether they are the same
+  pub first_same : (n : ℕ) → n < 8 → n ≡ length a → length a ≡ length b → {x y : ℕ} → x ≡ first_bytes a n → y ≡ first_bytes b n → eqb x y ≡ same a b
+  first_same n l h g {x} {y} ea eb = go (eqb x y) refl
+    where
+      go : (t : Bool) → eqb x y ≡ t → t ≡ same a b
+      go true e = alike_same (first_alike n l ea eb (eqb-true x y e)) (omega arith) g
+      go false e = differ a b (λ z. eqb-false x y e (ea ∙ ap (λ (s : List ℕ). first_bytes s n) z ∙ sym eb))
 
 -- ---- that number as the code has it, by how many bytes there are
 
@@ -253,3 +239,18 @@ module _ (s : List ℕ) (n : ℕ) where
   pub first_none : n < 2 → (n ≡ 1 → ⊥) → 0 ≡ first_bytes s n
   unfolding be
   first_none h g = let z : 0 ≡ n = omega arith in ap (λ (k : ℕ). be k s 0) z ∙ first_few h
+
+pub ruleset firsts = (first_four, first_two, first_one, first_none)
+
+-- Pairs are in order by their first numbers, or, where these are the same, by the second: t is what each of them says.
+pub pair_decides : (x y m n : ℕ) {r t : Bool} → r ≡ is_some_and is_lt (partial_ordering_then (Some (nat_cmp x y)) (Some (nat_cmp m n)))
+    → ((x ≡ y → ⊥) → ltb x y ≡ t) → (x ≡ y → ltb m n ≡ t) → r ≡ t
+pair_decides x y m n {t = t} e f g = e ∙ go (ltb x y) refl (eqb x y) refl (ltb m n) refl (eqb m n)
+  where
+    go : (a : Bool) → ltb x y ≡ a → (b : Bool) → eqb x y ≡ b → (c : Bool) → ltb m n ≡ c → (d : Bool)
+        → is_some_and is_lt (partial_ordering_then (Some (cond a Less (cond b Equal Greater))) (Some (cond c Less (cond d Equal Greater)))) ≡ t
+    go true h b i c j d = sym h ∙ f (λ z. let l : x < y = ltb-true x y h in omega arith)
+    go false h true i true j d = sym j ∙ g (eqb-true x y i)
+    go false h true i false j true = sym j ∙ g (eqb-true x y i)
+    go false h true i false j false = sym j ∙ g (eqb-true x y i)
+    go false h false i c j d = sym h ∙ f (eqb-false x y i)

@@ -1,0 +1,6 @@
+-- Two writes, one behind the other.
+use Rattle.wire.proofs.Laws.{writes}
+use Rattle.wire.proofs.open_block.Goals as goal
+
+pub returns-clause-wrote : goal.returns-clause-wrote
+returns-clause-wrote c = search writes
