@@ -13,14 +13,12 @@ use Rattle.blocks.specs.Blocks.{block_at, Stand}
 use Rattle.blocks.specs.Tree.{Tree}
 use Rattle.blocks.specs.Read.{read_layout}
 use Rattle.blocks.proofs.Blocks.{passed_at, passed_not, block_behind, stand_part}
-use Rattle.wire.specs.declared.Block.{Block}
-use Rattle.wire.specs.declared.Block.TheVariants.{At as BlockAt, Missing as BlockNone}
+use Rattle.std.specs.Prelude.{Option, Some, None}
+use Rattle.wire.specs.declared.Position.{Position}
 use Rattle.wire.specs.Named.{BlockNamed}
 use Rattle.ir.specs.Ir.{TypeIr}
 use Rattle.ir.specs.Layout.{layout_of}
-use Rattle.lookup.specs.declared.Place.{Place}
-use Rattle.lookup.specs.declared.Place.TheVariants.{At, Missing}
-use Rattle.lookup.specs.Named.{Placed, place_of}
+use Rattle.lookup.specs.Named.{Placed}
 use Rattle.lookup.specs.Found.{TreeFound}
 use Rattle.lookup.proofs.Types.{layout_stands, looked, trees_same}
 use Rattle.lookup.proofs.Distinct.{whole, only, absent}
@@ -44,48 +42,48 @@ module _ (s : List ℕ) (place from : ℕ) {t : Tree} (e : read_layout s ≡ don
   stands_before = stand_part s 8 0 (le2 s 6) place 8 (layout_stands s (le2 s 6) e refl) refl (omega (arith, h.0))
 
 -- what is promised of an answer
-abbrev Answers : List ℕ → Name → Place → Type 0
+abbrev Answers : List ℕ → Name → Option Position → Type 0
 Answers s n r = (t : Tree) → read_layout s ≡ done t → TreeFound s n (layout_of t) r
 
 module _ {s : List ℕ} {n : Name} where
   -- a block that was found is one of those that were searched
-  pub found_below : {from m i o : ℕ} {r : Block} → BlockNamed s n from m r → r ≡ BlockAt i o → i < m
-  found_below {from} {m} {i} {o} a g = go (subst (BlockNamed s n from m) g a)
+  pub found_below : {from m : ℕ} {x : Position} {r : Option Position} → BlockNamed s n from m r → r ≡ Some x → x.place < m
+  found_below {from} {m} a g = go (subst (BlockNamed s n from m) g a)
     where
-      go : BlockNamed s n from m (BlockAt i o) → i < m
+      go : {x : Position} → BlockNamed s n from m (Some x) → x.place < m
       go (BlockNamed.at l p f) = l
 
   -- a block of the name
-  there : {i o : ℕ} → o ≡ block_at s 8 i → i < le2 s 6 → same n (name_at s (o + 6)) ≡ true → Answers s n (At i o)
+  there : {i o : ℕ} → o ≡ block_at s 8 i → i < le2 s 6 → same n (name_at s (o + 6)) ≡ true → Answers s n (Some (record { place = i; at = o }))
   there {i} {o} e h f t d =
       let w = whole d in
       let c = only n w.trees 0 i i o (omega arith) e h f in
-      subst (λ (ts : List TypeIr). TreeFound s n ts (At i o)) (sym w.is) (TreeFound.at {i = i} {o = o} c.child (h, e) (trees_same n 0 w.list ∙ ap looked c.first))
+      subst (λ (ts : List TypeIr). TreeFound s n ts (Some (record { place = i; at = o }))) (sym w.is) (TreeFound.at {i = i} {o = o} c.child (h, e) (trees_same n 0 w.list ∙ ap looked c.first))
 
   -- no block of the name
-  nowhere : ((k : ℕ) → k < le2 s 6 → Other s n k) → Answers s n Missing
+  nowhere : ((k : ℕ) → k < le2 s 6 → Other s n k) → Answers s n None
   nowhere h t d =
       let w = whole d in
-      subst (λ (ts : List TypeIr). TreeFound s n ts Missing) (sym w.is) (TreeFound.missing (trees_same n 0 w.list ∙ ap looked (absent n w.trees 0 h)))
+      subst (λ (ts : List TypeIr). TreeFound s n ts None) (sym w.is) (TreeFound.missing (trees_same n 0 w.list ∙ ap looked (absent n w.trees 0 h)))
 
   module _ {place u from : ℕ} (e : u ≡ le2 s 6) (h : Placed s place from) where
     -- the search from the place on has found a block
-    pub found_behind : {i o : ℕ} {r : Block} → BlockNamed s n from (u - place) r → r ≡ BlockAt i o → Answers s n (At (place + i) o)
-    found_behind {i} {o} a g = go (subst (BlockNamed s n from (u - place)) g a)
+    pub found_behind : {x : Position} {r : Option Position} → BlockNamed s n from (u - place) r → r ≡ Some x → Answers s n (Some (record { place = place + x.place; at = x.at }))
+    found_behind a g = go (subst (BlockNamed s n from (u - place)) g a)
       where
-        go : BlockNamed s n from (u - place) (BlockAt i o) → Answers s n (At (place + i) o)
-        go (BlockNamed.at l p f) = there (passed_at p ∙ shifted s place from i h.1) (omega (arith, h.0)) f
+        go : {x : Position} → BlockNamed s n from (u - place) (Some x) → Answers s n (Some (record { place = place + x.place; at = x.at }))
+        go (BlockNamed.at {i} l p f) = there (passed_at p ∙ shifted s place from i h.1) (omega (arith, h.0)) f
 
     -- it has found none: the search from the first on decides
-    pub found_before : {r q : Block} {x : Place} → BlockNamed s n from (u - place) r → r ≡ BlockNone → BlockNamed s n 8 place q → x ≡ place_of q → Answers s n x
-    found_before {q} a g b d t w = subst (TreeFound s n (layout_of t)) (sym d) (go (behind (subst (BlockNamed s n from (u - place)) g a)) b t w)
+    pub found_before : {r q : Option Position} → BlockNamed s n from (u - place) r → r ≡ None → BlockNamed s n 8 place q → Answers s n q
+    found_before a g b = go (behind (subst (BlockNamed s n from (u - place)) g a)) b
       where
-        behind : BlockNamed s n from (u - place) BlockNone → (k : ℕ) → place ≤ k → k < le2 s 6 → Other s n k
+        behind : BlockNamed s n from (u - place) None → (k : ℕ) → place ≤ k → k < le2 s 6 → Other s n k
         behind (BlockNamed.missing p) k l x =
             let z : place + (k - place) ≡ k = omega arith in
             rw z at (ap (λ (o : ℕ). same n (name_at s (o + 6))) (sym (shifted s place from (k - place) h.1)) ∙ passed_not p (k - place) (omega arith))
 
-        go : {q : Block} → ((k : ℕ) → place ≤ k → k < le2 s 6 → Other s n k) → BlockNamed s n 8 place q → Answers s n (place_of q)
+        go : {q : Option Position} → ((k : ℕ) → place ≤ k → k < le2 s 6 → Other s n k) → BlockNamed s n 8 place q → Answers s n q
         go m (BlockNamed.at l p f) = there (passed_at p) (omega (arith, h.0)) f
         go m (BlockNamed.missing p) = nowhere (λ k x. either k x (ltb k place) refl)
           where

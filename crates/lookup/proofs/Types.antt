@@ -2,7 +2,7 @@
 use mathlib.Core.Path.{◌≡◌, refl, sym, ◌∙◌, ap, subst}
 use mathlib.Core.Bool.{Bool, true, false, cond}
 use mathlib.Core.List.{List, ◌∷◌}
-use mathlib.Core.Option.{Option, some, none}
+use mathlib.Core.Option.{Option as option, some, none}
 use Prim.Native.Nat.{ℕ, suc, ◌+◌, ◌≤◌}
 use native.Mathlib.Numerals.{add-one}
 use native.Mathlib.Omega.{arith}
@@ -20,18 +20,14 @@ use Rattle.blocks.specs.Read.{read_set, read_layout}
 use Rattle.accepted.specs.Accepted.{Accepted, Listed, Counted}
 use Rattle.accepted.proofs.Laws.{opened, each, All, all_entries, sole, input}
 use Rattle.accepted.proofs.Named.{Keys, first_named, stand, named_first, named_none}
-use Rattle.wire.specs.declared.Block.{Block}
-use Rattle.wire.specs.declared.Block.TheVariants.{At, Missing}
+use Rattle.std.specs.Prelude.{Option, Some, None}
+use Rattle.wire.specs.declared.Position.{Position}
 use Rattle.wire.specs.Named.{BlockNamed}
 use Rattle.resolved.specs.Resolved.{ResolvedType, head, get_type_info}
 use Rattle.resolved.specs.Set.{type_of, types_of, thing_of, make_thing, form_of}
 use Rattle.ir.specs.Ir.{TypeIr}
 use Rattle.ir.specs.Layout.{type_ir_of, layout_of}
 use Rattle.interpreter.specs.Eval.{lookup_type}
-use Rattle.lookup.specs.declared.Found.{Found}
-use Rattle.lookup.specs.declared.Found.TheVariants.{At as FoundAt, Missing as FoundNone}
-use Rattle.lookup.specs.declared.Place.{Place}
-use Rattle.lookup.specs.Named.{place_of}
 use Rattle.lookup.specs.Found.{types_before, TypeFound, TreeFound}
 
 -- ---- the kinds of types and of type trees begin with a name
@@ -82,7 +78,7 @@ titled {s} at a =
     subst Titled (sym o.tree) (type_named at o.parts.got.0 (le2 s (at + 4)) o.least o.most)
 
 -- the type of the block that was found
-abbrev typed : Option (ℕ × Tree) → Option ResolvedType
+abbrev typed : option (ℕ × Tree) → option ResolvedType
 typed none = none
 typed (some x) = some (type_of x.1)
 
@@ -111,7 +107,7 @@ first_place n i j {a = x} (All.more {a} {b} h g) e = rw h (go (same n (text (par
     go false f r = let z = r f in omega arith
 
 -- the type tree of the block that was found, with its place
-abbrev pub looked : Option (ℕ × Tree) → Outcome (ℕ × TypeIr)
+abbrev pub looked : option (ℕ × Tree) → Outcome (ℕ × TypeIr)
 looked none = refused (plain UnknownType)
 looked (some x) = done (x.0, type_ir_of x.1)
 
@@ -132,9 +128,9 @@ trees_same n i (cons a b) = go (same n (text (part 0 (body a)))) (rw add-one at 
 -- ---- in the code's form: u is the count that was read, r what the search among so many blocks answered
 
 -- the offset alone
-abbrev offset_of : Block → Found
-offset_of (At i o) = FoundAt o
-offset_of Missing = FoundNone
+abbrev offset_of : Option Position → Option ℕ
+offset_of (Some x) = Some x.at
+offset_of None = None
 
 -- the names of a set's types lie inside the bytes
 pub set_stands : (s : List ℕ) {t : Tree} (u : ℕ) → read_set s ≡ done t → u ≡ le2 s 6 → Stand s 8 u
@@ -144,14 +140,14 @@ set_stands s u e g = let l = set_list e in subst (Stand s 8) (sym g) (stand type
 pub layout_stands : (s : List ℕ) {t : Tree} (u : ℕ) → read_layout s ≡ done t → u ≡ le2 s 6 → Stand s 8 u
 layout_stands s u e g = let l = layout_list e in subst (Stand s 8) (sym g) (stand tree_keyed l.1)
 
-module _ {s : List ℕ} {n : Name} {u : ℕ} {r : Block} (g : u ≡ le2 s 6) (f : BlockNamed s n 8 u r) where
+module _ {s : List ℕ} {n : Name} {u : ℕ} {r : Option Position} (g : u ≡ le2 s 6) (f : BlockNamed s n 8 u r) where
   -- what it answers in a set
   set_found : (t : Tree) → read_set s ≡ done t → TypeFound s n (types_of t) (offset_of r)
   set_found t e =
       let l = set_list e in
       subst (λ (ts : List ResolvedType). TypeFound s n ts (offset_of r)) (sym l.2) (go l.1 (subst (λ (m : ℕ). BlockNamed s n 8 m r) g f))
     where
-      go : {r : Block} (l : Listed s 1 7 (le2 s 6) 8) → BlockNamed s n 8 (le2 s 6) r → TypeFound s n (entries type_of l.got.0) (offset_of r)
+      go : {r : Option Position} (l : Listed s 1 7 (le2 s 6) 8) → BlockNamed s n 8 (le2 s 6) r → TypeFound s n (entries type_of l.got.0) (offset_of r)
       go l (BlockNamed.at {i} h p e) =
           let w = named_first type_keyed p h e l in
           let t = all_entries Titled titled l in
@@ -160,20 +156,20 @@ module _ {s : List ℕ} {n : Name} {u : ℕ} {r : Block} (g : u ≡ le2 s 6) (f 
       go l (BlockNamed.missing p) = TypeFound.missing (types_same n 0 (all_entries Titled titled l) ∙ ap typed (named_none type_keyed p l))
 
   -- it answered with a block
-  pub type_there : {i o : ℕ} → r ≡ At i o → (t : Tree) → read_set s ≡ done t → TypeFound s n (types_of t) (FoundAt o)
-  type_there h t e = subst (λ (q : Block). TypeFound s n (types_of t) (offset_of q)) h (set_found t e)
+  pub type_there : {x : Position} → r ≡ Some x → (t : Tree) → read_set s ≡ done t → TypeFound s n (types_of t) (Some x.at)
+  type_there h t e = subst (λ (q : Option Position). TypeFound s n (types_of t) (offset_of q)) h (set_found t e)
 
   -- it answered that there is none
-  pub type_missing : r ≡ Missing → (t : Tree) → read_set s ≡ done t → TypeFound s n (types_of t) FoundNone
-  type_missing h t e = subst (λ (q : Block). TypeFound s n (types_of t) (offset_of q)) h (set_found t e)
+  pub type_missing : r ≡ None → (t : Tree) → read_set s ≡ done t → TypeFound s n (types_of t) None
+  type_missing h t e = subst (λ (q : Option Position). TypeFound s n (types_of t) (offset_of q)) h (set_found t e)
 
   -- what it answers in a layout
-  pub tree_found : {p : Place} → p ≡ place_of r → (t : Tree) → read_layout s ≡ done t → TreeFound s n (layout_of t) p
-  tree_found {p} d t e =
+  pub tree_found : (t : Tree) → read_layout s ≡ done t → TreeFound s n (layout_of t) r
+  tree_found t e =
       let l = layout_list e in
-      subst (λ (ts : List TypeIr). TreeFound s n ts p) (sym l.2) (subst (TreeFound s n (entries type_ir_of l.1.got.0)) (sym d) (go l.1 (subst (λ (m : ℕ). BlockNamed s n 8 m r) g f)))
+      subst (λ (ts : List TypeIr). TreeFound s n ts r) (sym l.2) (go l.1 (subst (λ (m : ℕ). BlockNamed s n 8 m r) g f))
     where
-      go : {r : Block} (l : Listed s 161 161 (le2 s 6) 8) → BlockNamed s n 8 (le2 s 6) r → TreeFound s n (entries type_ir_of l.got.0) (place_of r)
+      go : {r : Option Position} (l : Listed s 161 161 (le2 s 6) 8) → BlockNamed s n 8 (le2 s 6) r → TreeFound s n (entries type_ir_of l.got.0) r
       go l (BlockNamed.at h p e) =
           let w = named_first tree_keyed p h e l in
           TreeFound.at w.0 (h, passed_at p) (trees_same n 0 l.got.0 ∙ ap looked w.1)

@@ -18,8 +18,7 @@ use Rattle.accepted.specs.Accepted.{Accepted, tree, Item, Entries, name_at, Coun
 use Rattle.accepted.proofs.Laws.{Sole, sole, sole_earlier, After, value_entry, none_left}
 use Rattle.interpreter.specs.Eval.{ParamMap, find}
 use Rattle.interpreter.specs.Validate.{binding_of, values_of}
-use Rattle.lookup.specs.declared.Found.{Found}
-use Rattle.lookup.specs.declared.Found.TheVariants.{At, Missing}
+use Rattle.std.specs.Prelude.{Option, Some, None}
 use Rattle.lookup.specs.Found.{ValueFound, first_value}
 
 -- ---- the block
@@ -53,13 +52,13 @@ module _ (s : List ℕ) (n : Name) (at : ℕ) where
   value_behind (suc k) h f = rw (f, sub-one)
 
   -- an entry of the name is the first of it
-  value_here : (left : ℕ) → 0 < left → same n (name_at s at) ≡ true → first_value s n left at ≡ At (at + 2 + le2 s at)
+  value_here : (left : ℕ) → 0 < left → same n (name_at s at) ≡ true → first_value s n left at ≡ Some (at + 2 + le2 s at)
   unfolding first_value
   value_here zero h f = absurd (omega arith)
   value_here (suc k) h f = rw f
 
   -- where no entry is left, there is none of the name
-  value_nowhere : (left : ℕ) → left ≤ 0 → first_value s n left at ≡ Missing
+  value_nowhere : (left : ℕ) → left ≤ 0 → first_value s n left at ≡ None
   unfolding first_value
   value_nowhere zero h = refl
   value_nowhere (suc k) h = absurd (omega arith)
@@ -77,7 +76,7 @@ module _ {s : List ℕ} {n : Name} {m from : ℕ} where
   passed_none l = record { here = l; first = refl }
 
   -- where it ends, none has the name
-  pub passed_all : {left at : ℕ} → left ≤ 0 → Passed s n m from left at → Missing ≡ first_value s n m from
+  pub passed_all : {left at : ℕ} → left ≤ 0 → Passed s n m from left at → None ≡ first_value s n m from
   passed_all {left} {at} h c = sym (c.first ∙ value_nowhere s n at left h)
 
   module _ {left at : ℕ} (h : 0 < left) (c : Passed s n m from left at) where
@@ -93,8 +92,8 @@ module _ {s : List ℕ} {n : Name} {m from : ℕ} where
           (record { here = (value_entry c.here h).2.rest; first = c.first ∙ value_behind s n at left h (sym e ∙ f) })
 
       -- it has the name: it is the answer
-      pub passed_hit : u ≡ at + 2 + le2 s at → r ≡ true → At u ≡ first_value s n m from
-      passed_hit g f = ap At g ∙ sym (c.first ∙ value_here s n at left h (sym e ∙ f))
+      pub passed_hit : u ≡ at + 2 + le2 s at → r ≡ true → Some u ≡ first_value s n m from
+      passed_hit g f = ap Some g ∙ sym (c.first ∙ value_here s n at left h (sym e ∙ f))
 
 -- ---- the value at that offset
 
@@ -109,7 +108,7 @@ unfolding find entries
 tested n s at u h = ap (λ (t : Bool). elim t [ true ↦ some (le8 s (at + 2 + le2 s at)) | false ↦ find n (entries binding_of u) ]) h
 
 -- a value that one context has is that of another which has the same under the name
-found_as : {s : List ℕ} {n : Name} {γ δ : ParamMap} {r : Found} → find n γ ≡ find n δ → ValueFound s n δ r → ValueFound s n γ r
+found_as : {s : List ℕ} {n : Name} {γ δ : ParamMap} {r : Option ℕ} → find n γ ≡ find n δ → ValueFound s n δ r → ValueFound s n γ r
 found_as e (ValueFound.at h g) = ValueFound.at h (e ∙ g)
 found_as e (ValueFound.missing g) = ValueFound.missing (e ∙ g)
 
@@ -159,7 +158,7 @@ found_in s n (suc k) {left} {at} l h = go (leb left 0) refl (same n (name_at s a
 
 module _ {s : List ℕ} (b : ℕ) (n : Name) (a : Accepted s 192 192 b) where
   -- so it is with the block's, for whoever finds the first of the name
-  pub first_found : {r : Found} → r ≡ first_value s n (le2 s (b + 6)) (b + 6 + 2) → ValueFound s n (values_of (tree a)) r
+  pub first_found : {r : Option ℕ} → r ≡ first_value s n (le2 s (b + 6)) (b + 6 + 2) → ValueFound s n (values_of (tree a)) r
   unfolding Finds
   first_found e =
       subst (ValueFound s n (values_of (tree a))) (sym e)

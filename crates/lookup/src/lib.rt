@@ -10,24 +10,10 @@ ghost use Rattle.blocks.specs.Read.{read_set, read_layout};
 ghost use Rattle.resolved.specs.Set.{types_of};
 ghost use Rattle.ir.specs.Layout.{layout_of};
 ghost use Rattle.accepted.specs.Accepted.{Entries, Item, name_at};
-ghost use Rattle.lookup.specs.Named.{Placed, place_of};
+ghost use Rattle.lookup.specs.Named.{Placed};
 ghost use Rattle.lookup.specs.Found.{TypeFound, TreeFound, first_value};
 
-use wire::Block;
-
-// The offset of a type's block, or of a value's number.
-#[derive(Clone, Copy)]
-pub enum Found {
-    At(usize),
-    Missing,
-}
-
-// A type's place in the layout, and the offset of its block.
-#[derive(Clone, Copy)]
-pub enum Place {
-    At(usize, usize),
-    Missing,
-}
+use wire::Position;
 
 // Whether this name stands at an offset.
 pub fn is_named(s: &[u8], at: usize, name: &[u8]) -> bool
@@ -37,61 +23,50 @@ pub fn is_named(s: &[u8], at: usize, name: &[u8]) -> bool
     wire::same_name(name, wire::name_at(s, at))
 }
 
-// A block's place and offset, where the search began with the first block.
-fn placed(b: Block) -> Place
-    ensures { result ≡ place_of b }
-{
-    match b {
-        Block::At(i, at) => Place::At(i, at),
-        Block::Missing => Place::Missing,
-    }
-}
-
-// The type of a name in an accepted set.
-pub fn get_type_info(set: &[u8], name: &[u8]) -> Found
+// The offset of the type of a name in an accepted set.
+pub fn get_type_info(set: &[u8], name: &[u8]) -> Option<usize>
     requires { (t : Tree) × (read_set set.now ≡ done t) }
     ensures { (t : Tree) → read_set set.now ≡ done t → TypeFound set.now name.now (types_of t) result }
 {
-    match wire::block_named(set, 8, wire::read2(set, 6), name) {
-        Block::At(_, at) => Found::At(at),
-        Block::Missing => Found::Missing,
-    }
+    let found = wire::block_named(set, 8, wire::read2(set, 6), name)?;
+    Some(found.at)
 }
 
 // The type tree of a name in an accepted layout.
-pub fn lookup_type(layout: &[u8], name: &[u8]) -> Place
+pub fn lookup_type(layout: &[u8], name: &[u8]) -> Option<Position>
     requires { (t : Tree) × (read_layout layout.now ≡ done t) }
     ensures { (t : Tree) → read_layout layout.now ≡ done t → TreeFound layout.now name.now (layout_of t) result }
 {
-    placed(wire::block_named(layout, 8, wire::read2(layout, 6), name))
+    wire::block_named(layout, 8, wire::read2(layout, 6), name)
 }
 
 // The same as `lookup_type`; the search begins at the type tree of a place and goes on from the first, because a type is mostly
 // called by one that stands shortly before it. The names are distinct, so that it does not matter where it begins.
-pub fn lookup_near(layout: &[u8], name: &[u8], place: usize, at: usize) -> Place
+pub fn lookup_near(layout: &[u8], name: &[u8], place: usize, at: usize) -> Option<Position>
     requires { ((t : Tree) × (read_layout layout.now ≡ done t)) × Placed layout.now place at }
     ensures { (t : Tree) → read_layout layout.now ≡ done t → TreeFound layout.now name.now (layout_of t) result }
 {
     match wire::block_named(layout, at, wire::read2(layout, 6) - place, name) {
-        Block::At(i, o) => Place::At(place + i, o),
-        Block::Missing => placed(wire::block_named(layout, 8, place, name)),
+        Some(found) => Some(Position {
+            place: place + found.place,
+            at: found.at,
+        }),
+        None => wire::block_named(layout, 8, place, name),
     }
 }
 
 // Of so many entries from an offset on, each a name and its number, the first value of a name. An entry has ten bytes beside its name; the next
 // offset is one sum, so that a step takes as long as it takes to read a length.
-pub fn value_from(s: &[u8], from: usize, count: usize, name: &[u8]) -> Found
+pub fn value_from(s: &[u8], from: usize, count: usize, name: &[u8]) -> Option<usize>
     requires { Entries s.now Item.values count from }
     ensures { result ≡ first_value s.now name.now count from }
 {
-    let mut left = count;
     let mut at = from;
-    while 0 < left {
+    for _ in 0..count {
         if is_named(s, at, name) {
-            return Found::At(wire::behind_name(s, at));
+            return Some(wire::behind_name(s, at));
         }
         at = at + 10 + wire::read2(s, at);
-        left -= 1;
     }
-    Found::Missing
+    None
 }

@@ -17,6 +17,7 @@ use Rattle.resolved.specs.Set.{type_of, thing_of, make_thing, form_of, variants_
 use Rattle.accepted.specs.Accepted.{Accepted, tree, Parts, Listed, Counted}
 use Rattle.accepted.proofs.Laws.{each, text_part, flag_part, block_part, list_part}
 use Rattle.resolved_parts.specs.Places.{head_end}
+use Rattle.resolved_parts.specs.declared.ListParts.{ListParts}
 use Rattle.resolved_parts.specs.Types.{ArrayAt, EnumAt, FieldsAt, SizedAt, TargetAt}
 use Rattle.resolved_parts.proofs.Laws.{named}
 use Rattle.resolved_parts.proofs.Head.{head_tree, Headed, headed}
@@ -55,12 +56,12 @@ array_headed : {s : List ℕ} {at : ℕ} (a : Accepted s 1 7 at) → le2 s (at +
 unfolding parts_of find_row grammar node_table
 array_headed a ek = headed a ek refl
 
--- the offsets behind the head
-pub array_inside : {s : List ℕ} {at q : ℕ} (a : Accepted s 1 7 at) → le2 s (at + 4) ≡ 5 → q ≡ head_end s at → (q + 1 + 4 + le4 s (q + 1) + 4 ≤ length s)
-array_inside {s} {at} a ek eq =
+-- the flag and the length of the element lie inside the bytes
+pub array_inside : {s : List ℕ} {at : ℕ} → Accepted s 1 7 at → le2 s (at + 4) ≡ 5 → head_end s at + 5 ≤ length s
+array_inside a ek =
     let h = array_headed a ek in
     let d = array h.rest in
-    rw eq (omega (arith, d.inside, h.rest.fits))
+    omega (arith, d.inside, h.rest.fits)
 
 module _ {s : List ℕ} {at : ℕ} {a : Accepted s 1 7 at} where
   -- its kind is an array of the element and the size that stand there
@@ -121,12 +122,12 @@ enum_headed : {s : List ℕ} {at : ℕ} (a : Accepted s 1 7 at) → le2 s (at + 
 unfolding parts_of find_row grammar node_table
 enum_headed a ek = headed a ek refl
 
--- the offsets behind the head lie inside the bytes
-pub enum_inside : {s : List ℕ} {at q : ℕ} (a : Accepted s 1 7 at) → le2 s (at + 4) ≡ 4 → q ≡ head_end s at → q + 4 + le4 s q + 2 ≤ length s
-enum_inside a ek eq =
+-- the tag and the count of the variants lie inside the bytes
+pub enum_inside : {s : List ℕ} {at : ℕ} → Accepted s 1 7 at → le2 s (at + 4) ≡ 4 → head_end s at + 4 + le4 s (head_end s at) + 2 ≤ length s
+enum_inside a ek =
     let h = enum_headed a ek in
     let d = enum h.rest in
-    rw eq (omega (arith, d.inside, h.rest.fits))
+    omega (arith, d.inside, h.rest.fits)
 
 module _ {s : List ℕ} {at : ℕ} {a : Accepted s 1 7 at} where
   -- its kind is an enum of the tag and the variants that stand there
@@ -141,13 +142,10 @@ module _ {s : List ℕ} {at : ℕ} {a : Accepted s 1 7 at} where
   enum_found h d = record { tag = d.tag; few = d.few; list = d.list; is = enum_kind h d; tag_at = refl; first_at = refl }
 
 -- the same with the offsets as the code computes them
-pub enum_at : {s : List ℕ} {at q u c : ℕ} → le2 s (at + 4) ≡ 4 → q ≡ head_end s at → u ≡ le4 s q → c ≡ le2 s (q + 4 + u) → (a : Accepted s 1 7 at) →
-    EnumAt a (record { tag = q; count = c; first = q + 4 + u + 2 })
-enum_at {s} {at} {q} {u} {c} ek eq eu ec a =
-    let h = enum_headed a ek in
-    subst (λ (w : ℕ). EnumAt a (record { tag = q; count = w; first = q + 4 + u + 2 })) (sym ec)
-    (subst (λ (w : ℕ). EnumAt a (record { tag = q; count = le2 s (q + 4 + w); first = q + 4 + w + 2 })) (sym eu)
-    (subst (λ (n : ℕ). EnumAt a (record { tag = n; count = le2 s (n + 4 + le4 s n); first = n + 4 + le4 s n + 2 })) (sym eq) (enum_found h (enum h.rest))))
+pub enum_at : {s : List ℕ} {at q u : ℕ} {r : ListParts} → le2 s (at + 4) ≡ 4 → q ≡ head_end s at → u ≡ le4 s q →
+    r.count ≡ le2 s (q + 4 + u) → r.first ≡ q + 4 + u + 2 → (a : Accepted s 1 7 at) →
+    EnumAt a (record { tag = q; count = r.count; first = r.first })
+enum_at ek eq eu ec ef a = let h = enum_headed a ek in rw (ec, ef, eu, eq) (enum_found h (enum h.rest))
 
 -- ---- 2 struct, 3 union, 6 size-discriminated union
 
@@ -185,35 +183,48 @@ pub sized_held : {s : List ℕ} {at : ℕ} → le2 s (at + 4) ≡ 6 → (a : Acc
 unfolding parts_of find_row grammar node_table
 sized_held ek a = holds a (ap parts_of ek)
 
-module _ {s : List ℕ} {at q c : ℕ} (eq : q ≡ head_end s at) (ec : c ≡ le2 s q) where
+-- what the code reads of a list of fields lies inside the bytes
+pub fields_inside : {s : List ℕ} {at : ℕ} → Accepted s 1 7 at → 2 ≤ le2 s (at + 4) → le2 s (at + 4) ≤ 3 → head_end s at + 2 ≤ length s
+fields_inside a lo hi = (fields_held lo hi a).inside
+
+-- and of a list of variants
+pub sized_inside : {s : List ℕ} {at : ℕ} → Accepted s 1 7 at → le2 s (at + 4) ≡ 6 → head_end s at + 2 ≤ length s
+sized_inside a ek = (sized_held ek a).inside
+
+-- what holds of the list that stands behind the head holds of what was read there, at q
+told : (s : List ℕ) {q : ℕ} (n : ℕ) {r : ListParts} (P : ListParts → Type 0) → q ≡ n → r.count ≡ le2 s q → r.first ≡ q + 2 →
+    P (record { count = le2 s n; first = n + 2 }) → P r
+told s n {r} P eq ec ef h =
+    subst (λ (c : ℕ). P (record { count = c; first = r.first })) (sym (ec ∙ ap (le2 s) eq))
+    (subst (λ (f : ℕ). P (record { count = le2 s n; first = f })) (sym (ef ∙ ap (λ (n : ℕ). n + 2) eq)) h)
+
+module _ {s : List ℕ} {at q : ℕ} {r : ListParts} (eq : q ≡ head_end s at) (ec : r.count ≡ le2 s q) (ef : r.first ≡ q + 2) where
   -- the answer of `field_list`
-  pub fields_at : 2 ≤ le2 s (at + 4) → le2 s (at + 4) ≤ 3 → (a : Accepted s 1 7 at) → FieldsAt a (record { count = c; first = q + 2 })
+  pub fields_at : 2 ≤ le2 s (at + 4) → le2 s (at + 4) ≤ 3 → (a : Accepted s 1 7 at) → FieldsAt a r
   unfolding type_of view thing_of make_thing form_of part_view
   fields_at lo hi a =
       let h = fields_held lo hi a in
       let T : Tree = head_tree s at h.references (cons (cons (num 2 (le2 s (head_end s at))) h.list.got.0) h.last) in
-      subst (λ (w : ℕ). FieldsAt a (record { count = w; first = q + 2 })) (sym ec)
-      (subst (λ (n : ℕ). FieldsAt a (record { count = le2 s n; first = n + 2 })) (sym eq) (record {
+      told s (head_end s at) (FieldsAt a) eq ec ef (record {
         few = h.few;
         list = h.list;
         struct = λ e. h.is ∙ ap (λ (k : ℕ). kind_of (type_of (block at k T))) e;
         union = λ e. h.is ∙ ap (λ (k : ℕ). kind_of (type_of (block at k T))) e;
         first_at = refl;
-      }))
+      })
 
   -- the answer of `sized_list`
-  pub sized_at : le2 s (at + 4) ≡ 6 → (a : Accepted s 1 7 at) → SizedAt a (record { count = c; first = q + 2 })
+  pub sized_at : le2 s (at + 4) ≡ 6 → (a : Accepted s 1 7 at) → SizedAt a r
   unfolding type_of view thing_of make_thing form_of part_view
   sized_at ek a =
       let h = sized_held ek a in
       let T : Tree = head_tree s at h.references (cons (cons (num 2 (le2 s (head_end s at))) h.list.got.0) h.last) in
-      subst (λ (w : ℕ). SizedAt a (record { count = w; first = q + 2 })) (sym ec)
-      (subst (λ (n : ℕ). SizedAt a (record { count = le2 s n; first = n + 2 })) (sym eq) (record {
+      told s (head_end s at) (SizedAt a) eq ec ef (record {
         few = h.few;
         list = h.list;
         is = h.is ∙ ap (λ (k : ℕ). kind_of (type_of (block at k T))) ek;
         first_at = refl;
-      }))
+      })
 
 -- ---- 7 type reference
 

@@ -4,11 +4,11 @@ use mathlib.Core.Bool.{Bool, true, false, cond}
 use mathlib.Core.List.{List, [], ◌∷◌}
 use mathlib.Core.Option.{Option, some, none}
 use Prim.Native.Nat.{ℕ, ◌+◌, ◌≤◌}
+use Rattle.std.specs.Prelude.{Some, None}
 use native.Mathlib.Omega.{arith}
 use lib.Dec.{eqb}
 use lib.ListN.{length, get_or}
 use borrow.Author.Tests.{eq-eqb, ne_eqb}
-use Rattle.blocks.proofs.Name.{false_true}
 use Rattle.blocks.specs.declared.Part.TheVariants.{Text, Number, Block}
 use Rattle.blocks.specs.Bytes.{le2, le8}
 use Rattle.blocks.specs.Grammar.{parts_of, find_row, grammar, node_table}
@@ -47,6 +47,10 @@ owned {s} {at} a =
 -- the name of an owner lies inside the bytes
 pub owner_named : {s : List ℕ} {at : ℕ} → Accepted s 37 37 at → Named s (at + 6)
 owner_named a = (owned a).named
+
+-- and so does its end
+pub owner_inside : {s : List ℕ} {at : ℕ} → Accepted s 37 37 at → name_end s at ≤ length s
+owner_inside a = (owner_named a).inside
 
 -- the answer of `owner_paths`
 pub owner_at : {s : List ℕ} {at q : ℕ} → q ≡ name_end s at → (a : Accepted s 37 37 at) → OwnerAt a q
@@ -170,40 +174,42 @@ some_offset b w e = rw e
 no_offset : (b w : ℕ) → (b ≡ 1 → ⊥) → optional number (cons (num 1 b) (cond (eqb b 1) (num 8 w) nil)) ≡ none
 no_offset b w e = rw (ne_eqb b 1 e)
 
-module _ {s : List ℕ} {at p : ℕ} (ep : p ≡ name_end s at) where
-  -- what the code reads of a field lies inside the bytes
-  pub field_inside : Accepted s 33 33 at → (p + 5 ≤ length s) × (get_or s p 0 ≡ 1 → p + 13 ≤ length s)
-  field_inside a = (low, λ e. omega (arith, ep, (field_placed a (ap (λ (n : ℕ). get_or s n 0) (sym ep) ∙ e)).inside))
-    where
-      low : p + 5 ≤ length s
-      low = go (eqb (get_or s (name_end s at) 0) 1) (field a refl).inside
-        where
-          go : (b : Bool) → cond b (name_end s at + 1 + 8) (name_end s at + 1) + 4 ≤ length s → p + 5 ≤ length s
-          go true h = omega arith
-          go false h = omega arith
+-- what the code reads of a field lies inside the bytes
+pub field_inside : {s : List ℕ} {at : ℕ} → Accepted s 33 33 at → name_end s at + 5 ≤ length s
+field_inside {s} {at} a = go (eqb (get_or s (name_end s at) 0) 1) (field a refl).inside
+  where
+    go : (b : Bool) → cond b (name_end s at + 1 + 8) (name_end s at + 1) + 4 ≤ length s → name_end s at + 5 ≤ length s
+    go true h = omega arith
+    go false h = omega arith
 
+-- and, where its flag says that it has an offset, the offset too
+pub offset_inside : {s : List ℕ} {at p : ℕ} → Accepted s 33 33 at → p ≡ name_end s at → get_or s p 0 ≡ 1 → p + 13 ≤ length s
+offset_inside {s} {at} {p} a ep e = omega (arith, ep, (field_placed a (ap (λ (n : ℕ). get_or s n 0) (sym ep) ∙ e)).inside)
+
+pub ruleset field_insides = (field_inside, offset_inside)
+
+module _ {s : List ℕ} {at p : ℕ} (ep : p ≡ name_end s at) where
   -- the answer of `field_parts` where there is an offset
-  pub field_some : {v : ℕ} → get_or s p 0 ≡ 1 → v ≡ le8 s (p + 1) → (a : Accepted s 33 33 at) → FieldAt a (record { placed = true; offset = v; kind = p + 1 + 8 })
+  pub field_some : {v : ℕ} → get_or s p 0 ≡ 1 → v ≡ le8 s (p + 1) → (a : Accepted s 33 33 at) →
+      FieldAt a (record { offset = Some v; kind = p + 1 + 8 })
   field_some {v} e ev a =
       let f : get_or s (name_end s at) 0 ≡ 1 = ap (λ (n : ℕ). get_or s n 0) (sym ep) ∙ e in
       let d = field_placed a f in
-      subst (λ (n : ℕ). FieldAt a (record { placed = true; offset = n; kind = p + 1 + 8 })) (sym ev)
-      (subst (λ (n : ℕ). FieldAt a (record { placed = true; offset = le8 s (n + 1); kind = n + 1 + 8 })) (sym ep) (record {
+      subst (λ (n : ℕ). FieldAt a (record { offset = Some n; kind = p + 1 + 8 })) (sym ev)
+      (subst (λ (n : ℕ). FieldAt a (record { offset = Some (le8 s (n + 1)); kind = n + 1 + 8 })) (sym ep) (record {
         named = d.named;
-        unplaced = λ e. false_true (sym e);
         type = d.type;
         type_at = refl;
         is = field_is a d (some_offset _ _ f);
       }))
 
   -- the answer where there is none
-  pub field_none : (get_or s p 0 ≡ 1 → ⊥) → (a : Accepted s 33 33 at) → FieldAt a (record { placed = false; offset = 0; kind = p + 1 })
+  pub field_none : (get_or s p 0 ≡ 1 → ⊥) → (a : Accepted s 33 33 at) → FieldAt a (record { offset = None; kind = p + 1 })
   field_none e a =
       let f : get_or s (name_end s at) 0 ≡ 1 → ⊥ = λ g. e (ap (λ (n : ℕ). get_or s n 0) ep ∙ g) in
       let d = field_free a f in
-      subst (λ (n : ℕ). FieldAt a (record { placed = false; offset = 0; kind = n + 1 })) (sym ep) (record {
+      subst (λ (n : ℕ). FieldAt a (record { offset = None; kind = n + 1 })) (sym ep) (record {
         named = d.named;
-        unplaced = λ e. refl;
         type = d.type;
         type_at = omega arith;
         is = field_is a d (no_offset _ _ f);

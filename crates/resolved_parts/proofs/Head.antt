@@ -3,11 +3,11 @@ use mathlib.Core.Path.{◌≡◌, refl, sym, ◌∙◌, ap, subst}
 use mathlib.Core.Bool.{Bool, true, false, cond}
 use mathlib.Core.List.{List, ◌∷◌}
 use Prim.Native.Nat.{ℕ, ◌+◌, ◌≤◌}
+use Rattle.std.specs.Prelude.{Option, Some, None}
 use native.Mathlib.Omega.{arith}
 use lib.Dec.{eqb}
 use lib.ListN.{length, get_or}
 use borrow.Author.Tests.{eq-eqb, ne_eqb}
-use Rattle.blocks.proofs.Name.{false_true}
 use Rattle.blocks.specs.declared.Part.{Part}
 use Rattle.blocks.specs.declared.Part.TheVariants.{Key, Number, Size, Block}
 use Rattle.blocks.specs.Bytes.{le2, le4, le8}
@@ -171,37 +171,39 @@ head_got {s} {at} a h =
     let k = kind_of_lem a in ap (λ (z : Tree). head (type_of z)) h.is ∙
     head_is at (head_tree s at h.references.got.0 h.rest.got.0) (le2 s (at + 4)) k.0 k.1
 
--- the parts of a type's head lie inside
-pub record Bounds (s : List ℕ) (at : ℕ) : Type 0 where
-  pub flag : name_end s at + 1 + 14 ≤ length s
-  pub alignment : alignment_at s at + 14 ≤ length s
-  pub end : head_end s at ≤ length s
+-- ---- the parts of an accepted type's head lie inside the bytes
 
--- of every accepted type
-pub bounds : {s : List ℕ} {at : ℕ} → Accepted s 1 7 at → Bounds s at
-unfolding head_end
-bounds {s} {at} a =
-    let h = (type_headed a).1 in
-    let e : head_end s at ≤ length s = omega (arith, h.inside, h.rest.fits) in
-    let v : alignment_at s at + 14 ≤ length s = omega (arith, e, long h.references) in
-    record { flag = omega (arith, v, alignment_low s at); alignment = v; end = e }
+module _ {s : List ℕ} {at : ℕ} (a : Accepted s 1 7 at) where
+  -- all of them
+  pub head_inside : head_end s at ≤ length s
+  head_inside = let h = (type_headed a).1 in omega (arith, h.inside, h.rest.fits)
+
+  -- the alignment, and behind it the references block, which has six bytes or more
+  pub alignment_inside : alignment_at s at + 14 ≤ length s
+  unfolding head_end
+  alignment_inside = omega (arith, head_inside, long (type_headed a).1.references)
+
+  -- the size's flag, before them
+  pub flag_inside : name_end s at + 1 + 14 ≤ length s
+  flag_inside = omega (arith, alignment_inside, alignment_low s at)
+
+pub ruleset insides = (head_inside, alignment_inside, flag_inside)
 
 -- ---- the answers of `type_head`
 
 module _ {s : List ℕ} {at : ℕ} where
   -- the answer of `type_head`, given what the size block means
-  pub head_at : {v : Bool} {z al q : ℕ} → q ≡ alignment_at s at → al ≡ le8 s q → size_of (size_tree s at) ≡ sized v z →
-      (v ≡ true → z ≡ 0) → (a : Accepted s 1 7 at) →
-      HeadAt a (record { variable = v; size = z; alignment = al; references = q + 8 })
+  pub head_at : {z : Option ℕ} {al q : ℕ} → q ≡ alignment_at s at → al ≡ le8 s q → size_of (size_tree s at) ≡ sized z →
+      (a : Accepted s 1 7 at) →
+      HeadAt a (record { size = z; alignment = al; references = q + 8 })
   unfolding part
-  head_at {v} {z} {al} {q} eq ea ez ev a =
+  head_at {z} {al} {q} eq ea ez a =
       let h = (type_headed a).1 in
       let g = head_got a h in
-      subst (λ (n : ℕ). HeadAt a (record { variable = v; size = z; alignment = al; references = n + 8 })) (sym eq) (record {
+      subst (λ (n : ℕ). HeadAt a (record { size = z; alignment = al; references = n + 8 })) (sym eq) (record {
         named = h.named;
         name = ap (λ (z : Head). z.name) g;
         size = ap (λ (z : Head). z.size) g ∙ ez;
-        unsized = ev;
         alignment = ap (λ (z : Head). z.alignment) g ∙ ap (le8 s) (sym eq) ∙ sym ea;
         references = h.references;
         owners = ap (λ (z : Head). z.dynamic_params) g;
@@ -219,15 +221,15 @@ variable_size b w e = rw e
 module _ {s : List ℕ} {at q al p : ℕ} (eq : q ≡ alignment_at s at) (ea : al ≡ le8 s q) (ep : p ≡ name_end s at) where
   -- a constant size
   pub head_const : {z : ℕ} → get_or s p 0 ≡ 0 → z ≡ le8 s (p + 1) → (a : Accepted s 1 7 at) →
-      HeadAt a (record { variable = false; size = z; alignment = al; references = q + 8 })
+      HeadAt a (record { size = Some z; alignment = al; references = q + 8 })
   head_const {z} f ez = head_at eq ea
       (const_size (get_or s (name_end s at) 0) (le8 s (name_end s at + 1)) (ap (λ (n : ℕ). get_or s n 0) (sym ep) ∙ f) ∙ ap ResolvedSize.Const (ap (λ (n : ℕ). le8 s (n + 1)) (sym ep) ∙ sym ez))
-      (λ e. false_true e)
 
   -- a variable size
-  pub head_variable : (get_or s p 0 ≡ 0 → ⊥) → (a : Accepted s 1 7 at) → HeadAt a (record { variable = true; size = 0; alignment = al; references = q + 8 })
+  pub head_variable : (get_or s p 0 ≡ 0 → ⊥) → (a : Accepted s 1 7 at) →
+      HeadAt a (record { size = None; alignment = al; references = q + 8 })
   head_variable f a =
       let e : get_or s p 0 ≡ get_or s (name_end s at) 0 = ap (λ (n : ℕ). get_or s n 0) ep in
       let l = (type_headed a).1.small in
       let one : get_or s (name_end s at) 0 ≡ 1 = omega (arith, e, l, f) in
-      head_at eq ea (variable_size (get_or s (name_end s at) 0) (le8 s (name_end s at + 1)) one) (λ e. refl) a
+      head_at eq ea (variable_size (get_or s (name_end s at) 0) (le8 s (name_end s at + 1)) one) a

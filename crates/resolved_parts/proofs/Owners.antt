@@ -1,8 +1,10 @@
 -- The first owner of a name in a references block.
-use mathlib.Core.Path.{◌≡◌, refl, sym, ◌∙◌, ap, subst}
+use mathlib.Core.Path.{◌≡◌, refl, sym, ◌∙◌, ap}
 use mathlib.Core.Bool.{Bool, true, false, cond}
 use mathlib.Core.List.{List, ◌∷◌}
-use mathlib.Core.Option.{Option, some, none}
+use mathlib.Core.Option.{some, none}
+use mathlib.Core.Option as math
+use Rattle.std.specs.Prelude.{Option, Some, None}
 use Prim.Native.Nat.{ℕ, zero, suc, ◌+◌, ◌≤◌, ◌<◌}
 use native.Mathlib.Omega.{arith}
 use lib.ListN.{length}
@@ -13,16 +15,13 @@ use Rattle.blocks.specs.Name.{Name, same}
 use Rattle.blocks.specs.Blocks.{Stand, Passed}
 use Rattle.blocks.specs.Grammar.{parts_of, find_row, grammar, node_table}
 use Rattle.blocks.specs.Tree.{Tree, body, part, text, entries}
-use Rattle.wire.specs.declared.Block.{Block}
-use Rattle.wire.specs.declared.Block.TheVariants.{At as BlockAt, Missing as BlockNone}
+use Rattle.wire.specs.declared.Position.{Position}
 use Rattle.wire.specs.Named.{BlockNamed}
 use Rattle.resolved.specs.Resolved.{Owner, get}
 use Rattle.resolved.specs.Set.{owner_of}
 use Rattle.accepted.specs.Accepted.{Accepted, tree, Item, Counted}
 use Rattle.accepted.proofs.Laws.{Sole, sole, each, All, all_entries}
 use Rattle.accepted.proofs.Named.{Keys, headed, first_named, stand, named_first, named_none}
-use Rattle.resolved_parts.specs.declared.Paths.{Paths}
-use Rattle.resolved_parts.specs.declared.Paths.TheVariants.{At, Missing}
 use Rattle.resolved_parts.specs.Places.{name_end}
 use Rattle.resolved_parts.specs.Types.{OwnerAt, PathsAt, PathsFound, paths_from, paths_in, owners_of, texts_of}
 use Rattle.resolved_parts.proofs.Fields.{owner_at}
@@ -47,9 +46,9 @@ owners_are a = ap (entries owner_of) (listed a).tree
 pub references_inside : {s : List ℕ} {b : ℕ} → Accepted s 32 32 b → b + 6 + 2 ≤ length s
 references_inside a = (listed a).inside
 
--- and so do their names; u is the count that was read
-pub owners_stand : {s : List ℕ} {b : ℕ} (u : ℕ) → Accepted s 32 32 b → u ≡ le2 s (b + 6) → Stand s (b + 6 + 2) u
-owners_stand {s} {b} u a g = subst (Stand s (b + 6 + 2)) (sym g) (stand owner_keyed (listed a).list)
+-- and so do their names; u is the count that was read, f the offset behind it
+pub owners_stand : {s : List ℕ} {b u f : ℕ} → Accepted s 32 32 b → u ≡ le2 s (b + 6) → f ≡ b + 6 + 2 → Stand s f u
+owners_stand {s} {b} a g e = rw (g, e) (stand owner_keyed (listed a).list)
 
 -- ---- the paths of the first block of a name are those of the first owner of it
 
@@ -62,7 +61,7 @@ titled : {s : List ℕ} (at : ℕ) (a : Accepted s 37 37 at) → Titled a.got.0
 titled at a = ap (λ (o : Owner). o.name) (owner_at refl a).is ∙ sym (headed a owner_keyed).named
 
 -- the paths of the block that was found
-abbrev paths_of : Option (ℕ × Tree) → Option (List Name)
+abbrev paths_of : math.Option (ℕ × Tree) → math.Option (List Name)
 paths_of none = none
 paths_of (some x) = some (owner_of x.1).paths
 
@@ -79,73 +78,76 @@ owners_same n i (All.more {a} {b} h g) = rw h (go (same n (text (part 0 (body a)
 
 module _ {s : List ℕ} {n : Name} where
   -- where they stand: behind the name of the block behind those of another name
-  paths_at : {at k q : ℕ} (m : ℕ) → Passed s n at k q → k < m → same n (name_at s (q + 6)) ≡ true → paths_from s n m at ≡ At (name_end s q)
+  paths_at : {at k q : ℕ} (m : ℕ) → Passed s n at k q → k < m → same n (name_at s (q + 6)) ≡ true →
+      paths_from s n m at ≡ Some (name_end s q)
   unfolding paths_from
   paths_at zero p h t = absurd (omega arith)
   paths_at (suc m) Passed.none h t = rw t
   paths_at {at = at} (suc m) (Passed.one e p) h t = rw e (paths_at {at = at + 4 + le4 s at} m p (omega arith) t)
 
   -- or nowhere
-  paths_none : {at m q : ℕ} → Passed s n at m q → paths_from s n m at ≡ Missing
+  paths_none : {at m q : ℕ} → Passed s n at m q → paths_from s n m at ≡ None
   unfolding paths_from
   paths_none Passed.none = refl
   paths_none (Passed.one e p) = rw e (paths_none p)
 
--- ---- in the code's form: u is the count that was read, r what the search among so many owners answered
+-- ---- in the code's form: u is the count that was read, f the offset behind it
 
 -- what `get` promises of its answer
-abbrev Answers : List ℕ → ℕ → Name → Paths → Type 0
-Answers s b n r = ((a : Accepted s 32 32 b) → PathsFound s n (owners_of (tree a)) r) × (r ≡ paths_in s n b)
+abbrev Answers : List ℕ → ℕ → Name → Option ℕ → Type 0
+Answers s b n r = record { paths_found : (a : Accepted s 32 32 b) → PathsFound s n (owners_of (tree a)) r; value : r ≡ paths_in s n b }
 
-module _ {s : List ℕ} (b : ℕ) {n : Name} {u : ℕ} {r : Block} (g : u ≡ le2 s (b + 6)) (f : BlockNamed s n (b + 6 + 2) u r) where
-  -- among all that there are
-  all : BlockNamed s n (b + 6 + 2) (le2 s (b + 6)) r
-  all = subst (λ (m : ℕ). BlockNamed s n (b + 6 + 2) m r) g f
+module _ {s : List ℕ} (b : ℕ) {n : Name} {u f : ℕ} (g : u ≡ le2 s (b + 6)) (e : f ≡ b + 6 + 2) where
+  -- what the search among so many answered, it answered among all that there are
+  all : {r : Option Position} → BlockNamed s n f u r → BlockNamed s n (b + 6 + 2) (le2 s (b + 6)) r
+  all h = rw (g, e) at h
 
-  -- it answered with a block: an owner
-  pub owner_there : {i o : ℕ} → r ≡ BlockAt i o → Accepted s 32 32 b → Accepted s 37 37 o
-  owner_there {i} {o} e a = go (subst (BlockNamed s n (b + 6 + 2) (le2 s (b + 6))) e all)
+  -- a block was found: an owner
+  pub owner_there : {p : Position} → BlockNamed s n f u (Some p) → Accepted s 32 32 b → Accepted s 37 37 p.at
+  owner_there found a = go (all found)
     where
-      go : BlockNamed s n (b + 6 + 2) (le2 s (b + 6)) (BlockAt i o) → Accepted s 37 37 o
+      go : {p : Position} → BlockNamed s n (b + 6 + 2) (le2 s (b + 6)) (Some p) → Accepted s 37 37 p.at
       go (BlockNamed.at h p t) = (named_first owner_keyed p h t (listed a).list).0
 
   -- and its paths stand at q
-  pub paths_there : {i o q : ℕ} → r ≡ BlockAt i o → ((a : Accepted s 37 37 o) → OwnerAt a q) → Accepted s 32 32 b → Answers s b n (At q)
-  paths_there {i} {o} {q} e w d = go (subst (BlockNamed s n (b + 6 + 2) (le2 s (b + 6))) e all)
+  pub paths_there : {p : Position} {q : ℕ} → BlockNamed s n f u (Some p) → ((a : Accepted s 37 37 p.at) → OwnerAt a q) →
+      Accepted s 32 32 b → Answers s b n (Some q)
+  paths_there {q = q} found w d = go (all found) w
     where
-      go : BlockNamed s n (b + 6 + 2) (le2 s (b + 6)) (BlockAt i o) → Answers s b n (At q)
-      go (BlockNamed.at h p t) = (found, ap At (w (named_first owner_keyed p h t (listed d).list).0).paths_at ∙ sym (paths_at _ p h t))
+      go : {p : Position} → BlockNamed s n (b + 6 + 2) (le2 s (b + 6)) (Some p) → ((a : Accepted s 37 37 p.at) → OwnerAt a q) →
+          Answers s b n (Some q)
+      go (BlockNamed.at h p t) w = record {
+        paths_found = owner;
+        value = ap Some (w (named_first owner_keyed p h t (listed d).list).0).paths_at ∙ sym (paths_at _ p h t);
+      }
         where
-          found : (a : Accepted s 32 32 b) → PathsFound s n (owners_of (tree a)) (At q)
-          found a =
+          owner : (a : Accepted s 32 32 b) → PathsFound s n (owners_of (tree a)) (Some q)
+          owner a =
               let l = (listed a).list in
               let x = named_first owner_keyed p h t l in
               let y = w x.0 in
               PathsFound.at y.paths
               (ap (get n) (owners_are a) ∙ owners_same n 0 (all_entries Titled titled l) ∙ ap paths_of x.1 ∙ ap (λ (z : Owner). some z.paths) y.is)
 
-  -- it answered that there is none
-  pub paths_missing : r ≡ BlockNone → Answers s b n Missing
-  paths_missing e = go (subst (BlockNamed s n (b + 6 + 2) (le2 s (b + 6))) e all)
+  -- none was found
+  pub paths_missing : BlockNamed s n f u None → Answers s b n None
+  paths_missing found = go (all found)
     where
-      go : BlockNamed s n (b + 6 + 2) (le2 s (b + 6)) BlockNone → Answers s b n Missing
-      go (BlockNamed.missing p) = (
-        λ a. let l = (listed a).list in
-            PathsFound.missing (ap (get n) (owners_are a) ∙ owners_same n 0 (all_entries Titled titled l) ∙ ap paths_of (named_none owner_keyed p l)),
-        sym (paths_none p),
-      )
+      go : BlockNamed s n (b + 6 + 2) (le2 s (b + 6)) None → Answers s b n None
+      go (BlockNamed.missing p) = record {
+        paths_found = λ a. let l = (listed a).list in
+            PathsFound.missing (ap (get n) (owners_are a) ∙ owners_same n 0 (all_entries Titled titled l) ∙
+            ap paths_of (named_none owner_keyed p l));
+        value = sym (paths_none p);
+      }
 
 -- ---- what a search for paths answered
 
 -- references of a name that were found are accepted, and the definition's
-pub found_paths : {s : List ℕ} {n : Name} {os : List Owner} {f : Paths} {q : ℕ} → f ≡ At q → PathsFound s n os f →
+pub found_paths : {s : List ℕ} {n : Name} {os : List Owner} {q : ℕ} → PathsFound s n os (Some q) →
     (p : PathsAt s q) × (get n os ≡ some (texts_of p.list.got.0))
-found_paths {s} {n} {os} {q = q} e (PathsFound.at {q = u} p g) =
-    let i : u ≡ q = cc in
-    subst (λ (k : ℕ). (p : PathsAt s k) × (get n os ≡ some (texts_of p.list.got.0))) i (p, g)
-found_paths e (PathsFound.missing g) = let z : ◌≡◌ {A = ℕ} 0 1 = cc in absurd (omega arith)
+found_paths (PathsFound.at p g) = (p, g)
 
 -- where none were found, the definition has none
-pub found_none : {s : List ℕ} {n : Name} {os : List Owner} {f : Paths} → f ≡ Missing → PathsFound s n os f → get n os ≡ none
-found_none e (PathsFound.at p g) = let z : ◌≡◌ {A = ℕ} 0 1 = cc in absurd (omega arith)
-found_none e (PathsFound.missing g) = g
+pub found_none : {s : List ℕ} {n : Name} {os : List Owner} → PathsFound s n os None → get n os ≡ none
+found_none (PathsFound.missing g) = g

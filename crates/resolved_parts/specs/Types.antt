@@ -1,7 +1,8 @@
 -- What stands in the accepted types of a set, and where: the head of a type, the parts of each kind, a field, a variant, an
 -- owner.
-use Rattle.std.specs.Prelude.{ℕ, zero, suc, ◌+◌, ◌≤◌, ◌≡◌, Bool, true, false, cond, List, ◌∷◌, length}
-use Rattle.std.proofs.Math.Option.{Option, some, none}
+use Rattle.std.specs.Prelude.{ℕ, zero, suc, ◌+◌, ◌≤◌, ◌≡◌, cond, List, ◌∷◌, length, Option, Some, None, is_some}
+use Rattle.std.proofs.Math.Option.{some, none}
+use Rattle.std.proofs.Math.Option as math
 use Rattle.blocks.specs.Bytes.{le2, le4}
 use Rattle.blocks.specs.Name.{Name, same}
 use Rattle.blocks.specs.Tree.{Tree, cons, body, part, text, entries, listed, view}
@@ -16,8 +17,6 @@ use Rattle.resolved_parts.specs.declared.EnumParts.{EnumParts}
 use Rattle.resolved_parts.specs.declared.ListParts.{ListParts}
 use Rattle.resolved_parts.specs.declared.FieldParts.{FieldParts}
 use Rattle.resolved_parts.specs.declared.VariantParts.{VariantParts}
-use Rattle.resolved_parts.specs.declared.Paths.{Paths}
-use Rattle.resolved_parts.specs.declared.Paths.TheVariants.{At, Missing}
 
 -- a name that lies inside the bytes
 pub record Named (s : List ℕ) (at : ℕ) : Type 0 where
@@ -32,22 +31,21 @@ owners_of t = listed owner_of (part 0 (body t))
 abbrev pub texts_of : Tree → List Name
 texts_of t = entries text t
 
--- the size that a flag and a number tell
-abbrev pub sized : Bool → ℕ → Size
-sized true v = Size.Variable
-sized false v = Size.Const v
+-- the size that a constant size tells, or its absence
+abbrev pub sized : Option ℕ → Size
+sized None = Size.Variable
+sized (Some v) = Size.Const v
 
--- the offset that a flag and a number tell
-abbrev pub offset_of : Bool → ℕ → Option ℕ
-offset_of true v = some v
-offset_of false v = none
+-- the offset, as the definitions have it
+abbrev pub offset_of : Option ℕ → math.Option ℕ
+offset_of None = none
+offset_of (Some v) = some v
 
 -- what every type begins with
 pub record HeadAt {s : List ℕ} {at : ℕ} (a : Accepted s 1 7 at) (r : TypeHead) : Type 0 where
   pub named : Named s (at + 6)
   pub name : (head (type_of (tree a))).name ≡ name_at s (at + 6)
-  pub size : (head (type_of (tree a))).size ≡ sized r.variable r.size
-  pub unsized : r.variable ≡ true → r.size ≡ 0
+  pub size : (head (type_of (tree a))).size ≡ sized r.size
   pub alignment : (head (type_of (tree a))).alignment ≡ r.alignment
   pub references : Accepted s 32 32 r.references
   pub owners : (head (type_of (tree a))).dynamic_params ≡ owners_of (tree references)
@@ -94,11 +92,11 @@ pub record TargetAt {s : List ℕ} {at : ℕ} (a : Accepted s 1 7 at) (q : ℕ) 
 -- a field, before other fields u
 pub record FieldAt {s : List ℕ} {at : ℕ} (a : Accepted s 33 33 at) (r : FieldParts) : Type 0 where
   pub named : Named s (at + 6)
-  pub unplaced : r.placed ≡ false → r.offset ≡ 0
   pub type : Accepted s 1 7 r.kind
-  pub type_at : r.kind ≡ name_end s at + 1 + cond r.placed 8 0
+  pub type_at : r.kind ≡ name_end s at + 1 + cond (is_some r.offset) 8 0
   pub is : (u : Tree) → fields (fields_in (view thing_of (cons (tree a) u))) ≡
-      record { name = name_at s (at + 6); offset = offset_of r.placed r.offset; field_type = type_of (tree type) } ∷ fields (fields_in (view thing_of u))
+      record { name = name_at s (at + 6); offset = offset_of r.offset; field_type = type_of (tree type) } ∷
+      fields (fields_in (view thing_of u))
 
 -- a variant of an enum (34) or of a size-discriminated union (35), before other variants u
 pub record VariantAt {s : List ℕ} {k at : ℕ} (a : Accepted s k k at) (r : VariantParts) : Type 0 where
@@ -122,15 +120,15 @@ pub record OwnerAt {s : List ℕ} {at : ℕ} (a : Accepted s 37 37 at) (q : ℕ)
   pub paths_at : q ≡ name_end s at
 
 -- where the paths of the first owner of a name stand, among some owners, one behind the other
-unfoldable pub paths_from : List ℕ → Name → ℕ → ℕ → Paths
-paths_from s n zero at = Missing
-paths_from s n (suc left) at = cond (same n (name_at s (at + 6))) (At (name_end s at)) (paths_from s n left (at + 4 + le4 s at))
+unfoldable pub paths_from : List ℕ → Name → ℕ → ℕ → Option ℕ
+paths_from s n zero at = None
+paths_from s n (suc left) at = cond (same n (name_at s (at + 6))) (Some (name_end s at)) (paths_from s n left (at + 4 + le4 s at))
 
 -- the same in a references block
-abbrev pub paths_in : List ℕ → Name → ℕ → Paths
+abbrev pub paths_in : List ℕ → Name → ℕ → Option ℕ
 paths_in s n references = paths_from s n (le2 s (references + 6)) (references + 6 + 2)
 
 -- the paths of an owner, by its name
-pub data PathsFound (s : List ℕ) (n : Name) (os : List Owner) : Paths → Type 0 where
-  at : {q : ℕ} (p : PathsAt s q) → get n os ≡ some (texts_of p.list.got.0) → PathsFound s n os (At q)
-  missing : get n os ≡ none → PathsFound s n os Missing
+pub data PathsFound (s : List ℕ) (n : Name) (os : List Owner) : Option ℕ → Type 0 where
+  at : {q : ℕ} (p : PathsAt s q) → get n os ≡ some (texts_of p.list.got.0) → PathsFound s n os (Some q)
+  missing : get n os ≡ none → PathsFound s n os None
