@@ -3,21 +3,21 @@ use mathlib.Core.Path.{◌≡◌, refl, sym, ◌∙◌, ap₂}
 use mathlib.Core.Bool.{Bool, true, false, not, cond}
 use mathlib.Core.List.{List, [], ◌∷◌, ◌++◌}
 use mathlib.Core.Logic.{◌⊎◌, inl, inr}
-use Prim.Native.Nat.{ℕ, zero, suc, ◌+◌, ◌-◌, ◌/◌, ◌%◌}
+use Prim.Native.Nat.{ℕ, zero, suc, ◌+◌, ◌-◌, ◌/◌, ◌%◌, ◌<◌}
 use native.Mathlib.Omega.{arith}
 use native.Mathlib.Numerals.{sub-one}
 use lib.Dec.{eqb}
 use lib.ListN.{get_or, drop}
 use borrow.Author.Tests.{eq-eqb, ne_eqb}
-use Rattle.errors.specs.Refusal.{Outcome, done, refused, ◌>>=◌, ask, unread}
+use Rattle.errors.specs.Refusal.{Refusal, Outcome, done, refused, ◌>>=◌, ask, unread}
+use Rattle.errors.proofs.Laws.{not_done}
 use Rattle.blocks.specs.declared.Part.{Part}
 use Rattle.blocks.specs.declared.Part.TheVariants.{Key}
 use Rattle.blocks.specs.Grammar.{within, Row, grammar, find_row, metadata, node_table, parts_of}
 use Rattle.blocks.proofs.Name.{false_true, and_left, and_right}
 use Rattle.blocks.specs.Tree.{Tree, block}
 use Rattle.blocks.specs.Read.{Step, Earlier, Reader, read_part, read_parts, read_header, read_block}
-use Rattle.reader_leaf.specs.declared.Read.TheVariants.{Ok, Refused}
-use Rattle.reader_leaf.specs.declared.Head.TheVariants.{Found, No}
+use Rattle.reader_leaf.specs.declared.Head.{Head}
 use Rattle.reader_leaf.specs.Answer.{forget, head_of}
 use Rattle.reader_leaf.proofs.Laws.{stopped, goes}
 use Rattle.ir_nodes.specs.Codes.{code_of, part_of, row_of, Digits}
@@ -26,34 +26,34 @@ use Rattle.ir_nodes.proofs.Rows.{begins, digit, no_digit}
 
 module _ (rb : Reader) (s : List ℕ) (e : Earlier) (start end : ℕ) where
   -- no part is left: the body ends here
-  pub parts_none : {ps : List Part} (at : ℕ) → ps ≡ [] → forget (read_parts rb s e start end ps at) ≡ Ok at
+  pub parts_none : {ps : List Part} (at : ℕ) → ps ≡ [] → forget (read_parts rb s e start end ps at) ≡ done at
   unfolding read_parts forget
   parts_none at h = rw h
 
   module _ {ps qs : List Part} {p : Part} (h : ps ≡ p ∷ qs) (at : ℕ) where
     -- a refused part refuses the block
-    pub parts_stop : {q o : ℕ} → forget (read_part rb s e start end p at) ≡ Refused q o → forget (read_parts rb s e start end ps at) ≡ Refused q o
+    pub parts_stop : {r : Refusal} → forget (read_part rb s e start end p at) ≡ refused r → forget (read_parts rb s e start end ps at) ≡ refused r
     unfolding read_parts
     parts_stop d = rw h (stopped (read_part rb s e start end p at) _ d)
 
     -- a part that was read: those behind it decide
-    pub parts_go : {m : ℕ} → forget (read_part rb s e start end p at) ≡ Ok m → forget (read_parts rb s e start end ps at) ≡ forget (read_parts rb s e start end qs m)
+    pub parts_go : {m : ℕ} → forget (read_part rb s e start end p at) ≡ done m → forget (read_parts rb s e start end ps at) ≡ forget (read_parts rb s e start end qs m)
     unfolding read_parts
     parts_go d = rw h (goes (read_part rb s e start end p at) (read_parts rb s e start end qs) d)
 
 -- behind a header
-found : (o : Outcome (ℕ × ℕ)) (k : (ℕ × ℕ) → Step) {a b : ℕ} → head_of o ≡ Found a b → forget (o >>= k) ≡ forget (k (a, b))
+found : (o : Outcome (ℕ × ℕ)) (k : (ℕ × ℕ) → Step) {h : Head} → head_of o ≡ done h → forget (o >>= k) ≡ forget (k (h.kind, h.end))
 unfolding head_of ◌>>=◌
-found (done h) k {a} {b} e =
-    let e0 : h.0 ≡ a = cc in
-    let e1 : h.1 ≡ b = cc in
-    ap₂ (λ (x y : ℕ). forget (k (x, y))) e0 e1
-found (refused r) k e = let z : ◌≡◌ {A = ℕ} 0 1 = cc in absurd (omega arith)
+found (done x) k {h} e =
+    let e0 : x.0 ≡ h.kind = cc in
+    let e1 : x.1 ≡ h.end = cc in
+    ap₂ (λ (y z : ℕ). forget (k (y, z))) e0 e1
+found (refused r) k e = absurd (not_done e)
 
 -- a refused header refuses what stands behind it
-none : (o : Outcome (ℕ × ℕ)) (k : (ℕ × ℕ) → Step) {q x : ℕ} → head_of o ≡ No q x → forget (o >>= k) ≡ Refused q x
+none : (o : Outcome (ℕ × ℕ)) (k : (ℕ × ℕ) → Step) {r : Refusal} → head_of o ≡ refused r → forget (o >>= k) ≡ refused r
 unfolding head_of ◌>>=◌ forget
-none (done h) k e = let z : ◌≡◌ {A = ℕ} 0 1 = cc in absurd (omega arith)
+none (done h) k e = absurd (not_done (sym e))
 none (refused r) k e = cc
 
 -- the end of a block, behind its parts
@@ -62,52 +62,55 @@ last at kind stop x = ask (eqb x.1 stop) (unread 2 at) >>= (λ u. done (block at
 
 module _ (at kind stop : ℕ) {n : ℕ} where
   -- the body is used up: the block is read
-  last_ok : (x : Step) → forget x ≡ Ok n → n ≡ stop → forget (x >>= last at kind stop) ≡ Ok stop
+  last_ok : (x : Step) → forget x ≡ done n → n ≡ stop → forget (x >>= last at kind stop) ≡ done stop
   unfolding last forget ◌>>=◌ ask
   last_ok (done p) e h = let e1 : p.1 ≡ stop = cc in rw (eq-eqb p.1 stop e1)
   last_ok (refused r) e h = let z : ◌≡◌ {A = ℕ} 0 1 = cc in absurd (omega arith)
 
   -- the body is not used up: question 2 refuses the block
-  last_rest : (x : Step) → forget x ≡ Ok n → (n ≡ stop → ⊥) → forget (x >>= last at kind stop) ≡ Refused 2 at
+  last_rest : (x : Step) → forget x ≡ done n → (n ≡ stop → ⊥) → forget (x >>= last at kind stop) ≡ refused (unread 2 at)
   unfolding last forget ◌>>=◌ ask
   last_rest (done p) e h = let e1 : n ≡ p.1 = cc in rw (ne_eqb p.1 stop (λ g. h (e1 ∙ g)))
   last_rest (refused r) e h = let z : ◌≡◌ {A = ℕ} 0 1 = cc in absurd (omega arith)
 
 module _ (s : List ℕ) (e : Earlier) (lo hi at end : ℕ) where
   -- a refused header refuses the block
-  pub block_no : (room : ℕ) {q o : ℕ} → head_of (read_header s lo hi at end) ≡ No q o → forget (read_block room s e lo hi at end) ≡ Refused q o
+  pub block_no : (room : ℕ) {r : Refusal} → head_of (read_header s lo hi at end) ≡ refused r → forget (read_block room s e lo hi at end) ≡ refused r
   unfolding read_block
   block_no zero d = none (read_header s lo hi at end) _ d
   block_no (suc room) d = none (read_header s lo hi at end) _ d
 
-  module _ {k stop : ℕ} (d : head_of (read_header s lo hi at end) ≡ Found k stop) where
+  module _ {h : Head} (d : head_of (read_header s lo hi at end) ≡ done h) where
     -- no more block may be open: question 4 refuses it
-    pub block_full : (room : ℕ) → room ≡ 0 → forget (read_block room s e lo hi at end) ≡ Refused 4 at
+    pub block_full : (room : ℕ) → room ≡ 0 → forget (read_block room s e lo hi at end) ≡ refused (unread 4 at)
     unfolding read_block forget
-    block_full room h = rw h (found (read_header s lo hi at end) _ d)
+    block_full room g = rw g (found (read_header s lo hi at end) _ d)
 
     -- its parts, read with this many blocks that may still be open
     abbrev inner : ℕ → Step
-    inner room = read_parts (read_block room s) s e at stop (parts_of k) (at + 6)
+    inner room = read_parts (read_block room s) s e at h.end (parts_of h.kind) (at + 6)
 
     -- where a block may be open, its parts and its end decide
-    opened : (room : ℕ) → (room ≡ 0 → ⊥) → forget (read_block room s e lo hi at end) ≡ forget (inner (room - 1) >>= last at k stop)
+    opened : (room : ℕ) → 0 < room → forget (read_block room s e lo hi at end) ≡ forget (inner (room - 1) >>= last at h.kind h.end)
     unfolding read_block last
-    opened zero h = absurd (h refl)
-    opened (suc room) h = rw sub-one (found (read_header s lo hi at end) _ d)
+    opened zero l = absurd (omega arith)
+    opened (suc room) l = rw sub-one (found (read_header s lo hi at end) _ d)
 
-    module _ (room : ℕ) (h : room ≡ 0 → ⊥) where
+    module _ (room : ℕ) (l : 0 < room) where
       -- refused parts refuse the block
-      pub block_stop : {q o : ℕ} → forget (inner (room - 1)) ≡ Refused q o → forget (read_block room s e lo hi at end) ≡ Refused q o
-      block_stop g = opened room h ∙ stopped (inner (room - 1)) (last at k stop) g
+      pub block_stop : {r : Refusal} → forget (inner (room - 1)) ≡ refused r → forget (read_block room s e lo hi at end) ≡ refused r
+      block_stop g = opened room l ∙ stopped (inner (room - 1)) (last at h.kind h.end) g
 
       -- parts that end where the block ends: it is read
-      pub block_ok : {n : ℕ} → forget (inner (room - 1)) ≡ Ok n → n ≡ stop → forget (read_block room s e lo hi at end) ≡ Ok stop
-      block_ok g x = opened room h ∙ last_ok at k stop (inner (room - 1)) g x
+      pub block_ok : {n : ℕ} → forget (inner (room - 1)) ≡ done n → n ≡ h.end → forget (read_block room s e lo hi at end) ≡ done h.end
+      block_ok g x = opened room l ∙ last_ok at h.kind h.end (inner (room - 1)) g x
 
       -- parts that end before it: question 2 refuses it
-      pub block_rest : {n : ℕ} → forget (inner (room - 1)) ≡ Ok n → (n ≡ stop → ⊥) → forget (read_block room s e lo hi at end) ≡ Refused 2 at
-      block_rest g x = opened room h ∙ last_rest at k stop (inner (room - 1)) g x
+      pub block_rest : {n : ℕ} → forget (inner (room - 1)) ≡ done n → (n ≡ h.end → ⊥) → forget (read_block room s e lo hi at end) ≡ refused (unread 2 at)
+      block_rest g x = opened room l ∙ last_rest at h.kind h.end (inner (room - 1)) g x
+
+-- all that a block needs behind its header
+pub ruleset steps = (block_no, block_full, block_stop, block_ok, block_rest)
 
 -- ---- a name of question 6 is the first part of its block
 
@@ -165,12 +168,12 @@ module _ (P : ℕ → Type 0) (rb : Reader) (s : List ℕ) (e : Earlier) (start 
 
   module _ {row here : ℕ} (l : Left P rb s e start end kind at row here) where
     -- none is left: the block ends here
-    pub none_left : row ≡ 0 → forget (read_parts rb s e start end (parts_of kind) at) ≡ Ok here
+    pub none_left : row ≡ 0 → forget (read_parts rb s e start end (parts_of kind) at) ≡ done here
     none_left h = l.same ∙ parts_none rb s e start end here (no_digit row l.parts l.digits h)
 
     module _ (h : row ≡ 0 → ⊥) where
       -- the part of the first is refused, and so is the block
-      pub left_stop : {q o : ℕ} → forget (read_part rb s e start end (part_of (row % 32)) here) ≡ Refused q o → forget (read_parts rb s e start end (parts_of kind) at) ≡ Refused q o
+      pub left_stop : {r : Refusal} → forget (read_part rb s e start end (part_of (row % 32)) here) ≡ refused r → forget (read_parts rb s e start end (parts_of kind) at) ≡ refused r
       left_stop d = let w = digit row l.parts l.digits h in l.same ∙ parts_stop rb s e start end w.1 here d
 
       -- it is a name of question 6 only where P holds
@@ -178,7 +181,7 @@ module _ (P : ℕ → Type 0) (rb : Reader) (s : List ℕ) (e : Earlier) (start 
       left_key d = let w = digit row l.parts l.digits h in keys_first P (part_of (row % 32)) w.0 (rw w.1 at l.keys) d
 
       -- it is read: the others are left
-      pub left_go : {m : ℕ} → forget (read_part rb s e start end (part_of (row % 32)) here) ≡ Ok m → Left P rb s e start end kind at (row / 32) m
+      pub left_go : {m : ℕ} → forget (read_part rb s e start end (part_of (row % 32)) here) ≡ done m → Left P rb s e start end kind at (row / 32) m
       left_go d =
           let w = digit row l.parts l.digits h in
           record {
@@ -187,3 +190,6 @@ module _ (P : ℕ → Type 0) (rb : Reader) (s : List ℕ) (e : Earlier) (start 
             keys = keys_rest P (part_of (row % 32)) w.0 (rw w.1 at l.keys);
             same = l.same ∙ parts_go rb s e start end w.1 here d;
           }
+
+-- all that the parts of a block need, one after the other
+pub ruleset rows = (all_left, none_left, left_stop, left_key, left_go)

@@ -3,19 +3,16 @@ use mathlib.Core.Path.{◌≡◌, refl, sym, ◌∙◌, ap, ap₂}
 use mathlib.Core.Bool.{true}
 use mathlib.Core.List.{List, [], ◌∷◌}
 use mathlib.Core.Logic.{◌⊎◌, inl, inr}
-use Prim.Native.Nat.{ℕ, zero, suc, ◌+◌, ◌-◌, ◌<◌, ◌≤◌}
+use Prim.Native.Nat.{ℕ, zero, suc, ◌+◌, ◌-◌, ◌≤◌}
 use native.Mathlib.Omega.{arith}
 use native.Mathlib.Numerals.{add-one}
 use lib.Dec.{leb, eqb}
 use lib.ListN.{length, drop}
-use types.Run.{OneOf, miss}
-use denote.Enum.Declared.{tag_of}
 use borrow.Author.Tests.{leb-true}
 use Rattle.errors.specs.Refusal.{done, ◌>>=◌}
 use Rattle.errors.proofs.Laws.{done_one, not_done, asked, bound, bound_done}
 use Rattle.blocks.specs.declared.Part.{Part}
 use Rattle.blocks.specs.declared.Part.TheVariants.{Text, Key, Number, Flag, Size, OptNumber, OptText, Literal, Block, OptBlock, Blocks, Ascending, Distinct, Names, Paths, Values}
-use Rattle.blocks.specs.contracts.Part.{the_type}
 use Rattle.reader_grammar.proofs.Laws.{type_begins, tree_begins}
 use Rattle.blocks.specs.Bytes.{le2, le4}
 use Rattle.blocks.specs.Name.{Name}
@@ -26,11 +23,10 @@ use Rattle.blocks.specs.Read.{Step, Earlier, Reader, name_of, paths_of, paths_be
 use Rattle.roundtrip.proofs.Accepted.{header_got}
 use Rattle.reader_leaf.specs.declared.Seen.{Seen}
 use Rattle.reader_leaf.specs.declared.Seen.TheVariants.{Nothing, Owners, Types}
-use Rattle.reader_leaf.specs.declared.Read.TheVariants.{Ok}
 use Rattle.reader_leaf.specs.Answer.{forget}
 use Rattle.reader_leaf.specs.Seen.{Plain, name_at, behind, names_before, Fresh, last_of, Valid, Here, earlier_of, grown_of, Grows}
 use Rattle.reader_leaf.proofs.Laws.{taken}
-use Rattle.reader_leaf.proofs.Lists.{key_done, entries_go}
+use Rattle.reader_leaf.proofs.Lists.{key_done, list_of, list_bad, entries_none, entries_stop, entries_go}
 use Rattle.reader_leaf.proofs.Distinct.{stand_more, behind_more, stand_none}
 use Rattle.reader.specs.Before.{Suits, Before}
 
@@ -238,18 +234,21 @@ module _ (room : ℕ) (s : List ℕ) (lo hi end : ℕ) where
   abbrev pub entry : Earlier → ℕ → Step
   entry f a = read_block room s f lo hi a end
 
-  module _ (fits : end ≤ length s) {seen : Seen} {at m : ℕ} (b : Before s seen lo hi at) (d : forget (read_block room s (earlier_of s seen) lo hi at end) ≡ Ok m) where
+  module _ (fits : end ≤ length s) {seen : Seen} {at m : ℕ} (b : Before s seen lo hi at) (d : forget (read_block room s (earlier_of s seen) lo hi at end) ≡ done m) where
     -- so the code may add the block to what it keeps
     pub list_grows : Grows s seen at
     list_grows = let t = taken (read_block room s (earlier_of s seen) lo hi at end) d in (next room s lo hi at end fits t.0 seen b t.1).grows
 
     -- and the blocks left behind it decide
-    pub list_go : (left : ℕ) {r : Seen} → 0 < left → r ≡ grown_of s seen at →
-        Before s r lo hi m × (forget (read_entries entry (earlier_of s seen) left at) ≡ forget (read_entries entry (earlier_of s r) (left - 1) m))
-    list_go left h g =
+    pub list_go : {left : ℕ} (more : ℕ) {r : Seen} → left ≡ more + 1 → r ≡ grown_of s seen at →
+        Before s r lo hi m × (forget (read_entries entry (earlier_of s seen) left at) ≡ forget (read_entries entry (earlier_of s r) more m))
+    list_go more h g =
         let t = taken (read_block room s (earlier_of s seen) lo hi at end) d in
         let n = next room s lo hi at end fits t.0 seen b t.1 in
-        rw (g, ← t.2) (n.before, rw (← n.same) (entries_go entry (earlier_of s seen) left at t.0 h t.1))
+        rw (g, ← t.2) (n.before, rw (← n.same) (entries_go entry (earlier_of s seen) more at t.0 h t.1))
+
+-- all that a list of blocks needs, one after the other
+pub ruleset lists = (list_of, list_bad, entries_none, entries_stop, list_grows, list_go)
 
 -- ---- where a list begins
 
@@ -283,28 +282,25 @@ module _ (s : List ℕ) (lo hi at : ℕ) where
       begins k a c (inl e) = (drop 1 (parts_of k), type_begins k (omega arith) (omega arith))
       begins k a c (inr e) = let z : k ≡ 161 = omega arith in rw z (drop 1 (parts_of 161), tree_begins)
 
--- ---- the parts that hold no block, as places in `Part`
-
--- their places in `Part`
-abbrev pub others : List ℕ
-others = 0 ∷ 1 ∷ 2 ∷ 3 ∷ 4 ∷ 5 ∷ 6 ∷ 7 ∷ 13 ∷ 14 ∷ 15 ∷ []
+-- ---- the parts that hold no block
 
 -- a part that the match leaves to the last arm holds no block
-pub plain : (p : Part) → OneOf others (tag_of the_type p) → Plain p
+pub plain : (p : Part) → ((lo hi : ℕ) → p ≡ Block lo hi → ⊥) → ((lo hi : ℕ) → p ≡ OptBlock lo hi → ⊥) → ((lo hi limit : ℕ) → p ≡ Blocks lo hi limit → ⊥)
+    → ((lo hi limit : ℕ) → p ≡ Ascending lo hi limit → ⊥) → ((lo hi limit : ℕ) → p ≡ Distinct lo hi limit → ⊥) → Plain p
 unfolding Plain
-plain Text h = tt
-plain Key h = tt
-plain Number h = tt
-plain Flag h = tt
-plain Size h = tt
-plain OptNumber h = tt
-plain OptText h = tt
-plain Literal h = tt
-plain (Block lo hi) h = miss others 8 tt h
-plain (OptBlock lo hi) h = miss others 9 tt h
-plain (Blocks lo hi limit) h = miss others 10 tt h
-plain (Ascending lo hi limit) h = miss others 11 tt h
-plain (Distinct lo hi limit) h = miss others 12 tt h
-plain (Names limit) h = tt
-plain (Paths limit) h = tt
-plain (Values limit) h = tt
+plain Text b o l a d = tt
+plain Key b o l a d = tt
+plain Number b o l a d = tt
+plain Flag b o l a d = tt
+plain Size b o l a d = tt
+plain OptNumber b o l a d = tt
+plain OptText b o l a d = tt
+plain Literal b o l a d = tt
+plain (Block lo hi) b o l a d = b lo hi refl
+plain (OptBlock lo hi) b o l a d = o lo hi refl
+plain (Blocks lo hi limit) b o l a d = l lo hi limit refl
+plain (Ascending lo hi limit) b o l a d = a lo hi limit refl
+plain (Distinct lo hi limit) b o l a d = d lo hi limit refl
+plain (Names limit) b o l a d = tt
+plain (Paths limit) b o l a d = tt
+plain (Values limit) b o l a d = tt

@@ -2,66 +2,53 @@
 use mathlib.Core.Path.{◌≡◌, refl, sym, ◌∙◌, ap}
 use mathlib.Core.Bool.{Bool, true, false}
 use mathlib.Core.List.{List, ◌++◌}
-use Prim.Native.Nat.{ℕ, ◌<◌, ◌≤◌}
+use Prim.Native.Nat.{ℕ, ◌≤◌}
 use native.Mathlib.Omega.{arith}
 use lib.Dec.{leb}
 use lib.ListN.{length, take, drop, replicate, length-replicate}
 use lib.Seq.{length-take-le}
-use borrow.Author.Tests.{le-leb, lt-leb, leb-true, leb-false}
-use Rattle.errors.specs.Refusal.{Outcome, done, refused, ◌>>=◌, ask, enough, unread}
+use borrow.Author.Tests.{leb-true, leb-false}
+use Rattle.errors.specs.Refusal.{Refusal, Outcome, done, refused, ◌>>=◌, ask, enough, unread}
+use Rattle.std.specs.Prelude.{Result, Ok, Err, IsErrAnd}
+use Rattle.value.specs.declared.Value.{Value}
+use Rattle.errors.specs.declared.Refusal as code
+use Rattle.errors.specs.declared.Unread.{Unread}
+use Rattle.errors.specs.Meaning.{number_of, refusal_of, outcome_of}
 use Rattle.errors.specs.Answer.{read}
+use Rattle.reader_leaf.specs.Answer.{read_of}
 use Rattle.errors.proofs.Laws.{asked, bound}
 use Rattle.blocks.specs.Tree.{Tree}
 use Rattle.blocks.specs.Read.{small, read_input, read_layout}
-use Rattle.blocks.proofs.Refusals.{Unread, input_unread}
 use Rattle.wire.proofs.Laws.{part_cleared}
-use Rattle.reader_leaf.specs.declared.Read.{Read}
-use Rattle.reader_leaf.specs.declared.Read.TheVariants.{Ok, Refused}
 use Rattle.reader.specs.Input.{input_of}
-use Rattle.reader_calls.specs.Inputs.{asks, read_call, judge, passed, passed_of, behind, Least}
+use Rattle.reader_calls.specs.Inputs.{asks, read_call, judge, passed, behind, Least}
 
--- ---- 19 and 1
+-- ---- an error that is passed on
 
-module _ (n : ℕ) (s : List ℕ) where
-  -- fewer than 8,192 words: 19
-  pub asked_19 : n < 8192 → passed_of (Refused 19 0) ≡ asks n s
-  unfolding passed_of asks enough ◌>>=◌ ask
-  asked_19 h = rw (lt-leb _ _ h)
+module _ (u : Unread) where
+  -- the same error
+  pub hands : {A : Type 0} (z : Result A Unread) → IsErrAnd z (λ (e : Unread). e ≡ u) → read_of z ≡ refused (unread (number_of u.reason) u.offset)
+  hands (Ok a) f = absurd f
+  hands (Err e) f = rw f
 
-  module _ (h : 8192 ≤ n) where
-    -- an input of more than 65,536 bytes: 1
-    pub asked_1 : 65536 < length s → passed_of (Refused 1 0) ≡ asks n s
-    unfolding passed_of asks enough small ◌>>=◌ ask
-    asked_1 g = rw (le-leb _ _ h, lt-leb _ _ g)
-
-    -- another passes both
-    pub asked_yes : (i : ℕ) → length s ≤ 65536 → passed_of (Ok i) ≡ asks n s
-    unfolding passed_of asks enough small ◌>>=◌ ask
-    asked_yes i g = rw (le-leb _ _ h, le-leb _ _ g)
+  -- its refusal
+  pub hands_refusal : (z : Result Value code.Refusal) → IsErrAnd z (λ (x : code.Refusal). refusal_of x ≡ unread (number_of u.reason) u.offset) →
+      outcome_of z ≡ refused (unread (number_of u.reason) u.offset)
+  hands_refusal (Ok a) f = absurd f
+  hands_refusal (Err e) f = ap refused f
 
 -- ---- the reading
 
 -- a refusal of reading has no place and no value, so the reader's answer says all of it
-input_passed : {o : Outcome Tree} (n : ℕ) → Unread o → passed_of (input_of n o) ≡ passed o
-unfolding input_of passed_of passed
-input_passed n (Unread.given t) = refl
-input_passed n (Unread.at_offset q o) = refl
-
-module _ {x : Read} (s : List ℕ) (room k : ℕ) where
-  -- where the questions before were passed, reading decides
-  pub then_yes : {r : Read} {i : ℕ} → x ≡ Ok i → r ≡ input_of (length s) (read_input room k s) → passed_of r ≡ behind (passed_of x) (read_input room k s)
-  unfolding passed_of ◌>>=◌
-  then_yes e d = ap passed_of d ∙ input_passed (length s) (input_unread room k s) ∙ rw e
-
-  -- where one was not, its refusal
-  pub then_no : {q o : ℕ} → x ≡ Refused q o → passed_of (Refused q o) ≡ behind (passed_of x) (read_input room k s)
-  unfolding passed_of ◌>>=◌
-  then_no e = rw e
+pub input_passed : (o : Outcome Tree) {x : Outcome ℕ} (n : ℕ) → x ≡ input_of n o → passed x ≡ passed o
+unfolding input_of passed
+input_passed (done t) n e = rw e
+input_passed (refused r) n e = rw e
 
 -- ---- one input
 
 -- 19 and 1, then the reading
-one_is : (n : ℕ) (s : List ℕ) (room k : ℕ) → behind (asks n s) (read_input room k s) ≡ passed (read_call (read_input room k) n s)
+pub one_is : (n : ℕ) (s : List ℕ) (room k : ℕ) → behind (asks n s) (read_input room k s) ≡ passed (read_call (read_input room k) n s)
 unfolding asks read_call ◌>>=◌ passed
 one_is n s room k = go (enough n) (small s) (read_input room k s)
   where
@@ -70,10 +57,9 @@ one_is n s room k = go (enough n) (small s) (read_input room k s)
     go (done u) (refused r) x = refl
     go (done u) (done v) x = refl
 
--- in the code's form: x is its answer to 19 and 1
-pub one_passed : (n : ℕ) (s : List ℕ) (room k : ℕ) (x r : Read) → passed_of x ≡ asks n s → passed_of r ≡ behind (passed_of x) (read_input room k s) →
-    passed_of r ≡ passed (read_call (read_input room k) n s)
-one_passed n s room k x r d e = e ∙ ap (λ (z : Outcome Unit). behind z (read_input room k s)) d ∙ one_is n s room k
+-- by what 19 and 1 come to
+pub one_asked : (n : ℕ) (s : List ℕ) (room k : ℕ) {x : Outcome Unit} → x ≡ asks n s → behind x (read_input room k s) ≡ passed (read_call (read_input room k) n s)
+one_asked n s room k e = ap (λ (o : Outcome Unit). behind o (read_input room k s)) e ∙ one_is n s room k
 
 -- an accepted reading has no count
 pub read_passed : {A : Type 0} (o : Outcome A) → read (passed o) ≡ read o
@@ -85,7 +71,7 @@ read_passed (refused r) = refl
 
 module _ (n : ℕ) (l v : List ℕ) (k : ℕ) where
   -- 1 may be asked of the other input before the layout's questions are put: it gives the same refusal
-  both_is : (asks n v >>= (λ _. behind (passed (read_call read_layout n l)) (read_input 2 k v))) ≡ passed (judge n l v k)
+  pub both_is : (asks n v >>= (λ _. behind (passed (read_call read_layout n l)) (read_input 2 k v))) ≡ passed (judge n l v k)
   unfolding asks read_call judge small ◌>>=◌ ask passed
   both_is = go (enough n) (leb (length l) 65536) (leb (length v) 65536) (read_layout l) (read_input 2 k v)
     where
@@ -100,36 +86,33 @@ module _ (n : ℕ) (l v : List ℕ) (k : ℕ) where
       go (done u) true true (done t) (refused r) = refl
       go (done u) true true (done t) (done w) = refl
 
-  module _ {x : Read} (a : passed_of x ≡ asks n v) where
-    -- 19, or 1 of the other input
-    pub other_no : {q o : ℕ} → x ≡ Refused q o → passed_of (Refused q o) ≡ passed (judge n l v k)
-    unfolding passed_of ◌>>=◌
-    other_no e = ap (λ (z : Outcome Unit). z >>= (λ _. behind (passed (read_call read_layout n l)) (read_input 2 k v))) (ap passed_of (sym e) ∙ a) ∙ both_is
+  -- 19, or 1 of the other input
+  pub other_stops : {r : Refusal} → refused r ≡ asks n v → refused r ≡ passed (judge n l v k)
+  unfolding ◌>>=◌
+  other_stops e = ap (λ (z : Outcome Unit). z >>= (λ _. behind (passed (read_call read_layout n l)) (read_input 2 k v))) e ∙ both_is
 
-    -- else the layout's questions, and then the reading of the other input
-    pub other_yes : (y r : Read) {i : ℕ} → x ≡ Ok i → passed_of y ≡ passed (read_call read_layout n l) → passed_of r ≡ behind (passed_of y) (read_input 2 k v) →
-        passed_of r ≡ passed (judge n l v k)
-    unfolding passed_of ◌>>=◌
-    other_yes y r e d f =
-        f
-        ∙ ap (λ (z : Outcome Unit). behind z (read_input 2 k v)) d
-        ∙ ap (λ (z : Outcome Unit). z >>= (λ _. behind (passed (read_call read_layout n l)) (read_input 2 k v))) (ap passed_of (sym e) ∙ a)
-        ∙ both_is
+  -- else the layout's questions, and then the reading of the other input
+  pub other_goes : {y : Outcome Unit} → done tt ≡ asks n v → y ≡ passed (read_call read_layout n l) → behind y (read_input 2 k v) ≡ passed (judge n l v k)
+  unfolding ◌>>=◌
+  other_goes a d =
+      ap (λ (z : Outcome Unit). behind z (read_input 2 k v)) d
+      ∙ ap (λ (z : Outcome Unit). z >>= (λ _. behind (passed (read_call read_layout n l)) (read_input 2 k v))) a
+      ∙ both_is
 
--- ---- in the code's form: r is what it answers of the questions
+-- ---- in the code's form
 
-module _ {A : Type 0} {r : Read} where
+module _ {A : Type 0} where
   -- a refusal is the call's
-  pub passed_no : (o : Outcome A) {q p : ℕ} → passed_of r ≡ passed o → r ≡ Refused q p → o ≡ refused (unread q p)
-  unfolding passed_of passed
-  passed_no (done a) d e = let z : ◌≡◌ {A = ℕ} 0 1 = cc in absurd (omega arith)
-  passed_no (refused x) d e = cc
+  pub passed_no : (o : Outcome A) {r : Refusal} → refused r ≡ passed o → o ≡ refused r
+  unfolding passed
+  passed_no (done a) d = cc
+  passed_no (refused x) d = cc
 
   -- what was passed was read
-  pub passed_yes : (o : Outcome A) {i : ℕ} → passed_of r ≡ passed o → r ≡ Ok i → (x : A) × (o ≡ done x)
-  unfolding passed_of passed
-  passed_yes (done a) d e = (a, refl)
-  passed_yes (refused x) d e = let z : ◌≡◌ {A = ℕ} 0 1 = cc in absurd (omega arith)
+  pub passed_yes : (o : Outcome A) → done tt ≡ passed o → (x : A) × (o ≡ done x)
+  unfolding passed
+  passed_yes (done a) d = (a, refl)
+  passed_yes (refused x) d = cc
 
 -- one input was read, and its questions were passed
 pub record Called (room k n : ℕ) (s : List ℕ) : Type 0 where
@@ -140,9 +123,9 @@ pub record Called (room k n : ℕ) (s : List ℕ) : Type 0 where
   pub input_read : read_input room k s ≡ done tree
 
 -- by what the code answers
-pub called : {n : ℕ} {s : List ℕ} {room k i : ℕ} {r : Read} → passed_of r ≡ passed (read_call (read_input room k) n s) → r ≡ Ok i → Called room k n s
+pub called : {n : ℕ} {s : List ℕ} {room k : ℕ} → done tt ≡ passed (read_call (read_input room k) n s) → Called room k n s
 unfolding read_call enough small
-called {n} {s} {room} {k} d e = let x = passed_yes (read_call (read_input room k) n s) d e in go x.0 x.1
+called {n} {s} {room} {k} d = let x = passed_yes (read_call (read_input room k) n s) d in go x.0 x.1
   where
     go : (t : Tree) → read_call (read_input room k) n s ≡ done t → Called room k n s
     go t f =
@@ -176,8 +159,8 @@ judged_as n s v k x e =
         record { layout = l.0; other = t.0; is = e ∙ sym t.2; words = h; small_layout = g; layout_read = l.1; other_read = t.1 }
 
 -- by what the code answers
-pub judged : {n : ℕ} {s v : List ℕ} {k i : ℕ} {r : Read} → passed_of r ≡ passed (judge n s v k) → r ≡ Ok i → Judged n s v k
-judged {n} {s} {v} {k} d e = let x = passed_yes (judge n s v k) d e in judged_as n s v k x.0 x.1
+pub judged : {n : ℕ} {s v : List ℕ} {k : ℕ} → done tt ≡ passed (judge n s v k) → Judged n s v k
+judged {n} {s} {v} {k} d = let x = passed_yes (judge n s v k) d in judged_as n s v k x.0 x.1
 
 -- ---- the words that a call uses: the first k of n words that are zero, and at most m
 

@@ -1,10 +1,8 @@
 -- The questions with which a call begins: 19, 1 for each input, then the reading of each. What the code answers of them.
 use Rattle.std.specs.Prelude.{ℕ, ◌<◌, ◌≤◌, ◌≡◌, List}
-use Rattle.errors.specs.Refusal.{Outcome, done, refused, ◌>>=◌, enough, unread}
+use Rattle.errors.specs.Refusal.{Outcome, done, refused, ◌>>=◌, enough}
 use Rattle.blocks.specs.Tree.{Tree}
 use Rattle.blocks.specs.Read.{small, read_input, read_layout}
-use Rattle.reader_leaf.specs.declared.Read.{Read}
-use Rattle.reader_leaf.specs.declared.Read.TheVariants.{Ok, Refused}
 
 -- with so many working words: before an input is read
 unfoldable pub asks : ℕ → List ℕ → Outcome Unit
@@ -33,11 +31,6 @@ judge words layout input kind = do
 unfoldable pub passed : {A : Type 0} → Outcome A → Outcome Unit
 passed (done a) = done tt
 passed (refused r) = refused r
-
--- what the code's answer says of them. "Offset is the block's start in the input refused for 1 to 6."
-unfoldable pub passed_of : Read → Outcome Unit
-passed_of (Ok n) = done tt
-passed_of (Refused q o) = refused (unread q o)
 
 -- "The first "no" decides": a reading behind questions
 abbrev pub behind : Outcome Unit → Outcome Tree → Outcome Unit

@@ -1,4 +1,6 @@
 // The parts of every kind of block as digits of its row, and back from a digit to the part.
+// Kinds, digits and rows stay numbers: the grammar has kinds by ranges of the format's numbers, and the rows go on into the table of node
+// kinds (ir_nodes), which document 01 names.
 #![tactic(auto)]
 
 ghost use Rattle.std.specs.Prelude.{◌≡◌, ◌≤◌, ◌<◌};
@@ -96,6 +98,7 @@ const RUN: u64 = TEXT + 32 * NUMBER + 1024 * RUN_VALUES;
 // The tables are matches, not arrays: the compiled code makes an array anew wherever it is indexed.
 
 // Types, and what they hold.
+#[tactic(auto, unfolding(blocks::specs::Grammar::grammar, blocks::specs::Grammar::find_row, ir_nodes::specs::Codes::row_of))]
 fn type_row(kind: usize) -> u64
     requires { kind < 64 }
     ensures { result ≡ row_of (find_row kind grammar) }
@@ -104,8 +107,7 @@ fn type_row(kind: usize) -> u64
         // primitive
         1 => HEAD,
         // struct, union
-        2 => FIELDED,
-        3 => FIELDED,
+        2 | 3 => FIELDED,
         // enum
         4 => ENUM,
         // array
@@ -119,8 +121,7 @@ fn type_row(kind: usize) -> u64
         // field
         33 => FIELD,
         // enum variant, sized variant
-        34 => VARIANT,
-        35 => VARIANT,
+        34 | 35 => VARIANT,
         // type set
         36 => TYPES,
         // owner
@@ -130,6 +131,7 @@ fn type_row(kind: usize) -> u64
 }
 
 // Expressions.
+#[tactic(auto, unfolding(blocks::specs::Grammar::grammar, blocks::specs::Grammar::find_row, ir_nodes::specs::Codes::row_of))]
 fn expression_row(kind: usize) -> u64
     requires { (64 ≤ kind) × (kind < 128) }
     ensures { result ≡ row_of (find_row kind grammar) }
@@ -140,8 +142,7 @@ fn expression_row(kind: usize) -> u64
         // field reference
         65 => SEGMENTS,
         // a name
-        66 => TEXT,
-        67 => TEXT,
+        66 | 67 => TEXT,
         // two expressions, or one
         68..=78 => BINARY,
         79..=82 => EXPRESSION,
@@ -151,6 +152,7 @@ fn expression_row(kind: usize) -> u64
 }
 
 // Layouts without their nodes, values and runs.
+#[tactic(auto, unfolding(blocks::specs::Grammar::grammar, blocks::specs::Grammar::find_row, ir_nodes::specs::Codes::row_of))]
 fn layout_row(kind: usize) -> u64
     requires { 144 < kind }
     ensures { result ≡ row_of (find_row kind grammar) }
@@ -175,6 +177,7 @@ fn layout_row(kind: usize) -> u64
 }
 
 // The row of a kind; 0 where there is no such kind.
+#[tactic(auto, unfolding(blocks::specs::Grammar::parts_of))]
 pub fn row(kind: usize) -> u64
     ensures { result ≡ row_of (parts_of kind) }
 {
@@ -191,6 +194,7 @@ pub fn row(kind: usize) -> u64
 }
 
 // The part of a digit.
+#[tactic(auto, unfolding(ir_nodes::specs::Codes::part_of))]
 pub fn part_of(digit: u64) -> Part
     ensures { result ≡ part_of digit }
 {

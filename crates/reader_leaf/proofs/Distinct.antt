@@ -17,7 +17,7 @@ use Rattle.marks.proofs.Tables.{linked_none}
 use Rattle.name_marks.specs.Mark.{mark_of}
 use Rattle.reader_leaf.specs.Mark.{mark_in}
 use Rattle.reader_leaf.specs.Seen.{name_at, NameIn, behind, names_before, Fresh, Stand}
-use Rattle.reader_leaf.proofs.Laws.{among_none}
+use Rattle.reader_leaf.proofs.Laws.{among_none, owners_last, owners_order, key_free, key_alike}
 
 -- ---- one block more
 
@@ -62,6 +62,9 @@ module _ (s : List ℕ) (first : ℕ) where
   unfolding Fresh in_order
   fresh_order fresh count at f l e = rw (e, f count l)
 
+-- all that a name needs of what is kept of those before it
+pub ruleset seen_keys = (owners_last, owners_order, key_free, key_alike, fresh_order)
+
 -- ---- a search from the first block on
 
 -- it has passed `count` blocks, whose names none before them has, and stands at the next
@@ -77,11 +80,11 @@ module _ (s : List ℕ) (first : ℕ) where
   known_none = record { here = refl; stand = stand_none s first; fresh = fresh_few s first 0 (omega arith) }
 
   -- a block whose name none before it has is passed
-  pub known_more : {count at next : ℕ} → Known s first count at → NameIn s (at + 6) × (next ≡ at + 4 + le4 s at)
+  pub known_more : {count at next end : ℕ} → Known s first count at → (next ≡ at + 4 + le4 s at) × (next ≤ end) × NameIn s (at + 6)
       → among (name_at s (at + 6)) (names_before s first count) ≡ false → Known s first (count + 1) next
   known_more {count} {at} k n g = record {
-    here = behind_more s first count at k.here n.1;
-    stand = stand_more s first count at k.here k.stand n.0;
+    here = behind_more s first count at k.here n.0;
+    stand = stand_more s first count at k.here k.stand n.2;
     fresh = fresh_more s first count at k.here k.fresh g;
   }
 
@@ -89,11 +92,6 @@ module _ (s : List ℕ) (first : ℕ) where
 pub told : (t b : Bool) → b ≡ not t → b ≡ true → t ≡ false
 told true b e h = sym h ∙ e
 told false b e h = refl
-
--- a test whose negation is false holds
-pub not_not : (b : Bool) → not b ≡ false → b ≡ true
-not_not true e = refl
-not_not false e = sym e
 
 -- ---- the table of marks
 

@@ -1,21 +1,21 @@
 -- Each part of a block that holds no block, as the code sees it: the tree is forgotten.
 use mathlib.Core.Path.{◌≡◌, refl, sym, ◌∙◌, ap}
-use mathlib.Core.Bool.{Bool, true, false, cond, not, ◌||◌}
+use mathlib.Core.Bool.{Bool, true, false, not, not-not, ◌||◌}
 use mathlib.Core.List.{List, [], ◌∷◌}
-use Prim.Native.Nat.{ℕ, zero, suc, ◌+◌, ◌-◌, ◌^◌, ◌<◌, ◌≤◌}
+use Prim.Native.Nat.{ℕ, zero, suc, ◌+◌, ◌-◌, ◌<◌, ◌≤◌}
 use native.Mathlib.Omega.{arith}
 use lib.Dec.{leb, ltb, eqb}
-use lib.ListN.{get_or, take, drop, get_or-eq_default}
+use lib.ListN.{get_or, take, drop}
 use borrow.Author.Tests.{le-leb, eq-eqb, ne_eqb, ltb-true, ltb-false}
-use Rattle.errors.specs.Refusal.{done, refused, ◌>>=◌, ask, unread}
+use Rattle.errors.specs.Refusal.{Refusal, Outcome, done, refused, ◌>>=◌, ask, unread}
 use Rattle.errors.proofs.Laws.{asked}
 use Rattle.blocks.specs.Bytes.{le2, bytes_at}
 use Rattle.blocks.specs.Name.{Name, is_text, same, less, among}
 use Rattle.blocks.specs.Tree.{Tree, name, num, cons}
-use Rattle.blocks.specs.Read.{Step, Earlier, paths_before, in_order, name_of, signed_in, in_type, read_text, read_key, read_flag, read_if, read_optional}
+use Rattle.blocks.specs.Read.{Step, Earlier, paths_before, in_order, name_of, read_text, read_key, read_flag, read_if, read_optional}
 pub use Rattle.wire.proofs.Names.{name_part}
-use Rattle.wire.specs.declared.Block.{Block as Searched}
-use Rattle.wire.specs.declared.Block.TheVariants.{At, Missing}
+use Rattle.std.specs.Prelude.{Option, is_some}
+use Rattle.wire.specs.declared.Position.{Position}
 use Rattle.wire.specs.Named.{BlockNamed}
 use Rattle.blocks.proofs.Blocks.{passed_at, passed_not}
 use types.Run.{OneOf, miss}
@@ -25,24 +25,17 @@ use Rattle.blocks.specs.contracts.Part.{the_type}
 use Rattle.blocks.specs.declared.Part.TheVariants.{Text, Key, Number, Flag, Size, OptNumber, OptText, Literal, Block, OptBlock, Blocks, Ascending, Distinct, Names, Paths, Values}
 use Rattle.reader_leaf.specs.declared.Seen.{Seen}
 use Rattle.reader_leaf.specs.declared.Seen.TheVariants.{Nothing, Owners, Types}
-use Rattle.reader_leaf.specs.declared.Read.{Read}
-use Rattle.reader_leaf.specs.declared.Read.TheVariants.{Ok, Refused}
-use Rattle.reader_leaf.specs.Answer.{forget, Inside, TextIn, EntryIn, WideIn}
+use Rattle.reader_leaf.specs.Answer.{forget}
 use Rattle.reader_leaf.specs.Seen.{name_at, LastIn, behind, names_before, last_of, last_name, Stand, earlier_of, seen_paths, Plain}
 
--- whether a search has found a block
-abbrev pub is_found : Searched → Bool
-is_found (At i o) = true
-is_found Missing = false
-
 -- what was read, where the code says that something was
-pub taken : (o : Step) {n : ℕ} → forget o ≡ Ok n → (x : Tree × ℕ) × (o ≡ done x) × (x.1 ≡ n)
+pub taken : (o : Step) {n : ℕ} → forget o ≡ done n → (x : Tree × ℕ) × (o ≡ done x) × (x.1 ≡ n)
 unfolding forget
 taken (done x) e = (x, refl, cc)
 taken (refused r) e = let z : ◌≡◌ {A = ℕ} 0 1 = cc in absurd (omega arith)
 
 -- a refusal on the way decides
-pub stopped : (o : Step) (k : (Tree × ℕ) → Step) {q p : ℕ} → forget o ≡ Refused q p → forget (o >>= k) ≡ Refused q p
+pub stopped : (o : Step) (k : (Tree × ℕ) → Step) {r : Refusal} → forget o ≡ refused r → forget (o >>= k) ≡ refused r
 unfolding forget ◌>>=◌
 stopped (done x) k e = let z : ◌≡◌ {A = ℕ} 0 1 = cc in absurd (omega arith)
 stopped (refused r) k e = e
@@ -54,7 +47,7 @@ then t (done z) = refl
 then t (refused r) = refl
 
 -- where the first of two was read, the second decides
-pub goes : (o : Step) (k : ℕ → Step) {m : ℕ} → forget o ≡ Ok m → forget (o >>= (λ x. k x.1 >>= (λ y. done (cons x.0 y.0, y.1)))) ≡ forget (k m)
+pub goes : (o : Step) (k : ℕ → Step) {m : ℕ} → forget o ≡ done m → forget (o >>= (λ x. k x.1 >>= (λ y. done (cons x.0 y.0, y.1)))) ≡ forget (k m)
 unfolding forget ◌>>=◌
 goes (done x) k {m} e = let h : x.1 ≡ m = cc in then x.0 (k x.1) ∙ ap (λ (i : ℕ). forget (k i)) h
 goes (refused r) k e = let z : ◌≡◌ {A = ℕ} 0 1 = cc in absurd (omega arith)
@@ -73,7 +66,7 @@ module _ (s : List ℕ) (start end at : ℕ) where
         rw (l, le-leb _ _ h, le-leb _ _ d, f)
 
   -- a text that the code accepts: the definition's tree and end
-  pub text_done : {n : ℕ} → forget (read_text s start end at) ≡ Ok n → read_text s start end at ≡ done (name (name_at s at), at + 2 + le2 s at)
+  pub text_done : {n : ℕ} → forget (read_text s start end at) ≡ done n → read_text s start end at ≡ done (name (name_at s at), at + 2 + le2 s at)
   unfolding read_text
   text_done e =
       let t = taken (read_text s start end at) e in
@@ -85,7 +78,7 @@ module _ (s : List ℕ) (start end at : ℕ) where
   -- ---- a flag, and what it announces
 
   -- a flag that the code accepts: the same
-  pub flag_done : {n : ℕ} → forget (read_flag s start end at) ≡ Ok n → (read_flag s start end at ≡ done (num 1 (get_or s at 0), at + 1)) × (at + 1 ≡ n)
+  pub flag_done : {n : ℕ} → forget (read_flag s start end at) ≡ done n → (read_flag s start end at ≡ done (num 1 (get_or s at 0), at + 1)) × (at + 1 ≡ n)
   unfolding read_flag
   flag_done e =
       let t = taken (read_flag s start end at) e in
@@ -96,11 +89,11 @@ module _ (s : List ℕ) (start end at : ℕ) where
 
   module _ (f : ℕ → Step) (on : ℕ) where
     -- a flag that is refused refuses the optional part
-    pub optional_stop : {q o : ℕ} → forget (read_flag s start end at) ≡ Refused q o → forget (read_optional f on s start end at) ≡ Refused q o
+    pub optional_stop : {r : Refusal} → forget (read_flag s start end at) ≡ refused r → forget (read_optional f on s start end at) ≡ refused r
     unfolding read_optional
     optional_stop e = stopped (read_flag s start end at) _ e
 
-    module _ {n : ℕ} (e : forget (read_flag s start end at) ≡ Ok n) where
+    module _ {n : ℕ} (e : forget (read_flag s start end at) ≡ done n) where
       -- behind a flag that was read, its value decides
       optional_if : forget (read_optional f on s start end at) ≡ forget (read_if (eqb (get_or s at 0) on) f n)
       unfolding read_optional ◌>>=◌
@@ -112,18 +105,18 @@ module _ (s : List ℕ) (start end at : ℕ) where
       optional_on h = optional_if ∙ rw (eq-eqb (get_or s at 0) on h)
 
       -- the flag says that it is not: the part ends behind the flag
-      pub optional_off : (get_or s at 0 ≡ on → ⊥) → forget (read_optional f on s start end at) ≡ Ok n
+      pub optional_off : (get_or s at 0 ≡ on → ⊥) → forget (read_optional f on s start end at) ≡ done n
       unfolding read_if forget
       optional_off h = optional_if ∙ rw (ne_eqb (get_or s at 0) on h)
 
   -- ---- a name that something is asked of
 
   -- a name that is no text is refused as that text
-  pub key_stop : (e : Earlier) {q o : ℕ} → forget (read_text s start end at) ≡ Refused q o → forget (read_key s start end e at) ≡ Refused q o
+  pub key_stop : (e : Earlier) {r : Refusal} → forget (read_text s start end at) ≡ refused r → forget (read_key s start end e at) ≡ refused r
   unfolding read_key
   key_stop e d = stopped (read_text s start end at) _ d
 
-  module _ (e : Earlier) {n : ℕ} (d : forget (read_text s start end at) ≡ Ok n) where
+  module _ (e : Earlier) {n : ℕ} (d : forget (read_text s start end at) ≡ done n) where
     -- a name that is a text: question 6 decides
     key_is : forget (read_key s start end e at) ≡ forget (ask (in_order e (name_at s at)) (unread 6 start) >>= (λ u. done (name (name_at s at), n)))
     unfolding read_key ◌>>=◌ name_of
@@ -133,67 +126,52 @@ module _ (s : List ℕ) (start end at : ℕ) where
         let g : at + 2 + le2 s at ≡ n = cc in
         rw (f, g)
 
-    -- so a name in its order is accepted, and another is refused by 6
-    pub key_settled : forget (read_key s start end e at) ≡ cond (in_order e (name_at s at)) (Ok n) (Refused 6 start)
+    -- so what the question answers of it is what is read
+    pub key_settled : {b : Bool} → b ≡ in_order e (name_at s at) → forget (read_key s start end e at) ≡ (ask b (unread 6 start) >>= (λ u. done n))
     unfolding forget ◌>>=◌ ask
-    key_settled = key_is ∙ go (in_order e (name_at s at))
+    key_settled {b} h = key_is ∙ rw (← h) (go b)
       where
-        go : (t : Bool) → forget (ask t (unread 6 start) >>= (λ u. done (name (name_at s at), n))) ≡ cond t (Ok n) (Refused 6 start)
+        go : (t : Bool) → forget (ask t (unread 6 start) >>= (λ u. done (name (name_at s at), n))) ≡ (ask t (unread 6 start) >>= (λ u. done n))
         go true = refl
         go false = refl
 
     -- a name in its order is accepted
-    pub key_yes : in_order e (name_at s at) ≡ true → forget (read_key s start end e at) ≡ Ok n
-    key_yes h = key_settled ∙ rw h
+    pub key_yes : in_order e (name_at s at) ≡ true → forget (read_key s start end e at) ≡ done n
+    unfolding ◌>>=◌ ask
+    key_yes h = key_settled refl ∙ rw h
+
+    module _ {b : Bool} (h : b ≡ in_order e (name_at s at)) where
+      -- the question was answered "yes"
+      pub key_passed : done tt ≡ ask b (unread 6 start) → forget (read_key s start end e at) ≡ done n
+      unfolding ◌>>=◌
+      key_passed g = key_settled h ∙ rw (← g)
+
+      -- it was answered "no"
+      pub key_refused : {r : Refusal} → refused r ≡ ask b (unread 6 start) → forget (read_key s start end e at) ≡ refused r
+      unfolding ◌>>=◌
+      key_refused g = key_settled h ∙ rw (← g)
 
   -- a name that is in its order whatever it is, is read as a text
   pub key_free : (e : Earlier) → true ≡ in_order e (name_at s at) → forget (read_text s start end at) ≡ forget (read_key s start end e at)
   key_free e h = go (forget (read_text s start end at)) refl
     where
-      go : (r : Read) → forget (read_text s start end at) ≡ r → r ≡ forget (read_key s start end e at)
-      go (Ok n) d = sym (key_settled e d ∙ rw (sym h))
-      go (Refused q o) d = sym (key_stop e d)
+      go : (r : Outcome ℕ) → forget (read_text s start end at) ≡ r → r ≡ forget (read_key s start end e at)
+      go (done n) d = sym (key_yes e d (sym h))
+      go (refused r) d = sym (key_stop e d)
 
   -- what question 6 says alike of two lists of names is read alike behind both
   pub key_alike : (e f : Earlier) → in_order e (name_at s at) ≡ in_order f (name_at s at) → forget (read_key s start end e at) ≡ forget (read_key s start end f at)
   key_alike e f h = go (forget (read_text s start end at)) refl
     where
-      go : (r : Read) → forget (read_text s start end at) ≡ r → forget (read_key s start end e at) ≡ forget (read_key s start end f at)
-      go (Ok n) d = key_settled e d ∙ rw h (sym (key_settled f d))
-      go (Refused q o) d = key_stop e d ∙ sym (key_stop f d)
+      go : (r : Outcome ℕ) → forget (read_text s start end at) ≡ r → forget (read_key s start end e at) ≡ forget (read_key s start end f at)
+      go (done n) d = key_settled e d refl ∙ sym (key_settled f d h)
+      go (refused r) d = key_stop e d ∙ sym (key_stop f d)
 
--- ---- what was read lies inside
+-- all that an optional part needs
+pub ruleset optionals = (optional_stop, optional_on, optional_off)
 
--- a text stays where it is, whatever question 6 says
-pub text_settled : (s : List ℕ) (at end : ℕ) (r : Read) (t : Bool) (n start : ℕ) → r ≡ cond t (Ok n) (Refused 6 start) → TextIn (Ok n) s at end → TextIn r s at end
-text_settled s at end r true n start e h = rw e h
-text_settled s at end r false n start e h = rw e tt
-
--- a text that was read ends inside
-pub text_inside : (r : Read) (s : List ℕ) (at end : ℕ) → TextIn r s at end → Inside r end
-text_inside (Ok n) s at end h = h.1
-text_inside (Refused q o) s at end h = tt
-
--- so does a number or a flag
-pub wide_inside : (r : Read) (width at end : ℕ) → WideIn r width at end → Inside r end
-wide_inside (Ok n) width at end h = h.1
-wide_inside (Refused q o) width at end h = tt
-
--- so does a name with a number
-pub pair_inside : (r : Read) (s : List ℕ) (at mid end : ℕ) → (mid ≡ at + 2 + le2 s at) × (mid ≤ end) → WideIn r 8 mid end → EntryIn r s at end
-pair_inside (Ok n) s at mid end e h = (omega arith, h.1)
-pair_inside (Refused q o) s at mid end e h = tt
-
--- ---- a literal's type
-
--- not one of four numbers
-pub past : (k x : ℕ) → k ≤ x → (x ≡ k → ⊥) → (x ≡ k + 1 → ⊥) → (x ≡ k + 2 → ⊥) → (x ≡ k + 3 → ⊥) → k + 4 ≤ x
-past k x h a b c d = omega arith
-
--- a code above 7 has no type: no number lies in it
-pub no_type_lem : (code v : ℕ) → 8 ≤ code → in_type code v ≡ false
-unfolding in_type
-no_type_lem code v h = get_or-eq_default (true ∷ ltb v (2 ^ 32) ∷ ltb v (2 ^ 16) ∷ ltb v (2 ^ 8) ∷ signed_in 64 v ∷ signed_in 32 v ∷ signed_in 16 v ∷ signed_in 8 v ∷ []) false h
+-- all that a name needs that was read as a text
+pub ruleset keys = (key_stop, key_passed, key_refused)
 
 -- ---- names in order
 
@@ -247,15 +225,14 @@ module _ (s : List ℕ) where
     among_none (suc m) h = rw (h m (omega arith)) (among_none m (λ k l. h k (omega arith)))
 
     -- what the search among these blocks says of that
-    among_found : {count : ℕ} {r : Searched} → BlockNamed s n first count r → among n (names_before s first count) ≡ is_found r
+    among_found : {count : ℕ} {r : Option Position} → BlockNamed s n first count r → among n (names_before s first count) ≡ is_some r
     among_found (BlockNamed.at h p e) = among_one _ _ h (rw (passed_at p) at e)
     among_found (BlockNamed.missing p) = among_none _ (passed_not p)
 
   -- so does the code, of the name at an offset
-  pub differs_is : {m n : Name} {first count : ℕ} {r q : Searched} → BlockNamed s m first count r → m ≡ n → r ≡ q → not (is_found q) ≡ not (among n (names_before s first count))
-  differs_is {m} {n} {first} {count} f e d =
-      let z : among m (names_before s first count) ≡ _ = among_found m first f in
-      ap not (sym (ap (λ (l : Name). among l (names_before s first count)) (sym e) ∙ z ∙ ap is_found d))
+  pub differs_is : {m n : Name} {first count : ℕ} {r : Option Position} → BlockNamed s m first count r → m ≡ n → (b : Bool) → is_some r ≡ not b
+      → b ≡ not (among n (names_before s first count))
+  differs_is {m} {n} {first} f e b h = rw (← e, among_found m first f, h) (sym (not-not b))
 
 -- ---- parts without a block
 

@@ -1,3 +1,4 @@
 pub mod Laws
 pub mod Lists
 pub mod Distinct
+pub mod Compute

@@ -1,0 +1,8 @@
+-- Where the names are distinct, the whole list reads as what is left of it.
+use Rattle.std.proofs.Common.{◌+◌, ◌≤◌}
+use Rattle.reader_leaf.specs.Seen.{Fresh}
+use Rattle.reader_quick.proofs.Listed.{Going}
+use Rattle.reader_quick.proofs.each_tree.Given as goal
+
+abbrev pub invariant-loop : goal.invariant-loop
+invariant-loop l = (l.i ≤ l.end) × (Fresh l.s (l.at + 2) l.n → Going l.room l.s l.end l.at l.n l.counter l.i)
