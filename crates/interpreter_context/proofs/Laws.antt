@@ -3,6 +3,7 @@ use mathlib.Core.Path.{◌≡◌, refl, sym, ◌∙◌, ap, subst}
 use mathlib.Core.List.{List, [], ◌∷◌, map}
 use Prim.Native.Nat.{ℕ, zero, suc, ◌+◌, ◌-◌, ◌≤◌, ◌<◌}
 use native.Mathlib.Numerals.{add-one}
+use native.Mathlib.Nat.{sub-zero}
 use native.Mathlib.Omega.{arith}
 use lib.ListN.{length, get_or, drop}
 use borrow.Author.Tests.{le-leb}
@@ -263,20 +264,35 @@ within a = let b = kinds a in
 
 -- ---- a list
 
--- of m blocks from `from` on, left are left, from q on: they end where all of them end
-pub record Passed (s : List ℕ) (m from left q : ℕ) : Type 0 where
+-- before the first of m all m are left
+pub none_less : (P : ℕ → Type 0) (m : ℕ) → P m → P (m - 0)
+none_less P m x = subst P (sym (sub-zero m)) x
+
+-- and behind one more one fewer
+pub one_less : (P : ℕ → Type 0) (m i : ℕ) → i < m → P (m - i - 1) → P (m - (i + 1))
+one_less P m i h x = let e : m - i - 1 ≡ m - (i + 1) = omega arith in subst P e x
+
+-- of m blocks from `from` on, the first i are passed; the others, from q on, end where all of them end
+pub record Passed (s : List ℕ) (m from i q : ℕ) : Type 0 where
   pub low : from ≤ q
-  pub on : {lo hi : ℕ} (l : Listed s lo hi m from) → (r : Listed s lo hi left q) × (l.got.1 ≡ r.got.1) × (r.end ≡ l.end)
+  pub on : {lo hi : ℕ} (l : Listed s lo hi m from) → (r : Listed s lo hi (m - i) q) × (l.got.1 ≡ r.got.1) × (r.end ≡ l.end)
 
 -- the loop begins with all of them
-pub none_passed : {s : List ℕ} {m from left : ℕ} → left ≡ m → Passed s m from left from
-none_passed {s} {m} {from} e = subst (λ (k : ℕ). Passed s m from k from) (sym e) (record { low = omega arith; on = λ l. (l, refl, refl) })
+pub none_passed : {s : List ℕ} {m from : ℕ} → Passed s m from 0 from
+none_passed {s} {m} {from} = record {
+  low = omega arith;
+  on = λ {lo} {hi} l. none_less (λ (k : ℕ). (r : Listed s lo hi k from) × (l.got.1 ≡ r.got.1) × (r.end ≡ l.end)) m (l, refl, refl);
+}
 
 -- one more is passed
-pub one_passed : {s : List ℕ} {m from left q w : ℕ} → 0 < left → w ≡ le4 s q → Passed s m from left q → Passed s m from (left - 1) (q + 4 + w)
-one_passed {s} {m} {from} {left} {q} h ew t = subst (λ (w : ℕ). Passed s m from (left - 1) (q + 4 + w)) (sym ew) (record {
+pub one_passed : {s : List ℕ} {m from i q w : ℕ} → i < m → w ≡ le4 s q → Passed s m from i q → Passed s m from (i + 1) (q + 4 + w)
+one_passed {s} {m} {from} {i} {q} h ew t = subst (λ (w : ℕ). Passed s m from (i + 1) (q + 4 + w)) (sym ew) (record {
   low = omega (arith, t.low);
-  on = λ l. let x = t.on l in let b = block_entry x.0 h in (b.after.rest, x.1 ∙ b.after.stop, b.after.end ∙ x.2);
+  on = λ {lo} {hi} l.
+      let x = t.on l in
+      let b = block_entry x.0 (omega arith) in
+      one_less (λ (k : ℕ). (r : Listed s lo hi k (q + 4 + le4 s q)) × (l.got.1 ≡ r.got.1) × (r.end ≡ l.end)) m i h
+      (b.after.rest, x.1 ∙ b.after.stop, b.after.end ∙ x.2);
 })
 
 -- the list of blocks that a part is
@@ -297,17 +313,17 @@ module _ {s : List ℕ} {p : Part} {ps : List Part} {at : ℕ} (x : Listing p) (
   count_in = omega (arith, (list_of x c).list.inside, c.fits)
 
   -- the next block lies in the bytes
-  pub next_in : {left q : ℕ} → 0 < left → Passed s (le2 s at) (at + 2) left q → (q + 4 ≤ length s) × (q + 4 + le4 s q ≤ length s)
+  pub next_in : {i q : ℕ} → i < le2 s at → Passed s (le2 s at) (at + 2) i q → (q + 4 ≤ length s) × (q + 4 + le4 s q ≤ length s)
   next_in h t =
       let y = t.on (list_of x c).list.list in
-      let b = block_entry y.0 h in
+      let b = block_entry y.0 (omega arith) in
       let o = opened b.child refl refl in
       (omega (arith, o.high, y.0.fits, b.end), omega (arith, o.high, y.0.fits, b.end))
 
   -- none is left: there the next part begins
-  pub all_passed : {left q : ℕ} → left ≤ 0 → Passed s (le2 s at) (at + 2) left q → Next c q
+  pub all_passed : {i q : ℕ} → le2 s at ≤ i → Passed s (le2 s at) (at + 2) i q → Next c q
   all_passed {q} h t =
       let l = (list_of x c).list in
       let y = t.on l.list in
-      let e : l.list.got.1 ≡ q = y.1 ∙ ap (λ (z : Tree × ℕ). z.1) (none_left y.0 h) in
+      let e : l.list.got.1 ≡ q = y.1 ∙ ap (λ (z : Tree × ℕ). z.1) (none_left y.0 (omega arith)) in
       subst (λ (q : ℕ). Next c q) e (next_of (omega (arith, e, t.low)) l.behind)

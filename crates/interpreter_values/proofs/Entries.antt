@@ -1,4 +1,5 @@
 -- The entries of an accepted block of values: they lie in the bytes, and the first of a name is the first value of it.
+use Rattle.std.specs.Prelude.{Some}
 use Prim.Native.Nat.{ℕ, zero, suc, ◌+◌, ◌-◌, ◌≤◌, ◌<◌}
 use native.Mathlib.Numerals.{add-one}
 use native.Mathlib.Nat.{sub-zero}
@@ -12,11 +13,9 @@ use Rattle.blocks.specs.Name.{Name, same}
 use Rattle.accepted.specs.Accepted.{Accepted, Item, Entries}
 use Rattle.accepted.proofs.Laws.{value_entry}
 use Rattle.lookup.specs.Found.{first_value}
-use Rattle.lookup.specs.declared.Found.TheVariants.{At}
 use Rattle.lookup.proofs.Values.{listed}
 use Rattle.name_marks.specs.Mark.{sum_mark_of}
 use Rattle.interpreter_values.specs.Entries.{entry_at, entry_mark, First, Spans, Leaves}
-use Rattle.interpreter_values.specs.declared.Sought.{Sought}
 use Rattle.interpreter_values.specs.declared.Sought.TheVariants.{At as SoughtAt, Among}
 use Rattle.interpreter_values.specs.declared.Span.{Span}
 
@@ -96,10 +95,6 @@ module _ {s : List ℕ} {block : ℕ} where
     pub standing_next : {next : ℕ} → next ≡ at + 2 + le2 s at + 8 → Standing s block to (i + 1) next
     standing_next e = record { most = w.most; within = omega arith; here = entry_next s (block + 6 + 2) i w.here e }
 
-  -- at its end it has passed all of the span
-  pub standing_end : {to i at : ℕ} → Standing s block to i at → to ≤ i → i ≡ to
-  standing_end w h = omega (arith, w.within)
-
   -- the mark of its name
   pub standing_mark : {to i at mark : ℕ} {m : Name} → Standing s block to i at → m ≡ name_at s at → mark ≡ sum_mark_of m → entry_mark s (block + 6 + 2) i ≡ mark
   unfolding entry_mark
@@ -118,21 +113,22 @@ module _ (s : List ℕ) (m : Name) where
 
   -- the number behind it is the first value of the name
   first_number : (n : ℕ) {first : ℕ} (k : ℕ) → First s m first n k → k < n →
-      At (entry_at s first k + 2 + le2 s (entry_at s first k)) ≡ first_value s m n first
+      Some (entry_at s first k + 2 + le2 s (entry_at s first k)) ≡ first_value s m n first
   unfolding entry_at first_value
   first_number zero k f h = absurd (omega arith)
   first_number (suc n) zero f h = rw (f.named (omega arith))
   first_number (suc n) {first} (suc k) f h =
       rw (f.before 0 (omega arith))
-      (ap (λ (o : ℕ). At (o + 2 + le2 s o)) (entry_behind s first k) ∙ first_number n k (first_behind f) (omega arith))
+      (ap (λ (o : ℕ). Some (o + 2 + le2 s o)) (entry_behind s first k) ∙ first_number n k (first_behind f) (omega arith))
 
   -- the first among some is the first among more
   pub first_more : {first k n j : ℕ} → First s m first k j → j < k → k ≤ n → First s m first n j
   first_more f h l = record { within = omega arith; named = λ z. f.named h; before = f.before }
 
   -- as it is found: o is the offset of the entry, u of the number
-  pub first_there : (n : ℕ) {first k o u : ℕ} → First s m first n k → k < n → o ≡ entry_at s first k → u ≡ o + 2 + le2 s o → At u ≡ first_value s m n first
-  first_there n {first} {k} f h e g = ap At (g ∙ ap (λ (i : ℕ). i + 2 + le2 s i) e) ∙ first_number n k f h
+  pub first_there : (n : ℕ) {first k o u : ℕ} → First s m first n k → k < n → o ≡ entry_at s first k → u ≡ o + 2 + le2 s o →
+      Some u ≡ first_value s m n first
+  first_there n {first} {k} f h e g = ap Some (g ∙ ap (λ (i : ℕ). i + 2 + le2 s i) e) ∙ first_number n k f h
 
   -- where none of the first k has it, it is the first value of the others
   pub first_rest : (n k : ℕ) {first j : ℕ} → k ≤ n → First s m first k j → k ≤ j → first_value s m n first ≡ first_value s m (n - k) (entry_at s first k)
@@ -161,16 +157,11 @@ module _ {s : List ℕ} {block : ℕ} (a : Accepted s 192 192 block) (m : Name) 
       (Leaves.among (entries_from a k l) (first_rest s m (le2 s (block + 6)) k l f h)))
 
 -- a value that was found
-pub left_at : {s : List ℕ} {block o : ℕ} {m : Name} {r : Sought} → r ≡ SoughtAt o → Leaves s block m r → At o ≡ first_value s m (le2 s (block + 6)) (block + 6 + 2)
-left_at {o} e (Leaves.at {o = q} h) = let f : q ≡ o = cc in ap At (sym f) ∙ h
-left_at e (Leaves.among l h) = let z : ◌≡◌ {A = ℕ} 0 1 = cc in absurd (omega arith)
+pub left_at : {s : List ℕ} {block o : ℕ} {m : Name} → Leaves s block m (SoughtAt o) →
+    Some o ≡ first_value s m (le2 s (block + 6)) (block + 6 + 2)
+left_at (Leaves.at h) = h
 
 -- entries that are left
-pub left_among : {s : List ℕ} {block o n : ℕ} {m : Name} {r : Sought} → r ≡ Among o n → Leaves s block m r →
-    Entries s Item.values n o × (first_value s m (le2 s (block + 6)) (block + 6 + 2) ≡ first_value s m n o)
-left_among e (Leaves.at h) = let z : ◌≡◌ {A = ℕ} 0 1 = cc in absurd (omega arith)
-left_among {s} {block} {o} {n} {m} e (Leaves.among {o = p} {n = k} l h) =
-    let f : p ≡ o = cc in
-    let g : k ≡ n = cc in
-    subst (λ (q : ℕ). Entries s Item.values n q × (first_value s m (le2 s (block + 6)) (block + 6 + 2) ≡ first_value s m n q)) f
-    (subst (λ (q : ℕ). Entries s Item.values q p × (first_value s m (le2 s (block + 6)) (block + 6 + 2) ≡ first_value s m q p)) g (l, h))
+pub left_among : {s : List ℕ} {block o n : ℕ} {m : Name} → Leaves s block m (Among o n) →
+    first_value s m (le2 s (block + 6)) (block + 6 + 2) ≡ first_value s m n o
+left_among (Leaves.among l h) = h

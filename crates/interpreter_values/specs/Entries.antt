@@ -1,10 +1,9 @@
 -- The entries of a block of values, by their bytes: each is a name and the 8 bytes of its number.
-use Rattle.std.specs.Prelude.{ℕ, zero, suc, ◌+◌, ◌≤◌, ◌<◌, ◌≡◌, true, false, List, get_or}
+use Rattle.std.specs.Prelude.{ℕ, zero, suc, ◌+◌, ◌≤◌, ◌<◌, ◌≡◌, true, false, List, get_or, Some}
 use Rattle.blocks.specs.Bytes.{le2, name_at}
 use Rattle.blocks.specs.Name.{Name, same}
 use Rattle.name_marks.specs.Mark.{sum_mark_of}
 use Rattle.accepted.specs.Accepted.{Entries, Item}
-use Rattle.lookup.specs.declared.Found.TheVariants.{At as FoundAt}
 use Rattle.lookup.specs.Found.{first_value}
 use Rattle.interpreter_values.specs.declared.Span.{Span}
 use Rattle.interpreter_values.specs.declared.Sought.{Sought}
@@ -37,5 +36,5 @@ pub record Spans (s : List ℕ) (block : ℕ) (p : Span) : Type 0 where
 
 -- what is known of the first value of a name: its offset, or entries of which the first of the name is the block's
 pub data Leaves (s : List ℕ) (block : ℕ) (m : Name) : Sought → Type 0 where
-  at : {o : ℕ} → FoundAt o ≡ first_value s m (le2 s (block + 6)) (block + 6 + 2) → Leaves s block m (At o)
+  at : {o : ℕ} → Some o ≡ first_value s m (le2 s (block + 6)) (block + 6 + 2) → Leaves s block m (At o)
   among : {o n : ℕ} → Entries s Item.values n o → first_value s m (le2 s (block + 6)) (block + 6 + 2) ≡ first_value s m n o → Leaves s block m (Among o n)

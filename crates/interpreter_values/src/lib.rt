@@ -2,7 +2,7 @@
 // index puts more entries into it. Who lends the words says by their number whether it is likely to pay.
 #![tactic(auto)]
 
-ghost use Rattle.std.specs.Prelude.{◌≡◌, true, List, ℕ, ◌+◌, ◌≤◌, length, get_or, drop};
+ghost use Rattle.std.specs.Prelude.{◌≡◌, true, List, ℕ, ◌+◌, ◌≤◌, ◌<◌, length, get_or, drop, MatchOption};
 ghost use Rattle.blocks.specs.Bytes.{le2};
 ghost use Rattle.marks.specs.Table.{Linked};
 ghost use Rattle.interpreter.specs.Validate.{values_of};
@@ -10,8 +10,6 @@ ghost use Rattle.accepted.specs.Accepted.{Accepted, tree};
 ghost use Rattle.lookup.specs.Found.{ValueFound, first_value};
 ghost use Rattle.interpreter_values.specs.Entries.{entry_at, entry_mark, Offsets, First, Spans, Leaves};
 ghost use Rattle.interpreter_values.specs.Remembered.{Indexed, Remembered, Kept};
-
-use lookup::Found;
 
 // How many working words evaluating uses where it may remember values.
 pub const WORDS: usize = 1168;
@@ -30,6 +28,8 @@ const OFFSETS: usize = 656;
 
 // How many entries a search puts into the index.
 const STEP: usize = 16;
+
+// A block's bytes and its offset are no struct: that it was accepted has more than one proof, and an invariant may have only one.
 
 // Entries of a block: from which place on, up to which, and the offset of the first of them.
 #[derive(Clone, Copy)]
@@ -69,13 +69,10 @@ fn note_offsets(values: &[u8], block: usize, span: Span, offsets: &mut [u64])
     requires { Accepted values.now 192 192 block × Spans values.now block span × (512 ≤ length offsets.old) }
     ensures { Offsets values.now (block + 6 + 2) span.from offsets.old → Offsets values.now (block + 6 + 2) span.to offsets.new }
 {
-    let to = span.to;
     let mut at = span.at;
-    let mut i = span.from;
-    while i < to {
+    for i in span.from..span.to {
         offsets[i] = at as u64;
         at = behind_entry(values, at);
-        i += 1;
     }
 }
 
@@ -84,13 +81,10 @@ fn link_names(values: &[u8], block: usize, span: Span, table: &mut [u64])
     requires { Accepted values.now 192 192 block × Spans values.now block span × (639 ≤ length table.old) }
     ensures { Linked table.old (entry_mark values.now (block + 6 + 2)) span.from → Linked table.new (entry_mark values.now (block + 6 + 2)) span.to }
 {
-    let to = span.to;
     let mut at = span.at;
-    let mut i = span.from;
-    while i < to {
+    for i in span.from..span.to {
         marks::link(table, i, name_marks::sum_mark(wire::name_at(values, at)));
         at = behind_entry(values, at);
-        i += 1;
     }
 }
 
@@ -119,17 +113,6 @@ fn entry_offset(values: &[u8], block: usize, words: &[u64], m: usize) -> usize
     behind_entry(values, words[word] as usize)
 }
 
-// Behind how many of n entries the index ends after one more search.
-fn after_step(m: usize, n: usize) -> usize
-    requires { m ≤ n }
-    ensures { (m ≤ result) × (result ≤ n) }
-{
-    if n - m < STEP {
-        return n;
-    }
-    m + STEP
-}
-
 // Puts the next entries into the index. The offset of the first of them.
 fn extend(values: &[u8], block: usize, words: &mut [u64], m: usize) -> usize
     requires { Accepted values.now 192 192 block × Indexed values.now block m (drop 17 words.old) × (1168 ≤ length words.old) }
@@ -137,7 +120,8 @@ fn extend(values: &[u8], block: usize, words: &mut [u64], m: usize) -> usize
     ensures kept { Kept values.now block 16 words.old words.new }
 {
     let at = entry_offset(values, block, words, m);
-    let to = after_step(m, wire::read2(values, block + 6));
+    let left = wire::read2(values, block + 6) - m;
+    let to = m + left.min(STEP);
     let span = Span { from: m, to, at };
     words[KNOWN] = to as u64 + FREE;
     note_offsets(values, block, span, &mut words[OFFSETS..WORDS]);
@@ -145,11 +129,11 @@ fn extend(values: &[u8], block: usize, words: &mut [u64], m: usize) -> usize
     at
 }
 
-// The place of the entry of a name among the m of the index, or m. Those are asked that may have the name by their mark; the names of a block are
+// The place of the entry of a name among the m of the index. Those are asked that may have the name by their mark; the names of a block are
 // distinct, so the one that has it is the first.
-fn place(values: &[u8], block: usize, words: &[u64], m: usize, name: &[u8]) -> usize
+fn place(values: &[u8], block: usize, words: &[u64], m: usize, name: &[u8]) -> Option<usize>
     requires { Accepted values.now 192 192 block × Indexed values.now block m (drop 17 words.now) }
-    ensures { First values.now name.now (block + 6 + 2) m result }
+    ensures { MatchOption result (First values.now name.now (block + 6 + 2) m m) (λ k. (k < m) × First values.now name.now (block + 6 + 2) m k) }
 {
     let mark = name_marks::sum_mark(name);
     let table = &words[TABLE..OFFSETS];
@@ -158,11 +142,11 @@ fn place(values: &[u8], block: usize, words: &[u64], m: usize, name: &[u8]) -> u
         let k = j - 1;
         let word = OFFSETS + k;
         if lookup::is_named(values, words[word] as usize, name) {
-            return k;
+            return Some(k);
         }
         j = marks::before(table, mark, j);
     }
-    m
+    None
 }
 
 // What the index says of a name's first value, behind which more entries are in it: where it is, or among which entries it is yet to be sought.
@@ -172,8 +156,7 @@ fn indexed(values: &[u8], block: usize, words: &mut [u64], name: &[u8]) -> Sough
     ensures kept { Kept values.now block 16 words.old words.new }
 {
     let m = begin(words);
-    let found = place(values, block, words, m, name);
-    if found < m {
+    if let Some(found) = place(values, block, words, m, name) {
         let word = OFFSETS + found;
         return Sought::At(wire::behind_name(values, words[word] as usize));
     }
@@ -213,14 +196,14 @@ fn left_of(values: &[u8], block: usize, words: &mut [u64], name: &[u8]) -> Sough
 
 // The first value of a name in an accepted block of values at an offset. The entries that are left are asked in one place, so that the loop is
 // compiled into its caller.
-pub fn value(values: &[u8], block: usize, words: &mut [u64], name: &[u8]) -> Found
+pub fn value(values: &[u8], block: usize, words: &mut [u64], name: &[u8]) -> Option<usize>
     requires { Accepted values.now 192 192 block × Remembered values.now block words.old }
     ensures value { result ≡ first_value values.now name.now (le2 values.now (block + 6)) (block + 6 + 2) }
     ensures value_found { (a : Accepted values.now 192 192 block) → ValueFound values.now name.now (values_of (tree a)) result }
     ensures kept { Kept values.now block 16 words.old words.new }
 {
     match left_of(values, block, words, name) {
-        Sought::At(o) => Found::At(o),
+        Sought::At(o) => Some(o),
         Sought::Among(at, left) => lookup::value_from(values, at, left, name),
     }
 }
