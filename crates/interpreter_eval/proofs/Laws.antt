@@ -1,8 +1,9 @@
 -- What the code returns for each kind of node is what the node evaluates to; premises as the code's places have them.
 use mathlib.Core.Path.{◌≡◌, refl, sym, ◌∙◌, ap, subst, fun_ext}
-use mathlib.Core.Bool.{Bool, true, false, not, cond}
+use mathlib.Core.Bool.{Bool, true, false, cond}
 use mathlib.Core.List.{List, [], ◌∷◌, ◌++◌}
-use mathlib.Core.Option.{Option, some, none}
+use mathlib.Core.Option.{Option as Maybe, some, none}
+use Rattle.std.specs.Prelude.{Option, Some, None, Result}
 use Prim.Native.Nat.{ℕ, zero, suc, ◌+◌, ◌-◌, ◌*◌, ◌≤◌, ◌<◌}
 use native.Mathlib.Numerals.{add-one, sub-one}
 use native.Mathlib.Omega.{arith}
@@ -10,45 +11,40 @@ use lib.Dec.{eqb}
 use lib.ListN.{length, get_or, set, drop, length-set}
 use lib.Seq.{get_or-set_same}
 use borrow.Author.Tests.{ne_eqb, le-leb}
-use Rattle.errors.specs.Refusal.{Outcome, done, refused, ◌>>=◌, Refusal, plain, UnknownType, MissingIrParameter, InvalidTagValue}
+use Rattle.errors.specs.Refusal.{Outcome, done, refused, ◌>>=◌, plain, UnknownType, MissingIrParameter, InvalidTagValue, UnsupportedOperation}
+use Rattle.errors.specs.Refusal as definition
+use Rattle.errors.specs.declared.Refusal.{Refusal}
+use Rattle.errors.proofs.Laws.{bound_done}
 use Rattle.blocks.specs.Bytes.{le2, le4, le8}
 use Rattle.blocks.specs.Name.{Name}
 use Rattle.blocks.specs.Grammar.{parts_of, node_table}
 use Rattle.blocks.specs.Tree.{Tree, text, body, part, view, part_view}
 use Rattle.blocks.specs.Read.{read_layout}
 use Rattle.blocks.specs.declared.Part.TheVariants.{Block}
-use Rattle.ir.specs.Ir.{BinaryOp, IrNode, IrArgument, SwitchCases, DefaultNode, TypeIr}
+use Rattle.ir.specs.Ir.{BinaryOp, IrNode, SwitchCases, DefaultNode, TypeIr}
 use Rattle.ir.specs.Layout.{Form, form_of, make_thing, thing_of, node_in, default_in, node_of, layout_of, type_ir_of, operations}
 use Rattle.value.specs.declared.Value.{Value}
 use Rattle.value.specs.Number.{number_of}
 use Rattle.accepted.specs.Accepted.{Accepted, tree}
 use Rattle.accepted.proofs.Laws.{each}
-use Rattle.interpreter.specs.Arithmetic.{Result, operate, align_up, bits}
+use Rattle.interpreter.specs.Arithmetic.{operate, align_up, bits}
+use Rattle.interpreter.specs.Arithmetic as arithmetic
 use Rattle.interpreter.specs.Eval.{Handlers, ParamMap, find, refusal_at as refusal, value_or, lift, eval_node, eval_cases, eval_default, collect_arguments, inherited, lookup_type, eval_call, eval_within, handlers, Enter, no_more_calls}
 use Rattle.interpreter_context.proofs.Laws.{Standing}
 use Rattle.interpreter_context.proofs.Shape.{body_of, child_at, node_is, node_in_lem, cases_in_lem, default_in_lem, located}
-use Rattle.lookup.specs.declared.Place.{Place}
-use Rattle.lookup.specs.declared.Place.TheVariants.{At as PlaceAt, Missing as PlaceNone}
+use Rattle.wire.specs.declared.Position.{Position}
 use Rattle.lookup.specs.Named.{Placed}
 use Rattle.lookup.specs.Found.{TreeFound}
-use Rattle.interpreter_context.specs.declared.Root.{Root}
-use Rattle.interpreter_context.specs.declared.Held.{Held}
-use Rattle.interpreter_context.specs.declared.Held.TheVariants.{Value as HeldValue, Absent}
 use Rattle.interpreter_context.specs.Names.{found_in}
 use Rattle.interpreter_context.specs.Context.{Context, Pair, Open, call_at, tree_at, arguments_of, parameters_of}
 use Rattle.interpreter_context.proofs.Calls.{context_kept, bottom}
 use Rattle.interpreter_values.specs.Remembered.{Remembered, Kept}
 use Rattle.interpreter_values.proofs.Laws.{kept_none, kept_fewer, kept_back, kept_set}
 use Rattle.interpreter_context.proofs.Lists.{ends}
-use Rattle.interpreter_leaves.specs.declared.Choice.{Choice}
-use Rattle.interpreter_leaves.specs.declared.Choice.TheVariants.{Node, Nothing}
-use Rattle.interpreter_leaves.specs.declared.Arguments.{Arguments}
-use Rattle.interpreter_leaves.specs.declared.Arguments.TheVariants.{All, Lacking}
 use Rattle.interpreter_leaves.specs.declared.Frame.{Frame}
-use Rattle.interpreter_leaves.specs.Outcome.{count_in, Tells}
-use Rattle.interpreter_leaves.specs.Steps.{Rooted, pick, cases_of, default_of, Picked, Bound, Unwrapped}
+use Rattle.interpreter_leaves.specs.declared.Inputs.{Inputs}
+use Rattle.interpreter_leaves.specs.Steps.{ContextOver, Rooted, pick, cases_of, default_of, PickedAt, Unwrapped}
 use Rattle.interpreter_leaves.proofs.Align.{align_child, align_node, unwrap_same}
-use Rattle.interpreter_leaves.proofs.Tells.{tells_as, then_stops, then_goes}
 use Rattle.interpreter_leaves.proofs.Nodes.{found_as}
 use Rattle.interpreter_eval.specs.Evaluates.{Ready, Evaluates}
 
@@ -82,13 +78,12 @@ opens (suc left) h types p a i δ n = ap (λ (l : ℕ). eval_within l types i δ
 
 -- without those that change nothing
 pub unwrapped_is : {s : List ℕ} {at q : ℕ} → ((a : Accepted s 128 144 at) → Unwrapped a q) →
-    (left : ℕ) (types : List TypeIr) (pl : ℕ) (γ : ParamMap) {r : Bool} {ws us : List ℕ} → ((c : Accepted s 128 144 q) → Tells r ws us (outcome_at left types pl γ c))
-    → (a : Accepted s 128 144 at) → Tells r ws us (outcome_at left types pl γ a)
+    (left : ℕ) (types : List TypeIr) (pl : ℕ) (γ : ParamMap) {o : Outcome ℕ} → ((c : Accepted s 128 144 q) → o ≡ outcome_at left types pl γ c)
+    → (a : Accepted s 128 144 at) → o ≡ outcome_at left types pl γ a
 unwrapped_is f left types pl γ e a =
     let u = f a in
     let h = handlers_at left types in
-    tells_as (e u.node)
-    (within_is left types pl γ (node_of (tree u.node)) ∙ ap (eval_node h pl γ) u.is ∙ unwrap_same h pl γ (node_of (tree a)) ∙ sym (within_is left types pl γ (node_of (tree a))))
+    e u.node ∙ within_is left types pl γ (node_of (tree u.node)) ∙ ap (eval_node h pl γ) u.is ∙ unwrap_same h pl γ (node_of (tree a)) ∙ sym (within_is left types pl γ (node_of (tree a)))
 
 module _ {s : List ℕ} {at p q : ℕ} (st : Standing s at 2 p) (su : Standing s at 3 q) (k : le2 s (at + 4) ≡ 131)
     (left : ℕ) (types : List TypeIr) (pl : ℕ) (γ : ParamMap) (a : Accepted s 128 144 at) where
@@ -98,17 +93,17 @@ module _ {s : List ℕ} {at p q : ℕ} (st : Standing s at 2 p) (su : Standing s
       within_is left types pl γ (node_of (tree a)) ∙ align_node st su k (handlers_at left types) pl γ a
       ∙ ap (λ (o : Outcome ℕ). o >>= (λ v. lift pl at (align_up bits v (le8 s p)))) (sym (within_is left types pl γ (node_of (tree (align_child su a k).0))))
 
-  module _ {r : Bool} {ws us : List ℕ} (e : (c : Accepted s 128 144 q) → Tells r ws us (outcome_at left types pl γ c)) where
-    -- the operand was refused
-    pub align_stops : not r ≡ true → Tells false ws us (outcome_at left types pl γ a)
-    align_stops f = tells_as (then_stops _ _ (e (align_child su a k).0) f) (sym align_is)
+  -- the operand is refused
+  pub align_stops : {d : definition.Refusal} → ((c : Accepted s 128 144 q) → refused d ≡ outcome_at left types pl γ c) → refused d ≡ outcome_at left types pl γ a
+  unfolding ◌>>=◌
+  align_stops e = sym (align_is ∙ ap (λ (o : Outcome ℕ). o >>= (λ v. lift pl at (align_up bits v (le8 s p)))) (sym (e (align_child su a k).0)))
 
-    -- the operand came to a count, which was aligned
-    pub align_goes : {n m : ℕ} {z : Result} {b : Bool} {vs : List ℕ} → not r ≡ false → n ≡ count_in us → m ≡ le8 s p → z ≡ align_up bits n m →
-        Tells b us vs (lift pl at z) → Tells b ws vs (outcome_at left types pl γ a)
-    align_goes {n} {m} f en em ez eo =
-        let x = ez ∙ ap (λ (n : ℕ). align_up bits n m) en ∙ ap (align_up bits (count_in us)) em in
-        tells_as (then_goes _ _ (e (align_child su a k).0) f (tells_as eo (ap (lift pl at) x))) (sym align_is)
+  -- the operand comes to a count, which is aligned
+  pub align_goes : {v m : ℕ} {z : arithmetic.Result} {o : Outcome ℕ} → ((c : Accepted s 128 144 q) → done v ≡ outcome_at left types pl γ c) → m ≡ le8 s p → z ≡ align_up bits v m →
+      o ≡ lift pl at z → o ≡ outcome_at left types pl γ a
+  align_goes {v} e em ez eo =
+      eo ∙ ap (lift pl at) (ez ∙ ap (align_up bits v) em)
+      ∙ sym (align_is ∙ bound_done (λ v. lift pl at (align_up bits v (le8 s p))) (sym (e (align_child su a k).0)))
 
 -- ---- two operands
 
@@ -176,28 +171,32 @@ module _ {s : List ℕ} {at : ℕ} (a : Accepted s 128 144 at) (lo : 134 ≤ le2
         ∙ ap (λ (o : Outcome ℕ). combined pl at op o (eval_node handle pl γ (node_in 3 (view thing_of (body_of a))))) (operand 2 (left_child st))
         ∙ ap (combined pl at op (outcome_at left types pl γ (left_child st).0)) (operand 3 (right_child su))
 
-    module _ {r : Bool} {ws us : List ℕ} (e : (c : Accepted s 128 144 p) → Tells r ws us (outcome_at left types pl γ c)) where
-      -- the left operand was refused
-      pub left_stops : not r ≡ true → Tells false ws us (outcome_at left types pl γ a)
-      left_stops f = tells_as (then_stops _ _ (e (left_child st).0) f) (sym binary_is)
+    -- the left operand is refused
+    pub left_stops : {d : definition.Refusal} → ((c : Accepted s 128 144 p) → refused d ≡ outcome_at left types pl γ c) → refused d ≡ outcome_at left types pl γ a
+    unfolding ◌>>=◌
+    left_stops e = sym (binary_is ∙ ap (λ (o : Outcome ℕ). combined pl at (op_of (le2 s (at + 4))) o (outcome_at left types pl γ (right_child su).0)) (sym (e (left_child st).0)))
 
-      module _ {b : Bool} {vs : List ℕ} (g : (c : Accepted s 128 144 q) → Tells b us vs (outcome_at left types pl γ c)) (f : not r ≡ false) where
-        -- the left one came to a count, and the right one was refused
-        pub right_stops : not b ≡ true → Tells false ws vs (outcome_at left types pl γ a)
-        right_stops h = tells_as (then_goes _ _ (e (left_child st).0) f (then_stops _ _ (g (right_child su).0) h)) (sym binary_is)
+    module _ {v : ℕ} (e : (c : Accepted s 128 144 p) → done v ≡ outcome_at left types pl γ c) where
+      -- the left operand comes to a count
+      left_goes : outcome_at left types pl γ a ≡ (outcome_at left types pl γ (right_child su).0 >>= (λ y. lift pl at (operate bits (op_of (le2 s (at + 4))) v y)))
+      left_goes = binary_is ∙ bound_done (λ x. outcome_at left types pl γ (right_child su).0 >>= (λ y. lift pl at (operate bits (op_of (le2 s (at + 4))) x y))) (sym (e (left_child st).0))
 
-        -- both came to counts, on which the operation was done
-        pub both_go : {k n m : ℕ} {z : Result} {d : Bool} {xs : List ℕ} → not b ≡ false → k ≡ le2 s (at + 4) → n ≡ count_in us → m ≡ count_in vs →
-            z ≡ operate bits (op_of k) n m → Tells d vs xs (lift pl at z) → Tells d ws xs (outcome_at left types pl γ a)
-        both_go {k} {n} {m} h ek en em ez eo =
-            let op = op_of (le2 s (at + 4)) in
-            let x = ez ∙ ap (λ (k : ℕ). operate bits (op_of k) n m) ek ∙ ap (λ (n : ℕ). operate bits op n m) en ∙ ap (operate bits op (count_in us)) em in
-            tells_as (then_goes _ _ (e (left_child st).0) f (then_goes _ _ (g (right_child su).0) h (tells_as eo (ap (lift pl at) x)))) (sym binary_is)
+      -- and the right one is refused
+      pub right_stops : {d : definition.Refusal} → ((c : Accepted s 128 144 q) → refused d ≡ outcome_at left types pl γ c) → refused d ≡ outcome_at left types pl γ a
+      unfolding ◌>>=◌
+      right_stops g = sym (left_goes ∙ ap (λ (o : Outcome ℕ). o >>= (λ y. lift pl at (operate bits (op_of (le2 s (at + 4))) v y))) (sym (g (right_child su).0)))
+
+      -- both come to counts, on which the operation is done
+      pub both_go : {k w : ℕ} {z : arithmetic.Result} {o : Outcome ℕ} → ((c : Accepted s 128 144 q) → done w ≡ outcome_at left types pl γ c) → k ≡ le2 s (at + 4) →
+          z ≡ operate bits (op_of k) v w → o ≡ lift pl at z → o ≡ outcome_at left types pl γ a
+      both_go {w} g ek ez eo =
+          eo ∙ ap (lift pl at) (ez ∙ ap (λ (k : ℕ). operate bits (op_of k) v w) ek)
+          ∙ sym (left_goes ∙ bound_done (λ y. lift pl at (operate bits (op_of (le2 s (at + 4))) v y)) (sym (g (right_child su).0)))
 
 -- ---- Switch
 
 -- what a Switch does with the node that it picked
-picking : Handlers → ℕ → ParamMap → ℕ → ℕ → Option IrNode → Outcome ℕ
+picking : Handlers → ℕ → ParamMap → ℕ → ℕ → Maybe IrNode → Outcome ℕ
 picking handle p γ a v none = refused (refusal p a InvalidTagValue v)
 picking handle p γ a v (some n) = eval_node handle p γ n
 
@@ -213,23 +212,9 @@ pick_is handle p γ a v (SwitchCases.case t n ps cs) d = go (eqb t v) (pick_is h
     go true h = refl
     go false h = h
 
--- the node at q is the one that is picked
-abbrev PickedAt : {s : List ℕ} {at : ℕ} → Accepted s 128 144 at → ℕ → ℕ → Type 0
-PickedAt {s} {at} a v q = (x : Accepted s 128 144 q) × (le4 s q < le4 s at) × (pick v (cases_of (body_of a)) (default_of (body_of a)) ≡ some (node_of (tree x)))
-
--- a node was picked
-pub picked_node : {s : List ℕ} {at v q : ℕ} {a : Accepted s 128 144 at} {c : Choice} → c ≡ Node q → Picked a v c → PickedAt a v q
-picked_node {v} {q} {a} e (Picked.node {q = r} x h g) = let f : r ≡ q = cc in subst (PickedAt a v) f (x, h, g)
-picked_node e (Picked.nothing g) = let z : ◌≡◌ {A = ℕ} 0 1 = cc in absurd (omega arith)
-
--- none was
-picked_none : {s : List ℕ} {at v : ℕ} {a : Accepted s 128 144 at} {c : Choice} → c ≡ Nothing → Picked a v c → pick v (cases_of (body_of a)) (default_of (body_of a)) ≡ none
-picked_none e (Picked.node x h g) = let z : ◌≡◌ {A = ℕ} 0 1 = cc in absurd (omega arith)
-picked_none e (Picked.nothing g) = g
-
 module _ {s : List ℕ} {at : ℕ} (k : le2 s (at + 4) ≡ 132) (left : ℕ) (types : List TypeIr) (pl : ℕ) (γ : ParamMap) (a : Accepted s 128 144 at) where
   -- the refusal where the context lacks the tag
-  missed : Refusal
+  abbrev pub missed : definition.Refusal
   missed = refusal pl at MissingIrParameter 0
 
   -- what the node does with the tag's value
@@ -238,7 +223,7 @@ module _ {s : List ℕ} {at : ℕ} (k : le2 s (at + 4) ≡ 132) (left : ℕ) (ty
 
   -- a Switch node comes to what the node of the tag's value does
   switch_is : outcome_at left types pl γ a ≡ (value_or missed (find (text (part 2 (body_of a))) γ) >>= picks)
-  unfolding form_of make_thing eval_node missed
+  unfolding form_of make_thing eval_node
   switch_is =
       let handle = handlers_at left types in
       let t = body_of a in
@@ -248,28 +233,27 @@ module _ {s : List ℕ} {at : ℕ} (k : le2 s (at + 4) ≡ 132) (left : ℕ) (ty
       ∙ ap (λ (d : DefaultNode). o >>= (λ v. eval_cases handle pl γ v (cases_of (body_of a)) (eval_default handle pl γ at v d))) (default_in_lem 4 (body_of a))
       ∙ ap (λ (f : ℕ → Outcome ℕ). o >>= f) (fun_ext (λ v. pick_is handle pl γ at v (cases_of (body_of a)) (default_of (body_of a))))
 
-  module _ {r : Held} (er : found_in r ≡ find (text (part 2 (body_of a))) γ) where
+  module _ {r : Option Value} (er : found_in r ≡ find (text (part 2 (body_of a))) γ) where
     -- the context lacks the tag
-    pub switch_misses : r ≡ Absent → refused (refusal pl at 21 0) ≡ outcome_at left types pl γ a
-    unfolding value_or ◌>>=◌ missed
-    switch_misses f = sym (switch_is ∙ ap (λ (o : Option ℕ). value_or missed o >>= picks) (found_as (find (text (part 2 (body_of a))) γ) er f))
+    pub switch_misses : r ≡ None → refused missed ≡ outcome_at left types pl γ a
+    unfolding value_or ◌>>=◌
+    switch_misses f = sym (switch_is ∙ ap (λ (o : Maybe ℕ). value_or missed o >>= picks) (found_as (find (text (part 2 (body_of a))) γ) er f))
 
-    module _ {v : Value} (f : r ≡ HeldValue v) where
+    module _ {v : Value} (f : r ≡ Some v) where
       -- the context has it
       switch_picks : outcome_at left types pl γ a ≡ picks (number_of v)
       unfolding value_or ◌>>=◌
-      switch_picks = switch_is ∙ ap (λ (o : Option ℕ). value_or missed o >>= picks) (found_as (find (text (part 2 (body_of a))) γ) er f)
+      switch_picks = switch_is ∙ ap (λ (o : Maybe ℕ). value_or missed o >>= picks) (found_as (find (text (part 2 (body_of a))) γ) er f)
 
       -- no case has its value, and there is no default
-      pub switch_ends : {c : Choice} {w : ℕ} → c ≡ Nothing → Picked a (number_of v) c → w ≡ number_of v → refused (refusal pl at 22 w) ≡ outcome_at left types pl γ a
+      pub switch_ends : pick (number_of v) (cases_of (body_of a)) (default_of (body_of a)) ≡ none → refused (refusal pl at InvalidTagValue (number_of v)) ≡ outcome_at left types pl γ a
       unfolding picking
-      switch_ends g p ew = ap (λ (w : ℕ). refused (refusal pl at 22 w)) ew ∙ sym (switch_picks ∙ ap (picking (handlers_at left types) pl γ at (number_of v)) (picked_none g p))
+      switch_ends g = sym (switch_picks ∙ ap (picking (handlers_at left types) pl γ at (number_of v)) g)
 
       -- what the picked node comes to is the answer
-      pub switch_goes : {c : Choice} {q : ℕ} {b : Bool} {ws us : List ℕ} → c ≡ Node q → Picked a (number_of v) c →
-          ((x : Accepted s 128 144 q) → Tells b ws us (outcome_at left types pl γ x)) → Tells b ws us (outcome_at left types pl γ a)
+      pub switch_goes : {q : ℕ} {o : Outcome ℕ} → PickedAt a (number_of v) q → ((c : Accepted s 128 144 q) → o ≡ outcome_at left types pl γ c) → o ≡ outcome_at left types pl γ a
       unfolding picking
-      switch_goes g p e = let x = picked_node g p in tells_as (e x.0) (within_is left types pl γ (node_of (tree x.0)) ∙ sym (switch_picks ∙ ap (picking (handlers_at left types) pl γ at (number_of v)) x.2))
+      switch_goes x e = e x.node ∙ within_is left types pl γ (node_of (tree x.node)) ∙ sym (switch_picks ∙ ap (picking (handlers_at left types) pl γ at (number_of v)) x.is)
 
 -- ---- CallNested
 
@@ -278,27 +262,20 @@ abbrev FoundAt : List ℕ → Name → List TypeIr → ℕ → ℕ → Type 0
 FoundAt s n ts i o = (c : Accepted s 161 161 o) × (lookup_type 0 n ts ≡ done (i, type_ir_of (tree c))) × Placed s i o
 
 -- a type was found, at its place and offset
-pub found_at_lem : {s : List ℕ} {n : Name} {ts : List TypeIr} {r : Place} {i o : ℕ} → r ≡ PlaceAt i o → TreeFound s n ts r → FoundAt s n ts i o
-found_at_lem {s} {n} {ts} {i} {o} e (TreeFound.at {i = j} {o = q} a l h) =
-    let ej : j ≡ i = cc in
-    let eq : q ≡ o = cc in
-    subst (FoundAt s n ts i) eq (a, h ∙ ap (λ (j : ℕ). done (j, type_ir_of (tree a))) ej, subst (λ (j : ℕ). Placed s j q) ej l)
-found_at_lem e (TreeFound.missing h) = let z : ◌≡◌ {A = ℕ} 0 1 = cc in absurd (omega arith)
+pub found_at_lem : {s : List ℕ} {n : Name} {ts : List TypeIr} {r : Option Position} {p : Position} → r ≡ Some p → TreeFound s n ts r → FoundAt s n ts p.place p.at
+found_at_lem {s} {n} {ts} {p} e (TreeFound.at {i} {o} a l h) =
+    let f : ◌≡◌ {A = Position} (record { place = i; at = o }) p = cc in
+    subst (λ (p : Position). FoundAt s n ts p.place p.at) f (a, h, l)
+found_at_lem e (TreeFound.missing h) = cc
 
 -- no type has the name
-pub found_none : {s : List ℕ} {n : Name} {ts : List TypeIr} {r : Place} → r ≡ PlaceNone → TreeFound s n ts r → lookup_type 0 n ts ≡ refused (plain UnknownType)
-found_none e (TreeFound.at a l h) = let z : ◌≡◌ {A = ℕ} 0 1 = cc in absurd (omega arith)
+pub found_none : {s : List ℕ} {n : Name} {ts : List TypeIr} {r : Option Position} → r ≡ None → TreeFound s n ts r → lookup_type 0 n ts ≡ refused (plain UnknownType)
+found_none e (TreeFound.at a l h) = cc
 found_none e (TreeFound.missing h) = h
 
--- an argument's value was lacking
-bound_lacks : {p : ℕ} {γ : ParamMap} {xs : List IrArgument} {r : Arguments} {q : ℕ} → r ≡ Lacking q → Bound p γ xs r → collect_arguments p γ xs [] ≡ refused (refusal p q MissingIrParameter 0)
-bound_lacks e (Bound.all δ h) = let z : ◌≡◌ {A = ℕ} 0 1 = cc in absurd (omega arith)
-bound_lacks {p} {q} e (Bound.lacking {q = r} h) = let f : r ≡ q = cc in h ∙ ap (λ (q : ℕ). refused (refusal p q MissingIrParameter 0)) f
-
--- every argument's value was found
-pub bound_all : {p : ℕ} {γ : ParamMap} {xs : List IrArgument} {r : Arguments} → r ≡ All → Bound p γ xs r → (δ : ParamMap) × (collect_arguments p γ xs [] ≡ done δ)
-bound_all e (Bound.all δ h) = (δ, h)
-bound_all e (Bound.lacking h) = let z : ◌≡◌ {A = ℕ} 0 1 = cc in absurd (omega arith)
+-- the arguments of a call were found
+abbrev pub Collected : {s : List ℕ} {at : ℕ} → ℕ → ParamMap → Accepted s 128 144 at → Type 0
+Collected p γ a = (δ : ParamMap) × (collect_arguments p γ (arguments_of (tree a)) [] ≡ done δ)
 
 -- what a call does with its arguments and the type that it found
 abbrev enters : ℕ → List TypeIr → ℕ → ℕ → ParamMap → ParamMap → ℕ × TypeIr → Outcome ℕ
@@ -311,9 +288,9 @@ module _ {s : List ℕ} {at : ℕ} (k : le2 s (at + 4) ≡ 133) (left : ℕ) (ty
   call_is = within_is left types pl γ (node_of (tree a)) ∙ ap (eval_node (handlers_at left types) pl γ) (node_is a k refl)
 
   -- the call is refused at the argument whose value is lacking
-  pub call_lacks : {r : Arguments} {q : ℕ} → r ≡ Lacking q → Bound pl γ (arguments_of (tree a)) r → refused (refusal pl q 21 0) ≡ outcome_at left types pl γ a
+  pub call_lacks : {d : definition.Refusal} → collect_arguments pl γ (arguments_of (tree a)) [] ≡ refused d → refused d ≡ outcome_at left types pl γ a
   unfolding eval_call ◌>>=◌
-  call_lacks e b = sym (call_is ∙ ap (λ (o : Outcome ParamMap). o >>= (λ δ. lookup_type 0 (text (part 2 (body_of a))) types >>= (enters left types pl at γ δ))) (bound_lacks e b))
+  call_lacks b = sym (call_is ∙ ap (λ (o : Outcome ParamMap). o >>= (λ δ. lookup_type 0 (text (part 2 (body_of a))) types >>= (enters left types pl at γ δ))) b)
 
   module _ {δ : ParamMap} (b : collect_arguments pl γ (arguments_of (tree a)) [] ≡ done δ) where
     -- else its type is looked for
@@ -322,7 +299,7 @@ module _ {s : List ℕ} {at : ℕ} (k : le2 s (at + 4) ≡ 133) (left : ℕ) (ty
     looked_up = call_is ∙ ap (λ (o : Outcome ParamMap). o >>= (λ δ. lookup_type 0 (text (part 2 (body_of a))) types >>= (enters left types pl at γ δ))) b
 
     -- which is not there
-    pub call_unknown : {r : Place} → r ≡ PlaceNone → TreeFound s (text (part 2 (body_of a))) types r → refused (refusal 65535 0 20 0) ≡ outcome_at left types pl γ a
+    pub call_unknown : {r : Option Position} → r ≡ None → TreeFound s (text (part 2 (body_of a))) types r → refused (plain UnknownType) ≡ outcome_at left types pl γ a
     unfolding ◌>>=◌
     call_unknown e f = sym (looked_up ∙ ap (λ (o : Outcome (ℕ × TypeIr)). o >>= (enters left types pl at γ δ)) (found_none e f))
 
@@ -343,47 +320,43 @@ module _ {s : List ℕ} {at : ℕ} (k : le2 s (at + 4) ≡ 133) (left : ℕ) (ty
 -- ---- words
 
 -- what the words of a node that is ready remember
-pub remembers : {s values ws : List ℕ} {root : Root} {f : Frame} {at : ℕ} → Ready s values ws root f at → Remembered values root.block ws
+pub remembers : {i : Inputs} {ws : List ℕ} {f : Frame} {at : ℕ} → Ready i ws f at → Remembered i.values.now i.root.block ws
 remembers r = (bottom r.context.1).1
 
 -- where no word is written, they are kept
-pub unchanged : {s values ws : List ℕ} {root : Root} {f : Frame} {at : ℕ} → Ready s values ws root f at → Kept values root.block f.depth ws ws
+pub unchanged : {i : Inputs} {ws : List ℕ} {f : Frame} {at : ℕ} → Ready i ws f at → Kept i.values.now i.root.block f.depth ws ws
 unchanged r = kept_none (remembers r)
 
 -- what is ready stays ready where the words of the open calls are kept
-pub still_ready : {s values ws us : List ℕ} {root : Root} {f : Frame} {at q : ℕ} → Ready s values ws root f at → Accepted s 128 144 q →
-    length us ≡ length ws → Kept values root.block f.depth ws us → Ready s values us root f q
-still_ready {s} {f = f} r c l e = record {
+pub still_ready : {i : Inputs} {ws us : List ℕ} {f : Frame} {at q : ℕ} → Ready i ws f at → Accepted i.layout.now 128 144 q →
+    length us ≡ length ws → Kept i.values.now i.root.block f.depth ws us → Ready i us f q
+still_ready {i} {f = f} r c l e = record {
   node = c;
   layout = r.layout;
   context = (r.context.0, context_kept f.depth (omega arith) l e r.context.1);
-  here = λ d g. let w = r.here d g in (omega (arith, w.0), subst (λ (v : ℕ). Placed s f.place (tree_at v)) (sym (e.same d (omega arith))) w.1);
+  here = λ d g. let w = r.here d g in (omega (arith, w.0), subst (λ (v : ℕ). Placed i.layout.now f.place (tree_at v)) (sym (e.same d (omega arith))) w.1);
   calls = r.calls;
   room = omega (arith, r.room);
   small = r.small;
 }
 
 -- Words that are kept from those of a node that is ready on:
-module _ {s values ws us : List ℕ} {root : Root} {f : Frame} {at : ℕ} (x : Ready s values ws root f at) (l : length us ≡ length ws) (k : Kept values root.block 16 ws us) where
+module _ {i : Inputs} {ws us : List ℕ} {f : Frame} {at : ℕ} (x : Ready i ws f at) (l : length us ≡ length ws) (k : Kept i.values.now i.root.block 16 ws us) where
   -- the context is the same
-  pub context_now : {γ : ParamMap} → Context s values root.block root.len ws f.depth γ → Context s values root.block root.len us f.depth γ
+  pub context_now : {γ : ParamMap} → ContextOver i ws f.depth γ → ContextOver i us f.depth γ
   context_now c = context_kept 16 x.calls l k c
 
-  -- what the node comes to over the words of now is what it comes to
-  pub evaluates_now : {b : Bool} {xs ys : List ℕ} → Evaluates s values us root f at b xs ys → Evaluates s values ws root f at b xs ys
-  evaluates_now e γ c = e γ (context_now c)
-
   -- the arguments that were found are those over the words of now
-  pub bound_now : {r : Arguments} → ((p : ℕ) (γ : ParamMap) → Context s values root.block root.len ws f.depth γ → (a : Accepted s 128 144 at) → Bound p γ (arguments_of (tree a)) r) →
-      (p : ℕ) (γ : ParamMap) → Context s values root.block root.len us f.depth γ → (a : Accepted s 128 144 at) → Bound p γ (arguments_of (tree a)) r
-  bound_now b p γ c = b p γ (context_kept 16 x.calls (sym l) (kept_back (remembers x) k) c)
+  pub bound_now : ((γ : ParamMap) → ContextOver i ws f.depth γ → (a : Accepted i.layout.now 128 144 at) → Collected f.place γ a) →
+      (γ : ParamMap) → ContextOver i us f.depth γ → (a : Accepted i.layout.now 128 144 at) → Collected f.place γ a
+  bound_now b γ c = b γ (context_kept 16 x.calls (sym l) (kept_back (remembers x) k) c)
 
   -- the words of the calls that are open are kept
-  pub kept_now : Kept values root.block f.depth ws us
+  pub kept_now : Kept i.values.now i.root.block f.depth ws us
   kept_now = kept_fewer x.calls k
 
 -- what is ready for a node is ready for another of the same tree
-pub child_ready : {s values ws : List ℕ} {root : Root} {f : Frame} {at q : ℕ} → Ready s values ws root f at → Accepted s 128 144 q → Ready s values ws root f q
+pub child_ready : {i : Inputs} {ws : List ℕ} {f : Frame} {at q : ℕ} → Ready i ws f at → Accepted i.layout.now 128 144 q → Ready i ws f q
 child_ready r c = record { node = c; layout = r.layout; context = r.context; here = r.here; calls = r.calls; room = r.room; small = r.small }
 
 -- the word of a call
@@ -427,8 +400,8 @@ pub record Opening (s ws : List ℕ) (f : Frame) (at callee : ℕ) : Type 0 wher
   pub more : f.depth < 16
 
 -- a call may open where fewer than 16 are open and its type was found
-pub call_opens : {s values ws : List ℕ} {root : Root} {f : Frame} {at callee i : ℕ} {p : Place} → Ready s values ws root f at → p ≡ PlaceAt i callee →
-    ((t : Tree) → read_layout s ≡ done t → (a : Accepted s 128 144 at) → TreeFound s (text (part 2 (body (tree a)))) (layout_of t) p) → (f.depth ≡ 16 → ⊥) → Opening s ws f at callee
+pub call_opens : {i : Inputs} {ws : List ℕ} {f : Frame} {at : ℕ} {r : Option Position} {p : Position} → Ready i ws f at → r ≡ Some p →
+    ((t : Tree) → read_layout i.layout.now ≡ done t → (a : Accepted i.layout.now 128 144 at) → TreeFound i.layout.now (text (part 2 (body (tree a)))) (layout_of t) r) → (f.depth ≡ 16 → ⊥) → Opening i.layout.now ws f at p.at
 call_opens x e d n =
     let a = ends x.node in
     let c = ends (found_at_lem e (d x.layout.0 x.layout.1 x.node)).0 in
@@ -443,54 +416,53 @@ call_opens x e d n =
 abbrev in_call : Frame → ℕ → Frame
 in_call f i = record { depth = f.depth + 1; place = i }
 
-module _ {s values ws : List ℕ} (root : Root) (f : Frame) {at callee w q : ℕ} (h : f.depth < length ws) (l : at < 4294967296) (ew : w ≡ at + callee * 4294967296)
-    (k : le2 s (at + 4) ≡ 133) {r : Arguments} {p : Place} {i : ℕ}
-    (er : r ≡ All) (ep : p ≡ PlaceAt i callee)
-    (b : (p : ℕ) (γ : ParamMap) → Context s values root.block root.len ws f.depth γ → (a : Accepted s 128 144 at) → Bound p γ (arguments_of (tree a)) r)
-    (d : (t : Tree) → read_layout s ≡ done t → (a : Accepted s 128 144 at) → TreeFound s (text (part 2 (body (tree a)))) (layout_of t) p)
-    (e : (t : Accepted s 161 161 callee) → Rooted t q) (n : f.depth < 16) where
+module _ (i : Inputs) {ws : List ℕ} (f : Frame) {at w q : ℕ} {r : Option Position} {p : Position} (h : f.depth < length ws) (l : at < 4294967296)
+    (ew : w ≡ at + p.at * 4294967296) (k : le2 i.layout.now (at + 4) ≡ 133) (er : r ≡ Some p)
+    (b : (γ : ParamMap) → ContextOver i ws f.depth γ → (a : Accepted i.layout.now 128 144 at) → Collected f.place γ a)
+    (d : (t : Tree) → read_layout i.layout.now ≡ done t → (a : Accepted i.layout.now 128 144 at) → TreeFound i.layout.now (text (part 2 (body (tree a)))) (layout_of t) r)
+    (e : (t : Accepted i.layout.now 161 161 p.at) → Rooted t q) (n : f.depth < 16) where
   -- the root of the called type is ready
-  pub call_ready : Ready s values ws root f at → Ready s values (set ws f.depth w) root (in_call f i) q
+  pub call_ready : Ready i ws f at → Ready i (set ws f.depth w) (in_call f p.place) q
   call_ready x =
-      let t = found_at_lem ep (d x.layout.0 x.layout.1 x.node) in
-      let y = bound_all er (b 0 x.context.0 x.context.1 x.node) in
+      let t = found_at_lem er (d x.layout.0 x.layout.1 x.node) in
+      let y = b x.context.0 x.context.1 x.node in
       record {
         node = (e t.0).root;
         layout = x.layout;
-        context = (_, opened_call 0 n h l ew x.context.1 x.node k t.0 y.1);
+        context = (_, opened_call f.place n h l ew x.context.1 x.node k t.0 y.1);
         here = λ d g. here t.2 d (omega arith);
         calls = omega (arith, n);
         room = subst (λ (z : ℕ). 16 ≤ z) (sym (length-set ws f.depth w)) x.room;
         small = x.small;
       }
     where
-      here : Placed s i callee → (d : ℕ) → d ≡ f.depth → (d < length (set ws f.depth w)) × Placed s i (tree_at (get_or (set ws f.depth w) d 0))
-      here p d g =
+      here : Placed i.layout.now p.place p.at → (d : ℕ) → d ≡ f.depth → (d < length (set ws f.depth w)) × Placed i.layout.now p.place (tree_at (get_or (set ws f.depth w) d 0))
+      here y d g =
           let v : get_or (set ws f.depth w) d 0 ≡ w = ap (λ (d : ℕ). get_or (set ws f.depth w) d 0) g ∙ get_or-set_same ws f.depth w 0 h in
-          let t : tree_at (get_or (set ws f.depth w) d 0) ≡ callee = ap tree_at (v ∙ ew) ∙ (packed at callee l).1 in
-          (omega (arith, length-set ws f.depth w), subst (λ (o : ℕ). Placed s i o) (sym t) p)
+          let t : tree_at (get_or (set ws f.depth w) d 0) ≡ p.at = ap tree_at (v ∙ ew) ∙ (packed at p.at l).1 in
+          (omega (arith, length-set ws f.depth w), subst (λ (o : ℕ). Placed i.layout.now p.place o) (sym t) y)
 
   -- what it comes to is what the call comes to
-  pub call_answers : {o : Bool} {us vs : List ℕ} → Evaluates s values (set ws f.depth w) root (in_call f i) q o us vs → Evaluates s values ws root f at o us vs
-  call_answers ev γ x t rd a =
-      let c = found_at_lem ep (d t rd a) in
-      let y = bound_all er (b f.place γ x a) in
+  pub call_answers : (o : Result Value Refusal) → Evaluates i (set ws f.depth w) (in_call f p.place) q o → Evaluates i ws f at o
+  call_answers o ev γ x t rd a =
+      let c = found_at_lem er (d t rd a) in
+      let y = b γ x a in
       let z = e c.0 in
-      tells_as (ev (y.0 ++ inherited γ (parameters_of (tree c.0))) (opened_call f.place n h l ew x a k c.0 y.1) t rd z.root)
-      (ap (eval_within (16 - (f.depth + 1)) (layout_of t) i (y.0 ++ inherited γ (parameters_of (tree c.0)))) (sym z.is)
-      ∙ ap (λ (l : ℕ). eval_within l (layout_of t) i (y.0 ++ inherited γ (parameters_of (tree c.0))) (type_ir_of (tree c.0)).root) one_less
-      ∙ call_goes k (16 - f.depth) (layout_of t) f.place γ a y.1 c.1 (λ e. absurd (omega (arith, n))))
+      ev (y.0 ++ inherited γ (parameters_of (tree c.0))) (opened_call f.place n h l ew x a k c.0 y.1) t rd z.root
+      ∙ ap (eval_within (16 - (f.depth + 1)) (layout_of t) p.place (y.0 ++ inherited γ (parameters_of (tree c.0)))) (sym z.is)
+      ∙ ap (λ (l : ℕ). eval_within l (layout_of t) p.place (y.0 ++ inherited γ (parameters_of (tree c.0))) (type_ir_of (tree c.0)).root) one_less
+      ∙ call_goes k (16 - f.depth) (layout_of t) f.place γ a y.1 c.1 (λ e. absurd (omega (arith, n)))
     where
       one_less : 16 - (f.depth + 1) ≡ 16 - f.depth - 1
       one_less = omega arith
 
 -- "`SumOverArray` gives 24 always."
 pub sum_is : {s : List ℕ} {at k : ℕ} → k ≡ le2 s (at + 4) → k ≡ 144 → (left : ℕ) (types : List TypeIr) (pl : ℕ) (γ : ParamMap) (a : Accepted s 128 144 at) →
-    refused (refusal pl at 24 0) ≡ outcome_at left types pl γ a
+    refused (refusal pl at UnsupportedOperation 0) ≡ outcome_at left types pl γ a
 unfolding form_of make_thing eval_node
 sum_is ek k left types pl γ a = sym (within_is left types pl γ (node_of (tree a)) ∙ ap (eval_node (handlers_at left types) pl γ) (node_is a (sym ek ∙ k) refl))
 
 -- a node that holds none
-pub leaf_answers : {b : Bool} {ws us : List ℕ} {s : List ℕ} {at : ℕ} (left : ℕ) (types : List TypeIr) (pl : ℕ) (γ : ParamMap) (a : Accepted s 128 144 at) →
-    ((handle : Handlers) → Tells b ws us (eval_node handle pl γ (node_of (tree a)))) → Tells b ws us (outcome_at left types pl γ a)
-leaf_answers left types pl γ a e = tells_as (e (handlers_at left types)) (sym (within_is left types pl γ (node_of (tree a))))
+pub leaf_answers : {s : List ℕ} {at : ℕ} (left : ℕ) (types : List TypeIr) (pl : ℕ) (γ : ParamMap) (a : Accepted s 128 144 at) {o : Outcome ℕ} →
+    ((handle : Handlers) → o ≡ eval_node handle pl γ (node_of (tree a))) → o ≡ outcome_at left types pl γ a
+leaf_answers left types pl γ a e = e (handlers_at left types) ∙ sym (within_is left types pl γ (node_of (tree a)))

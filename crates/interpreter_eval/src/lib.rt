@@ -7,200 +7,107 @@ ghost use Rattle.blocks.specs.Bytes.{le2};
 ghost use Rattle.interpreter_values.specs.Remembered.{Kept};
 ghost use Rattle.interpreter_eval.specs.Evaluates.{Ready, Evaluates};
 
-use interpreter_context::{Held, Root};
-use interpreter_leaves::{Arguments, Choice, Frame};
-use lookup::Place;
+use errors::{Answer, Reason, Refusal};
+use interpreter_leaves::{Frame, Inputs};
 use value::Value;
 
-// What the node at an offset evaluates to, left in out. Of the words from the frame's depth on, where the calls stand that were open, nothing
+// What the node at an offset evaluates to. Of the words from the frame's depth on, where the calls stand that were open, nothing
 // is said but that those behind the sixteenth still remember the values.
-#[cycle(eval_align_eval_binary_eval_call_eval_kind_eval_node_eval_operand_eval_switch)]
-pub fn eval_node(
-    s: &[u8],
-    at: usize,
-    values: &[u8],
-    words: &mut [u64],
-    root: Root,
-    f: Frame,
-    out: &mut [u64; 4],
-) -> bool
-    requires { Ready s.now values.now words.old root f at }
-    ensures kept { Kept values.now root.block f.depth words.old words.new }
-    ensures evaluates { Evaluates s.now values.now words.old root f at result out.old out.new }
+#[cycle(eval)]
+pub fn eval_node(inputs: &Inputs, at: usize, words: &mut [u64], f: Frame) -> Answer
+    requires { Ready inputs.now words.old f at }
+    ensures kept { Kept inputs.now.values.now inputs.now.root.block f.depth words.old words.new }
+    ensures evaluates { Evaluates inputs.now words.old f at result }
 {
-    let inner = interpreter_leaves::unwrapped(s, at);
-    eval_kind(s, inner, values, words, root, f, out)
+    let inner = interpreter_leaves::unwrapped(inputs.layout, at);
+    eval_kind(inputs, inner, words, f)
 }
 
 // The same, by the node's kind.
-#[cycle(eval_align_eval_binary_eval_call_eval_kind_eval_node_eval_operand_eval_switch)]
-fn eval_kind(
-    s: &[u8],
-    at: usize,
-    values: &[u8],
-    words: &mut [u64],
-    root: Root,
-    f: Frame,
-    out: &mut [u64; 4],
-) -> bool
-    requires { Ready s.now values.now words.old root f at }
-    ensures kept { Kept values.now root.block f.depth words.old words.new }
-    ensures evaluates { Evaluates s.now values.now words.old root f at result out.old out.new }
+#[cycle(eval)]
+fn eval_kind(inputs: &Inputs, at: usize, words: &mut [u64], f: Frame) -> Answer
+    requires { Ready inputs.now words.old f at }
+    ensures kept { Kept inputs.now.values.now inputs.now.root.block f.depth words.old words.new }
+    ensures evaluates { Evaluates inputs.now words.old f at result }
 {
-    let kind = wire::read2(s, at + 4);
+    let kind = wire::read2(inputs.layout, at + 4);
     match kind {
-        128 => interpreter_leaves::counted(Value::of(0), out),
-        129 => interpreter_leaves::constant(s, at, out),
-        130 => interpreter_leaves::field(s, values, words, root, f, at, out),
-        131 => eval_align(s, at, values, words, root, f, out),
-        132 => eval_switch(s, at, values, words, root, f, out),
-        133 => eval_call(s, at, values, words, root, f, out),
-        144 => interpreter_leaves::refused(24, f.place, at, 0, out),
-        _ => eval_binary(s, at, values, words, root, f, out),
+        128 => Ok(Value::of(0)),
+        129 => Ok(interpreter_leaves::constant(inputs.layout, at)),
+        130 => interpreter_leaves::field(inputs, at, words, f),
+        131 => eval_align(inputs, at, words, f),
+        132 => eval_switch(inputs, at, words, f),
+        133 => eval_call(inputs, at, words, f),
+        144 => Err(f.refused(Reason::UnsupportedOperation, at, Value::of(0))),
+        _ => eval_binary(inputs, at, words, f),
     }
 }
 
 // An AlignUp node.
-#[cycle(eval_align_eval_binary_eval_call_eval_kind_eval_node_eval_operand_eval_switch)]
-fn eval_align(
-    s: &[u8],
-    at: usize,
-    values: &[u8],
-    words: &mut [u64],
-    root: Root,
-    f: Frame,
-    out: &mut [u64; 4],
-) -> bool
-    requires { Ready s.now values.now words.old root f at × (le2 s.now (at + 4) ≡ 131) }
-    ensures kept { Kept values.now root.block f.depth words.old words.new }
-    ensures evaluates { Evaluates s.now values.now words.old root f at result out.old out.new }
+#[cycle(eval)]
+fn eval_align(inputs: &Inputs, at: usize, words: &mut [u64], f: Frame) -> Answer
+    requires { Ready inputs.now words.old f at × (le2 inputs.now.layout.now (at + 4) ≡ 131) }
+    ensures kept { Kept inputs.now.values.now inputs.now.root.block f.depth words.old words.new }
+    ensures evaluates { Evaluates inputs.now words.old f at result }
 {
-    let p = interpreter_context::first_part(s, at);
-    let q = interpreter_context::second_part(s, at);
-    if !eval_node(s, q, values, words, root, f, out) {
-        return false;
-    }
-    let x = interpreter_leaves::count_in(out);
-    interpreter_leaves::lifted(
-        f.place,
-        at,
-        interpreter_arithmetic::align_up(x, wire::read8(s, p) as u64),
-        out,
-    )
+    let p = interpreter_context::first_part(inputs.layout, at);
+    let q = interpreter_context::second_part(inputs.layout, at);
+    let x = eval_node(inputs, q, words, f)?;
+    let alignment = wire::read8(inputs.layout, p) as u64;
+    f.lifted(at, interpreter_arithmetic::align_up(x, alignment))
 }
 
-// A node that is the first operand of another: a constant is met so often that it is asked for at once.
-#[cycle(eval_align_eval_binary_eval_call_eval_kind_eval_node_eval_operand_eval_switch)]
-fn eval_operand(
-    s: &[u8],
-    at: usize,
-    values: &[u8],
-    words: &mut [u64],
-    root: Root,
-    f: Frame,
-    out: &mut [u64; 4],
-) -> bool
-    requires { Ready s.now values.now words.old root f at }
-    ensures kept { Kept values.now root.block f.depth words.old words.new }
-    ensures evaluates { Evaluates s.now values.now words.old root f at result out.old out.new }
+// A node of two operands, left before right. A constant is met so often on the left that it is asked for at once.
+#[cycle(eval)]
+fn eval_binary(inputs: &Inputs, at: usize, words: &mut [u64], f: Frame) -> Answer
+    requires { Ready inputs.now words.old f at × ((134 ≤ le2 inputs.now.layout.now (at + 4)) × (le2 inputs.now.layout.now (at + 4) ≤ 143)) }
+    ensures kept { Kept inputs.now.values.now inputs.now.root.block f.depth words.old words.new }
+    ensures evaluates { Evaluates inputs.now words.old f at result }
 {
-    let inner = interpreter_leaves::unwrapped(s, at);
-    if wire::read2(s, inner + 4) == 129 {
-        return interpreter_leaves::constant(s, inner, out);
-    }
-    eval_node(s, inner, values, words, root, f, out)
-}
-
-// A node of two operands, left before right.
-#[cycle(eval_align_eval_binary_eval_call_eval_kind_eval_node_eval_operand_eval_switch)]
-fn eval_binary(
-    s: &[u8],
-    at: usize,
-    values: &[u8],
-    words: &mut [u64],
-    root: Root,
-    f: Frame,
-    out: &mut [u64; 4],
-) -> bool
-    requires { Ready s.now values.now words.old root f at × ((134 ≤ le2 s.now (at + 4)) × (le2 s.now (at + 4) ≤ 143)) }
-    ensures kept { Kept values.now root.block f.depth words.old words.new }
-    ensures evaluates { Evaluates s.now values.now words.old root f at result out.old out.new }
-{
-    let kind = wire::read2(s, at + 4);
-    let p = interpreter_context::first_part(s, at);
-    let q = interpreter_context::second_part(s, at);
-    if !eval_operand(s, p, values, words, root, f, out) {
-        return false;
-    }
-    let x = interpreter_leaves::count_in(out);
-    if !eval_node(s, q, values, words, root, f, out) {
-        return false;
-    }
-    let y = interpreter_leaves::count_in(out);
-    interpreter_leaves::lifted(
-        f.place,
-        at,
-        interpreter_arithmetic::operate(kind, x, y),
-        out,
-    )
+    let kind = wire::read2(inputs.layout, at + 4);
+    let first = interpreter_context::first_part(inputs.layout, at);
+    let p = interpreter_leaves::unwrapped(inputs.layout, first);
+    let q = interpreter_context::second_part(inputs.layout, at);
+    let x = if wire::read2(inputs.layout, p + 4) == 129 {
+        interpreter_leaves::constant(inputs.layout, p)
+    } else {
+        eval_node(inputs, p, words, f)?
+    };
+    let y = eval_node(inputs, q, words, f)?;
+    f.lifted(at, interpreter_arithmetic::operate(kind, x, y))
 }
 
 // A Switch node.
-#[cycle(eval_align_eval_binary_eval_call_eval_kind_eval_node_eval_operand_eval_switch)]
-fn eval_switch(
-    s: &[u8],
-    at: usize,
-    values: &[u8],
-    words: &mut [u64],
-    root: Root,
-    f: Frame,
-    out: &mut [u64; 4],
-) -> bool
-    requires { Ready s.now values.now words.old root f at × (le2 s.now (at + 4) ≡ 132) }
-    ensures kept { Kept values.now root.block f.depth words.old words.new }
-    ensures evaluates { Evaluates s.now values.now words.old root f at result out.old out.new }
+#[cycle(eval)]
+fn eval_switch(inputs: &Inputs, at: usize, words: &mut [u64], f: Frame) -> Answer
+    requires { Ready inputs.now words.old f at × (le2 inputs.now.layout.now (at + 4) ≡ 132) }
+    ensures kept { Kept inputs.now.values.now inputs.now.root.block f.depth words.old words.new }
+    ensures evaluates { Evaluates inputs.now words.old f at result }
 {
-    match interpreter_leaves::tag(s, values, words, root, f, at) {
-        Held::Absent => interpreter_leaves::refused(21, f.place, at, 0, out),
-        Held::Value(v) => match interpreter_leaves::selected(s, at, v) {
-            Choice::Node(q) => eval_node(s, q, values, words, root, f, out),
-            Choice::Nothing => interpreter_leaves::refused(22, f.place, at, v.low(), out),
-        },
-    }
+    let v = interpreter_leaves::tag(inputs, at, words, f).ok_or(f.missing(at))?;
+    let unmatched = f.refused(Reason::InvalidTagValue, at, v);
+    let q = interpreter_leaves::selected(inputs.layout, at, v).ok_or(unmatched)?;
+    eval_node(inputs, q, words, f)
 }
 
 // A CallNested node: arguments, type lookup, then whether the call may open; its word holds where the call and the type stand.
-#[cycle(eval_align_eval_binary_eval_call_eval_kind_eval_node_eval_operand_eval_switch)]
-fn eval_call(
-    s: &[u8],
-    at: usize,
-    values: &[u8],
-    words: &mut [u64],
-    root: Root,
-    f: Frame,
-    out: &mut [u64; 4],
-) -> bool
-    requires { Ready s.now values.now words.old root f at × (le2 s.now (at + 4) ≡ 133) }
-    ensures kept { Kept values.now root.block f.depth words.old words.new }
-    ensures evaluates { Evaluates s.now values.now words.old root f at result out.old out.new }
+#[cycle(eval)]
+fn eval_call(inputs: &Inputs, at: usize, words: &mut [u64], f: Frame) -> Answer
+    requires { Ready inputs.now words.old f at × (le2 inputs.now.layout.now (at + 4) ≡ 133) }
+    ensures kept { Kept inputs.now.values.now inputs.now.root.block f.depth words.old words.new }
+    ensures evaluates { Evaluates inputs.now words.old f at result }
 {
-    match interpreter_leaves::collect_arguments(s, values, words, root, f, at) {
-        Arguments::Lacking(q) => interpreter_leaves::refused(21, f.place, q, 0, out),
-        Arguments::All => match interpreter_leaves::called(s, words, f, at) {
-            Place::Missing => interpreter_leaves::refused(20, 65535, 0, 0, out),
-            Place::At(i, callee) => {
-                let depth = f.depth;
-                if depth == 16 {
-                    return interpreter_leaves::refused(27, f.place, at, 0, out);
-                }
-                let top = interpreter_leaves::root(s, callee);
-                words[depth] = at as u64 + callee as u64 * 4294967296;
-                let inner = Frame {
-                    depth: depth + 1,
-                    place: i,
-                };
-                eval_node(s, top, values, words, root, inner, out)
-            }
-        },
+    interpreter_leaves::collect_arguments(inputs, at, words, f)?;
+    let unknown = Refusal::plain(Reason::UnknownType);
+    let callee = interpreter_leaves::called(inputs.layout, at, words, f).ok_or(unknown)?;
+    if f.depth == 16 {
+        return Err(f.refused(Reason::TooManyCalls, at, Value::of(0)));
     }
+    let top = interpreter_leaves::root(inputs.layout, callee.at);
+    words[f.depth] = at as u64 + callee.at as u64 * 4294967296;
+    let inner = Frame {
+        depth: f.depth + 1,
+        place: callee.place,
+    };
+    eval_node(inputs, top, words, inner)
 }

@@ -1,11 +1,14 @@
 -- The arguments of a call, front to back.
 use mathlib.Core.Path.{◌≡◌, refl, sym, ◌∙◌, ap, subst}
 use mathlib.Core.List.{List, [], ◌∷◌}
-use mathlib.Core.Option.{Option, some, none}
+use mathlib.Core.Option.{Option as Maybe, some, none}
+use Rattle.std.specs.Prelude.{Option, Some, None, Result, Ok, Err}
 use Prim.Native.Nat.{ℕ, ◌+◌, ◌-◌, ◌≤◌, ◌<◌}
 use native.Mathlib.Omega.{arith}
 use lib.ListN.{length}
 use Rattle.errors.specs.Refusal.{refused, ◌>>=◌, MissingIrParameter}
+use Rattle.errors.specs.declared.Refusal.{Refusal}
+use Rattle.errors.specs.Meaning.{refusal_of}
 use Rattle.blocks.specs.Bytes.{le2, le4}
 use Rattle.blocks.specs.Tree.{Tree, entries}
 use Rattle.value.specs.declared.Value.{Value}
@@ -17,14 +20,10 @@ use Rattle.accepted.proofs.Laws.{block_entry, none_left}
 use Rattle.interpreter.specs.Eval.{ParamMap, find, refusal_at, value_or, collect_arguments}
 use Rattle.interpreter_context.proofs.Shape.{ListAt}
 use Rattle.interpreter_context.proofs.Blocks.{IsArgument, argument}
-use Rattle.interpreter_context.specs.declared.Held.{Held}
-use Rattle.interpreter_context.specs.declared.Held.TheVariants.{Value as HeldValue, Absent}
 use Rattle.interpreter_context.specs.Names.{found_in}
 use Rattle.interpreter_values.specs.Remembered.{Kept}
 use Rattle.interpreter_context.proofs.Calls.{context_kept}
 use Rattle.interpreter_context.specs.Context.{Context, arguments_of}
-use Rattle.interpreter_leaves.specs.declared.Arguments.{Arguments}
-use Rattle.interpreter_leaves.specs.declared.Arguments.TheVariants.{All, Lacking}
 use Rattle.interpreter_leaves.specs.Steps.{Bound}
 use Rattle.interpreter_leaves.proofs.Nodes.{found_as}
 
@@ -41,13 +40,13 @@ begin {s} {values} {block} {len} {words} {depth} {m} {from} e = subst (λ (k : �
 one_more : (pl : ℕ) (γ : ParamMap) (x : IrArgument) (xs : List IrArgument) (δ : ParamMap) (v : ℕ) → find x.value γ ≡ some v →
     collect_arguments pl γ (x ∷ xs) δ ≡ collect_arguments pl γ xs (record { name = x.name; value = v } ∷ δ)
 unfolding collect_arguments value_or ◌>>=◌
-one_more pl γ x xs δ v e = ap (λ (o : Option ℕ). value_or (refusal_at pl x.at MissingIrParameter 0) o >>= (λ v. collect_arguments pl γ xs (record { name = x.name; value = v } ∷ δ))) e
+one_more pl γ x xs δ v e = ap (λ (o : Maybe ℕ). value_or (refusal_at pl x.at MissingIrParameter 0) o >>= (λ v. collect_arguments pl γ xs (record { name = x.name; value = v } ∷ δ))) e
 
 -- one whose value the caller lacks ends it
 one_missing : (pl : ℕ) (γ : ParamMap) (x : IrArgument) (xs : List IrArgument) (δ : ParamMap) → find x.value γ ≡ none →
     collect_arguments pl γ (x ∷ xs) δ ≡ refused (refusal_at pl x.at MissingIrParameter 0)
 unfolding collect_arguments value_or ◌>>=◌
-one_missing pl γ x xs δ e = ap (λ (o : Option ℕ). value_or (refusal_at pl x.at MissingIrParameter 0) o >>= (λ v. collect_arguments pl γ xs (record { name = x.name; value = v } ∷ δ))) e
+one_missing pl γ x xs δ e = ap (λ (o : Maybe ℕ). value_or (refusal_at pl x.at MissingIrParameter 0) o >>= (λ v. collect_arguments pl γ xs (record { name = x.name; value = v } ∷ δ))) e
 
 -- where an argument's value name stands
 pub value_at : {s : List ℕ} {p u : ℕ} → u ≡ le2 s (p + 6) → (a : Accepted s 164 164 p) → IsArgument a (p + 8 + u)
@@ -58,9 +57,9 @@ module _ {s values : List ℕ} {block len : ℕ} {words : List ℕ} {depth m fro
   pub next_one : (x : (γ : ParamMap) × Context s values block len words depth γ) → Listed s 164 164 m from → Accepted s 164 164 p
   next_one x l = (block_entry (t.on 0 x.0 x.1 l).0 h).child
 
-  module _ {u : ℕ} {r : Held} (eu : u ≡ le2 s (p + 6)) (e : (γ : ParamMap) → Context s values block len words depth γ → found_in r ≡ find (name_at s (p + 8 + u)) γ) where
+  module _ {u : ℕ} {r : Option Value} (eu : u ≡ le2 s (p + 6)) (e : (γ : ParamMap) → Context s values block len words depth γ → found_in r ≡ find (name_at s (p + 8 + u)) γ) where
     -- the caller has its value: the loop goes on behind it
-    pub found_one : {v : Value} {w : ℕ} → r ≡ HeldValue v → w ≡ le4 s p → Collecting s values block len words depth m from (left - 1) (p + 4 + w)
+    pub found_one : {v : Value} {w : ℕ} → r ≡ Some v → w ≡ le4 s p → Collecting s values block len words depth m from (left - 1) (p + 4 + w)
     unfolding entries
     found_one {v} f ew = subst (λ (w : ℕ). Collecting s values block len words depth m from (left - 1) (p + 4 + w)) (sym ew) (record {
       on = λ pl γ c l.
@@ -75,25 +74,27 @@ module _ {s values : List ℕ} {block len : ℕ} {words : List ℕ} {depth m fro
           );
     })
 
-    -- the caller lacks it: its offset is the answer
-    pub lacking_one : r ≡ Absent → (pl : ℕ) (γ : ParamMap) → Context s values block len words depth γ → (l : Listed s 164 164 m from) → Bound pl γ (entries argument_of l.got.0) (Lacking p)
+    -- the caller lacks it: that is the answer
+    pub lacking_one : r ≡ None → (pl : ℕ) (o : Refusal) → refusal_of o ≡ refusal_at pl p MissingIrParameter 0 → (γ : ParamMap) → Context s values block len words depth γ →
+        (l : Listed s 164 164 m from) → Bound pl γ (entries argument_of l.got.0) (Err o)
     unfolding entries
-    lacking_one f pl γ c l =
+    lacking_one f pl o eo γ c l =
         let x = t.on pl γ c l in
         let b = block_entry x.0 h in
         let i = value_at eu b.child in
-        Bound.lacking (x.2 ∙ ap (λ (z : Tree). collect_arguments pl γ (entries argument_of z) x.1) b.after.tree
+        x.2 ∙ ap (λ (z : Tree). collect_arguments pl γ (entries argument_of z) x.1) b.after.tree
         ∙ one_missing pl γ (argument_of (tree b.child)) (entries argument_of b.after.rest.got.0) x.1 (ap (λ (y : IrArgument). find y.value γ) i.is
         ∙ found_as (find (name_at s (p + 8 + u)) γ) (e γ c) f)
-        ∙ ap (λ (y : IrArgument). refused (refusal_at pl y.at MissingIrParameter 0)) i.is)
+        ∙ ap (λ (y : IrArgument). refused (refusal_at pl y.at MissingIrParameter 0)) i.is
+        ∙ ap refused (sym eo)
 
 -- none is left: all were found
 pub no_more : {s values : List ℕ} {block len : ℕ} {words : List ℕ} {depth m from left p : ℕ} → left ≤ 0 → Collecting s values block len words depth m from left p →
-    (pl : ℕ) (γ : ParamMap) → Context s values block len words depth γ → (l : Listed s 164 164 m from) → Bound pl γ (entries argument_of l.got.0) All
+    (pl : ℕ) (γ : ParamMap) → Context s values block len words depth γ → (l : Listed s 164 164 m from) → Bound pl γ (entries argument_of l.got.0) (Ok tt)
 unfolding entries collect_arguments
 no_more h t pl γ c l =
     let x = t.on pl γ c l in
-    Bound.all x.1 (x.2 ∙ ap (λ (z : Tree × ℕ). collect_arguments pl γ (entries argument_of z.0) x.1) (none_left x.0 h))
+    (x.1, x.2 ∙ ap (λ (z : Tree × ℕ). collect_arguments pl γ (entries argument_of z.0) x.1) (none_left x.0 h))
 
 -- ---- the words, which may change behind those of the open calls
 
@@ -109,6 +110,6 @@ pub still : {s values : List ℕ} {block len : ℕ} {ws us : List ℕ} {depth m 
 still g h c = context_kept 16 h g.long g.kept c
 
 -- of the call itself
-pub of_call : {s : List ℕ} {at q : ℕ} {pl : ℕ} {γ : ParamMap} {r : Arguments} (a : Accepted s 128 144 at) (l : ListAt a 164 164 3 q) →
+pub of_call : {s : List ℕ} {at q : ℕ} (pl : ℕ) (γ : ParamMap) (r : Result Unit Refusal) (a : Accepted s 128 144 at) (l : ListAt a 164 164 3 q) →
     Bound pl γ (entries argument_of l.list.got.0) r → Bound pl γ (arguments_of (tree a)) r
-of_call {pl} {γ} {r} a l b = subst (λ (t : Tree). Bound pl γ (entries argument_of t) r) (sym l.is) b
+of_call pl γ r a l b = subst (λ (t : Tree). Bound pl γ (entries argument_of t) r) (sym l.is) b

@@ -2,7 +2,7 @@
 use mathlib.Core.Path.{◌≡◌, refl, sym, ◌∙◌, ap, subst}
 use mathlib.Core.Bool.{Bool, cond}
 use mathlib.Core.List.{List, [], ◌∷◌}
-use mathlib.Core.Option.{some}
+use mathlib.Core.Option.{some, none}
 use Prim.Native.Nat.{ℕ, ◌+◌, ◌-◌, ◌≤◌, ◌<◌}
 use native.Mathlib.Omega.{arith}
 use lib.Dec.{eqb}
@@ -19,9 +19,7 @@ use Rattle.accepted.proofs.Laws.{opened, sole_kind, number_part, block_part, opt
 use Rattle.interpreter_context.specs.Located.{Located}
 use Rattle.interpreter_context.proofs.Laws.{Standing}
 use Rattle.interpreter_context.proofs.Shape.{body_of, part_rests, located, node_in_lem}
-use Rattle.interpreter_leaves.specs.declared.Choice.{Choice}
-use Rattle.interpreter_leaves.specs.declared.Choice.TheVariants.{Node, Nothing}
-use Rattle.interpreter_leaves.specs.Steps.{pick, cases_of, default_of, Picked}
+use Rattle.interpreter_leaves.specs.Steps.{pick, cases_of, default_of, PickedAt}
 
 -- ---- a case
 
@@ -104,9 +102,10 @@ pub switch_at : {s : List ℕ} {at q : ℕ} → Standing s at 3 q → (a : Accep
 unfolding parts_of node_table
 switch_at st a k = switch_parts (located 3 st a k refl)
 
--- what is picked for a number is picked for one that is equal
-pub same_tag : {s : List ℕ} {at v w : ℕ} {a : Accepted s 128 144 at} {c : Choice} → v ≡ w → Picked a v c → Picked a w c
-same_tag {a} {c} e p = subst (λ (v : ℕ). Picked a v c) e p
+-- a node that is picked
+picked_at : {s : List ℕ} {at v q : ℕ} {a : Accepted s 128 144 at} (c : Accepted s 128 144 q) → le4 s q < le4 s at →
+    pick v (cases_of (body_of a)) (default_of (body_of a)) ≡ some (node_of (tree c)) → PickedAt a v q
+picked_at c h e = record { node = c; short = h; is = e }
 
 -- ---- the loop: the cases before p have other values
 
@@ -152,16 +151,16 @@ module _ {s : List ℕ} {v m from left p : ℕ} where
   })
 
   -- it has the value: its node is picked
-  pub hit : {at q u : ℕ} → m ≡ le2 s q → from ≡ q + 2 → 0 < left → u ≡ le8 s (p + 6) → u ≡ v → Tried s v m from left p → (a : Accepted s 128 144 at) → SwitchAt a q → Picked a v (Node (p + 14))
+  pub hit : {at q u : ℕ} → m ≡ le2 s q → from ≡ q + 2 → 0 < left → u ≡ le8 s (p + 6) → u ≡ v → Tried s v m from left p → (a : Accepted s 128 144 at) → SwitchAt a q → PickedAt a v (p + 14)
   hit {at} {q} em ef h eu ev t a w = go m from em ef t
     where
-      go : (m from : ℕ) → m ≡ le2 s q → from ≡ q + 2 → Tried s v m from left p → Picked a v (Node (p + 14))
+      go : (m from : ℕ) → m ≡ le2 s q → from ≡ q + 2 → Tried s v m from left p → PickedAt a v (p + 14)
       go m from em ef t =
           let t' : Tried s v (le2 s q) (q + 2) left p = subst (λ (f : ℕ). Tried s v (le2 s q) f left p) ef (subst (λ (m : ℕ). Tried s v m from left p) em t) in
           let x = t'.on w.list in
           let b = block_entry x.0 h in
           let i = case_at b.child in
-          Picked.node i.node (omega (arith, i.short, b.after.inside, x.2, w.end, w.low, t'.low))
+          picked_at i.node (omega (arith, i.short, b.after.inside, x.2, w.end, w.low, t'.low))
           (ap (λ (z : Tree). pick v (cases_in (view thing_of z)) (default_of (body_of a))) w.is ∙ x.1 (default_of (body_of a))
           ∙ ap (λ (z : Tree). pick v (cases_in (view thing_of z)) (default_of (body_of a))) b.after.tree
           ∙ ap (λ (cs : SwitchCases). pick v cs (default_of (body_of a))) (first_case (tree b.child) b.after.rest.got.0 i.is)
@@ -214,18 +213,18 @@ module _ {s : List ℕ} {at v p : ℕ} {a : Accepted s 128 144 at} (b : Default 
   flag_in = let o = optional_part Optional.block b.parts in omega (arith, o.inside, b.parts.fits)
 
   -- there is a default: it is picked
-  pub default_given : get_or s p 0 ≡ 1 → Picked a v (Node (p + 1))
+  pub default_given : get_or s p 0 ≡ 1 → PickedAt a v (p + 1)
   unfolding pick
   default_given h =
       let o = (optional_part Optional.block b.parts).there h in
       let k = block_part o.parts in
-      Picked.node k.child (omega (arith, k.behind.inside, o.end, b.stop, b.low))
+      picked_at k.child (omega (arith, k.behind.inside, o.end, b.stop, b.low))
       (b.picks ∙ default_by (body_of a) (first o.parts.got.0) (get_or s p 0) v (b.default ∙ ap first o.tree) (eq-eqb _ _ h)
       ∙ ap (λ (z : Tree). some (node_of (first z))) k.behind.tree)
 
   -- there is none: nothing is picked
-  pub default_absent : (get_or s p 0 ≡ 1 → ⊥) → Picked a v Nothing
+  pub default_absent : (get_or s p 0 ≡ 1 → ⊥) → pick v (cases_of (body_of a)) (default_of (body_of a)) ≡ none
   unfolding pick
   default_absent h =
       let o = (optional_part Optional.block b.parts).absent h in
-      Picked.nothing (b.picks ∙ default_by (body_of a) nil (get_or s p 0) v (b.default ∙ ap first o.tree) (ne_eqb _ _ h))
+      b.picks ∙ default_by (body_of a) nil (get_or s p 0) v (b.default ∙ ap first o.tree) (ne_eqb _ _ h)

@@ -1,5 +1,5 @@
 pub mod Nodes
 pub mod Cases
 pub mod Binding
-pub mod Tells
 pub mod Align
+pub mod Exits

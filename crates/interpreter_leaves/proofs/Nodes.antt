@@ -2,7 +2,9 @@
 use mathlib.Core.Path.{◌≡◌, refl, sym, ◌∙◌, ap, subst}
 use mathlib.Core.Bool.{true}
 use mathlib.Core.List.{List}
-use mathlib.Core.Option.{Option}
+use Rattle.std.specs.Prelude.{Option, Some, None}
+use Rattle.std.specs.Option.{ok_or}
+use mathlib.Core.Option.{Option as Maybe}
 use Prim.Native.Nat.{ℕ, ◌+◌, ◌-◌, ◌≤◌, ◌<◌}
 use native.Mathlib.Omega.{arith}
 use lib.Dec.{leb}
@@ -10,33 +12,25 @@ use lib.ListN.{length, get_or, get_or-replicate}
 use borrow.Author.Tests.{leb-true}
 use Rattle.ir_nodes.proofs.Table.{entry}
 use Rattle.errors.specs.Refusal.{done, refused, MissingIrParameter}
+use Rattle.errors.specs.Refusal as definition
+use Rattle.errors.specs.declared.Refusal.{Refusal}
+use Rattle.errors.specs.Meaning.{refusal_of, outcome_of}
 use Rattle.blocks.specs.Bytes.{le2, le8}
 use Rattle.blocks.specs.Name.{Name}
 use Rattle.blocks.specs.Grammar.{parts_of, node_table}
 use Rattle.blocks.specs.Tree.{Tree, text, number, body, part}
 use Rattle.value.specs.declared.Value.{Value}
-use Rattle.value.specs.Number.{number_of}
 use Rattle.ir.specs.Layout.{form_of, make_thing, node_of, layout_of}
 use Rattle.accepted.specs.Accepted.{Accepted, tree, name_at}
-use Rattle.interpreter.specs.Eval.{Handlers, ParamMap, find, refusal_at as refusal, value_or, lift, chosen, eval_node}
+use Rattle.interpreter.specs.Eval.{Handlers, ParamMap, find, refusal_at as refusal, value_or, chosen, eval_node}
 use Rattle.interpreter_context.proofs.Laws.{Standing}
 use Rattle.interpreter_context.proofs.Shape.{body_of, text_at, number_at, MaybeText, maybe_text, node_is, located}
-use Rattle.interpreter_arithmetic.specs.declared.Num.{Num}
-use Rattle.interpreter_arithmetic.specs.Num.{result_of}
-use Rattle.lookup.specs.declared.Place.{Place}
+use Rattle.wire.specs.declared.Position.{Position}
 use Rattle.lookup.specs.Named.{Placed}
 use Rattle.lookup.specs.Found.{TreeFound}
-use Rattle.interpreter_context.specs.declared.Held.{Held}
-use Rattle.interpreter_context.specs.declared.Held.TheVariants.{Value as HeldValue, Absent}
 use Rattle.interpreter_context.specs.Names.{found_in}
 use Rattle.interpreter_context.specs.Context.{Context, Here, tree_at}
 use Rattle.interpreter_leaves.specs.Steps.{FieldName}
-
--- ---- arithmetic
-
--- what the code was given is what it tells apart
-pub lifted_as : (p a : ℕ) {n m : Num} → n ≡ m → lift p a (result_of m) ≡ lift p a (result_of n)
-lifted_as p a e = ap (λ (n : Num). lift p a (result_of n)) (sym e)
 
 -- ---- Const
 
@@ -79,7 +73,7 @@ module _ {s : List ℕ} {at p q : ℕ} (st : Standing s at 2 p) (su : Standing s
   }
 
 -- the context has what the code tells apart: a value, or none
-pub found_as : (o : Option ℕ) {r h : Held} → found_in r ≡ o → r ≡ h → o ≡ found_in h
+pub found_as : (o : Maybe ℕ) {r h : Option Value} → found_in r ≡ o → r ≡ h → o ≡ found_in h
 found_as o e f = sym e ∙ ap found_in f
 
 -- a FieldRef node evaluates to what the context has of that name
@@ -88,17 +82,16 @@ ref_is : {s : List ℕ} {at q : ℕ} → FieldName s at q → le2 s (at + 4) ≡
 unfolding form_of make_thing eval_node
 ref_is {at} n k handle pl γ a = ap (eval_node handle pl γ) (node_is a k refl) ∙ ap (λ (m : Name). value_or (refusal pl at MissingIrParameter 0) (find m γ)) (n.is a)
 
-module _ {s values : List ℕ} {block len : ℕ} {words : List ℕ} {depth at q : ℕ} {r : Held} (pl : ℕ) (n : FieldName s at q) (k : le2 s (at + 4) ≡ 130) (e : (γ : ParamMap) →
-    Context s values block len words depth γ → found_in r ≡ find (name_at s q) γ) (handle : Handlers) (γ : ParamMap) (c : Context s values block len words depth γ) (a : Accepted s 128 144 at) where
-  -- a value was found
-  pub ref_found : {v : Value} → r ≡ HeldValue v → done (number_of v) ≡ eval_node handle pl γ (node_of (tree a))
-  unfolding value_or
-  ref_found f = sym (ref_is n k handle pl γ a ∙ ap (value_or (refusal pl at MissingIrParameter 0)) (found_as (find (name_at s q) γ) (e γ c) f))
+-- what was found is the answer, and else the refusal
+pub found_or : (o : Maybe ℕ) (r : Option Value) (e : Refusal) {d : definition.Refusal} → found_in r ≡ o → refusal_of e ≡ d → outcome_of (ok_or r e) ≡ value_or d o
+unfolding value_or
+found_or o None e {d} f g = ap refused g ∙ ap (value_or d) f
+found_or o (Some v) e {d} f g = ap (value_or d) f
 
-  -- none was
-  pub ref_absent : r ≡ Absent → refused (refusal pl at 21 0) ≡ eval_node handle pl γ (node_of (tree a))
-  unfolding value_or
-  ref_absent f = sym (ref_is n k handle pl γ a ∙ ap (value_or (refusal pl at MissingIrParameter 0)) (found_as (find (name_at s q) γ) (e γ c) f))
+-- so it is with a FieldRef node
+pub ref_answers : {s : List ℕ} {at q : ℕ} (pl : ℕ) (r : Option Value) (e : Refusal) (γ : ParamMap) → FieldName s at q → le2 s (at + 4) ≡ 130 → found_in r ≡ find (name_at s q) γ →
+    refusal_of e ≡ refusal pl at MissingIrParameter 0 → (handle : Handlers) (a : Accepted s 128 144 at) → outcome_of (ok_or r e) ≡ eval_node handle pl γ (node_of (tree a))
+ref_answers {s} {q} pl r e γ n k f g handle a = found_or (find (name_at s q) γ) r e f g ∙ sym (ref_is n k handle pl γ a)
 
 -- ---- ZeroSize
 
@@ -120,13 +113,13 @@ unfolding parts_of node_table
 call_type st a k = text_at (located 2 st a k refl)
 
 -- what was found of the tag's name is the tag
-pub tag_is : {s values : List ℕ} {block len : ℕ} {words : List ℕ} {depth at p : ℕ} (r : Held) → Standing s at 2 p → le2 s (at + 4) ≡ 132 →
+pub tag_is : {s values : List ℕ} {block len : ℕ} {words : List ℕ} {depth at p : ℕ} (r : Option Value) → Standing s at 2 p → le2 s (at + 4) ≡ 132 →
     ((γ : ParamMap) → Context s values block len words depth γ → found_in r ≡ find (name_at s p) γ) →
     (γ : ParamMap) → Context s values block len words depth γ → (a : Accepted s 128 144 at) → found_in r ≡ find (text (part 2 (body (tree a)))) γ
 tag_is r st k e γ c a = e γ c ∙ ap (λ (n : Name). find n γ) (sym (switch_tag st a k).1)
 
 -- what was found of the type's name is the type
-pub type_is : {s : List ℕ} {at p : ℕ} {m : Name} {r : Place} → Standing s at 2 p → le2 s (at + 4) ≡ 133 → m ≡ name_at s p → (t : Tree) →
+pub type_is : {s : List ℕ} {at p : ℕ} {m : Name} {r : Option Position} → Standing s at 2 p → le2 s (at + 4) ≡ 133 → m ≡ name_at s p → (t : Tree) →
     TreeFound s m (layout_of t) r → (a : Accepted s 128 144 at) → TreeFound s (text (part 2 (body (tree a)))) (layout_of t) r
 type_is {s} {r} st k e t f a = subst (λ (n : Name). TreeFound s n (layout_of t) r) (e ∙ sym (call_type st a k).1) f
 
@@ -137,11 +130,10 @@ held_here s words depth place f h = f (depth - 1) (omega arith)
 -- ---- how many parts a kind has
 
 -- every kind but ZeroSize has three or more
-pub enough : (j i : ℕ) → 129 ≤ j → j ≤ 144 → i ≤ 3 → i ≤ length (parts_of j)
+pub three_parts : (k : ℕ) → 129 ≤ k → k ≤ 144 → 3 ≤ length (parts_of k)
 unfolding parts_of node_table
-enough j i lo hi h =
-    let e : 129 + (j - 129) ≡ j = omega arith in
-    let g : j - 129 < 16 = omega arith in
-    let t = sym (entry 16 (λ k. leb 3 (length (parts_of (129 + k)))) (j - 129) true g) ∙ get_or-replicate 16 (j - 129) true true g in
-    let u = leb-true 3 (length (parts_of j)) (rw e at t) in
-    omega arith
+three_parts k lo hi =
+    let e : 129 + (k - 129) ≡ k = omega arith in
+    let g : k - 129 < 16 = omega arith in
+    let t = sym (entry 16 (λ i. leb 3 (length (parts_of (129 + i)))) (k - 129) true g) ∙ get_or-replicate 16 (k - 129) true true g in
+    leb-true 3 (length (parts_of k)) (rw e at t)

@@ -1,17 +1,22 @@
 -- What a switch selects, what a call's arguments come to, where a type's root stands, and a node without what changes nothing.
 use Rattle.std.specs.Prelude.{ℕ, ◌+◌, ◌≤◌, ◌<◌, ◌≡◌, cond, List, [], leb, eqb, length}
-use Rattle.std.proofs.Math.Option.{Option, some, none}
-use Rattle.errors.specs.Refusal.{done, refused, MissingIrParameter}
+use Rattle.std.specs.Prelude.{Option, Result, MatchOption, MatchResult}
+use Rattle.std.proofs.Math.Option.{Option as Maybe, some, none}
+use Rattle.errors.specs.Refusal.{done, refused}
+use Rattle.errors.specs.declared.Refusal.{Refusal}
+use Rattle.errors.specs.Meaning.{refusal_of}
 use Rattle.blocks.specs.Bytes.{le2, le4}
 use Rattle.blocks.specs.Tree.{Tree, first, rest, body, part, number, text, optional, view}
 use Rattle.ir.specs.Ir.{IrArgument, IrNode, SwitchCases, DefaultNode}
 use Rattle.ir.specs.Layout.{node_of, type_ir_of, cases_in, thing_of}
 use Rattle.accepted.specs.Accepted.{Accepted, tree, name_at}
-use Rattle.interpreter.specs.Eval.{ParamMap, refusal_at, chosen, collect_arguments}
-use Rattle.interpreter_leaves.specs.declared.Choice.{Choice}
-use Rattle.interpreter_leaves.specs.declared.Choice.TheVariants.{Node, Nothing}
-use Rattle.interpreter_leaves.specs.declared.Arguments.{Arguments}
-use Rattle.interpreter_leaves.specs.declared.Arguments.TheVariants.{All, Lacking}
+use Rattle.interpreter.specs.Eval.{ParamMap, chosen, collect_arguments}
+use Rattle.interpreter_context.specs.Context.{Context}
+use Rattle.interpreter_leaves.specs.declared.Inputs.{Inputs}
+
+-- the context with so many calls open, over a layout and values
+abbrev pub ContextOver : Inputs → List ℕ → ℕ → ParamMap → Type 0
+ContextOver i words depth γ = Context i.layout.now i.values.now i.root.block i.root.len words depth γ
 
 -- the root of a type tree
 pub record Rooted {s : List ℕ} {at : ℕ} (t : Accepted s 161 161 at) (r : ℕ) : Type 0 where
@@ -24,7 +29,7 @@ pub record FieldName (s : List ℕ) (at q : ℕ) : Type 0 where
   pub is : (a : Accepted s 128 144 at) → chosen (text (part 2 (body (tree a)))) (optional text (part 3 (body (tree a)))) ≡ name_at s q
 
 -- the node of the first case of a value, or else the default
-unfoldable pub pick : ℕ → SwitchCases → DefaultNode → Option IrNode
+unfoldable pub pick : ℕ → SwitchCases → DefaultNode → Maybe IrNode
 pick v SwitchCases.no_case DefaultNode.no_default = none
 pick v SwitchCases.no_case (DefaultNode.or_else n) = some n
 pick v (SwitchCases.case t n ps cs) d = cond (eqb t v) (some n) (pick v cs d)
@@ -36,15 +41,20 @@ cases_of t = cases_in (view thing_of (rest (part 3 t)))
 abbrev pub default_of : Tree → DefaultNode
 default_of t = cond (eqb (number (first (part 4 t))) 1) (DefaultNode.or_else (node_of (rest (part 4 t)))) DefaultNode.no_default
 
--- the node selected is inside the switch, and so it is shorter
-pub data Picked {s : List ℕ} {at : ℕ} (a : Accepted s 128 144 at) (v : ℕ) : Choice → Type 0 where
-  node : {q : ℕ} (c : Accepted s 128 144 q) → le4 s q < le4 s at → pick v (cases_of (body (tree a))) (default_of (body (tree a))) ≡ some (node_of (tree c)) → Picked a v (Node q)
-  nothing : pick v (cases_of (body (tree a))) (default_of (body (tree a))) ≡ none → Picked a v Nothing
+-- the node at q is the one that is picked; it is inside the switch, and so it is shorter
+pub record PickedAt {s : List ℕ} {at : ℕ} (a : Accepted s 128 144 at) (v q : ℕ) : Type 0 where
+  pub node : Accepted s 128 144 q
+  pub short : le4 s q < le4 s at
+  pub is : pick v (cases_of (body (tree a))) (default_of (body (tree a))) ≡ some (node_of (tree node))
 
--- the arguments of a call
-pub data Bound (p : ℕ) (γ : ParamMap) (xs : List IrArgument) : Arguments → Type 0 where
-  all : (δ : ParamMap) → collect_arguments p γ xs [] ≡ done δ → Bound p γ xs All
-  lacking : {q : ℕ} → collect_arguments p γ xs [] ≡ refused (refusal_at p q MissingIrParameter 0) → Bound p γ xs (Lacking q)
+-- the node that is picked, or that none is
+abbrev pub Picked : {s : List ℕ} {at : ℕ} → Accepted s 128 144 at → ℕ → Option ℕ → Type 0
+Picked a v r = MatchOption r (pick v (cases_of (body (tree a))) (default_of (body (tree a))) ≡ none) (PickedAt a v)
+
+-- the arguments of a call, or the refusal at the first whose value the context lacks
+abbrev pub Bound : ℕ → ParamMap → List IrArgument → Result Unit Refusal → Type 0
+Bound p γ xs r =
+    MatchResult r (λ _. (δ : ParamMap) × (collect_arguments p γ xs [] ≡ done δ)) (λ e. collect_arguments p γ xs [] ≡ refused (refusal_of e))
 
 -- a node without the AlignUp nodes around it whose alignment is 0 or 1
 unfoldable pub unwrap : IrNode → IrNode

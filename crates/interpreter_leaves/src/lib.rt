@@ -2,90 +2,89 @@
 // the node that it selects, a call's arguments and the tree of its type.
 #![tactic(auto)]
 
-ghost use Rattle.std.specs.Prelude.{◌≡◌, ℕ, ◌+◌, ◌≤◌};
-ghost use Rattle.errors.specs.Refusal.{done, refused as stop};
+ghost use Rattle.std.specs.Prelude.{◌≡◌, ℕ, ◌+◌, ◌≤◌, length};
+ghost use Rattle.errors.specs.Refusal.{done, MissingIrParameter};
+ghost use Rattle.errors.specs.Meaning.{number_of as reason_number, refusal_of, outcome_of};
 ghost use Rattle.blocks.specs.Bytes.{le2};
 ghost use Rattle.blocks.specs.Tree.{Tree, text, body, part};
 ghost use Rattle.blocks.specs.Read.{read_layout};
 ghost use Rattle.ir.specs.Layout.{node_of, layout_of};
-ghost use Rattle.accepted.specs.Accepted.{Accepted, tree};
+ghost use Rattle.accepted.specs.Accepted.{Accepted, tree, name_at};
 ghost use Rattle.interpreter.specs.Eval.{Handlers, ParamMap, find, refusal_at, lift, eval_node};
 ghost use Rattle.value.specs.Number.{number_of};
 ghost use Rattle.interpreter_arithmetic.specs.Num.{result_of};
 ghost use Rattle.lookup.specs.Found.{TreeFound};
 ghost use Rattle.interpreter_values.specs.Remembered.{Kept};
 ghost use Rattle.interpreter_context.specs.Names.{found_in};
-ghost use Rattle.interpreter_context.specs.Context.{Context, arguments_of, Here};
-ghost use Rattle.interpreter_leaves.specs.Outcome.{Tells, count_in};
-ghost use Rattle.interpreter_leaves.specs.Steps.{Rooted, Picked, Bound, FieldName, Unwrapped};
+ghost use Rattle.interpreter_context.specs.Context.{arguments_of, Here};
+ghost use Rattle.interpreter_leaves.specs.Steps.{ContextOver, Rooted, Picked, Bound, FieldName, Unwrapped};
 
-use interpreter_arithmetic::Num;
-use interpreter_context::{Held, Root};
-use lookup::Place;
+use errors::{Answer, Reason, Refusal};
+use interpreter_context::Root;
 use value::Value;
+use wire::Position;
 
-// The node that a switch selects.
+// What nodes are evaluated over, which no call changes: the bytes of an accepted layout and those of the values, and what the root's context
+// is made of.
 #[derive(Clone, Copy)]
-pub enum Choice {
-    Node(usize),
-    Nothing,
+pub struct Inputs<'a> {
+    pub layout: &'a [u8],
+    pub values: &'a [u8],
+    pub root: Root,
 }
 
-// Whether every argument was found, or the offset of the first that was not.
-#[derive(Clone, Copy)]
-pub enum Arguments {
-    All,
-    Lacking(usize),
-}
-
-// What a call changes for the nodes inside: how many calls are open, and the place of the type whose tree holds the node. It stands
-// apart from `Root`, since a struct is handed on by the address of a copy: two words are copied at once, and `Root` is not made anew.
+// What a call changes for the nodes inside: how many calls are open, and the place of the type whose tree holds the node.
 #[derive(Clone, Copy)]
 pub struct Frame {
     pub depth: usize,
     pub place: usize,
 }
 
-// A count, left in the caller's words. They are written as a whole, so that the proof needs no length; one store is compiled.
-pub fn counted(v: Value, out: &mut [u64; 4]) -> bool
-    ensures { Tells result out.old out.new (done (number_of v)) }
-{
-    *out = [v.low(), out[1], out[2], out[3]];
-    true
-}
+impl Frame {
+    // A refusal at an offset in the tree of the type at the frame's place.
+    pub fn refused(self, reason: Reason, offset: usize, value: Value) -> Refusal
+        ensures { refusal_of result ≡ refusal_at self.place offset (reason_number reason) (number_of value) }
+    {
+        Refusal {
+            reason,
+            place: self.place,
+            offset,
+            value,
+        }
+    }
 
-// The count that was left there.
-pub fn count_in(out: &[u64; 4]) -> Value
-    ensures { number_of result ≡ count_in out.now }
-{
-    Value::of(out[0])
-}
+    // The one where the name that a node or an argument asks for is not in the context.
+    pub fn missing(self, offset: usize) -> Refusal
+        ensures { refusal_of result ≡ refusal_at self.place offset MissingIrParameter 0 }
+    {
+        self.refused(Reason::MissingIrParameter, offset, Value::of(0))
+    }
 
-// A refusal, left in the caller's words.
-pub fn refused(number: u64, place: usize, offset: usize, value: u64, out: &mut [u64; 4]) -> bool
-    ensures { Tells result out.old out.new (stop (refusal_at place offset number value)) }
-{
-    *out = [number, place as u64, offset as u64, value];
-    false
-}
-
-// A result of arithmetic, at a node.
-pub fn lifted(place: usize, at: usize, n: Num, out: &mut [u64; 4]) -> bool
-    ensures { Tells result out.old out.new (lift place at (result_of n)) }
-{
-    match n {
-        Num::Value(v) => counted(v, out),
-        Num::Fault(q) => refused(q, place, at, 0, out),
+    // A result of arithmetic, at a node.
+    pub fn lifted(self, at: usize, n: Result<Value, Reason>) -> Answer
+        ensures { outcome_of result ≡ lift self.place at (result_of n) }
+    {
+        n.map_err(|reason| self.refused(reason, at, Value::of(0)))
     }
 }
 
-// A Const node.
-pub fn constant(s: &[u8], at: usize, out: &mut [u64; 4]) -> bool
+// A Const node, which is never refused.
+pub fn constant(s: &[u8], at: usize) -> Value
     requires { Accepted s.now 128 144 at × (le2 s.now (at + 4) ≡ 129) }
-    ensures { (handle : Handlers) (p : ℕ) (γ : ParamMap) (a : Accepted s.now 128 144 at) → Tells result out.old out.new (eval_node handle p γ (node_of (tree a))) }
+    ensures { (handle : Handlers) (p : ℕ) (γ : ParamMap) (a : Accepted s.now 128 144 at) → done (number_of result) ≡ eval_node handle p γ (node_of (tree a)) }
 {
     let p = interpreter_context::first_part(s, at);
-    counted(Value::of(wire::read8(s, p) as u64), out)
+    Value::of(wire::read8(s, p) as u64)
+}
+
+// What the context of a frame has of the name at an offset of the layout.
+fn found(inputs: &Inputs, name: usize, words: &mut [u64], f: Frame) -> Option<Value>
+    requires { (name + 2 + le2 inputs.now.layout.now name ≤ length inputs.now.layout.now) × ((γ : ParamMap) × ContextOver inputs.now words.old f.depth γ) }
+    ensures result_value { (γ : ParamMap) → ContextOver inputs.now words.old f.depth γ → found_in result ≡ find (name_at inputs.now.layout.now name) γ }
+    ensures kept { Kept inputs.now.values.now inputs.now.root.block 16 words.old words.new }
+{
+    let root = inputs.root;
+    interpreter_context::find(inputs.layout, name, inputs.values, root, words, f.depth)
 }
 
 // The offset of the name that a FieldRef node looks for.
@@ -95,110 +94,78 @@ fn field_name(s: &[u8], at: usize) -> usize
 {
     let p = interpreter_context::first_part(s, at);
     let q = interpreter_context::second_part(s, at);
-    let b = s[q];
-    if b == 1 {
-        return q + 1;
-    }
-    p
+    if s[q] == 1 { q + 1 } else { p }
 }
 
 // A FieldRef node.
-pub fn field(
-    s: &[u8],
-    values: &[u8],
-    words: &mut [u64],
-    root: Root,
-    f: Frame,
-    at: usize,
-    out: &mut [u64; 4],
-) -> bool
-    requires { Accepted s.now 128 144 at × (le2 s.now (at + 4) ≡ 130) × ((γ : ParamMap) × Context s.now values.now root.block root.len words.old f.depth γ) }
-    ensures tells { (handle : Handlers) (γ : ParamMap) → Context s.now values.now root.block root.len words.old f.depth γ → (a : Accepted s.now 128 144 at) → Tells result out.old out.new (eval_node handle f.place γ (node_of (tree a))) }
-    ensures kept { Kept values.now root.block 16 words.old words.new }
+pub fn field(inputs: &Inputs, at: usize, words: &mut [u64], f: Frame) -> Answer
+    requires { Accepted inputs.now.layout.now 128 144 at × (le2 inputs.now.layout.now (at + 4) ≡ 130) × ((γ : ParamMap) × ContextOver inputs.now words.old f.depth γ) }
+    ensures tells { (handle : Handlers) (γ : ParamMap) → ContextOver inputs.now words.old f.depth γ → (a : Accepted inputs.now.layout.now 128 144 at) → outcome_of result ≡ eval_node handle f.place γ (node_of (tree a)) }
+    ensures kept { Kept inputs.now.values.now inputs.now.root.block 16 words.old words.new }
 {
-    match interpreter_context::find(s, field_name(s, at), values, root, words, f.depth) {
-        Held::Value(v) => counted(v, out),
-        Held::Absent => refused(21, f.place, at, 0, out),
-    }
+    let name = field_name(inputs.layout, at);
+    found(inputs, name, words, f).ok_or(f.missing(at))
 }
 
 // The tag of a Switch node.
-pub fn tag(s: &[u8], values: &[u8], words: &mut [u64], root: Root, f: Frame, at: usize) -> Held
-    requires { Accepted s.now 128 144 at × (le2 s.now (at + 4) ≡ 132) × ((γ : ParamMap) × Context s.now values.now root.block root.len words.old f.depth γ) }
-    ensures result_value { (γ : ParamMap) → Context s.now values.now root.block root.len words.old f.depth γ → (a : Accepted s.now 128 144 at) → found_in result ≡ find (text (part 2 (body (tree a)))) γ }
-    ensures kept { Kept values.now root.block 16 words.old words.new }
+pub fn tag(inputs: &Inputs, at: usize, words: &mut [u64], f: Frame) -> Option<Value>
+    requires { Accepted inputs.now.layout.now 128 144 at × (le2 inputs.now.layout.now (at + 4) ≡ 132) × ((γ : ParamMap) × ContextOver inputs.now words.old f.depth γ) }
+    ensures result_value { (γ : ParamMap) → ContextOver inputs.now words.old f.depth γ → (a : Accepted inputs.now.layout.now 128 144 at) → found_in result ≡ find (text (part 2 (body (tree a)))) γ }
+    ensures kept { Kept inputs.now.values.now inputs.now.root.block 16 words.old words.new }
 {
-    let p = interpreter_context::first_part(s, at);
-    interpreter_context::find(s, p, values, root, words, f.depth)
+    let p = interpreter_context::first_part(inputs.layout, at);
+    found(inputs, p, words, f)
 }
 
 // The node of the first case of the tag's value, or else the default node, whose place is looked for only where no case has the value.
-pub fn selected(s: &[u8], at: usize, tag: Value) -> Choice
+pub fn selected(s: &[u8], at: usize, tag: Value) -> Option<usize>
     requires { Accepted s.now 128 144 at × (le2 s.now (at + 4) ≡ 132) }
     ensures { (a : Accepted s.now 128 144 at) → Picked a (number_of tag) result }
 {
     let wanted = tag.low();
     let list = interpreter_context::second_part(s, at);
-    let mut left = wire::read2(s, list);
     let mut p = list + 2;
-    while 0 < left {
+    for _ in 0..wire::read2(s, list) {
         if wire::read8(s, p + 6) as u64 == wanted {
-            return Choice::Node(p + 14);
+            return Some(p + 14);
         }
         p = p + 4 + wire::read4(s, p);
-        left -= 1;
     }
     let d = interpreter_context::third_part(s, at);
-    let b = s[d];
-    if b == 1 {
-        return Choice::Node(d + 1);
-    }
-    Choice::Nothing
+    if s[d] == 1 { Some(d + 1) } else { None }
 }
 
-// Whether each argument's value is in the caller's context.
+// Whether each argument's value is in the caller's context, or a refusal at the first whose value is not.
 pub fn collect_arguments(
-    s: &[u8],
-    values: &[u8],
-    words: &mut [u64],
-    root: Root,
-    f: Frame,
+    inputs: &Inputs,
     at: usize,
-) -> Arguments
-    requires { Accepted s.now 128 144 at × (le2 s.now (at + 4) ≡ 133) × ((γ : ParamMap) × Context s.now values.now root.block root.len words.old f.depth γ) × (f.depth ≤ 16) }
-    ensures by_index { (p : ℕ) (γ : ParamMap) → Context s.now values.now root.block root.len words.old f.depth γ → (a : Accepted s.now 128 144 at) → Bound p γ (arguments_of (tree a)) result }
-    ensures kept { Kept values.now root.block 16 words.old words.new }
+    words: &mut [u64],
+    f: Frame,
+) -> Result<(), Refusal>
+    requires { Accepted inputs.now.layout.now 128 144 at × (le2 inputs.now.layout.now (at + 4) ≡ 133) × ((γ : ParamMap) × ContextOver inputs.now words.old f.depth γ) × (f.depth ≤ 16) }
+    ensures by_index { (γ : ParamMap) → ContextOver inputs.now words.old f.depth γ → (a : Accepted inputs.now.layout.now 128 144 at) → Bound f.place γ (arguments_of (tree a)) result }
+    ensures kept { Kept inputs.now.values.now inputs.now.root.block 16 words.old words.new }
 {
-    let list = interpreter_context::second_part(s, at);
-    let mut left = wire::read2(s, list);
+    let list = interpreter_context::second_part(inputs.layout, at);
     let mut p = list + 2;
-    while 0 < left {
-        let value = p + 8 + wire::read2(s, p + 6);
-        match interpreter_context::find(s, value, values, root, words, f.depth) {
-            Held::Value(v) => {
-                p = p + 4 + wire::read4(s, p);
-                left -= 1;
-            }
-            Held::Absent => {
-                return Arguments::Lacking(p);
-            }
-        }
+    for _ in 0..wire::read2(inputs.layout, list) {
+        let value = p + 8 + wire::read2(inputs.layout, p + 6);
+        found(inputs, value, words, f).ok_or(f.missing(p))?;
+        p = p + 4 + wire::read4(inputs.layout, p);
     }
-    Arguments::All
+    Ok(())
 }
 
 // The tree of the type that a CallNested node calls. Where a call has opened the type that holds the node, the search begins there.
-pub fn called(s: &[u8], words: &[u64], f: Frame, at: usize) -> Place
+pub fn called(s: &[u8], at: usize, words: &[u64], f: Frame) -> Option<Position>
     requires { Accepted s.now 128 144 at × (le2 s.now (at + 4) ≡ 133) × ((t : Tree) × (read_layout s.now ≡ done t)) × Here s.now words.now f.depth f.place }
     ensures { (t : Tree) → read_layout s.now ≡ done t → (a : Accepted s.now 128 144 at) → TreeFound s.now (text (part 2 (body (tree a)))) (layout_of t) result }
 {
     let name = wire::name_at(s, interpreter_context::first_part(s, at));
-    let depth = f.depth;
-    if depth == 0 {
+    if f.depth == 0 {
         return lookup::lookup_type(s, name);
     }
-    let d = depth - 1;
-    let here = (words[d] / 4294967296) as usize;
+    let here = (words[f.depth - 1] / 4294967296) as usize;
     lookup::lookup_near(s, name, f.place, here)
 }
 

@@ -11,23 +11,26 @@ ghost use Rattle.interpreter.specs.Runs.{validate_runs, given};
 ghost use Rattle.errors.specs.Answer.{answer_words, all_answer_words};
 ghost use Rattle.interpreter_runs.specs.Held.{Holds, Ends};
 
-use errors::{Answer, Refusal};
-use reader_leaf::Read;
+use errors::{Answer, Unread};
 
 // The answer to a run. The questions of a call with the layout alone are answered.
-fn answer(n: usize, layout: &[u8], first: Read, run: &[u8], words: &mut [u64]) -> Answer
+fn answer(
+    n: usize,
+    layout: &[u8],
+    first: Result<(), Unread>,
+    run: &[u8],
+    words: &mut [u64],
+) -> Answer
     requires { Holds n layout.now first × (8192 ≤ n → 1168 ≤ length words.old) }
     ensures words_len_unchanged { length words.new ≡ length words.old }
     ensures result_value { outcome_of result ≡ validate_run n layout.now run.now }
 {
-    match reader_calls::other_read(n, first, run, 193) {
-        Read::Refused(q, o) => Answer::Refused(Refusal::unread(q, o)),
-        Read::Ok(_) => interpreter_validate::run_lent(layout, run, words),
-    }
+    reader_calls::other_read(n, first, run, 193)?;
+    interpreter_validate::run_lent(layout, run, words)
 }
 
 // The same with words of its own.
-pub fn answer_alone(layout: &[u8], first: Read, run: &[u8]) -> Answer
+pub fn answer_alone(layout: &[u8], first: Result<(), Unread>, run: &[u8]) -> Answer
     requires { Holds 8192 layout.now first }
     ensures { outcome_of result ≡ validate_run 8192 layout.now run.now }
 {
@@ -72,11 +75,11 @@ fn put_answer(out: &mut [u64], at: usize, a: Answer) -> usize
     ensures { Wrote out.old at (answer_words (outcome_of a)) out.new result }
 {
     match a {
-        Answer::Count(n) => put_four(out, at, 0, 65535, 0, n.low()),
-        Answer::Refused(r) => put_four(
+        Ok(n) => put_four(out, at, 0, 65535, 0, n.low()),
+        Err(r) => put_four(
             out,
             at,
-            r.number,
+            r.reason.number(),
             r.place as u64,
             r.offset as u64,
             r.value.low(),
@@ -88,7 +91,7 @@ fn put_answer(out: &mut [u64], at: usize, a: Answer) -> usize
 fn answer_all(
     n: usize,
     layout: &[u8],
-    first: Read,
+    first: Result<(), Unread>,
     s: &[u8],
     words: &mut [u64],
     out: &mut [u64],

@@ -13,9 +13,12 @@ use lib.Seq.{length-take-le, length_front, take_at, take_all}
 use borrow.Rule.Slice.PartMut.{mid_of, post_of, put_mid}
 use Rattle.errors.specs.Refusal.{Outcome, done, refused, ◌>>=◌, enough, plain, unread, words_after}
 use Rattle.errors.specs.declared.Refusal.{Refusal}
-use Rattle.errors.specs.declared.Answer.{Answer}
-use Rattle.errors.specs.declared.Answer.TheVariants as answer
-use Rattle.errors.specs.Meaning.{refusal_of, outcome_of}
+use Rattle.std.specs.Borrow.{Bor}
+use Rattle.std.specs.Prelude.{Option, Some, None, Result, Ok, Err, IsErrAnd}
+use Rattle.errors.specs.declared.Reason.TheVariants.{UnknownType}
+use Rattle.errors.specs.declared.Unread.{Unread}
+use Rattle.value.specs.declared.Value.{Value}
+use Rattle.errors.specs.Meaning.{number_of, refusal_of, outcome_of}
 use Rattle.errors.proofs.Laws.{bound_done}
 use Rattle.blocks.specs.Name.{Name}
 use Rattle.blocks.specs.Tree.{Tree, name, num, block, cons, body, part}
@@ -26,28 +29,26 @@ use Rattle.blocks.specs.Grammar.{parts_of, find_row, grammar}
 use Rattle.blocks.specs.declared.Part.TheVariants.{Text, Number, Block}
 use Rattle.accepted.specs.Accepted.{Accepted, tree, Parts, name_at}
 use Rattle.accepted.proofs.Laws.{input, opened, header_inside, text_part, number_part, block_part, behind_at}
-use Rattle.reader_leaf.specs.declared.Read.{Read}
-use Rattle.reader_leaf.specs.declared.Read.TheVariants.{Ok, Refused}
-use Rattle.reader_calls.specs.Inputs.{judge, passed, passed_of, Least}
+use Rattle.reader_leaf.specs.Answer.{read_of}
+use Rattle.reader_calls.specs.Inputs.{judge, passed, Least}
 use Rattle.reader_calls.proofs.Laws.{judged, passed_no}
-use Rattle.lookup.specs.declared.Place.{Place}
-use Rattle.lookup.specs.declared.Place.TheVariants.{At as PlaceAt, Missing as PlaceNone}
+use Rattle.wire.specs.declared.Position.{Position}
 use Rattle.lookup.specs.Found.{TreeFound}
 use Rattle.interpreter.specs.Eval.{ParamMap, eval_within}
-use Rattle.interpreter.specs.Validate.{with_buffer_size, values_of, validate_type, validate, validate_run, run_of}
+use Rattle.interpreter.specs.Validate.{with_buffer_size, fits_buffer, values_of, validate_type, validate, validate_run, run_of}
 use Rattle.interpreter_values.specs.Remembered.{Remembered}
 use Rattle.interpreter_context.specs.Context.{Context}
 use Rattle.lookup.proofs.Values.{inside}
-use Rattle.interpreter_leaves.specs.Outcome.{Tells}
 use Rattle.interpreter_leaves.specs.Steps.{Rooted}
 use Rattle.interpreter_context.specs.declared.Root.{Root}
+use Rattle.interpreter_leaves.specs.declared.Inputs.{Inputs}
 use Rattle.interpreter_leaves.specs.declared.Frame.{Frame}
 use Rattle.interpreter_eval.specs.Evaluates.{Ready, Evaluates}
 use Rattle.interpreter_eval.proofs.Laws.{found_at_lem, found_none}
 use Rattle.interpreter_validate.specs.declared.Ask.{Ask}
 use Rattle.interpreter_validate.specs.declared.Ask.TheVariants as ask
 use Rattle.interpreter_validate.specs.declared.Target.{Target}
-use Rattle.interpreter_validate.specs.Validator.{kind_of, run_for, run_in, call_of, Judged, Asked, outcome_in, fitted, Located, Given, Aimed, TypeAnswers, TreeAnswers, Answers, Called}
+use Rattle.interpreter_validate.specs.Validator.{kind_of, run_for, run_in, call_of, Judged, Asked, Located, Given, Aimed, TypeAnswers, TreeAnswers, Answers, Called}
 use Rattle.interpreter_validate.specs.Validator.{AcceptedRun, RunRoot, words_for}
 
 -- ---- a call: values or a run
@@ -78,46 +79,48 @@ call_is (ask.Values len) n s m v = after_judging (enough n) (small s) (small v) 
 call_is ask.Run n s m v = after_judging (enough n) (small s) (small v) (read_layout s) (read_input 2 193 v) (λ l t. run_in l (run_of t))
 
 -- by what the code answers of the questions, with the kind that it reads
-pub judged_of : {a : Ask} {n k : ℕ} {s v : List ℕ} {r : Read} → k ≡ kind_of a → passed_of r ≡ passed (judge n s v k) → Judged a s v r n
+pub judged_of : {a : Ask} {n k : ℕ} {s v : List ℕ} {r : Result Unit Unread} → k ≡ kind_of a → read_of r ≡ passed (judge n s v k) → Judged a s v r n
 judged_of {n} {s} {v} e d = record { is = d ∙ ap (λ (z : ℕ). passed (judge n s v z)) e }
 
-module _ {a : Ask} {n : ℕ} {s v : List ℕ} {r : Read} (q : Judged a s v r n) where
+module _ {a : Ask} {n : ℕ} {s v : List ℕ} {r : Result Unit Unread} (q : Judged a s v r n) where
   -- an input was refused
-  pub stops : (m : Name) {u p : ℕ} (x : Refusal) → r ≡ Refused u p → refusal_of x ≡ unread u p → outcome_of (answer.Refused x) ≡ call_of a n s m v
+  pub stops : (m : Name) {u : Unread} (z : Result Value Refusal) → r ≡ Err u → IsErrAnd z (λ (x : Refusal). refusal_of x ≡ unread (number_of u.reason) u.offset) →
+      outcome_of z ≡ call_of a n s m v
   unfolding ◌>>=◌
-  stops m x e f = ap refused f ∙ sym (call_is a n s m v ∙ ap (λ (o : Outcome (Tree × Tree)). o >>= both a m) (passed_no (judge n s v (kind_of a)) q.is e))
+  stops m (Ok y) e f = absurd f
+  stops m (Err x) e f = ap refused f ∙ sym (call_is a n s m v ∙ ap (λ (o : Outcome (Tree × Tree)). o >>= both a m) (passed_no (judge n s v (kind_of a)) (rw e at q.is)))
 
-  module _ {i : ℕ} (e : r ≡ Ok i) where
+  module _ (e : r ≡ Ok tt) where
     -- both were read: what evaluating asks for
     pub given : Given a s v
     given =
-        let j = judged q.is e in
+        let j = judged (rw e at q.is) in
         record { layout = (j.layout, j.layout_read); other_read = (j.other, j.other_read); small = j.small_layout }
 
     -- 19 was asked: there are enough words
     pub enough_words : 8192 ≤ n
-    enough_words = (judged q.is e).words
+    enough_words = (judged (rw e at q.is)).words
 
     -- and what is asked for was evaluated
-    pub goes : (m : Name) (x : Answer) → Answers a s m v x → outcome_of x ≡ call_of a n s m v
+    pub goes : (m : Name) (x : Result Value Refusal) → Answers a s m v x → outcome_of x ≡ call_of a n s m v
     unfolding ◌>>=◌
     goes m x f =
-        let j = judged q.is e in
+        let j = judged (rw e at q.is) in
         f j.layout j.layout_read j.other j.other_read
         ∙ sym (call_is a n s m v ∙ ap (λ (o : Outcome (Tree × Tree)). o >>= both a m) j.is)
 
 -- as many words are lent as evaluating may use
-pub asked_room : {a : Ask} {n i : ℕ} {s v ws : List ℕ} {r : Read} → Asked a s v r ws n → r ≡ Ok i → 1168 ≤ length ws
+pub asked_room : {a : Ask} {n : ℕ} {s v ws : List ℕ} {r : Result Unit Unread} → Asked a s v r ws n → r ≡ Ok tt → 1168 ≤ length ws
 asked_room asked e = asked.room (enough_words asked.questions e)
 
 -- in the code's form, where it goes by what is asked for
 module _ {a b : Ask} (e : a ≡ b) where
   -- the questions are answered for one as for the other
-  pub asked_as : {s v ws : List ℕ} {r : Read} → ((n : ℕ) × Asked a s v r ws n) → (n : ℕ) × Asked b s v r ws n
+  pub asked_as : {s v ws : List ℕ} {r : Result Unit Unread} → ((n : ℕ) × Asked a s v r ws n) → (n : ℕ) × Asked b s v r ws n
   asked_as {s} {v} {ws} {r} (n, x) = (n, subst (λ (z : Ask). Asked z s v r ws n) e x)
 
   -- and so is the call
-  pub called_as : (s : List ℕ) (m : Name) (v : List ℕ) (r : Read) (ws : List ℕ) (x : Answer) → Called b s m v r ws x → Called a s m v r ws x
+  pub called_as : (s : List ℕ) (m : Name) (v : List ℕ) (r : Result Unit Unread) (ws : List ℕ) (x : Result Value Refusal) → Called b s m v r ws x → Called a s m v r ws x
   called_as s m v r ws x f = subst (λ (z : Ask). Called z s m v r ws x) (sym e) f
 
 -- ---- the words
@@ -190,11 +193,6 @@ cleared_apart ws zs k h e us xs ex f =
 
 -- ---- a type of an accepted layout
 
--- the words say no other outcome
-tells_one : {ok : Bool} {ws us : List ℕ} (o : Outcome ℕ) → Tells ok ws us o → outcome_in ok us ≡ o
-tells_one (done n) t = rw (t.which, t.left)
-tells_one (refused r) t = rw (t.which, t.left)
-
 -- the root's context
 abbrev rooted_at : Target → Root
 rooted_at t = record { block = t.block; len = t.len }
@@ -203,28 +201,32 @@ rooted_at t = record { block = t.block; len = t.len }
 abbrev first_frame : Target → Frame
 first_frame t = record { depth = 0; place = t.place }
 
-module _ {s : List ℕ} {m : Name} {r : Place} (f : (t : Tree) → read_layout s ≡ done t → TreeFound s m (layout_of t) r) where
+module _ {s : List ℕ} {m : Name} {r : Option Position} (f : (t : Tree) → read_layout s ≡ done t → TreeFound s m (layout_of t) r) where
   -- no type has the name
-  pub type_unknown : r ≡ PlaceNone → (t : Tree) → read_layout s ≡ done t → (len : ℕ) (γ : ParamMap) (x : Refusal) → refusal_of x ≡ plain 20 →
-      outcome_of (answer.Refused x) ≡ validate_type (layout_of t) m len γ
+  pub type_unknown : r ≡ None → (t : Tree) → read_layout s ≡ done t → (len : ℕ) (γ : ParamMap) (x : Refusal) → refusal_of x ≡ plain (number_of UnknownType) →
+      outcome_of (Err x) ≡ validate_type (layout_of t) m len γ
   unfolding validate_type ◌>>=◌
   type_unknown e t rd len γ x g = rw (g, found_none e (f t rd))
 
   -- the tree that was found is that of the type
-  pub type_named : {i o : ℕ} → r ≡ PlaceAt i o → (t : Tree) → read_layout s ≡ done t → TreeFound s m (layout_of t) (PlaceAt i o)
+  pub type_named : {x : Position} → r ≡ Some x → (t : Tree) → read_layout s ≡ done t → TreeFound s m (layout_of t) (Some x)
   type_named e t rd = subst (TreeFound s m (layout_of t)) e (f t rd)
 
   -- so it may be evaluated
-  pub type_aimed : {v : List ℕ} (t : Target) → r ≡ PlaceAt t.place t.at → Located s v t.block → Aimed s v t
+  pub type_aimed : {v : List ℕ} (t : Target) → r ≡ Some (record { place = t.place; at = t.at }) → Located s v t.block → Aimed s v t
   type_aimed t e g = record { located = g; named = (m, type_named e) }
 
 -- the tree that is aimed at
 pub aimed_tree : {s v : List ℕ} {t : Target} → Aimed s v t → Accepted s 161 161 t.at
 aimed_tree a = let l = a.located.layout in (found_at_lem refl (a.named.1 l.0 l.1)).0
 
-module _ {s : List ℕ} {t : Target} {q : ℕ} (rooted : (c : Accepted s 161 161 t.at) → Rooted c q) where
+-- what is evaluated over
+abbrev inputs_at : Bor (List ℕ) → Bor (List ℕ) → Target → Inputs
+inputs_at l v t = record { layout = l; values = v; root = rooted_at t }
+
+module _ (l v : Bor (List ℕ)) {t : Target} {q : ℕ} (rooted : (c : Accepted l.now 161 161 t.at) → Rooted c q) where
   -- the root is ready to be evaluated, over words that remember nothing
-  pub root_ready : {v us : List ℕ} → Aimed s v t → Remembered v t.block us → Ready s v us (rooted_at t) (first_frame t) q
+  pub root_ready : {us : List ℕ} → Aimed l.now v.now t → Remembered v.now t.block us → Ready (inputs_at l v t) us (first_frame t) q
   root_ready a m = record {
     node = (rooted (aimed_tree a)).root;
     layout = a.located.layout;
@@ -236,16 +238,21 @@ module _ {s : List ℕ} {t : Target} {q : ℕ} (rooted : (c : Accepted s 161 161
   }
 
   -- what it comes to, held against the buffer length, is the answer
-  pub tree_goes : {v ws : List ℕ} {ok : Bool} {before out : List ℕ} (z : Answer) → Remembered v t.block ws →
-      Evaluates s v ws (rooted_at t) (first_frame t) q ok before out → outcome_of z ≡ fitted t.place t.len (outcome_in ok out) → TreeAnswers s v t z
-  unfolding validate_type fitted
-  tree_goes z m ev fit n named l rd a =
-      let c = found_at_lem refl (named l rd) in
+  pub tree_goes : {ws : List ℕ} (r z : Result Value Refusal) → Remembered v.now t.block ws →
+      Evaluates (inputs_at l v t) ws (first_frame t) q r → outcome_of z ≡ (outcome_of r >>= fits_buffer t.place t.len) → TreeAnswers l.now v.now t z
+  unfolding validate_type
+  tree_goes r z m ev fit n named d rd a =
+      let c = found_at_lem refl (named d rd) in
       let k = rooted c.0 in
       let γ : ParamMap = with_buffer_size t.len (values_of (tree a)) in
       fit
-      ∙ ap (fitted t.place t.len) (tells_one _ (ev γ (Context.root a m) l rd k.root) ∙ ap (eval_within 16 (layout_of l) t.place γ) (sym k.is))
+      ∙ ap (λ (o : Outcome ℕ). o >>= fits_buffer t.place t.len) (ev γ (Context.root a m) d rd k.root ∙ ap (eval_within 16 (layout_of d) t.place γ) (sym k.is))
       ∙ sym (bound_done _ c.1)
+
+-- a refusal of evaluating is handed on
+pub refusal_goes : (u : Refusal) (z : Result Value Refusal) → IsErrAnd z (λ (e : Refusal). e ≡ u) → outcome_of z ≡ refused (refusal_of u)
+refusal_goes u (Ok y) f = absurd f
+refusal_goes u (Err e) f = rw f
 
 -- the header of the tree lies in the bytes
 pub tree_header : {s v : List ℕ} {t : Target} → Aimed s v t → t.at + 4 ≤ length s
@@ -262,7 +269,7 @@ pub values_located : {len : ℕ} {s v : List ℕ} → Given (ask.Values len) s v
 values_located {v} g = record { layout = g.layout; values_read = (input 2 192 v g.other_read.1).0; small = g.small }
 
 -- what their type comes to is what is asked for
-pub values_answer : (len : ℕ) (s v : List ℕ) (m : Name) (r : Answer) → TypeAnswers s m v (record { block = 0; len = len }) r → Answers (ask.Values len) s m v r
+pub values_answer : (len : ℕ) (s v : List ℕ) (m : Name) (r : Result Value Refusal) → TypeAnswers s m v (record { block = 0; len = len }) r → Answers (ask.Values len) s m v r
 values_answer len s v m r f t rd u ru =
     let b = input 2 192 v ru in
     f t rd b.0 ∙ ap (λ (z : Tree × ℕ). validate_type (layout_of t) m len (values_of z.0)) b.1
@@ -338,7 +345,7 @@ run_located {s} {v} g e =
     }
 
 -- what its type comes to is what the run comes to
-pub run_answers : (s : List ℕ) {v : List ℕ} {r : Root} {m : Name} → RunRoot v r → m ≡ name_at v 6 → (x : Answer) → TypeAnswers s m v r x → Answers ask.Run s v v x
+pub run_answers : (s : List ℕ) {v : List ℕ} {r : Root} {m : Name} → RunRoot v r → m ≡ name_at v 6 → (x : Result Value Refusal) → TypeAnswers s m v r x → Answers ask.Run s v v x
 run_answers s {v} {r} {m} e em x f t rd u ru = go r.block e.block r.len e.long f
   where
     go : (b : ℕ) → b ≡ 8 + le2 v 6 + 8 → (len : ℕ) → len ≡ le8 v (8 + le2 v 6) → TypeAnswers s m v (record { block = b; len = len }) x → outcome_of x ≡ run_in t (run_of u)

@@ -1,20 +1,20 @@
 -- What is asked of a layout: a type with values or a run, told once for both. What evaluating asks for; 25, at the end.
-use Rattle.std.specs.Prelude.{ℕ, ◌+◌, ◌*◌, ◌≤◌, ◌≡◌, Bool, true, false, cond, ltb, List, length, get_or}
-use Rattle.errors.specs.Refusal.{Outcome, done, refused, ◌>>=◌}
-use Rattle.errors.specs.declared.Answer.{Answer}
+use Rattle.std.specs.Prelude.{ℕ, ◌+◌, ◌*◌, ◌≤◌, ◌≡◌, cond, ltb, List, length, Some, Result}
+use Rattle.errors.specs.Refusal.{Outcome, done}
+use Rattle.value.specs.declared.Value.{Value}
+use Rattle.errors.specs.declared.Refusal.{Refusal}
+use Rattle.errors.specs.declared.Unread.{Unread}
 use Rattle.errors.specs.Meaning.{outcome_of}
 use Rattle.blocks.specs.Name.{Name}
 use Rattle.blocks.specs.Tree.{Tree}
 use Rattle.blocks.specs.Bytes.{le2, le8}
 use Rattle.blocks.specs.Read.{read_input, read_layout, read_run}
 use Rattle.ir.specs.Layout.{layout_of}
-use Rattle.reader_leaf.specs.declared.Read.{Read}
-use Rattle.reader_calls.specs.Inputs.{judge, passed, passed_of}
+use Rattle.reader_leaf.specs.Answer.{read_of}
+use Rattle.reader_calls.specs.Inputs.{judge, passed}
 use Rattle.accepted.specs.Accepted.{Accepted, tree}
-use Rattle.lookup.specs.declared.Place.TheVariants.{At}
 use Rattle.lookup.specs.Found.{TreeFound}
-use Rattle.interpreter.specs.Eval.{refusal_at}
-use Rattle.interpreter.specs.Validate.{Run, run_of, values_of, fits_buffer, validate_type, validate, validate_run}
+use Rattle.interpreter.specs.Validate.{Run, run_of, values_of, validate_type, validate, validate_run}
 use Rattle.interpreter_context.specs.declared.Root.{Root}
 use Rattle.interpreter_validate.specs.declared.Target.{Target}
 use Rattle.interpreter_validate.specs.declared.Ask.{Ask}
@@ -40,22 +40,13 @@ call_of (ask.Values len) n layout name values = validate n layout name values le
 call_of ask.Run n layout name run = validate_run n layout run
 
 -- the questions of a call with so many words are answered
-pub record Judged (a : Ask) (s other : List ℕ) (judged : Read) (n : ℕ) : Type 0 where
-  pub is : passed_of judged ≡ passed (judge n s other (kind_of a))
+pub record Judged (a : Ask) (s other : List ℕ) (judged : Result Unit Unread) (n : ℕ) : Type 0 where
+  pub is : read_of judged ≡ passed (judge n s other (kind_of a))
 
 -- and where the words are enough, as many are lent as evaluating may use
-pub record Asked (a : Ask) (s other : List ℕ) (judged : Read) (words : List ℕ) (n : ℕ) : Type 0 where
+pub record Asked (a : Ask) (s other : List ℕ) (judged : Result Unit Unread) (words : List ℕ) (n : ℕ) : Type 0 where
   pub questions : Judged a s other judged n
   pub room : 8192 ≤ n → 1168 ≤ length words
-
--- what evaluating left: whether it is a count, then the first word, or a refusal's number, place, offset and value
-abbrev pub outcome_in : Bool → List ℕ → Outcome ℕ
-outcome_in true out = done (get_or out 0 0)
-outcome_in false out = refused (refusal_at (get_or out 1 0) (get_or out 2 0) (get_or out 0 0) (get_or out 3 0))
-
--- an outcome, and 25 of its count
-unfoldable pub fitted : ℕ → ℕ → Outcome ℕ → Outcome ℕ
-fitted place len o = o >>= fits_buffer place len
 
 -- an accepted layout, and accepted values at an offset
 pub record Located (s values : List ℕ) (block : ℕ) : Type 0 where
@@ -73,7 +64,7 @@ pub record Given (a : Ask) (s other : List ℕ) : Type 0 where
 
 -- the tree at its place and offset is that of the type of a name
 abbrev pub Named : List ℕ → Name → Target → Type 0
-Named s name t = (l : Tree) → read_layout s ≡ done l → TreeFound s name (layout_of l) (At t.place t.at)
+Named s name t = (l : Tree) → read_layout s ≡ done l → TreeFound s name (layout_of l) (Some (record { place = t.place; at = t.at }))
 
 -- the tree of a type of an accepted layout, and accepted values
 pub record Aimed (s values : List ℕ) (t : Target) : Type 0 where
@@ -81,21 +72,21 @@ pub record Aimed (s values : List ℕ) (t : Target) : Type 0 where
   pub named : (name : Name) × Named s name t
 
 -- what the code answers is what its type comes to, with the values at an offset
-abbrev pub TypeAnswers : List ℕ → Name → List ℕ → Root → Answer → Type 0
+abbrev pub TypeAnswers : List ℕ → Name → List ℕ → Root → Result Value Refusal → Type 0
 TypeAnswers s name values root r =
     (t : Tree) → read_layout s ≡ done t → (a : Accepted values 192 192 root.block) →
     outcome_of r ≡ validate_type (layout_of t) name root.len (values_of (tree a))
 
 -- the same of the tree that is evaluated, whatever name its type has
-abbrev pub TreeAnswers : List ℕ → List ℕ → Target → Answer → Type 0
+abbrev pub TreeAnswers : List ℕ → List ℕ → Target → Result Value Refusal → Type 0
 TreeAnswers s values t r = (name : Name) → Named s name t → TypeAnswers s name values (record { block = t.block; len = t.len }) r
 
 -- what the code answers is what is asked for
-abbrev pub Answers : Ask → List ℕ → Name → List ℕ → Answer → Type 0
+abbrev pub Answers : Ask → List ℕ → Name → List ℕ → Result Value Refusal → Type 0
 Answers a s name other r = (t : Tree) → read_layout s ≡ done t → (u : Tree) → read_input 2 (kind_of a) other ≡ done u → outcome_of r ≡ run_in t (run_for a name u)
 
 -- where the questions are answered, what the code answers is what the call does
-abbrev pub Called : Ask → List ℕ → Name → List ℕ → Read → List ℕ → Answer → Type 0
+abbrev pub Called : Ask → List ℕ → Name → List ℕ → Result Unit Unread → List ℕ → Result Value Refusal → Type 0
 Called a s name other judged words r = (n : ℕ) → Asked a s other judged words n → outcome_of r ≡ call_of a n s name other
 
 -- ---- a run

@@ -9,14 +9,12 @@ ghost use Rattle.value.specs.Number.{number_of};
 ghost use Rattle.blocks.specs.Bytes.{le2, le4};
 ghost use Rattle.interpreter.specs.Validate.{fits_buffer, validate, validate_run};
 ghost use Rattle.interpreter_validate.specs.declared.Ask.TheVariants.{Values, Run};
-ghost use Rattle.interpreter_validate.specs.Validator.{kind_of, call_of, Judged, Asked, outcome_in, fitted, Located, Given, Aimed, TypeAnswers, TreeAnswers, Answers, Called};
+ghost use Rattle.interpreter_validate.specs.Validator.{kind_of, call_of, Judged, Asked, Located, Given, Aimed, TypeAnswers, TreeAnswers, Answers, Called};
 ghost use Rattle.interpreter_validate.specs.Validator.{AcceptedRun, RunRoot, words_for};
 
-use errors::{Answer, Refusal};
+use errors::{Answer, Reason, Refusal, Unread};
 use interpreter_context::Root;
-use interpreter_leaves::Frame;
-use lookup::Place;
-use reader_leaf::Read;
+use interpreter_leaves::{Frame, Inputs};
 use value::Value;
 
 // One word for each call that may be open.
@@ -58,28 +56,13 @@ fn fitting(n: Value, place: usize, len: u64) -> Answer
     ensures { outcome_of result ≡ fits_buffer place len (number_of n) }
 {
     if n.at_most(len) {
-        return Answer::Count(n);
+        return Ok(n);
     }
-    Answer::Refused(Refusal {
-        number: 25,
+    Err(Refusal {
+        reason: Reason::BufferTooSmall,
         place,
         offset: 0,
         value: n,
-    })
-}
-
-// What evaluating left in its four words: a count, or a refusal.
-fn outcome(ok: bool, out: &[u64; 4], place: usize, len: u64) -> Answer
-    ensures { outcome_of result ≡ fitted place len (outcome_in ok out.now) }
-{
-    if ok {
-        return fitting(Value::of(out[0]), place, len);
-    }
-    Answer::Refused(Refusal {
-        number: out[0],
-        place: out[1] as usize,
-        offset: out[2] as usize,
-        value: Value::of(out[3]),
     })
 }
 
@@ -99,16 +82,23 @@ fn evaluated_tree(layout: &[u8], values: &[u8], t: Target, words: &mut [u64]) ->
     ensures words_len_unchanged { length words.new ≡ length words.old }
     ensures tree_answers { TreeAnswers layout.now values.now t result }
 {
-    let i = t.place;
-    let block = t.block;
-    let len = t.len;
-    let root = interpreter_leaves::root(layout, t.at);
+    let root = Root {
+        block: t.block,
+        len: t.len,
+    };
+    let inputs = Inputs {
+        layout,
+        values,
+        root,
+    };
+    let frame = Frame {
+        depth: 0,
+        place: t.place,
+    };
+    let top = interpreter_leaves::root(layout, t.at);
     interpreter_values::forget(words);
-    let mut out = [0, 0, 0, 0];
-    let context = Root { block, len };
-    let f = Frame { depth: 0, place: i };
-    let ok = interpreter_eval::eval_node(layout, root, values, words, context, f, &mut out);
-    outcome(ok, &out, i, len)
+    let n = interpreter_eval::eval_node(&inputs, top, words, frame)?;
+    fitting(n, t.place, t.len)
 }
 
 // How many words evaluating may use: one for each call that may be open, and where that is likely to pay, those in which it remembers
@@ -165,16 +155,14 @@ fn type_alone(layout: &[u8], name: &[u8], values: &[u8], root: Root) -> Answer
     requires { Located layout.now values.now root.block }
     ensures { TypeAnswers layout.now name.now values.now root result }
 {
-    let block = root.block;
-    let len = root.len;
     match lookup::lookup_type(layout, name) {
-        Place::Missing => Answer::Refused(Refusal::plain(20)),
-        Place::At(place, at) => {
+        None => Err(Refusal::plain(Reason::UnknownType)),
+        Some(found) => {
             let t = Target {
-                place,
-                at,
-                block,
-                len,
+                place: found.place,
+                at: found.at,
+                block: root.block,
+                len: root.len,
             };
             tree_alone(layout, values, t)
         }
@@ -187,16 +175,14 @@ fn type_lent(layout: &[u8], name: &[u8], values: &[u8], root: Root, words: &mut 
     ensures words_len_unchanged { length words.new ≡ length words.old }
     ensures type_answers { TypeAnswers layout.now name.now values.now root result }
 {
-    let block = root.block;
-    let len = root.len;
     match lookup::lookup_type(layout, name) {
-        Place::Missing => Answer::Refused(Refusal::plain(20)),
-        Place::At(place, at) => {
+        None => Err(Refusal::plain(Reason::UnknownType)),
+        Some(found) => {
             let t = Target {
-                place,
-                at,
-                block,
-                len,
+                place: found.place,
+                at: found.at,
+                block: root.block,
+                len: root.len,
             };
             tree_lent(layout, values, t, words)
         }
@@ -234,7 +220,7 @@ pub fn run_lent(layout: &[u8], run: &[u8], words: &mut [u64]) -> Answer
 
 // The answer to a call with values, where the questions before evaluating are answered.
 fn counted(
-    judged: Read,
+    judged: Result<(), Unread>,
     layout: &[u8],
     name: &[u8],
     values: &[u8],
@@ -245,28 +231,24 @@ fn counted(
     ensures words_len_unchanged { length words.new ≡ length words.old }
     ensures called { Called (Values len) layout.now name.now values.now judged words.old result }
 {
-    match judged {
-        Read::Refused(q, o) => Answer::Refused(Refusal::unread(q, o)),
-        Read::Ok(_) => type_lent(layout, name, values, Root { block: 0, len }, words),
-    }
+    judged?;
+    type_lent(layout, name, values, Root { block: 0, len }, words)
 }
 
 // The same with a run.
-fn counted_run(judged: Read, layout: &[u8], run: &[u8], words: &mut [u64]) -> Answer
+fn counted_run(judged: Result<(), Unread>, layout: &[u8], run: &[u8], words: &mut [u64]) -> Answer
     requires { (n : ℕ) × Asked Run layout.now run.now judged words.old n }
     ensures words_len_unchanged { length words.new ≡ length words.old }
     ensures called { Called Run layout.now run.now run.now judged words.old result }
 {
-    match judged {
-        Read::Refused(q, o) => Answer::Refused(Refusal::unread(q, o)),
-        Read::Ok(_) => run_lent(layout, run, words),
-    }
+    judged?;
+    run_lent(layout, run, words)
 }
 
 // The same with either.
 fn counted_for(
     ask: Ask,
-    judged: Read,
+    judged: Result<(), Unread>,
     layout: &[u8],
     name: &[u8],
     other: &[u8],
@@ -331,21 +313,17 @@ pub fn validate_run(words: &mut [u64], layout: &[u8], run: &[u8]) -> Answer
 pub fn length_of(layout: &[u8], name: &[u8], values: &[u8], len: u64) -> Answer
     ensures { outcome_of result ≡ validate 8192 layout.now name.now values.now len }
 {
-    match reader_calls::both_read(8192, layout, values, 192) {
-        Read::Refused(q, o) => Answer::Refused(Refusal::unread(q, o)),
-        Read::Ok(_) => type_alone(layout, name, values, Root { block: 0, len }),
-    }
+    reader_calls::both_read(8192, layout, values, 192)?;
+    type_alone(layout, name, values, Root { block: 0, len })
 }
 
 // The answer to a run with words of its own, where the questions before evaluating are answered.
-pub fn run_counted(judged: Read, layout: &[u8], run: &[u8]) -> Answer
+pub fn run_counted(judged: Result<(), Unread>, layout: &[u8], run: &[u8]) -> Answer
     requires { (n : ℕ) × Judged Run layout.now run.now judged n }
     ensures { (n : ℕ) → Judged Run layout.now run.now judged n → outcome_of result ≡ validate_run n layout.now run.now }
 {
-    match judged {
-        Read::Refused(q, o) => Answer::Refused(Refusal::unread(q, o)),
-        Read::Ok(_) => run_alone(layout, run),
-    }
+    judged?;
+    run_alone(layout, run)
 }
 
 pub fn length_of_run(layout: &[u8], run: &[u8]) -> Answer
