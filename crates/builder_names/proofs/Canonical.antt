@@ -1,12 +1,12 @@
 -- The canonical name: its length, writing it, and comparing it without building it. Assumes nothing.
-use Prim.Native.Nat.{ℕ, ◌+◌, ◌-◌, ◌≤◌}
+use Prim.Native.Nat.{ℕ, ◌+◌}
 use native.Mathlib.Omega.{arith}
 use mathlib.Core.Path.{◌≡◌, refl, sym, ap, ◌∙◌}
 use mathlib.Core.Bool.{Bool, true, false, ◌||◌}
 use mathlib.Core.List.{List, [], ◌∷◌}
-use lib.ListN.{length, take, drop, length-drop}
+use lib.ListN.{length, drop}
 use Rattle.blocks.specs.Name.{Name, same}
-use Rattle.blocks.proofs.Name.{false_true, same_refl}
+use Rattle.blocks.proofs.Name.{false_true}
 use Rattle.builder.specs.Names.{is_empty, normalize_path, canonical_name}
 use Rattle.blocks.specs.Bytes.{bytes}
 use Rattle.blocks.specs.Tree.{name}
@@ -15,10 +15,12 @@ use Rattle.wire.specs.Poke.{Wrote}
 use Rattle.wire.proofs.Laws.{both}
 use Rattle.marks.specs.Mark.{mark_of}
 use Rattle.marks.proofs.Marks.{mark_append}
-use Rattle.builder_names.specs.declared.Rest.{Rest}
-use Rattle.builder_names.specs.declared.Rest.TheVariants.{Nothing, From}
-use Rattle.builder_names.specs.Views.{alone, dotted, Apart, RestIs}
-use Rattle.builder_names.proofs.Strip.{dot_length, rest_part, same_not, begins_short, normal_same, normal_whole, normal_apart}
+use Rattle.builder_names.specs.Views.{alone, Stripped, dotted, RestIs}
+use Rattle.builder_names.proofs.Strip.{dot_length, normal_strip, stripped_fits, rest_else}
+use Rattle.std.specs.Prelude.{Option, unwrap_or}
+use lib.Dec.{eqb}
+use borrow.Author.Tests.{eqb-false}
+use denote.Ref.{Bor}
 
 -- ---- the canonical name
 
@@ -55,98 +57,57 @@ module _ (o p : Name) where
     unfolding canonical_name normalize_path dotted
     canonical_rest h = let q : alone o p ≡ false = sym e ∙ h in rw (q, or_right (is_empty p) (same p o) q)
 
-  -- ---- rest_of: a path that is empty
-  pub rest_empty : length p ≡ 0 → RestIs o p Nothing
+  -- a path that is the owner: it is alone
+  alone_same : same p o ≡ true → true ≡ alone o p
+  alone_same h = go p h
+    where
+      go : (q : Name) → same q o ≡ true → true ≡ alone o q
+      go [] h' = refl
+      go (x ∷ xs) h' = sym h'
+
+  -- ---- `rest_of`
+
+  -- a path that is empty
+  pub rest_empty : length p ≡ 0 → canonical_name o p ≡ o
   rest_empty h = canonical_alone true (alone_empty h) refl
 
-  module _ (z : length p ≡ 0 → ⊥) where
-    -- a path that is not the owner: a dot and the normal path stand behind the owner
-    rest_not : false ≡ same p o → (k : ℕ) → k ≤ length p → normalize_path o p ≡ drop k p → RestIs o p (From k)
-    rest_not e k l f = (l, canonical_rest false (alone_not false z e) refl ∙ ap (dotted o) f)
+  -- a path that is the owner
+  pub rest_same : same p o ≡ true → canonical_name o p ≡ o
+  rest_same h = canonical_alone true (alone_same h) refl
 
-    -- one that is apart from it
-    pub rest_apart : Apart o p → RestIs o p (From 0)
-    rest_apart a = rest_not (sym a.other) 0 (omega arith) (normal_apart o p a)
+  -- any other has a dot behind the owner, and the normal path
+  rest_normal : (length p ≡ 0 → ⊥) → same p o ≡ false → canonical_name o p ≡ dotted o (normalize_path o p)
+  rest_normal z e = canonical_rest false (alone_not false z (sym e)) refl
 
-    module _ (k : ℕ) (l : k ≤ length p) (f : normalize_path o p ≡ drop k p) where
-      -- one of another length than the owner's
-      pub rest_long : (length p ≡ length o → ⊥) → RestIs o p (From k)
-      rest_long h = rest_not (same_not p o (λ e. h (ap length e))) k l f
+  module _ {r : Name} (w : RestIs o p r) where
+    -- ---- `canonical_length`
+    pub length_rest : length o + 1 + length r ≡ length (canonical_name o p)
+    length_rest = rw (w.is, dot_length) (omega arith)
 
-      -- one whose normal path is not empty
-      pub rest_other : (k ≡ length p → ⊥) → RestIs o p (From k)
-      rest_other h =
-          rest_not
-          (same_not p o (λ e. h (omega (arith, ap length (sym f ∙ normal_same o p true (sym (ap (λ (x : Name). same x o) e ∙ same_refl o)) refl), length-drop k p, length-drop (length p) p))))
-          k l f
-
-      -- one of the owner's length, whose normal path is empty: it is the owner
-      pub rest_same : length p ≡ length o → k ≡ length p → RestIs o p Nothing
-      rest_same e h = go (same p o) refl
-        where
-          go : (b : Bool) → b ≡ same p o → RestIs o p Nothing
-          go true g = canonical_alone true (alone_not true z g) refl
-          go false g =
-              absurd
-              (z
-              (omega (arith, ap length (sym f ∙ normal_whole o p false g false refl (begins_short o p (omega arith)) refl), length-drop k p, length-drop 0 p)))
-
-  module _ (r : Rest) (w : RestIs o p r) where
-    -- nothing stands behind the owner: the canonical name is the owner
-    nothing_is : r ≡ Nothing → canonical_name o p ≡ o
-    nothing_is e = let q : RestIs o p Nothing = rw e at w in q
-
-    -- the answer of `canonical_length` then
-    pub length_nothing : r ≡ Nothing → length o ≡ length (canonical_name o p)
-    length_nothing e = ap length (sym (nothing_is e))
-
-    module _ (k : ℕ) (e : r ≡ From k) where
-      -- a dot and the path from k on stand behind the owner
-      from_is : RestIs o p (From k)
-      from_is = rw e at w
-
-      -- k lies inside the path
-      pub from_fits : k ≤ length p
-      from_fits = from_is.0
-
-      -- the answer of `canonical_length` then
-      pub length_from : length o + 1 + (length p - k) ≡ length (canonical_name o p)
-      length_from = rw (from_is.1, dot_length) (omega (arith, length-drop k p))
-
-  module _ (r : Rest) (w : RestIs o p r) where
-    -- the answer of `canonical_mark` for the owner alone: the mark of the owner
-    pub mark_nothing : (h : ℕ) → r ≡ Nothing → (g : ℕ) → h ≡ mark_of g o → h ≡ mark_of g (canonical_name o p)
-    mark_nothing h e g f = rw (nothing_is r w e) f
-
-    -- its answer else: the dot's mark behind the owner's, and the rest's behind the dot's
-    pub mark_from : (h d z k : ℕ) → r ≡ From k → d ≡ mark_of h (0x2E ∷ []) → z ≡ mark_of d (take (length p - k) (drop k p)) →
-        (g : ℕ) → h ≡ mark_of g o → z ≡ mark_of g (canonical_name o p)
+    -- ---- `canonical_mark`: the dot's mark behind the owner's, and the rest's behind the dot's
+    pub mark_rest : {h d z : ℕ} → d ≡ mark_of h (0x2E ∷ []) → z ≡ mark_of d r → (g : ℕ) → h ≡ mark_of g o →
+        z ≡ mark_of g (canonical_name o p)
     unfolding dotted
-    mark_from h d z k e x y g f =
-        y
-        ∙ rw (rest_part p k, x, f, (from_is r w k e).1, mark_append g o (0x2E ∷ drop k p), mark_append (mark_of g o) (0x2E ∷ []) (drop k p)) refl
+    mark_rest x y g f = y ∙ rw (x, f, w.is, mark_append g o (0x2E ∷ r), mark_append (mark_of g o) (0x2E ∷ []) r) refl
 
-pub ruleset canonicals = (length_nothing, length_from, mark_nothing, mark_from)
+    -- ---- `put_canonical_name`: a length, the owner, a dot and the rest, one behind the other
+    pub puts_rest : {xs ys zs us vs : List ℕ} {at q u v z : ℕ} → Wrote xs at (bytes 2 (length o + 1 + length r)) ys q →
+        Wrote ys q (drop 0 o) zs u → Wrote zs u (0x2E ∷ []) us v → Wrote us v (drop 0 r) vs z →
+        Wrote xs at (write (name (canonical_name o p))) vs z
+    unfolding write dotted
+    puts_rest f g i j = rw (← length_rest, w.is) (both f (both g (both i j)))
 
--- ---- put_canonical_name
+-- where the path is neither empty nor the owner: what was stripped, or else the path
+pub rest_some : (o : Name) (r : Option (Bor Name)) (d : Bor Name) → false ≡ eqb (length d.now) 0 → false ≡ same d.now o →
+    Stripped o d.now r → RestIs o d.now (unwrap_or r d).now
+rest_some o r d z e w = record {
+  fits = stripped_fits o r d w;
+  is = rest_normal o d.now (eqb-false _ _ (sym z)) (sym e) ∙ ap (dotted o) (normal_strip o d.now false e refl ∙ sym (rest_else o r d w));
+}
+
+pub ruleset rests = (rest_empty, rest_same)
 
 -- where the write of a name ends
 pub with_end : {xs ys : List ℕ} {at r : ℕ} (s : Name) → Wrote xs at (write (name s)) ys r → Wrote xs at (write (name s)) ys r × (r ≡ at + (2 + length s))
 unfolding write bytes
 with_end s w = (w, omega (arith, w.end))
-
-module _ {xs ys : List ℕ} {at q : ℕ} (o p : Name) (r : Rest) (w : RestIs o p r) where
-  -- the owner is written, and nothing behind it
-  pub puts_nothing : r ≡ Nothing → Wrote xs at (write (name o)) ys q →
-      Wrote xs at (write (name (canonical_name o p))) ys q × (q ≡ at + (2 + length (canonical_name o p)))
-  puts_nothing e f = with_end (canonical_name o p) (rw (nothing_is o p r w e) f)
-
-  -- a length, the owner, a dot and the path from k on, one behind the other
-  pub puts_from : {zs us vs : List ℕ} {u v z : ℕ} (k : ℕ) → r ≡ From k → Wrote xs at (bytes 2 (length o + 1 + (length p - k))) ys q →
-      Wrote ys q (drop 0 o) zs u → Wrote zs u (0x2E ∷ []) us v → Wrote us v (drop k p) vs z →
-      Wrote xs at (write (name (canonical_name o p))) vs z × (z ≡ at + (2 + length (canonical_name o p)))
-  unfolding write dotted
-  puts_from k e f g i j =
-      with_end
-      (canonical_name o p)
-      (rw (← length_from o p r w k e, (from_is o p r w k e).1) (both f (both g (both i j))))

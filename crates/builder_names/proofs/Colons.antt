@@ -10,13 +10,13 @@ use mathlib.Core.Option.{Option, some, none}
 use lib.Dec.{eqb}
 use lib.ListN.{length, take, drop, get_or, length-drop, drop_of_length-le}
 use lib.Seq.{drop-length, length-take-le, drop-cons, drop-drop}
-use borrow.Author.Tests.{eq-eqb, ne_eqb, eqb-true, eqb-false, le-leb, lt-leb}
+use borrow.Author.Tests.{eq-eqb, ne_eqb, le-leb, lt-leb}
 use Rattle.blocks.specs.Name.{Name, ascii, same}
 use Rattle.blocks.proofs.Name.{false_true}
+use Rattle.wire.proofs.Names.{eqb_comm}
 use Rattle.builder.specs.Names.{is_empty, is_some, strip_prefix, rsplit_once, behind, alias_unless, alternate_owner_aliases}
 use Rattle.builder_names.specs.Views.{colons, colons_before, place, Parts, first, alias_of}
-use Rattle.builder_names.specs.declared.Split.{Split}
-use Rattle.builder_names.specs.declared.Split.TheVariants.{At, Missing}
+use Rattle.std.specs.Prelude.{Some, None}
 use Rattle.builder_names.proofs.Strip.{none_some, prefix_is, prefix_some, rest_part}
 
 -- ---- `::` in a name
@@ -39,6 +39,8 @@ module _ (s : Name) (i : ℕ) where
   -- the first byte is a colon: the second decides
   pub colon : i + 1 < length s → get_or s i 0 ≡ 0x3A → eqb (get_or s (i + 1) 0) 0x3A ≡ colons (drop i s)
   colon h f = rw (two s i (omega arith), eq-eqb (get_or s i 0) 0x3A f) refl
+
+pub ruleset colon_tests = (no_room, no_colon, colon)
 
 module _ (s : Name) (h r : ℕ) where
   -- `colons_before`: the rest alone is longer than the name
@@ -64,14 +66,6 @@ module _ (s : Name) (h r : ℕ) where
       before_at t l g = let q : b - 2 ≡ length s - (h + r + 2) = omega arith in rw (le-leb (h + r + 2) (length s) (omega arith), ← q) g
 
 pub ruleset befores = (before_rest, before_head, before_none, before_at)
-
--- a byte compared from either side
-eqb_comm : (a b : ℕ) → eqb a b ≡ eqb b a
-eqb_comm a b = go (eqb a b) refl
-  where
-    go : (t : Bool) → eqb a b ≡ t → t ≡ eqb b a
-    go true h = sym (eq-eqb b a (sym (eqb-true a b h)))
-    go false h = sym (ne_eqb b a (λ e. eqb-false a b h (sym e)))
 
 -- the definition's test for `::`, by `strip_prefix`, is the test of two bytes
 prefix_colons : (s : Name) → is_some (strip_prefix (ascii "::") s) ≡ colons s
@@ -137,7 +131,7 @@ module _ (s : Name) where
     split_found h = split_is (i - 1) step (sym f ∙ h)
 
     -- and its place is the answer
-    pub place_found : b ≡ true → At (i - 1) ≡ place (rsplit_once s)
+    pub place_found : b ≡ true → Some (i - 1) ≡ place (rsplit_once s)
     place_found h = rw (split_found h, length-take-le (i - 1) s (omega arith))
 
 -- behind the last byte there is no `::`
@@ -151,47 +145,34 @@ split_missing s zero h e = e
 split_missing s (suc i) h e = absurd (not-suc-le-zero h)
 
 -- and the answer is none
-pub place_missing : (s : Name) (i : ℕ) → i ≤ 0 → rsplit_once (drop i s) ≡ none → Missing ≡ place (rsplit_once s)
+pub place_missing : (s : Name) (i : ℕ) → i ≤ 0 → rsplit_once (drop i s) ≡ none → None ≡ place (rsplit_once s)
 place_missing s i h e = rw (split_missing s i h e)
 
-pub ruleset splits = (split_more, split_fits, split_found, place_found, split_missing, place_missing)
-
--- ---- the place as the code has it, by the variant of the answer
-
--- what the answer of `last_colons` says where it is a place
-pub parts_at : (s : Name) (x : Split) (i : ℕ) → Parts s x → x ≡ At i → Parts s (At i)
-parts_at s x i w e = rw e at w
-
--- the `::` lies inside the name
-pub parts_fit : (s : Name) (x : Split) (i : ℕ) → Parts s x → x ≡ At i → i + 2 ≤ length s
-parts_fit s x i w e = (parts_at s x i w e).0
+pub ruleset splits = (split_start, split_more, split_fits, split_found, place_found, split_missing, place_missing)
 
 -- ---- the alias of a path
 
 module _ (p n : Name) where
   -- a path without `::` has no alias
-  pub alias_none : (x : Split) → Parts p x → x ≡ Missing → alias_of p n ≡ drop (length p) p
+  pub alias_none : Parts p None → alias_of p n ≡ []
   unfolding alias_of alternate_owner_aliases
-  alias_none x w e = let q : Parts p Missing = rw e at w in rw (q, drop-length p)
+  alias_none w = rw w
 
-  module _ (x : Split) (i : ℕ) (w : Parts p x) (e : x ≡ At i) (b : Bool) (f : b ≡ same (take (length p - (i + 2)) (drop (i + 2) p)) n) where
-    -- the test of the code, whose part runs to the end of the path
-    open_same : same (drop (i + 2) p) n ≡ b
-    open_same = sym (f ∙ ap (λ (y : Name). same y n) (rest_part p (i + 2)))
-
-    -- what stands behind the `::` is the normal path: there is no alias
-    pub alias_same : b ≡ true → alias_of p n ≡ drop (length p) p
+  -- a path with it: what stands behind it decides
+  module _ (i : ℕ) (w : Parts p (Some i)) where
+    -- that is the normal path: there is no alias
+    pub alias_same : same (drop (i + 2) p) n ≡ true → alias_of p n ≡ []
     unfolding alias_of alternate_owner_aliases
-    alias_same h = rw ((parts_at p x i w e).1, drop-length p) (go (drop (i + 2) p) (open_same ∙ h))
+    alias_same h = rw w.1 (go (drop (i + 2) p) h)
       where
         go : (d : Name) → same d n ≡ true → first (cond (is_empty d || same d n) [] (d ∷ [])) ≡ []
         go [] q = refl
         go (y ∷ ys) q = rw q
 
     -- else it is the alias
-    pub alias_rest : b ≡ false → alias_of p n ≡ drop (i + 2) p
+    pub alias_rest : same (drop (i + 2) p) n ≡ false → alias_of p n ≡ drop (i + 2) p
     unfolding alias_of alternate_owner_aliases
-    alias_rest h = rw (parts_at p x i w e).1 (go (drop (i + 2) p) (open_same ∙ h))
+    alias_rest h = rw w.1 (go (drop (i + 2) p) h)
       where
         go : (d : Name) → same d n ≡ false → first (cond (is_empty d || same d n) [] (d ∷ [])) ≡ d
         go [] q = refl
@@ -212,4 +193,4 @@ module _ (p n : Name) where
       go none = refl
       go (some q) = all q.1 (same q.1 n)
 
-pub ruleset aliases = (alias_none, alias_same, alias_rest)
+pub ruleset aliases = (alias_none, alias_same, alias_rest, rest_part)

@@ -1,23 +1,21 @@
 -- A path qualified by its owner's parent. Assumes nothing.
-use Prim.Native.Nat.{ℕ, ◌+◌, ◌-◌, ◌≤◌, ◌<◌}
+use Prim.Native.Nat.{ℕ, ◌+◌, ◌-◌, ◌<◌}
 use native.Mathlib.Omega.{arith}
 use mathlib.Core.Path.{◌≡◌, refl, sym, ap, ◌∙◌}
 use mathlib.Core.Bool.{Bool, true, false, cond, ◌||◌}
 use mathlib.Core.List.{[], ◌∷◌, ◌++◌, append_assoc}
-use mathlib.Core.Option.{Option, some, none}
+use mathlib.Core.Option.{some, none}
+use mathlib.Core.Option as math
 use lib.ListN.{length, take, drop, length-append, take-append-drop}
 use lib.Seq.{take_at, drop-length, length-take-le, take-append_seam, drop-append_seam}
 use borrow.Author.Tests.{eq-eqb, le-leb}
 use Rattle.blocks.specs.Name.{Name, ascii, same, among}
 use Rattle.blocks.proofs.Name.{false_true, same_refl, same_eq}
 use Rattle.builder.specs.Names.{is_empty, is_some, or_else, strip_prefix, strip_owner, normalize_path, rsplit_once, behind, qualify_parent_path, alias_unless, alternate_owner_aliases}
-use Rattle.builder_names.specs.Views.{colons, colons_before, Parts, key_of, KeyIs}
-use Rattle.builder_names.specs.declared.Split.{Split}
-use Rattle.builder_names.specs.declared.Split.TheVariants.{At, Missing}
+use Rattle.builder_names.specs.Views.{colons, colons_before, Parts, key_of, KeyParts}
+use Rattle.std.specs.Prelude.{Some, None}
 use Rattle.builder_names.specs.declared.Key.{Key}
-use Rattle.builder_names.specs.declared.Key.TheVariants.{Joined, NoParent}
-use Rattle.builder_names.proofs.Strip.{none_some, normal_same, normal_strip, normal_rest, normal_whole, found_fits, rest_part, same_iff, same_not, strip_got}
-use Rattle.builder_names.proofs.Colons.{parts_at}
+use Rattle.builder_names.proofs.Strip.{none_some, normal_same, normal_strip, normal_rest, normal_whole, found_long, rest_part, same_iff, same_not, strip_got}
 
 -- ---- a path behind a head
 
@@ -74,7 +72,7 @@ module _ (h r p : Name) (b : Bool) (e : b ≡ same p r) where
         normal_strip (h ++ r) (h ++ p) b (sym head_same) w ∙
         (ap (or_else (h ++ p)) head_strip ∙ (go (strip_owner r p) (sym f ∙ g) ∙ (sym (normal_strip r p b e w) ∙ normal_rest r p b e t w f g)))
       where
-        go : (o : Option Name) → is_some o ≡ true → or_else (h ++ p) o ≡ or_else p o
+        go : (o : math.Option Name) → is_some o ≡ true → or_else (h ++ p) o ≡ or_else p o
         go none i = false_true i
         go (some x) i = refl
 
@@ -90,7 +88,7 @@ unfolding rsplit_once
 split_whole [] a b e = none_some e
 split_whole (x ∷ xs) a b e = go (split_whole xs) (rsplit_once xs) refl
   where
-    first_one : (t : Option Name) → strip_prefix (ascii "::") (x ∷ xs) ≡ t → behind t ≡ some (a, b) → x ∷ xs ≡ a ++ (ascii "::" ++ b)
+    first_one : (t : math.Option Name) → strip_prefix (ascii "::") (x ∷ xs) ≡ t → behind t ≡ some (a, b) → x ∷ xs ≡ a ++ (ascii "::" ++ b)
     first_one none f g = none_some g
     first_one (some r) f g =
         let q : ◌≡◌ {A = Name × Name} ([], r) (a, b) = cc in
@@ -98,11 +96,11 @@ split_whole (x ∷ xs) a b e = go (split_whole xs) (rsplit_once xs) refl
         let z : r ≡ b = ap (λ (v : Name × Name). v.1) q in
         rw (← y, ← z) (strip_got (ascii "::") (x ∷ xs) r f)
 
-    go : ((c d : Name) → rsplit_once xs ≡ some (c, d) → xs ≡ c ++ (ascii "::" ++ d)) → (t : Option (Name × Name)) →
+    go : ((c d : Name) → rsplit_once xs ≡ some (c, d) → xs ≡ c ++ (ascii "::" ++ d)) → (t : math.Option (Name × Name)) →
         rsplit_once xs ≡ t → x ∷ xs ≡ a ++ (ascii "::" ++ b)
     go ih none f = first_one (strip_prefix (ascii "::") (x ∷ xs)) refl (rw (f, rsplit_once) at e)
     go ih (some q) f =
-        let g : ◌≡◌ {A = Option (Name × Name)} (some (x ∷ q.0, q.1)) (some (a, b)) = rw (f, rsplit_once) at e in
+        let g : ◌≡◌ {A = math.Option (Name × Name)} (some (x ∷ q.0, q.1)) (some (a, b)) = rw (f, rsplit_once) at e in
         let v : ◌≡◌ {A = Name × Name} (x ∷ q.0, q.1) (a, b) = cc in
         let y : x ∷ q.0 ≡ a = ap (λ (u : Name × Name). u.0) v in
         let z : q.1 ≡ b = ap (λ (u : Name × Name). u.1) v in
@@ -110,74 +108,63 @@ split_whole (x ∷ xs) a b e = go (split_whole xs) (rsplit_once xs) refl
 
 module _ (s p : Name) where
   -- an owner without `::` has no parent
-  pub key_none : (x : Split) → Parts s x → x ≡ Missing → qualify_parent_path s p ≡ none
+  pub key_none : Parts s None → qualify_parent_path s p ≡ none
   unfolding qualify_parent_path
-  key_none x w e = let q : Parts s Missing = rw e at w in rw q
+  key_none w = rw w
 
-  module _ (x : Split) (i : ℕ) (w : Parts s x) (e : x ≡ At i) where
+  module _ (i : ℕ) (w : Parts s (Some i)) where
     -- the qualified path is the owner up to its last `::`, and the path
     qualify_some : qualify_parent_path s p ≡ some (take (i + 2) s ++ p)
     unfolding qualify_parent_path
-    qualify_some = rw ((parts_at s x i w e).1, front) (ap some (sym (append_assoc (take i s) (ascii "::") p)))
+    qualify_some = rw (w.1, front) (ap some (sym (append_assoc (take i s) (ascii "::") p)))
       where
         l : length (take i s ++ ascii "::") ≡ i + 2
-        l = length-append (take i s) (ascii "::") ∙ ap (λ (m : ℕ). m + 2) (length-take-le i s (omega (arith, (parts_at s x i w e).0)))
+        l = length-append (take i s) (ascii "::") ∙ ap (λ (m : ℕ). m + 2) (length-take-le i s (omega (arith, w.0)))
 
         front : take (i + 2) s ≡ take i s ++ ascii "::"
         front =
-            ap (take (i + 2)) (split_whole s (take i s) (drop (i + 2) s) (parts_at s x i w e).1 ∙ sym (append_assoc (take i s) (ascii "::") (drop (i + 2) s))) ∙
+            ap (take (i + 2)) (split_whole s (take i s) (drop (i + 2) s) w.1 ∙
+            sym (append_assoc (take i s) (ascii "::") (drop (i + 2) s))) ∙
             take_at (take i s ++ ascii "::") (drop (i + 2) s) (i + 2) l
 
-    -- the owner behind that `::`, as the code takes it
-    abbrev rest : Name
-    rest = take (length s - (i + 2)) (drop (i + 2) s)
-
     -- so its key is that of the path and the rest behind this head
-    qualify_key : {k : Name} → normalize_path (take (i + 2) s ++ rest) (take (i + 2) s ++ p) ≡ k → key_of s (qualify_parent_path s p) ≡ some k
-    qualify_key f =
-        ap (key_of s) qualify_some ∙
-        ap some (ap (λ (o : Name). normalize_path o (take (i + 2) s ++ p))
-        (sym (ap (λ (o : Name). take (i + 2) s ++ o) (rest_part s (i + 2)) ∙ take-append-drop (i + 2) s)) ∙ f)
+    qualify_key : {k : Name} → normalize_path (take (i + 2) s ++ drop (i + 2) s) (take (i + 2) s ++ p) ≡ k →
+        key_of s (qualify_parent_path s p) ≡ some k
+    qualify_key f = ap (key_of s) qualify_some ∙
+        ap some (ap (λ (o : Name). normalize_path o (take (i + 2) s ++ p)) (sym (take-append-drop (i + 2) s)) ∙ f)
 
-    module _ (b : Bool) (g : b ≡ same p rest) where
-      -- the answer of `qualified_key` where the path is the rest
-      pub key_empty : b ≡ true → KeyIs s p (Joined 0 (length p))
-      key_empty h = (omega arith, omega arith, qualify_key (key_same (take (i + 2) s) rest p b g h ∙ sym (drop-length p)))
+    -- own is what stands behind that `::`
+    module _ {own : Name} (eo : own ≡ drop (i + 2) s) {k : Key} where
+      -- the answer of `qualified_key` where the path is that
+      pub key_empty : true ≡ same p own → k.head.now ≡ [] → k.rest.now ≡ [] → KeyParts s p k
+      key_empty h x y = record {
+        head = (0, omega arith, x);
+        rest = (length p, omega arith, y ∙ sym (drop-length p));
+        key = rw (x, y) (qualify_key (key_same (take (i + 2) s) (drop (i + 2) s) p true (rw eo at h) refl));
+      }
 
-      module _ (t : Bool) (f : t ≡ is_some (strip_owner rest p)) (h : b ≡ false) where
-        -- where it begins with the rest and a dot
-        pub key_behind : t ≡ true → KeyIs s p (Joined 0 (length rest + 1))
-        key_behind q = (omega arith, found_fits rest p t f q, qualify_key (key_rest (take (i + 2) s) rest p b g t f h q))
+      -- where it begins with that and a dot, and r stands behind them
+      pub key_behind : {r : Name} → false ≡ same p own → strip_owner own p ≡ some r → r ≡ drop (length own + 1) p → k.head.now ≡ [] →
+          k.rest.now ≡ r → KeyParts s p k
+      key_behind h e f x y =
+          let found : is_some (strip_owner own p) ≡ true = ap is_some e in
+          record {
+            head = (0, omega arith, x);
+            rest = (length own + 1, found_long own p found, y ∙ f);
+            key = rw (x, y, f, eo) (qualify_key
+                (key_rest (take (i + 2) s) (drop (i + 2) s) p false (rw eo at h) true (sym (rw eo at found)) refl refl));
+          }
 
-        -- and else
-        pub key_joined : t ≡ false → KeyIs s p (Joined (i + 2) 0)
-        key_joined q = ((parts_at s x i w e).0, omega arith, qualify_key (key_whole (take (i + 2) s) rest p b g t f h q))
-
-pub ruleset qualifies = (key_none, key_empty, key_behind, key_joined)
-
--- ---- the key as the code has it, by the variant of the answer
-
-module _ (o p : Name) (x : Key) (w : KeyIs o p x) where
-  -- no parent: no path to look for
-  pub no_parent : x ≡ NoParent → qualify_parent_path o p ≡ none
-  no_parent e = let v : KeyIs o p NoParent = rw e at w in v
-
-  module _ (a b : ℕ) (e : x ≡ Joined a b) where
-    -- what the answer of `qualified_key` says where there is a key
-    joined : KeyIs o p (Joined a b)
-    joined = rw e at w
-
-    -- its first part ends inside the owner
-    pub head_fits : a ≤ length o
-    head_fits = joined.0
-
-    -- its second begins inside the path
-    pub rest_fits : b ≤ length p
-    rest_fits = joined.1
-
-    -- the key, whose second part runs to the path's end
-    pub key_parts : key_of o (qualify_parent_path o p) ≡ some (take a o ++ take (length p - b) (drop b p))
-    key_parts = joined.2 ∙ ap (λ (y : Name). some (take a o ++ y)) (sym (rest_part p b))
+      -- and else
+      pub key_joined : false ≡ same p own → strip_owner own p ≡ none → k.head.now ≡ take (i + 2) s → k.rest.now ≡ p → KeyParts s p k
+      key_joined h e x y =
+          let missing : is_some (strip_owner own p) ≡ false = ap is_some e in
+          record {
+            head = (i + 2, w.0, x);
+            rest = (0, omega arith, y);
+            key = rw (x, y)
+                (qualify_key (key_whole (take (i + 2) s) (drop (i + 2) s) p false (rw eo at h) false (sym (rw eo at missing)) refl refl));
+          }
 
 -- ---- the alias of a path
 
@@ -204,7 +191,7 @@ alias_before p n k e = go (rsplit_once p) refl e
     all a (y ∷ ys) false f g =
         there a (f ∙ ap (λ (x : Name). a ++ (ascii "::" ++ x)) (sym (same_eq k (y ∷ ys) (sym (or_false (same k (y ∷ ys))) ∙ g))))
 
-    go : (t : Option (Name × Name)) → rsplit_once p ≡ t → among k (alias_unless n t) ≡ true → colons_before (length k) p ≡ true
+    go : (t : math.Option (Name × Name)) → rsplit_once p ≡ t → among k (alias_unless n t) ≡ true → colons_before (length k) p ≡ true
     go none h g = false_true g
     go (some q) h g = all q.0 q.1 (same q.1 n) (split_whole p q.0 q.1 h) g
 

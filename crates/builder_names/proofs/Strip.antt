@@ -1,20 +1,25 @@
 -- An owner stripped from a path, equal names, and the end of a name. Assumes nothing.
-use Rattle.wire.proofs.Names.{same_long}
+use Rattle.wire.proofs.Names.{same_long, pointwise_same}
 use Prim.Native.Nat.{ℕ, zero, suc, ◌+◌, ◌-◌, ◌≤◌, ◌<◌}
 use native.Mathlib.Omega.{arith}
 use native.Mathlib.Numerals.{add-one}
 use mathlib.Core.Path.{◌≡◌, refl, sym, ap, ap₂, ◌∙◌}
 use mathlib.Core.Bool.{Bool, true, false, ◌||◌}
 use mathlib.Core.List.{[], ◌∷◌, ◌++◌, append_assoc}
-use mathlib.Core.Option.{Option, some, none}
+use mathlib.Core.Option.{some, none}
+use mathlib.Core.Option as math
+use Rattle.std.specs.Prelude.{Option, Some, None, unwrap_or}
+use denote.Ref.{Bor}
 use lib.Dec.{eqb}
 use lib.ListN.{length, take, drop, get_or, length-append, length-drop}
 use lib.Seq.{split_at, take_at, get_or_at, take_all, drop-append_seam, drop-length}
-use borrow.Author.Tests.{eq-eqb, eqb-true}
+use borrow.Author.Tests.{eq-eqb, eqb-true, leb-true, leb-false}
+use Rattle.std.specs.Prelude.{leb, nat_eq}
+use Rattle.std.specs.Cmp.Lexicographic.{pointwise}
 use Rattle.blocks.specs.Name.{Name, ascii, same}
 use Rattle.blocks.proofs.Name.{false_true, same_refl, same_eq}
 use Rattle.builder.specs.Names.{is_some, or_else, strip_prefix, strip_owner, normalize_path, ends_with}
-use Rattle.builder_names.specs.Views.{Apart, dotted}
+use Rattle.builder_names.specs.Views.{Stripped, dotted}
 
 -- ---- a name that begins with another
 
@@ -41,10 +46,10 @@ strip_got (x ∷ p) (y ∷ n) r e = go (strip_got p n r) (eqb x y) refl e
     go ih false h g = none_some g
 
 -- nothing is given where no name of this prefix is the name
-pub strip_none : (p n : Name) → ((r : Name) → n ≡ p ++ r → ⊥) → false ≡ is_some (strip_prefix p n)
+pub strip_none : (p n : Name) → ((r : Name) → n ≡ p ++ r → ⊥) → strip_prefix p n ≡ none
 strip_none p n k = go (strip_prefix p n) refl
   where
-    go : (t : Option Name) → strip_prefix p n ≡ t → false ≡ is_some t
+    go : (t : math.Option Name) → strip_prefix p n ≡ t → t ≡ none
     go none h = refl
     go (some r) h = absurd (k r (strip_got p n r h))
 
@@ -52,7 +57,7 @@ strip_none p n k = go (strip_prefix p n) refl
 pub prefix_is : (p n : Name) → is_some (strip_prefix p n) ≡ true → n ≡ p ++ drop (length p) n
 prefix_is p n e = go (strip_prefix p n) refl e
   where
-    go : (t : Option Name) → strip_prefix p n ≡ t → is_some t ≡ true → n ≡ p ++ drop (length p) n
+    go : (t : math.Option Name) → strip_prefix p n ≡ t → is_some t ≡ true → n ≡ p ++ drop (length p) n
     go none h g = false_true g
     go (some r) h g = let q : n ≡ p ++ r = strip_got p n r h in q ∙ ap (λ (x : Name). p ++ x) (sym (ap (drop (length p)) q ∙ drop-append_seam p r))
 
@@ -100,12 +105,8 @@ found_is o p e =
 pub found_long : (o p : Name) → is_some (strip_owner o p) ≡ true → length o + 1 ≤ length p
 found_long o p e = omega (arith, ap length (found_is o p e), dot_length o (drop (length o + 1) p))
 
--- an owner, a dot and a rest: the owner is found
-pub found : (o p r : Name) → p ≡ dotted o r → is_some (strip_owner o p) ≡ true
-found o p r e = ap is_some (ap (strip_owner o) e ∙ strip_dot o r)
-
 -- a path that is none such: it is not
-not_found : (o p : Name) → ((r : Name) → p ≡ dotted o r → ⊥) → false ≡ is_some (strip_owner o p)
+not_found : (o p : Name) → ((r : Name) → p ≡ dotted o r → ⊥) → strip_owner o p ≡ none
 unfolding dotted
 not_found o p k = strip_none (o ++ ascii ".") p (λ r e. k r (e ∙ append_assoc o (ascii ".") r))
 
@@ -133,34 +134,28 @@ same_not a b k = go (same a b) refl
 pub rest_part : (s : Name) (k : ℕ) → take (length s - k) (drop k s) ≡ drop k s
 rest_part s k = take_all (length s - k) (drop k s) (omega (arith, length-drop k s))
 
--- the same, for a part that the code made
-pub part_is : (s n : Name) (k : ℕ) → n ≡ drop k s → take (length s - k) (drop k s) ≡ n
-part_is s n k e = rest_part s k ∙ sym e
-
--- ---- begins_with_owner and normal_start, in the form in which the code has them
+-- ---- stripping an owner in the form in which the code has it
 
 module _ (o p : Name) where
+  -- a dot behind the owner, and the owner before it
+  pub strip_here : length o < length p → get_or p (length o) 0 ≡ 0x2E → same (take (length o) p) o ≡ true →
+      strip_owner o p ≡ some (drop (length o + 1) p)
+  strip_here h d e = ap (strip_owner o) (strip_at o p h d (same_eq (take (length o) p) o e)) ∙ strip_dot o (drop (length o + 1) p)
+
   -- a path no longer than the owner
-  pub begins_short : length p ≤ length o → false ≡ is_some (strip_owner o p)
-  begins_short h = not_found o p (λ r e. omega (arith, ap length e, dot_length o r))
+  pub strip_short : length p ≤ length o → strip_owner o p ≡ none
+  strip_short h = not_found o p (λ r e. omega (arith, ap length e, dot_length o r))
 
   -- a path with another byte than a dot behind the owner
-  pub begins_other : (get_or p (length o) 0 ≡ 0x2E → ⊥) → false ≡ is_some (strip_owner o p)
-  begins_other k = not_found o p (λ r e. k (ap (λ (s : Name). get_or s (length o) 0) e ∙ dot_at o r))
+  pub strip_other : (get_or p (length o) 0 ≡ 0x2E → ⊥) → strip_owner o p ≡ none
+  strip_other k = not_found o p (λ r e. k (ap (λ (s : Name). get_or s (length o) 0) e ∙ dot_at o r))
 
-  -- else the first bytes are compared with the owner
-  pub begins_rest : (b : Bool) → length o < length p → get_or p (length o) 0 ≡ 0x2E → b ≡ same (take (length o) p) o → b ≡ is_some (strip_owner o p)
-  begins_rest b h d e = e ∙ go (same (take (length o) p) o) refl
-    where
-      go : (t : Bool) → same (take (length o) p) o ≡ t → t ≡ is_some (strip_owner o p)
-      go true q = sym (found o p _ (strip_at o p h d (same_eq (take (length o) p) o q)))
-      go false q =
-          not_found o p
-          (λ r f. false_true (sym q ∙ (ap (λ (s : Name). same (take (length o) s) o) f ∙ (ap (λ (s : Name). same s o) (dot_take o r) ∙ same_refl o))))
-
-  -- the normal path begins inside the path
-  pub found_fits : (b : Bool) → b ≡ is_some (strip_owner o p) → b ≡ true → length o + 1 ≤ length p
-  found_fits b e h = found_long o p (sym e ∙ h)
+  -- a path that begins otherwise
+  pub strip_unlike : same (take (length o) p) o ≡ false → strip_owner o p ≡ none
+  strip_unlike q =
+      not_found o p
+      (λ r f. false_true (sym q ∙ (ap (λ (s : Name). same (take (length o) s) o) f ∙
+      (ap (λ (s : Name). same s o) (dot_take o r) ∙ same_refl o))))
 
   module _ (b : Bool) (e : b ≡ same p o) where
     -- the path is the owner: the normal path is empty
@@ -183,25 +178,34 @@ module _ (o p : Name) where
     pub normal_whole : (t : Bool) → b ≡ false → t ≡ is_some (strip_owner o p) → t ≡ false → normalize_path o p ≡ drop 0 p
     normal_whole t h f g = normal_strip h ∙ go (strip_owner o p) (sym f ∙ g)
       where
-        go : (u : Option Name) → is_some u ≡ false → or_else p u ≡ p
+        go : (u : math.Option Name) → is_some u ≡ false → or_else p u ≡ p
         go none q = refl
         go (some r) q = false_true (sym q)
 
-  -- a path shorter than the owner is apart from it
-  pub apart_short : length p < length o → Apart o p
-  apart_short h = record { other = sym (same_not p o (λ e. let z : ⊥ = omega (arith, ap length e) in z)); not_behind = sym (begins_short (omega arith)) }
+-- what was stripped, or else the path
+pub rest_else : (o : Name) (r : Option (Bor Name)) (d : Bor Name) → Stripped o d.now r →
+    (unwrap_or r d).now ≡ or_else d.now (strip_owner o d.now)
+rest_else o None d e = rw e
+rest_else o (Some x) d e = rw e.0
 
-  -- and so is a longer one with another byte than a dot behind as many bytes
-  pub apart_other : length o < length p → (get_or p (length o) 0 ≡ 0x2E → ⊥) → Apart o p
-  apart_other h k = record { other = sym (same_not p o (λ e. let z : ⊥ = omega (arith, ap length e) in z)); not_behind = sym (begins_other k) }
+-- it is no longer than the path
+pub stripped_fits : (o : Name) (r : Option (Bor Name)) (d : Bor Name) → Stripped o d.now r → length (unwrap_or r d).now ≤ length d.now
+stripped_fits o None d e = omega arith
+stripped_fits o (Some x) d e = omega (arith, ap length e.1, length-drop (length o + 1) d.now)
 
-  -- then the normal path is the path
-  pub normal_apart : Apart o p → normalize_path o p ≡ drop 0 p
-  normal_apart a = normal_whole false (sym a.other) false refl (sym a.not_behind) refl
+-- the answer of `normalize_path`
+pub normal_else : (o : Name) (r : Option (Bor Name)) (d : Bor Name) → same d.now o ≡ false → Stripped o d.now r →
+    (unwrap_or r d).now ≡ normalize_path o d.now
+normal_else o r d e w = rest_else o r d w ∙ sym (normal_strip o d.now false (sym e) refl)
 
-pub ruleset begins = (begins_short, begins_other, begins_rest)
+-- its answer where the path is the owner
+pub normal_empty : (o p : Name) → same p o ≡ true → [] ≡ normalize_path o p
+unfolding normalize_path
+normal_empty o p e = rw e
 
-pub ruleset normals = (normal_same, normal_rest, normal_whole)
+pub ruleset strips = (strip_here, strip_short, strip_other, strip_unlike, rest_part)
+
+pub ruleset normals = (normal_else, normal_empty)
 
 -- ---- the end of a name
 
@@ -230,7 +234,13 @@ ends_drop e (x ∷ xs) (suc k) h =
     let f : same (x ∷ xs) e ≡ false = sym (same_long (x ∷ xs) e (λ q. let z : ⊥ = omega arith in z)) in
     rw f (ends_drop e xs k (omega arith))
 
--- the same in the form in which the code has the part
-pub ends_rest : (e s : Name) (b : Bool) (k : ℕ) → k ≡ length s - length e → length e ≤ length s →
-    b ≡ same (take (length s - k) (drop k s)) e → b ≡ ends_with e s
-ends_rest e s b k q h w = w ∙ (ap (λ (x : Name). same x e) (rest_part s k) ∙ ends_drop e s k (omega arith))
+-- the answer of the library's `ends_with`
+pub ends_is : (e s : Name) → pointwise nat_eq e (drop (length s - length e) s) ≡ ends_with e s
+ends_is e s = pointwise_same e (drop (length s - length e) s) ∙ go (leb (length e) (length s)) refl
+  where
+    go : (b : Bool) → leb (length e) (length s) ≡ b → same (drop (length s - length e) s) e ≡ ends_with e s
+    go true h = ends_drop e s (length s - length e) (omega (arith, leb-true _ _ h))
+    go false h =
+        let g : length s < length e = leb-false _ _ h in
+        let k : length s - length e ≡ 0 = omega arith in
+        rw k (sym (same_long s e (λ q. let z : ⊥ = omega arith in z)) ∙ ends_short e s g)

@@ -1,12 +1,12 @@
 -- The jagged arrays among a struct's fields.
 use mathlib.Core.Path.{◌≡◌, refl, sym, ◌∙◌, ap, subst}
-use mathlib.Core.Bool.{Bool, true, false, not, ◌&&◌, ◌||◌}
+use mathlib.Core.Bool.{Bool, true, false, ◌&&◌, ◌||◌}
 use mathlib.Core.List.{List, []}
 use mathlib.Core.Option.{Option, some, none}
 use Prim.Native.Nat.{ℕ, ◌+◌, ◌-◌, ◌≤◌, ◌<◌}
 use native.Mathlib.Omega.{arith}
 use lib.Dec.{leb}
-use borrow.Author.Tests.{leb-true, leb-false, not-true, not-false}
+use borrow.Author.Tests.{leb-true, leb-false}
 use Rattle.blocks.specs.Bytes.{le2, le4}
 use Rattle.blocks.specs.Name.{Name, same}
 use Rattle.blocks.specs.Tree.{Tree, block, cons, view}
@@ -74,14 +74,14 @@ module _ {s : List ℕ} {at : ℕ} {a : Accepted s 33 33 at} {r : FieldParts} (f
       ∙ ap (λ (c : Bool). (b && c) || within n u) q
 
   -- it has another name
-  pub other_field : {o : Name} {b : Bool} → o ≡ name_at s (at + 6) → b ≡ same o n → not b ≡ true → within n (cons (tree a) u) ≡ within n u
-  other_field e g h = of_field (ap (λ (m : Name). same m n) (sym e) ∙ sym g ∙ not-true _ h) refl
+  pub other_field : {o : Name} → o ≡ name_at s (at + 6) → false ≡ same o n → within n (cons (tree a) u) ≡ within n u
+  other_field e g = of_field (ap (λ (m : Name). same m n) (sym e) ∙ sym g) refl
 
   -- it has the name
-  pub that_field : {o : Name} {b j : Bool} → o ≡ name_at s (at + 6) → b ≡ same o n → not b ≡ false →
+  pub that_field : {o : Name} {j : Bool} → o ≡ name_at s (at + 6) → true ≡ same o n →
       ((t : Accepted s 1 7 r.kind) → j ≡ or_else false (jagged_of (kind_of (type_of (tree t))))) →
       within n (cons (tree a) u) ≡ (j || within n u)
-  that_field e g h k = of_field (ap (λ (m : Name). same m n) (sym e) ∙ sym g ∙ not-false _ h) (sym (k f.type))
+  that_field e g k = of_field (ap (λ (m : Name). same m n) (sym e) ∙ sym g) (sym (k f.type))
 
   -- it is no jagged array
   pub plain_field : {j : Bool} → ((t : Accepted s 1 7 r.kind) → j ≡ or_else false (jagged_of (kind_of (type_of (tree t))))) → j ≡ false →
@@ -114,8 +114,8 @@ Search N s count first left at = Left (Passed N) s (Item.blocks 33 33) count fir
 
 module _ {s : List ℕ} {kind : ℕ} {a : Accepted s 1 7 kind} {r : ListParts} (f : FieldsAt a r) (N : Name → Type 0) where
   -- before the loop no field is passed
-  pub begin : Search N s r.count r.first r.count r.first
-  begin = starts (λ t. record { is = λ n h. refl }) f.list
+  pub begin : Search N s r.count r.first (r.count - 0) r.first
+  begin = let e : r.count - 0 ≡ r.count = omega arith in rw e (starts (λ t. record { is = λ n h. refl }) f.list)
 
   module _ {left at : ℕ} (e : le2 s (kind + 4) ≡ 2) {n : Name} (m : N n) (c : Search N s r.count r.first left at) where
     -- the field at hand is one: so the struct has one
@@ -134,17 +134,19 @@ module _ {s : List ℕ} {kind : ℕ} {a : Accepted s 1 7 kind} {r : ListParts} (
     unfolding has_jagged fields fields_in view
     not_found h = sym (ap (λ (q : ResolvedTypeKind). has_jagged n (fields_of q)) (f.struct e) ∙ (ended h c f.list).0.is n m)
 
-module _ {N : Name → Type 0} {s : List ℕ} {count first left at : ℕ} (h : 0 < left) where
-  -- the field at hand is accepted
-  pub next_field : Search N s count first left at → Accepted s 33 33 at
-  next_field c = (block_entry c.here h).child
+module _ {N : Name → Type 0} {s : List ℕ} {count first at : ℕ} (k : ℕ) (h : k < count) where
+  -- k fields were passed: the field at hand is accepted
+  pub next_field : Search N s count first (count - k) at → Accepted s 33 33 at
+  next_field c = (block_entry c.here (omega arith)).child
 
   -- a field that is none is passed
   pub go_on : {z : ℕ} → ((n : Name) → N n → (b : Accepted s 33 33 at) (u : Tree) → within n (cons (tree b) u) ≡ within n u) → z ≡ le4 s at →
-      Search N s count first left at → Search N s count first (left - 1) (at + 4 + z)
+      Search N s count first (count - k) at → Search N s count first (count - (k + 1)) (at + 4 + z)
   go_on g e c =
-      rw e (steps (λ l. (block_entry l h).child.got.0) (λ l. (block_entry l h).after)
-      (λ l w t q. record { is = λ n m. q.is n m ∙ g n m (block_entry l h).child t }) c)
+      let l : 0 < count - k = omega arith in
+      let f : count - (k + 1) ≡ count - k - 1 = omega arith in
+      rw (e, f) (steps (λ x. (block_entry x l).child.got.0) (λ x. (block_entry x l).after)
+      (λ x w t q. record { is = λ n m. q.is n m ∙ g n m (block_entry x l).child t }) c)
 
 -- ---- names of elements
 
@@ -172,7 +174,3 @@ no_jagged e f h = record {
   struct = λ z. sym e ∙ f;
   no_element = λ z a m. none_before (fields_of (kind_of (type_of (tree a)))) (h a) (before_element (split (replace_colons m)));
 }
-
--- a struct in which a field is one
-pub one_jagged : {s : List ℕ} {at k : ℕ} → k ≡ le2 s (at + 4) → k ≡ 2 → Jagged s at true
-one_jagged e f = record { struct = λ z. sym e ∙ f; no_element = λ z. false_true (sym z) }

@@ -2,7 +2,7 @@
 use mathlib.Core.Path.{◌≡◌, refl, sym, ◌∙◌, ap, subst}
 use mathlib.Core.Bool.{Bool, true, false, not, ◌&&◌, ◌||◌, cond}
 use mathlib.Core.List.{List, [], ◌∷◌, map}
-use mathlib.Core.Option.{Option, some, none}
+use mathlib.Core.Option.{some, none}
 use Prim.Native.Nat.{ℕ, zero, suc, ◌+◌, ◌-◌, ◌≤◌, ◌<◌}
 use native.Mathlib.Numerals.{add-one}
 use native.Mathlib.Omega.{arith}
@@ -10,7 +10,7 @@ use lib.Dec.{eqb}
 use lib.ListN.{length, take, drop, get_or}
 use lib.Seq.{drop-cons}
 use Rattle.blocks.specs.Bytes.{bytes}
-use borrow.Author.Tests.{not-true, not-false, eqb-true, eqb-false}
+use borrow.Author.Tests.{eqb-true, eqb-false}
 use Rattle.blocks.specs.Name.{Name, same, among}
 use Rattle.blocks.specs.Write.{write}
 use Rattle.blocks.proofs.Name.{same_eq, false_true}
@@ -25,16 +25,7 @@ use Rattle.builder.specs.BuildType.{fields_of, has_jagged, jagged_before, is_jag
 use Rattle.marks.specs.Mark.{mark_of}
 use Rattle.builder_registry.specs.Words.{Standing, entry_of, entries_of}
 use Rattle.builder_registry.proofs.Puts.{counted_last as list_counted_last}
-use Rattle.builder_parameters.specs.declared.Segment.{Segment}
-use Rattle.builder_parameters.specs.declared.Segment.TheVariants.{Part, Missing}
-use Rattle.builder_parameters.specs.Segments.{Found}
 use Rattle.builder_parameters.specs.Listed.{name_in, names, lists, marks_of}
-
--- ---- two names
-
--- the names that were compared are those that are meant
-pub same_parts : {a b m n : Name} {r : Bool} → a ≡ m → b ≡ n → r ≡ same a b → r ≡ same m n
-same_parts e f g = rw (← e, ← f) g
 
 -- ---- a name among the earlier ones
 
@@ -76,44 +67,33 @@ module _ (s ws : List ℕ) (i : ℕ) where
 
 -- ---- an element of a jagged array
 
--- a segment that was found: where it lies, and that it is the answer
-pub found_part : {n : Name} {g : Segment} {o : Option Name} (from to : ℕ) → Found n g o → g ≡ Part from to →
-    (from ≤ to) × (to ≤ length n) × (o ≡ some (take (to - from) (drop from n)))
-found_part from to (Found.part {from = f} {to = t} h l) e = let a : f ≡ from = cc in let b : t ≡ to = cc in (omega arith, omega arith, rw (a, b) refl)
-found_part from to Found.missing e = let z : ◌≡◌ {A = ℕ} 0 1 = cc in absurd (omega arith)
-
--- no segment was found
-found_none : {n : Name} {g : Segment} {o : Option Name} → Found n g o → g ≡ Missing → o ≡ none
-found_none (Found.part h l) e = let z : ◌≡◌ {A = ℕ} 0 1 = cc in absurd (omega arith)
-found_none Found.missing e = refl
-
-module _ {m : Name} (n : Name) (f : m ≡ replace_colons n) (t : ResolvedType) {g : Segment} (w : Found m g (before_element (split m))) where
+module _ {m : Name} (n : Name) (f : m ≡ replace_colons n) (t : ResolvedType) where
   -- the segment before `element`, in the name with `.` for `::`
   segment_is : before_element (split m) ≡ before_element (split (replace_colons n))
   segment_is = ap (λ (z : Name). before_element (split z)) f
 
   -- there is one: whether the struct has a jagged array of that name
-  pub element_yes : (from to : ℕ) {r : Bool} → g ≡ Part from to → r ≡ has_jagged (take (to - from) (drop from m)) (fields_of (kind_of t)) →
+  pub element_yes : {p : Name} {r : Bool} → before_element (split m) ≡ some p → r ≡ has_jagged p (fields_of (kind_of t)) →
       r ≡ is_jagged_element_parameter t n
   unfolding is_jagged_element_parameter
-  element_yes from to p q = q ∙ ap (jagged_before (fields_of (kind_of t))) (sym (sym segment_is ∙ (found_part from to w p).2))
+  element_yes w q = q ∙ ap (jagged_before (fields_of (kind_of t))) (sym (sym segment_is ∙ w))
 
   -- there is none: the entry is no element
-  pub element_no : g ≡ Missing → false ≡ is_jagged_element_parameter t n
+  pub element_no : before_element (split m) ≡ none → false ≡ is_jagged_element_parameter t n
   unfolding is_jagged_element_parameter
-  element_no p = ap (jagged_before (fields_of (kind_of t))) (sym (sym segment_is ∙ found_none w p))
+  element_no w = ap (jagged_before (fields_of (kind_of t))) (sym (sym segment_is ∙ w))
 
 -- ---- whether an entry is listed
 
 module _ (t : ResolvedType) (s ws : List ℕ) (i : ℕ) {f : Bool} (e : f ≡ not (among (name_in s ws i) (names s ws i))) where
   -- an entry whose name an earlier one has is not listed
-  pub not_first : not f ≡ true → false ≡ lists t s ws i
-  not_first h = ap (λ (b : Bool). b && not (is_jagged_element_parameter t (name_in s ws i))) (sym (not-true f h) ∙ e)
+  pub not_first : f ≡ false → f ≡ lists t s ws i
+  not_first h = h ∙ ap (λ (b : Bool). b && not (is_jagged_element_parameter t (name_in s ws i))) (sym h ∙ e)
 
   -- another one is listed if it is no element of a jagged array
-  pub first_listed : {r : Bool} → not f ≡ false → r ≡ is_jagged_element_parameter t (name_in s ws i) → not r ≡ lists t s ws i
+  pub first_listed : {r : Bool} → f ≡ true → r ≡ is_jagged_element_parameter t (name_in s ws i) → not r ≡ lists t s ws i
   first_listed {r} h g =
-      ap not g ∙ ap (λ (b : Bool). b && not (is_jagged_element_parameter t (name_in s ws i))) (sym (not-false f h) ∙ e)
+      ap not g ∙ ap (λ (b : Bool). b && not (is_jagged_element_parameter t (name_in s ws i))) (sym h ∙ e)
 
 -- ---- one entry after another
 
@@ -133,12 +113,12 @@ module _ (t : ResolvedType) (s ws : List ℕ) {i n : ℕ} where
 
   module _ {r : Bool} (h : i < n) (e : r ≡ lists t s ws i) where
     -- it is not
-    pub listed_no : not r ≡ true → listed t s ws i (n - i) ≡ listed t s ws (i + 1) (n - (i + 1))
-    listed_no f = rw (listed_step h, ← e, not-true r f) refl
+    pub listed_no : r ≡ false → listed t s ws i (n - i) ≡ listed t s ws (i + 1) (n - (i + 1))
+    listed_no f = rw (listed_step h, ← e, f) refl
 
     -- it is
-    pub listed_yes : not r ≡ false → listed t s ws i (n - i) ≡ (entry_of s (get_or ws i 0)).parameter ∷ listed t s ws (i + 1) (n - (i + 1))
-    listed_yes f = rw (listed_step h, ← e, not-false r f) refl
+    pub listed_yes : r ≡ true → listed t s ws i (n - i) ≡ (entry_of s (get_or ws i 0)).parameter ∷ listed t s ws (i + 1) (n - (i + 1))
+    listed_yes f = rw (listed_step h, ← e, f) refl
 
   -- behind the last entry nothing is
   pub listed_end : n ≤ i → listed t s ws i (n - i) ≡ []
@@ -217,11 +197,11 @@ left t s ws i n = write (entries_tree parameter_tree (listed t s ws i (n - i)))
 
 module _ {xs ys : List ℕ} {p q : ℕ} (t : ResolvedType) (s ws : List ℕ) {i n : ℕ} {r : Bool} (h : i < n) (e : r ≡ lists t s ws i) where
   -- an entry that is not listed writes nothing
-  pub pass : not r ≡ true → Wrote xs p (left t s ws (i + 1) n) ys q → Wrote xs p (left t s ws i n) ys q
+  pub pass : r ≡ false → Wrote xs p (left t s ws (i + 1) n) ys q → Wrote xs p (left t s ws i n) ys q
   pass f w = rw (listed_no t s ws h e f) w
 
   -- one that is listed is written in front of the rest
-  pub put : {zs : List ℕ} {u : ℕ} → not r ≡ false → Wrote xs p (write (parameter_tree (entry_of s (get_or ws i 0)).parameter)) ys q →
+  pub put : {zs : List ℕ} {u : ℕ} → r ≡ true → Wrote xs p (write (parameter_tree (entry_of s (get_or ws i 0)).parameter)) ys q →
       Wrote ys q (left t s ws (i + 1) n) zs u → Wrote xs p (left t s ws i n) zs u
   unfolding entries_tree
   put f v w =
@@ -256,11 +236,11 @@ count_none t s ws n =
 module _ (t : ResolvedType) (s ws : List ℕ) {i n : ℕ} (k : ℕ) (c : Counts t s ws n i k) where
   module _ {r : Bool} (h : i < n) (e : r ≡ lists t s ws i) where
     -- an entry that is not listed is not counted
-    pub count_pass : not r ≡ true → Counts t s ws n (i + 1) k
+    pub count_pass : r ≡ false → Counts t s ws n (i + 1) k
     count_pass f = let l = ap (λ (l : List IrParameter). length l) (listed_no t s ws h e f) in omega arith
 
     -- one that is listed is
-    pub count_more : not r ≡ false → Counts t s ws n (i + 1) (k + 1)
+    pub count_more : r ≡ true → Counts t s ws n (i + 1) (k + 1)
     count_more f = let l = ap (λ (l : List IrParameter). length l) (listed_yes t s ws h e f) in omega arith
 
   -- at the end all that are listed are counted

@@ -1,6 +1,6 @@
 -- The one pass over the entries: what was written and counted, and what is left.
-use mathlib.Core.Path.{◌≡◌, refl, ◌∙◌}
-use mathlib.Core.Bool.{Bool, true, false, not}
+use mathlib.Core.Path.{◌≡◌, ◌∙◌}
+use mathlib.Core.Bool.{Bool, true, false}
 use mathlib.Core.List.{List}
 use Prim.Native.Nat.{ℕ, ◌+◌, ◌*◌, ◌≤◌, ◌<◌}
 use native.Mathlib.Omega.{arith}
@@ -15,15 +15,16 @@ use Rattle.builder.specs.Registry.{into_parameters}
 use Rattle.builder.specs.BuildType.{filter_jagged_element_parameters}
 use Rattle.marks.specs.Table.{Linked}
 use Rattle.marks.proofs.Tables.{linked_none}
+use Rattle.std.specs.Prelude.{Option, Some, IfSome}
 use Rattle.builder_registry.specs.declared.NameMark.{NameMark}
 use Rattle.builder_registry.specs.Words.{entry_of, entries_of}
 use Rattle.builder_registry.specs.NameMarks.{OwnerMarked}
-use Rattle.builder_parameters.specs.Listed.{lists, marks_of, Jagged, Asks}
+use Rattle.builder_parameters.specs.Listed.{lists, marks_of, Jagged}
 use Rattle.builder_parameters.specs.Ready.{Ready, ReadyTable}
-use Rattle.builder_parameters.proofs.Listed.{left, pass, put, all_put, from_first, Counts, count_none, count_pass, count_more, count_end, counted_last, placed, all_placed}
+use Rattle.builder_parameters.proofs.Listed.{left, pass, put, all_put, from_first, Counts, count_pass, count_more, count_end, counted_last, all_placed}
 
 -- i of the n entries were passed
-pub record Going (s ws : List ℕ) (n type at : ℕ) (before first table out : List ℕ) (known : NameMark) (p count i : ℕ) : Type 0 where
+pub record Going (s ws : List ℕ) (n type at : ℕ) (before first table out : List ℕ) (known : Option NameMark) (p count i : ℕ) : Type 0 where
   pub within : i ≤ n
   pub counted : count ≤ i
   pub low : at + 2 ≤ p
@@ -31,44 +32,16 @@ pub record Going (s ws : List ℕ) (n type at : ℕ) (before first table out : L
   pub long : length out ≡ length before
   pub room : length table ≡ length first
   pub linked : Linked table (marks_of s ws) i
-  pub owner : OwnerMarked s known
+  pub owner : IfSome known (OwnerMarked s)
   pub counts : (x : Accepted s 1 7 type) → Counts (type_of (tree x)) s ws n i count
   pub writes : (x : Accepted s 1 7 type) (zs : List ℕ) (r : ℕ) → Wrote out p (left (type_of (tree x)) s ws i n) zs r → Wrote before (at + 2) (left (type_of (tree x)) s ws 0 n) zs r
 
--- before the first entry
-pub going_first : {s ws table : List ℕ} {n type at : ℕ} {jagged : Bool} (out : List ℕ) {known : NameMark} → ReadyTable s ws table n type jagged at → known.owner ≡ 65536 →
-    Going s ws n type at out table table out known (at + 2) 0 0
-going_first {s} {ws} {n = n} out r e = record {
-  within = omega arith;
-  counted = omega arith;
-  low = omega arith;
-  high = omega arith;
-  long = refl;
-  room = refl;
-  linked = r.empty;
-  owner = record { is = λ h. absurd (let z : ⊥ = omega arith in z) };
-  counts = λ x. count_none (type_of (tree x)) s ws n;
-  writes = λ x zs r w. w;
-}
-
-module _ {s ws : List ℕ} {n type at : ℕ} {before first table out : List ℕ} {known : NameMark} {p count i : ℕ}
+module _ {s ws : List ℕ} {n type at : ℕ} {before first table out : List ℕ} {known : Option NameMark} {p count i : ℕ}
     (g : Going s ws n type at before first table out known p count i) where
-  -- what is asked of an entry on the way
-  pub going_asks : {mark : ℕ} {jagged : Bool} → ReadyTable s ws first n type jagged at → i < n → mark ≡ marks_of s ws i → Asks s ws table type jagged i mark
-  going_asks r h e =
-      let k = placed r.ready.standing h in
-      record {
-        marking = record { size = r.ready.standing.size; within = k.1; mark_is = e; linked = g.linked };
-        type_at = r.ready.type_at;
-        jagged_is = r.jagged_is;
-        entry = k.0;
-        room = omega (arith, r.room, g.room);
-      }
-
   module _ {r : Bool} {known' : NameMark} {table' : List ℕ} (h : i < n) (e : (x : Accepted s 1 7 type) → r ≡ lists (type_of (tree x)) s ws i)
       (o : OwnerMarked s known') (k : Linked table' (marks_of s ws) (i + 1)) (et : length table' ≡ length table) where
     -- an entry that is not listed
-    pub going_pass : not r ≡ true → Going s ws n type at before first table' out known' p count (i + 1)
+    pub going_pass : r ≡ false → Going s ws n type at before first table' out (Some known') p count (i + 1)
     going_pass f = record {
       within = omega arith;
       counted = omega (arith, g.counted);
@@ -83,9 +56,9 @@ module _ {s ws : List ℕ} {n type at : ℕ} {before first table out : List ℕ}
     }
 
     -- one that is listed
-    pub going_put : {out' : List ℕ} {q : ℕ} → not r ≡ false →
+    pub going_put : {out' : List ℕ} {q : ℕ} → r ≡ true →
         Wrote out p (write (parameter_tree (entry_of s (get_or ws i 0)).parameter)) out' q → (p ≤ q) × (q ≤ p + 700) →
-        length out' ≡ length out → Going s ws n type at before first table' out' known' q (count + 1) (i + 1)
+        length out' ≡ length out → Going s ws n type at before first table' out' (Some known') q (count + 1) (i + 1)
     going_put f v l eo = record {
       within = omega arith;
       counted = omega (arith, g.counted);

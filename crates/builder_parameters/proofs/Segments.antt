@@ -1,15 +1,19 @@
 -- `::` in a name, and its segments.
-use mathlib.Core.Path.{◌≡◌, refl, sym, ◌∙◌, ap, subst}
-use mathlib.Core.Bool.{Bool, true, false, cond}
+use mathlib.Core.Path.{◌≡◌, refl, sym, ◌∙◌, ap}
+use mathlib.Core.Bool.{Bool, true, false, cond, ◌&&◌}
 use mathlib.Core.List.{List, [], ◌∷◌, ◌++◌}
 use mathlib.Core.Option.{some, none}
-use Prim.Native.Nat.{ℕ, suc, ◌+◌, ◌-◌, ◌≤◌, ◌<◌}
-use native.Mathlib.Numerals.{add-one}
+use mathlib.Core.Option as math
+use Prim.Native.Nat.{ℕ, ◌+◌, ◌-◌, ◌≤◌, ◌<◌}
 use native.Mathlib.Omega.{arith}
-use lib.Dec.{eqb, ltb}
-use lib.ListN.{length, take, drop, get_or, length-drop, length-append, drop_of_length-le}
-use lib.Seq.{drop-cons, drop-drop, take_at, take_all}
-use borrow.Author.Tests.{eq-eqb, ne_eqb, lt-ltb, le-ltb, ltb-true, ltb-false}
+use denote.Ref.{Bor}
+use lib.Dec.{eqb}
+use lib.ListN.{length, take, drop, get_or, length-append}
+use lib.Seq.{take_at}
+use borrow.Author.Tests.{eqb-true}
+use Rattle.std.specs.Prelude.{Option, Some, None, MatchOption}
+use Rattle.std.specs.List.{slice_split, onto_first}
+use Rattle.std.proofs.lemmas.List.{at_drop_more, at_drop_all}
 use Rattle.blocks.specs.Bytes.{bytes}
 use Rattle.blocks.specs.Name.{Name, ascii, same}
 use Rattle.blocks.specs.Tree.{name}
@@ -17,10 +21,6 @@ use Rattle.blocks.specs.Write.{write}
 use Rattle.wire.specs.Poke.{poke, Wrote}
 use Rattle.wire.proofs.Laws.{both, poke_whole, bytes_length}
 use Rattle.builder.specs.Names.{replace_colons, split, onto, before, before_element}
-use Rattle.builder_names.specs.Views.{colons}
-use Rattle.builder_names.proofs.Colons.{two}
-use Rattle.builder_parameters.specs.declared.Segment.TheVariants.{Part, Missing}
-use Rattle.builder_parameters.specs.Segments.{first_length, Found}
 
 -- ---- a buffer
 
@@ -43,179 +43,105 @@ name_stands {xs} {ys} {r} n w h =
     behind_two (x ∷ []) n d k e f = absurd (omega arith)
     behind_two (x ∷ (y ∷ (z ∷ b))) n d k e f = absurd (omega arith)
 
--- where the part behind the length begins and ends
-pub record BehindLength (n : Name) (ys : List ℕ) (r : ℕ) : Type 0 where
-  pub is : take (r - 2) (drop 2 ys) ≡ n
-  pub low : 2 ≤ r
-  pub short : length n ≤ 511
-  pub inside : r ≤ length ys
-
--- a name of at most 511 bytes, behind its length in a buffer of 520
-pub behind_length : {xs ys : List ℕ} {r : ℕ} (n : Name) → Wrote xs 0 (write (name n)) ys r → r ≤ 0 + 513 → 520 ≤ length xs →
-    length ys ≡ length xs → BehindLength n ys r
-behind_length n w h l e =
-    let z = name_stands n w (omega arith) in
-    record { is = z.0; low = omega (arith, z.1); short = omega (arith, z.1); inside = omega arith }
-
--- a name that was replaced, at a buffer's start
-pub record Replaced (n : Name) (ys : List ℕ) (r : ℕ) : Type 0 where
-  pub is : take r ys ≡ replace_colons n
-  pub inside : r ≤ length ys
-  pub short : r ≤ 511
-
--- the name with `.` for `::`, in a buffer of 520
-pub replaced : {xs ys : List ℕ} {r : ℕ} (n m : Name) → Wrote xs 0 (replace_colons m) ys r → r ≤ length m → m ≡ n → length n ≤ 511 →
-    520 ≤ length xs → length ys ≡ length xs → Replaced n ys r
-replaced {xs} {ys} {r} n m w h e k l z =
-    let v : length m ≡ length n = ap (λ (x : Name). length x) e in
-    record { is = stands w (omega (arith, w.end)) ∙ ap replace_colons e; inside = omega arith; short = omega arith }
-
 -- ---- `::`
 
 -- `::` is replaced
-replace_pair : (x y : ℕ) (n : Name) → colons (x ∷ (y ∷ n)) ≡ true → replace_colons (x ∷ (y ∷ n)) ≡ 0x2E ∷ replace_colons n
+replace_pair : (n : Name) → replace_colons (ascii "::" ++ n) ≡ 0x2E ∷ replace_colons n
 unfolding replace_colons
-replace_pair x y n e = rw e
+replace_pair n = refl
 
 -- any other byte stays
-replace_one : (x : ℕ) (n : Name) → colons (x ∷ n) ≡ false → replace_colons (x ∷ n) ≡ x ∷ replace_colons n
+replace_one : (x : ℕ) (n : Name) → ((u : Name) → x ∷ n ≡ ascii "::" ++ u → ⊥) → replace_colons (x ∷ n) ≡ x ∷ replace_colons n
 unfolding replace_colons
-replace_one x [] e = refl
-replace_one x (y ∷ n) e = rw e
+replace_one x [] h = refl
+replace_one x (y ∷ n) h = go (eqb x 0x3A) refl (eqb y 0x3A) refl
+  where
+    go : (a : Bool) → eqb x 0x3A ≡ a → (b : Bool) → eqb y 0x3A ≡ b →
+        cond (a && b) (0x2E ∷ replace_colons n) (x ∷ replace_colons (y ∷ n)) ≡ x ∷ replace_colons (y ∷ n)
+    go true e true f = absurd (h n (rw (eqb-true x 0x3A e, eqb-true y 0x3A f)))
+    go true e false f = refl
+    go false e b f = refl
 
-module _ {xs ys zs : List ℕ} {p q r : ℕ} (n : Name) (i : ℕ) {b : Bool} (e : b ≡ colons (drop i n)) where
+module _ {xs ys zs : List ℕ} {p q r : ℕ} (m b : Name) where
   -- a dot is written, and the rest behind the `::`
-  pub pair_more : b ≡ true → i + 2 ≤ length n → Wrote xs p (0x2E ∷ []) ys q → Wrote ys q (replace_colons (drop (i + 2) n)) zs r →
-      Wrote xs p (replace_colons (drop i n)) zs r
-  pair_more t h f g =
-      let d = two n i h in
-      let w : replace_colons (drop i n) ≡ 0x2E ∷ replace_colons (drop (i + 2) n) = ap replace_colons d
-      ∙ replace_pair (get_or n i 0) (get_or n (i + 1) 0) (drop (i + 2) n) (ap colons (sym d) ∙ sym e ∙ t) in
-      rw w (both f g)
+  pub pair_more : m ≡ ascii "::" ++ b → Wrote xs p (0x2E ∷ []) ys q → Wrote ys q (replace_colons b) zs r →
+      Wrote xs p (replace_colons m) zs r
+  pair_more e f g = rw (e, replace_pair b) (both f g)
 
   -- the byte is written, and the rest behind it
-  pub one_more : b ≡ false → i < length n → Wrote xs p (get_or n i 0 ∷ []) ys q → Wrote ys q (replace_colons (drop (i + 1) n)) zs r →
-      Wrote xs p (replace_colons (drop i n)) zs r
-  one_more t h f g =
-      let d : drop i n ≡ get_or n i 0 ∷ drop (i + 1) n = drop-cons n i 0 h ∙ rw add-one refl in
-      let w : replace_colons (drop i n) ≡ get_or n i 0 ∷ replace_colons (drop (i + 1) n) = ap replace_colons d
-      ∙ replace_one (get_or n i 0) (drop (i + 1) n) (ap colons (sym d) ∙ sym e ∙ t) in
-      rw w (both f g)
+  pub one_more : (x : ℕ) → m ≡ x ∷ b → ((u : Name) → m ≡ ascii "::" ++ u → ⊥) → Wrote xs p (x ∷ []) ys q →
+      Wrote ys q (replace_colons b) zs r →
+      Wrote xs p (replace_colons m) zs r
+  one_more x e h f g = rw (e, replace_one x b (rw e at h)) (both f g)
 
 -- nothing is left to write
-pub no_more_bytes : (xs : List ℕ) (p : ℕ) (n : Name) (i : ℕ) → length n ≤ i → Wrote xs p (replace_colons (drop i n)) xs p
+pub no_more_bytes : (xs : List ℕ) (p : ℕ) (m : Name) → length m ≡ 0 → Wrote xs p (replace_colons m) xs p
 unfolding replace_colons poke
-no_more_bytes xs p n i h = rw (drop_of_length-le n {i = i} h) (record { end = omega arith; left = refl })
+no_more_bytes xs p [] h = record { end = omega arith; left = refl }
+no_more_bytes xs p (x ∷ m) h = absurd (omega arith)
 
 -- ---- segments
 
--- a name without a dot is one segment
-first_end : (n : Name) → length n ≤ first_length n → split n ≡ n ∷ []
-unfolding split first_length
-first_end [] h = refl
-first_end (x ∷ n) h = go (eqb x 0x2E) refl h (first_end n)
-  where
-    go : (b : Bool) → eqb x 0x2E ≡ b → suc (length n) ≤ cond b 0 (suc (first_length n)) → (length n ≤ first_length n → split n ≡ n ∷ []) →
-        cond b ([] ∷ split n) (onto x (split n)) ≡ (x ∷ n) ∷ []
-    go true e h ih = absurd (omega arith)
-    go false e h ih = rw (ih (omega arith)) refl
+-- a byte is put in front of the first part
+onto_is : (x : ℕ) (ss : List Name) → onto_first x ss ≡ onto x ss
+onto_is x [] = refl
+onto_is x (s ∷ ss) = refl
 
--- the first segment, and those behind its dot
-first_more : (n : Name) → first_length n < length n → split n ≡ take (first_length n) n ∷ split (drop (suc (first_length n)) n)
-unfolding split first_length
-first_more [] h = absurd (omega arith)
-first_more (x ∷ n) h = go (eqb x 0x2E) refl h (first_more n)
-  where
-    go : (b : Bool) → eqb x 0x2E ≡ b → cond b 0 (suc (first_length n)) < suc (length n) →
-        (first_length n < length n → split n ≡ take (first_length n) n ∷ split (drop (suc (first_length n)) n)) →
-        cond b ([] ∷ split n) (onto x (split n)) ≡
-        take (cond b 0 (suc (first_length n))) (x ∷ n) ∷ split (drop (suc (cond b 0 (suc (first_length n)))) (x ∷ n))
-    go true e h ih = refl
-    go false e h ih = rw (ih (omega arith)) refl
+-- the library's parts between dots are the segments
+pub split_is : (n : Name) → slice_split (λ x. eqb x 0x2E) n ≡ split n
+unfolding split
+split_is [] = refl
+split_is (x ∷ n) = rw (split_is n, onto_is x (split n))
 
--- the segments behind the place where one ends
-abbrev pub behind : Name → ℕ → List Name
-behind n to = elim (ltb to (length n)) [ true ↦ split (drop (to + 1) n) | false ↦ [] ]
+-- what the definition answers of the segments that are left, where this one stands before them
+unfoldable pub left_of : Option (Bor Name) → List Name → math.Option Name
+left_of None ss = before_element ss
+left_of (Some b) ss = before b.now ss
 
--- the segment from `from` to `to`, and those behind it
-pub segments : (n : Name) (from to : ℕ) → from ≤ length n → to ≡ from + first_length (drop from n) →
-    split (drop from n) ≡ take (to - from) (drop from n) ∷ behind n to
-segments n from to h e = go (ltb to (length n)) refl (length-drop from n) (omega arith)
-  where
-    go : (b : Bool) → ltb to (length n) ≡ b → length (drop from n) ≡ length n - from → to - from ≡ first_length (drop from n) →
-        split (drop from n) ≡ take (to - from) (drop from n) ∷ elim b [ true ↦ split (drop (to + 1) n) | false ↦ [] ]
-    go true t l k =
-        let lt = ltb-true to (length n) t in
-        let f : from + suc (first_length (drop from n)) ≡ to + 1 = omega arith in
-        first_more (drop from n) (omega arith) ∙ rw (k, drop-drop, f) refl
-    go false t l k =
-        let le = ltb-false to (length n) t in
-        first_end (drop from n) (omega arith) ∙ rw (take_all (to - from) (drop from n) (omega arith)) refl
+-- before the first segment
+pub left_first : (n : Name) → left_of None (split n) ≡ before_element (split n)
+unfolding left_of
+left_first n = refl
 
--- where no dot stands the segment ends where it does from the next byte on
-pub same_end : (n : Name) (to : ℕ) → to < length n → (get_or n to 0 ≡ 0x2E → ⊥) → to + first_length (drop to n) ≡ to + 1 + first_length (drop (to + 1) n)
-unfolding first_length
-same_end n to h f = rw (drop-cons n to 0 h, ne_eqb (get_or n to 0) 0x2E f, add-one) (omega arith)
+-- the next one is `element`: the one before it is the answer
+left_met : (b : Option (Bor Name)) (s : Name) (ss : List Name) → same s (ascii "element") ≡ true →
+    MatchOption b (left_of b (s ∷ ss) ≡ none) (λ r. left_of b (s ∷ ss) ≡ some r.now)
+unfolding left_of before before_element
+left_met None s ss e = ap (λ (c : Bool). elim c [ true ↦ none | false ↦ before s ss ]) e
+left_met (Some b) s ss e = ap (λ (c : Bool). elim c [ true ↦ some b.now | false ↦ before s ss ]) e
 
--- at a dot it ends
-pub dot_end : (n : Name) (to : ℕ) → to < length n → get_or n to 0 ≡ 0x2E → to ≡ to + first_length (drop to n)
-unfolding first_length
-dot_end n to h f = rw (drop-cons n to 0 h, eq-eqb (get_or n to 0) 0x2E f) (omega arith)
+-- it is another: that one is before the others
+left_next : (b : Option (Bor Name)) (x : Bor Name) (ss : List Name) → same x.now (ascii "element") ≡ false →
+    left_of b (x.now ∷ ss) ≡ left_of (Some x) ss
+unfolding left_of before before_element
+left_next None x ss e = ap (λ (c : Bool). elim c [ true ↦ none | false ↦ before x.now ss ]) e
+left_next (Some b) x ss e = ap (λ (c : Bool). elim c [ true ↦ some b.now | false ↦ before x.now ss ]) e
 
--- at the end of the name it ends
-pub last_end : (n : Name) (to : ℕ) → length n ≤ to → to ≡ to + first_length (drop to n)
-unfolding first_length
-last_end n to h = rw (drop_of_length-le n {i = to} h) (omega arith)
+-- none is left: there is no answer
+left_none : (b : Option (Bor Name)) → left_of b [] ≡ none
+unfolding left_of before before_element
+left_none None = refl
+left_none (Some b) = refl
 
--- ---- the segment before `element`
+-- k segments were passed, the last of which is b, if there is one; ss are those that the library gives
+module _ (n : Name) {ss : List Name} (e : ss ≡ split n) (b : Option (Bor Name)) (k : ℕ)
+    (g : left_of b (drop k (split n)) ≡ before_element (split n)) where
+  module _ (x : Bor Name) (h : (k < length ss) × (x.now ≡ get_or ss k x.now)) where
+    -- x is the next of them
+    here : left_of b (drop k (split n)) ≡ left_of b (x.now ∷ drop (k + 1) (split n))
+    here =
+        let f : (k < length (split n)) × (x.now ≡ get_or (split n) k x.now) = rw e at h in
+        at_drop_more (left_of b) (split n) k x.now f.0 ∙ ap (λ (s : Name). left_of b (s ∷ drop (k + 1) (split n))) (sym f.1)
 
--- what is tested of the next segment
-tested : (p m : Name) (ms : List Name) {b : Bool} → same m (ascii "element") ≡ b → before p (m ∷ ms) ≡ elim b [ true ↦ some p | false ↦ before m ms ]
-unfolding before
-tested p m ms f = ap (λ (b : Bool). elim b [ true ↦ some p | false ↦ before m ms ]) f
+    -- it is `element`
+    pub element_met : same x.now (ascii "element") ≡ true →
+        MatchOption b (before_element (split n) ≡ none) (λ r. before_element (split n) ≡ some r.now)
+    element_met t = rw (sym g ∙ here) (left_met b x.now (drop (k + 1) (split n)) t)
 
--- what is tested of the first
-tested_first : (m : Name) (ms : List Name) {b : Bool} → same m (ascii "element") ≡ b → before_element (m ∷ ms) ≡ elim b [ true ↦ none | false ↦ before m ms ]
-unfolding before_element
-tested_first m ms f = ap (λ (b : Bool). elim b [ true ↦ none | false ↦ before m ms ]) f
+    -- it is not
+    pub goes_on : same x.now (ascii "element") ≡ false → left_of (Some x) (drop (k + 1) (split n)) ≡ before_element (split n)
+    goes_on t = sym (left_next b x (drop (k + 1) (split n)) t) ∙ sym here ∙ g
 
--- the segments behind a place, by the next
-next_behind : (n : Name) (to end : ℕ) → to < length n → end ≡ to + 1 + first_length (drop (to + 1) n) →
-    behind n to ≡ take (end - (to + 1)) (drop (to + 1) n) ∷ behind n end
-next_behind n to end h e = ap (λ (b : Bool). elim b [ true ↦ split (drop (to + 1) n) | false ↦ [] ]) (lt-ltb to (length n) h) ∙ segments n (to + 1) end (omega arith) e
-
-module _ (n : Name) {to : ℕ} {b : Bool} (e : to ≡ 0 + first_length (drop 0 n)) (f : b ≡ same (take (to - 0) (drop 0 n)) (ascii "element")) where
-  -- the first segment is `element`: no segment stands before it
-  pub element_first : b ≡ true → Found n Missing (before_element (split n))
-  element_first t =
-      rw (ap before_element (segments n 0 to (omega arith) e) ∙ tested_first (take (to - 0) (drop 0 n)) (behind n to) (sym f ∙ t)) Found.missing
-
-  -- it is not: the search goes on behind it
-  pub begins : b ≡ false → before_element (split n) ≡ before (take (to - 0) (drop 0 n)) (behind n to)
-  begins t = ap before_element (segments n 0 to (omega arith) e) ∙ tested_first (take (to - 0) (drop 0 n)) (behind n to) (sym f ∙ t)
-
-module _ (n : Name) (from to : ℕ) (g : before_element (split n) ≡ before (take (to - from) (drop from n)) (behind n to)) where
-  module _ {end : ℕ} {b : Bool} (h : to < length n) (e : end ≡ to + 1 + first_length (drop (to + 1) n))
-      (f : b ≡ same (take (end - (to + 1)) (drop (to + 1) n)) (ascii "element")) where
-    -- the next segment decides
-    next : {c : Bool} → b ≡ c →
-        before_element (split n) ≡ elim c [ true ↦ some (take (to - from) (drop from n)) | false ↦ before (take (end - (to + 1)) (drop (to + 1) n)) (behind n end) ]
-    next t =
-        g
-        ∙ ap (before (take (to - from) (drop from n))) (next_behind n to end h e)
-        ∙ tested (take (to - from) (drop from n)) (take (end - (to + 1)) (drop (to + 1) n)) (behind n end) (sym f ∙ t)
-
-    -- it is `element`: the segment at hand stands before it
-    pub element_next : from ≤ to → b ≡ true → Found n (Part from to) (before_element (split n))
-    element_next l t = rw (next t) (Found.part l (omega arith))
-
-    -- it is not: it is the segment at hand from now on
-    pub goes_on : b ≡ false → before_element (split n) ≡ before (take (end - (to + 1)) (drop (to + 1) n)) (behind n end)
-    goes_on t = next t
-
-  -- no segment is left
-  pub no_element : length n ≤ to → Found n Missing (before_element (split n))
-  unfolding before
-  no_element h =
-      let z : behind n to ≡ [] = ap (λ (b : Bool). elim b [ true ↦ split (drop (to + 1) n) | false ↦ [] ]) (le-ltb to (length n) h) in
-      subst (Found n Missing) (sym (g ∙ ap (before (take (to - from) (drop from n))) z)) Found.missing
+  -- all were passed
+  pub no_element : k ≡ length ss → before_element (split n) ≡ none
+  no_element h = sym g ∙ at_drop_all (left_of b) (split n) k (omega (arith, h, ap length e)) ∙ left_none b

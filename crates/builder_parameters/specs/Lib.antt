@@ -1,3 +1,2 @@
 pub mod Ready
-pub mod Segments
 pub mod Listed

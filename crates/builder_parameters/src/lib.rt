@@ -1,7 +1,7 @@
 // builder.rs, `into_parameters` and `filter_jagged_element_parameters`: the parameters that a type lists.
 #![tactic(auto)]
 
-ghost use Rattle.std.specs.Prelude.{◌≡◌, false, not, ◌||◌, ◌+◌, ◌≤◌, ◌<◌, length, drop};
+ghost use Rattle.std.specs.Prelude.{◌≡◌, false, not, ◌||◌, ◌+◌, ◌≤◌, ◌<◌, length, MatchOption};
 ghost use Rattle.blocks.specs.Bytes.{le2};
 ghost use Rattle.blocks.specs.Name.{same, among};
 ghost use Rattle.blocks.specs.Tree.{Tree, cons, view};
@@ -17,74 +17,43 @@ ghost use Rattle.wire.specs.Poke.{Wrote};
 ghost use Rattle.marks.specs.Table.{Linked};
 ghost use Rattle.builder_registry.specs.Words.{entries_of, entry_name};
 ghost use Rattle.builder_parameters.specs.Ready.{Ready, ReadyTable};
-ghost use Rattle.builder_parameters.specs.Segments.{first_length, Found};
+ghost use Rattle.std.proofs.Math.Option.{some, none};
 ghost use Rattle.builder_parameters.specs.Listed.{name_in, names, lists, marks_of, Marking, Jagged, Asks};
 
-use builder_registry::NameMark;
-
-// A segment of a name: where it begins and ends.
-#[derive(Clone, Copy)]
-enum Segment {
-    Part(usize, usize),
-    Missing,
-}
-
-// The name with `::` read as `.`.
-fn replace_colons(name: &[u8], out: &mut [u8]) -> usize
-    requires { length name.now < 65536 }
-    ensures wrote { Wrote out.old 0 (replace_colons name.now) out.new result }
-    ensures upper_bound { result ≤ length name.now }
+// The name with `::` read as `.`, in a buffer with room for the name.
+fn replace_colons<'a>(name: &[u8], out: &'a mut [u8]) -> &'a [u8]
+    requires { (length name.now ≤ length out.old) × (length name.now < 65536) }
+    ensures { result.now ≡ replace_colons name.now }
 {
     let mut p = 0;
-    let mut i = 0;
-    while i < name.len() {
-        if builder_names::colons_at(name, i) {
-            p = wire::put_byte(out, p, b'.');
-            i += 2;
-            continue;
+    let mut rest = name;
+    while let Some((first, behind)) = rest.split_first() {
+        match rest.strip_prefix(b"::") {
+            Some(behind) => {
+                p = wire::put_byte(out, p, b'.');
+                rest = behind;
+            }
+            None => {
+                p = wire::put_byte(out, p, *first);
+                rest = behind;
+            }
         }
-        p = wire::put_byte(out, p, name[i]);
-        i += 1;
     }
-    p
+    &out[..p]
 }
 
-// Where the segment ends that begins at `from`.
-fn segment_end(name: &[u8], from: usize) -> usize
-    requires { from ≤ length name.now }
-    ensures value { result ≡ from + first_length (drop from name.now) }
-    ensures lower_bound { (from ≤ result) × (result ≤ length name.now) }
+// The segment before the first segment `element`, if there is one.
+fn before_element<'a>(name: &'a [u8]) -> Option<&'a [u8]>
+    ensures { MatchOption result (before_element (split name.now) ≡ none) (λ r. before_element (split name.now) ≡ some r.now) }
 {
-    let mut to = from;
-    while to < name.len() {
-        if name[to] == b'.' {
-            return to;
+    let mut before = None;
+    for segment in name.split(|b| *b == b'.') {
+        if wire::same_name(segment, b"element") {
+            return before;
         }
-        to += 1;
+        before = Some(segment);
     }
-    to
-}
-
-// The segment before the first segment `element`.
-fn before_element(name: &[u8]) -> Segment
-    requires { length name.now < 65536 }
-    ensures { Found name.now result (before_element (split name.now)) }
-{
-    let mut from = 0;
-    let mut to = segment_end(name, 0);
-    if wire::same_name(&name[from..to], b"element") {
-        return Segment::Missing;
-    }
-    while to < name.len() {
-        let next = to + 1;
-        let end = segment_end(name, next);
-        if wire::same_name(&name[next..end], b"element") {
-            return Segment::Part(from, to);
-        }
-        from = next;
-        to = end;
-    }
-    Segment::Missing
+    None
 }
 
 // Whether a type is a jagged array.
@@ -92,10 +61,7 @@ fn is_jagged(s: &[u8], kind: usize) -> bool
     requires { Accepted s.now 1 7 kind }
     ensures { (a : Accepted s.now 1 7 kind) → result ≡ or_else false (jagged_of (kind_of (type_of (tree a)))) }
 {
-    if wire::read2(s, kind + 4) != 5 {
-        return false;
-    }
-    resolved_parts::array_parts(s, kind).jagged
+    wire::read2(s, kind + 4) == 5 && resolved_parts::array_parts(s, kind).jagged
 }
 
 // Whether a field is a jagged array of this name: what stands before the test of the fields behind it.
@@ -104,10 +70,7 @@ fn is_jagged_field(s: &[u8], at: usize, name: &[u8]) -> bool
     ensures { (a : Accepted s.now 33 33 at) (u : Tree) → has_jagged name.now (fields (fields_in (view thing_of (cons (tree a) u)))) ≡ (result || has_jagged name.now (fields (fields_in (view thing_of u)))) }
 {
     let field = resolved_parts::field_parts(s, at);
-    if !wire::same_name(resolved_parts::name_at(s, at + 6), name) {
-        return false;
-    }
-    is_jagged(s, field.kind)
+    wire::same_name(resolved_parts::name_at(s, at + 6), name) && is_jagged(s, field.kind)
 }
 
 // Whether a struct has a jagged array of this name.
@@ -116,19 +79,18 @@ fn has_jagged(s: &[u8], kind: usize, name: &[u8]) -> bool
     ensures { (a : Accepted s.now 1 7 kind) → result ≡ has_jagged name.now (fields_of (kind_of (type_of (tree a)))) }
 {
     let list = resolved_parts::field_list(s, kind);
-    let mut left = list.count;
     let mut at = list.first;
-    while 0 < left {
+    for _ in 0..list.count {
         if is_jagged_field(s, at, name) {
             return true;
         }
         at = at + 4 + wire::read4(s, at);
-        left -= 1;
     }
     false
 }
 
-// Whether a type is a struct with a jagged array. If not, nothing is filtered.
+// Whether a type is a struct with a jagged array. If not, nothing is filtered. One function with `has_jagged` would be no plainer: its
+// name would be an Option, to be asked at each field.
 fn any_jagged(s: &[u8], kind: usize) -> bool
     requires { Accepted s.now 1 7 kind }
     ensures { Jagged s.now kind result }
@@ -137,18 +99,25 @@ fn any_jagged(s: &[u8], kind: usize) -> bool
         return false;
     }
     let list = resolved_parts::field_list(s, kind);
-    let mut left = list.count;
     let mut at = list.first;
-    while 0 < left {
+    for _ in 0..list.count {
         let field = resolved_parts::field_parts(s, at);
-        let inner = field.kind;
-        if is_jagged(s, inner) {
+        if is_jagged(s, field.kind) {
             return true;
         }
         at = at + 4 + wire::read4(s, at);
-        left -= 1;
     }
     false
+}
+
+// An entry's name, in a buffer: it is written there behind its length.
+fn name_of<'a>(s: &[u8], w: u64, buffer: &'a mut [u8; 520]) -> &'a [u8]
+    requires { length s.now ≤ 65536 }
+    ensures value { result.now ≡ entry_name s.now w }
+    ensures upper_bound { length result.now ≤ 511 }
+{
+    let end = builder_registry::put_entry_name(s, w, buffer, 0);
+    &buffer[2..end]
 }
 
 // Whether an entry's name is an element of a jagged array of the struct.
@@ -158,12 +127,9 @@ fn is_jagged_element(s: &[u8], w: u64, kind: usize) -> bool
 {
     let mut a = [0u8; 520];
     let mut b = [0u8; 520];
-    let p = builder_registry::put_entry_name(s, w, &mut a, 0);
-    let q = replace_colons(&a[2..p], &mut b);
-    let name = &b[..q];
-    match before_element(name) {
-        Segment::Part(from, to) => has_jagged(s, kind, &name[from..to]),
-        Segment::Missing => false,
+    match before_element(replace_colons(name_of(s, w, &mut a), &mut b)) {
+        Some(segment) => has_jagged(s, kind, segment),
+        None => false,
     }
 }
 
@@ -174,12 +140,11 @@ fn same_names(s: &[u8], v: u64, w: u64) -> bool
 {
     let mut a = [0u8; 520];
     let mut b = [0u8; 520];
-    let p = builder_registry::put_entry_name(s, v, &mut a, 0);
-    let q = builder_registry::put_entry_name(s, w, &mut b, 0);
-    wire::same_name(&a[2..p], &b[2..q])
+    wire::same_name(name_of(s, v, &mut a), name_of(s, w, &mut b))
 }
 
-// Whether none of the first i entries has the name of the entry at i: those are asked that may have its mark.
+// Whether none of the first i entries has the name of the entry at i: those are asked that may have its mark. The loop is the walk that
+// `marks` describes, which goes by links and so is no `for`.
 fn is_new(s: &[u8], words: &[u64], table: &[u64], i: usize, mark: u64) -> bool
     requires { Marking s.now words.now table.now i mark }
     ensures { result ≡ not (among (name_in s.now words.now i) (names s.now words.now i)) }
@@ -217,17 +182,9 @@ fn is_listed(
     ensures value { (x : Accepted s.now 1 7 listing.kind) → result ≡ lists (type_of (tree x)) s.now words.now i }
     ensures linked { Linked table.new (marks_of s.now words.now) (i + 1) }
 {
-    let kind = listing.kind;
-    let jagged = listing.jagged;
     let new = is_new(s, words, table, i, mark);
     marks::link(table, i, mark);
-    if !new {
-        return false;
-    }
-    if !jagged {
-        return true;
-    }
-    !is_jagged_element(s, words[i], kind)
+    new && !(listing.jagged && is_jagged_element(s, words[i], listing.kind))
 }
 
 // The parameters of a type, behind their count, which is written last. The table is empty before.
@@ -243,25 +200,17 @@ fn put_listed(
     ensures wrote { (a : Accepted s.now 1 7 listing.kind) → Wrote out.old at (write (list_tree parameter_tree (filter_jagged_element_parameters (type_of (tree a)) (into_parameters (entries_of s.now words.now listing.n))))) out.new result }
     ensures lower_bound { (at ≤ result) × (result ≤ at + 400000) }
 {
-    let n = listing.n;
-    let mut known = NameMark {
-        mark: 0,
-        owner: 65536,
-        start: 0,
-    };
+    let mut known = None;
     let mut p = at + 2;
     let mut count = 0u64;
-    let mut i = 0;
-    while i < n {
+    for i in 0..listing.n {
         let w = words[i];
-        known = builder_registry::mark_name(s, w, known);
-        if !is_listed(s, words, listing, i, known.mark, table) {
-            i += 1;
-            continue;
+        let marked = builder_registry::mark_name(s, w, known);
+        known = Some(marked);
+        if is_listed(s, words, listing, i, marked.mark, table) {
+            p = builder_registry::put_parameter(s, w, out, p);
+            count += 1;
         }
-        p = builder_registry::put_parameter(s, w, out, p);
-        count += 1;
-        i += 1;
     }
     wire::put_le(out, at, 2, count);
     p

@@ -1,5 +1,5 @@
 -- A path behind its prefix. Assumes nothing.
-use mathlib.Core.Path.{◌≡◌, refl, sym, ◌∙◌, ap, subst}
+use mathlib.Core.Path.{◌≡◌, refl, sym, ◌∙◌, ap}
 use mathlib.Core.Bool.{true, false}
 use mathlib.Core.List.{List, [], ◌∷◌, ◌++◌}
 use Prim.Native.Nat.{ℕ, zero, suc, ◌+◌, ◌*◌, ◌-◌}
@@ -27,10 +27,6 @@ no_prefix xs = none xs 0
 pub one_more : {xs ys zs : List ℕ} (k : ℕ) {p r : ℕ} → Wrote xs 0 (prefix_of k) ys p → Wrote ys p (ascii "element.") zs r → Wrote xs 0 (prefix_of (k + 1)) zs r
 unfolding prefix_of
 one_more k f g = rw add-one (both f g)
-
--- its end
-pub put_all : {xs ys : List ℕ} {k n p : ℕ} → k ≡ n → Wrote xs 0 (prefix_of k) ys p → p ≡ 8 * k → Wrote xs 0 (prefix_of n) ys p × (p ≡ 8 * n)
-put_all {xs} {ys} {p = p} e f g = (subst (λ (m : ℕ). Wrote xs 0 (prefix_of m) ys p) e f, omega (arith, e, g))
 
 -- what ends in a name is not empty
 not_empty_lem : (n : Name) (x : ℕ) (m : Name) → is_empty (n ++ (x ∷ m)) ≡ false

@@ -22,8 +22,10 @@ use Rattle.builder.specs.Nodes.{buffer_size}
 use Rattle.wire.specs.Poke.{Wrote}
 use Rattle.wire.proofs.Laws.{none, both}
 use Rattle.expr_parts.proofs.Laws.{field_ref_at}
-use Rattle.builder_paths.specs.Joined.{no_names, segment, goes_on}
-use Rattle.builder_paths.proofs.Match.{Stands, segment_dot, segment_last, past_end, all_on, on_end}
+use Rattle.builder_paths.specs.Joined.{no_names, segment, Behind}
+use Rattle.builder_paths.proofs.Match.{segment_dot, segment_last, on_end}
+use Rattle.std.specs.Prelude.{Some, None}
+use denote.Ref.{Bor}
 
 -- ---- one segment
 
@@ -34,25 +36,6 @@ name_length s at h = length-take-le (le2 s at) (drop (at + 2) s) (omega (arith, 
 -- a segment, which the code has as n
 module _ {s : List ℕ} {at : ℕ} (h : Named s at) where
   module _ {n : Name} (e : n ≡ name_at s at) where
-    module _ (m : Name) (i left : ℕ) {r : Bool} (f : Stands m i n (length n) r) where
-      -- the segment does not stand at i
-      pub segment_missed : r ≡ false → (x : Name) → goes_on m i (segment left (name_at s at) ++ x) ≡ goes_on m (length m + 1) x
-      unfolding segment
-      segment_missed b x = rw (← e, append_assoc, past_end m x) (f _ ∙ rw b)
-
-      -- it does, and it is the last
-      pub last_met : r ≡ true → left ≤ 1 → (x : Name) → goes_on m i (segment left (name_at s at) ++ x) ≡ goes_on m (i + length n) x
-      last_met b l x = rw (← e, segment_last left n l) (f x ∙ rw b)
-
-      module _ (b : r ≡ true) (l : 1 < left) {q : Bool} (d : Stands m (i + length n) (ascii ".") 1 q) where
-        -- its dot does not stand behind it
-        pub dot_missed : q ≡ false → (x : Name) → goes_on m i (segment left (name_at s at) ++ x) ≡ goes_on m (length m + 1) x
-        dot_missed a x = rw (← e, segment_dot left n l, append_assoc, past_end m x) (f _ ∙ rw b (d x ∙ rw a))
-
-        -- its dot does
-        pub dot_met : q ≡ true → (x : Name) → goes_on m i (segment left (name_at s at) ++ x) ≡ goes_on m (i + length n + 1) x
-        dot_met a x = rw (← e, segment_dot left n l, append_assoc) (f _ ∙ rw b (d x ∙ rw a))
-
     -- it is written
     module _ {xs ys : List ℕ} {p q : ℕ} (f : Wrote xs p (drop 0 n) ys q) where
       -- as the definition has it
@@ -120,18 +103,19 @@ next_one at h c = entry_named c.here h
 
 -- it is passed
 joined_next : {P Q : Name → Name → Type 0} {s : List ℕ} {left q : ℕ} → 0 < left →
-    ((w u : Name) → P w (segment left (name_at s q) ++ u) → Q w u) →
+    ((w u : Name) → P w (segment (left - 1 + 1) (name_at s q) ++ u) → Q w u) →
     (w : Tree) (l : Entries s Item.names left q) (a : After l (name (name_at s q)) (q + 2 + le2 s q)) →
     Joined P w l.got.0 → Joined Q w a.rest.got.0
 unfolding entries
 joined_next {P} {s} {left} {q} h g w l a j =
     let e : join (texts_of l.got.0) ≡ segment left (name_at s q) ++ join (texts_of a.rest.got.0) = ap (λ (t : Tree). join (texts_of t)) a.tree ∙
     join_more left (name_at s q) (texts_of a.rest.got.0) h (no_names_lem a.rest) in
-    record { is = g _ _ (subst (P (join (texts_of w))) e j.is) }
+    let f : left - 1 + 1 ≡ left = omega arith in
+    record { is = g _ _ (rw (f, ← e) j.is) }
 
 -- so the loop goes on behind it
 go_on : {P Q : Name → Name → Type 0} {s : List ℕ} (at : ℕ) {left q u : ℕ} → 0 < left →
-    ((w r : Name) → P w (segment left (name_at s q) ++ r) → Q w r) → u ≡ q + 2 + le2 s q → Walk P s at left q →
+    ((w r : Name) → P w (segment (left - 1 + 1) (name_at s q) ++ r) → Q w r) → u ≡ q + 2 + le2 s q → Walk P s at left q →
     Walk Q s at (left - 1) u
 go_on {P} {Q} {s} at {left} {q} h g e c = subst (λ (k : ℕ). Walk Q s at (left - 1) k) (sym e) (record {
   here = (name_entry c.here h).2.rest;
@@ -166,28 +150,38 @@ no_more {P} h c k = for_segments (λ ns. P (join ns) []) k (λ l. (ended h c l).
 
 -- ---- the three loops
 
--- the name has been matched as far as i
-pub record Matched (i : ℕ) (w u : Name) : Type 0 where
-  pub is : goes_on buffer_size 0 w ≡ goes_on buffer_size i u
+-- m is what the name has behind the segments that were passed
+pub record Matched (m w u : Name) : Type 0 where
+  pub is : same w buffer_size ≡ same u m
 
 -- a turn of the loop of `is_buffer_size`
-pub match_more : {s : List ℕ} (at : ℕ) {left q u i r : ℕ} → 0 < left →
-    ((x : Name) → goes_on buffer_size i (segment left (name_at s q) ++ x) ≡ goes_on buffer_size r x) → u ≡ q + 2 + le2 s q →
-    Walk (Matched i) s at left q → Walk (Matched r) s at (left - 1) u
-match_more at l h = go_on at l (λ w x m. record { is = m.is ∙ h x })
+pub match_more : {s : List ℕ} (at : ℕ) {left q u : ℕ} {m : Name} (r : Bor Name) → 0 < left →
+    Behind m (segment (left - 1 + 1) (name_at s q)) (Some r) →
+    u ≡ q + 2 + le2 s q → Walk (Matched m) s at left q → Walk (Matched r.now) s at (left - 1) u
+match_more at r l h = go_on at l (λ w x f. record { is = f.is ∙ h x })
 
 -- its end
-pub match_end : {i : ℕ} {w : Name} → Matched i w [] → eqb i 13 ≡ same w buffer_size
-match_end {i} {w} m = sym (on_end buffer_size i) ∙ sym m.is ∙ all_on buffer_size w
+pub match_end : {m w : Name} → Matched m w [] → eqb (length m) 0 ≡ same w buffer_size
+match_end {m} f = on_end m ∙ sym f.is
+
+-- its end where the name does not go on with the next segment
+pub match_missed : {s : List ℕ} {at left q : ℕ} {m : Name} → 0 < left → Behind m (segment (left - 1 + 1) (name_at s q)) None →
+    Walk (Matched m) s at left q →
+    le2 s (at + 4) ≡ 65 → (a : Accepted s 64 91 at) (path : List Name) → expr_of (tree a) ≡ ExprKind.FieldRef path →
+    false ≡ same (join path) buffer_size
+match_missed {s} {at} l h c k =
+    let d : Walk (λ w u. same w buffer_size ≡ false) s at _ _ = go_on at l (λ w x f. f.is ∙ h x) refl c in
+    for_segments (λ ns. false ≡ same (join ns) buffer_size) k (λ e. sym (d.whole e).1.is)
 
 -- n bytes have been passed
 pub record Passed (n : ℕ) (w u : Name) : Type 0 where
   pub is : length w ≡ n + length u
 
 -- a turn of the loop of `path_length`
-pub pass_more : {s : List ℕ} (at : ℕ) {left q u n r : ℕ} → 0 < left → r ≡ length (segment left (name_at s q)) →
+pub pass_more : {s : List ℕ} (at : ℕ) {left q u n r : ℕ} → 0 < left → r ≡ length (segment (left - 1 + 1) (name_at s q)) →
     u ≡ q + 2 + le2 s q → Walk (Passed n) s at left q → Walk (Passed (n + r)) s at (left - 1) u
-pass_more {s} at {left} {q} l e = go_on at l (λ w x p. record { is = omega (arith, p.is, length-append (segment left (name_at s q)) x, e) })
+pass_more {s} at {left} {q} l e =
+    go_on at l (λ w x p. record { is = omega (arith, p.is, length-append (segment (left - 1 + 1) (name_at s q)) x, e) })
 
 -- its end
 pub pass_end : {n : ℕ} {w : Name} → Passed n w [] → n ≡ length w
@@ -199,7 +193,7 @@ pub record Written (xs : List ℕ) (start : ℕ) (ys : List ℕ) (p : ℕ) (w u 
 
 -- a turn of the loop of `put_path`
 pub write_more : {s : List ℕ} (at : ℕ) {left q u start p r : ℕ} {xs ys zs : List ℕ} → 0 < left →
-    Wrote ys p (segment left (name_at s q)) zs r → u ≡ q + 2 + le2 s q → Walk (Written xs start ys p) s at left q →
+    Wrote ys p (segment (left - 1 + 1) (name_at s q)) zs r → u ≡ q + 2 + le2 s q → Walk (Written xs start ys p) s at left q →
     Walk (Written xs start zs r) s at (left - 1) u
 write_more at l f = go_on at l (λ w x c. record { is = λ vs k g. c.is vs k (both f g) })
 

@@ -1,5 +1,6 @@
 -- The path of a field reference: its segments joined by dots, behind so many `element.`.
-use Rattle.std.specs.Prelude.{ℕ, zero, suc, Bool, true, false, ◌&&◌, cond, List, [], ◌∷◌, ◌++◌, leb, ltb, length, drop}
+use Rattle.std.specs.Prelude.{ℕ, zero, suc, ◌≡◌, Bool, true, false, cond, List, [], ◌∷◌, ◌++◌, ltb, Option, Some, None}
+use denote.Ref.{Bor}
 use Rattle.blocks.specs.Name.{Name, ascii, same}
 use Rattle.builder.specs.Names.{join, extend_element_prefix, apply_path_prefix}
 
@@ -20,6 +21,7 @@ no_names (n ∷ ns) = false
 unfoldable pub segment : ℕ → Name → Name
 segment left n = n ++ cond (ltb 1 left) (ascii ".") []
 
--- whether this is what a name has from a place on; from a place behind its end on, nothing is
-unfoldable pub goes_on : Name → ℕ → Name → Bool
-goes_on m i n = leb i (length m) && same n (drop i m)
+-- what a name has behind a part, if it begins with the part: with that the comparison goes on, and else nothing behind the part is the name
+abbrev pub Behind : Name → Name → Option (Bor Name) → Type 0
+Behind m p None = (u : Name) → same (p ++ u) m ≡ false
+Behind m p (Some r) = (u : Name) → same (p ++ u) m ≡ same u r.now

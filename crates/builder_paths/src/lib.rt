@@ -1,7 +1,7 @@
 // The path of a field reference (65), joined of its segments.
 #![tactic(auto)]
 
-ghost use Rattle.std.specs.Prelude.{◌≡◌, true, ◌&&◌, List, ◌++◌, ◌+◌, ◌*◌, ◌≤◌, length};
+ghost use Rattle.std.specs.Prelude.{◌≡◌, List, ◌+◌, ◌*◌, ◌≤◌, length};
 ghost use Rattle.blocks.specs.Bytes.{le2};
 ghost use Rattle.blocks.specs.Name.{Name, same};
 ghost use Rattle.accepted.specs.Accepted.{Accepted, tree, name_at};
@@ -10,41 +10,18 @@ ghost use Rattle.resolved_parts.specs.Types.{Named};
 ghost use Rattle.builder.specs.Names.{join};
 ghost use Rattle.builder.specs.Nodes.{buffer_size};
 ghost use Rattle.wire.specs.Poke.{Wrote};
-ghost use Rattle.builder_paths.specs.Joined.{prefix_of, path_of, no_names, segment, goes_on};
+ghost use Rattle.builder_paths.specs.Joined.{prefix_of, path_of, no_names, segment, Behind};
 
-// Whether the part stands at i in the name.
-fn stands_at(name: &[u8], i: usize, part: &[u8]) -> bool
-    ensures u_value { (u : Name) → goes_on name.now i (part.now ++ u) ≡ (result && goes_on name.now (i + length part.now) u) }
-    ensures part_in_bounds { result ≡ true → i + length part.now ≤ length name.now }
+// What the name has behind a segment and its dot, if it begins with them. So many segments stand behind that one.
+fn behind_segment<'a>(s: &[u8], at: usize, behind: usize, name: &'a [u8]) -> Option<&'a [u8]>
+    requires { Named s.now at }
+    ensures { Behind name.now (segment (behind + 1) (name_at s.now at)) result }
 {
-    if name.len() < i {
-        return false;
+    let rest = name.strip_prefix(resolved_parts::name_at(s, at))?;
+    if 0 < behind {
+        return rest.strip_prefix(b".");
     }
-    if name.len() - i < part.len() {
-        return false;
-    }
-    let end = i + part.len();
-    wire::same_name(part, &name[i..end])
-}
-
-// The place in the name behind a segment and its dot; one behind the name's end where they do not stand at i.
-fn behind_segment(s: &[u8], at: usize, left: usize, name: &[u8], i: usize) -> usize
-    requires { Named s.now at × (i ≤ 1 + length name.now) }
-    ensures u_value { (u : Name) → goes_on name.now i (segment left (name_at s.now at) ++ u) ≡ goes_on name.now result u }
-    ensures upper_bound { result ≤ 1 + length name.now }
-{
-    let n = resolved_parts::name_at(s, at);
-    if !stands_at(name, i, n) {
-        return name.len() + 1;
-    }
-    let end = i + n.len();
-    if 1 < left {
-        if !stands_at(name, end, b".") {
-            return name.len() + 1;
-        }
-        return end + 1;
-    }
-    end
+    Some(rest)
 }
 
 // Whether the path is `__buffer_size`: the thirteen bytes are matched against the joined segments, which are not copied.
@@ -52,15 +29,16 @@ pub fn is_buffer_size(s: &[u8], at: usize) -> bool
     requires { Accepted s.now 64 91 at × (le2 s.now (at + 4) ≡ 65) }
     ensures { (a : Accepted s.now 64 91 at) (path : List Name) → expr_of (tree a) ≡ ExprKind.FieldRef path → result ≡ same (join path) buffer_size }
 {
-    let mut left = wire::read2(s, at + 6);
+    let mut name: &[u8] = b"__buffer_size";
     let mut q = at + 8;
-    let mut i = 0;
-    while 0 < left {
-        i = behind_segment(s, q, left, b"__buffer_size", i);
+    for behind in (0..wire::read2(s, at + 6)).rev() {
+        match behind_segment(s, q, behind, name) {
+            Some(rest) => name = rest,
+            None => return false,
+        }
         q = resolved_parts::next_name(s, q);
-        left -= 1;
     }
-    i == 13
+    name.is_empty()
 }
 
 // Whether the path has no segment.
@@ -71,13 +49,13 @@ pub fn no_segments(s: &[u8], at: usize) -> bool
     wire::read2(s, at + 6) == 0
 }
 
-// How many bytes a segment and its dot have.
-fn segment_length(s: &[u8], at: usize, left: usize) -> usize
+// How many bytes a segment and its dot have. So many segments stand behind it.
+fn segment_length(s: &[u8], at: usize, behind: usize) -> usize
     requires { at + 2 + le2 s.now at ≤ length s.now }
-    ensures { (result ≡ length (segment left (name_at s.now at))) × (result ≤ 1 + le2 s.now at) }
+    ensures { (result ≡ length (segment (behind + 1) (name_at s.now at))) × (result ≤ 1 + le2 s.now at) }
 {
     let n = wire::read2(s, at);
-    if 1 < left {
+    if 0 < behind {
         return n + 1;
     }
     n
@@ -89,13 +67,11 @@ fn path_length(s: &[u8], at: usize) -> usize
     ensures value { (a : Accepted s.now 64 91 at) (path : List Name) → expr_of (tree a) ≡ ExprKind.FieldRef path → result ≡ length (join path) }
     ensures upper_bound { result ≤ 65536 }
 {
-    let mut left = wire::read2(s, at + 6);
     let mut q = at + 8;
     let mut n = 0;
-    while 0 < left {
-        n += segment_length(s, q, left);
+    for behind in (0..wire::read2(s, at + 6)).rev() {
+        n += segment_length(s, q, behind);
         q = resolved_parts::next_name(s, q);
-        left -= 1;
     }
     n
 }
@@ -115,15 +91,15 @@ pub fn joined_length(s: &[u8], at: usize, depth: usize) -> usize
     8 * depth + n
 }
 
-// A segment and its dot.
-fn put_segment(s: &[u8], at: usize, left: usize, out: &mut [u8], p: usize) -> usize
+// A segment and its dot. So many segments stand behind it.
+fn put_segment(s: &[u8], at: usize, behind: usize, out: &mut [u8], p: usize) -> usize
     requires { Named s.now at × (length s.now ≤ 65536) × (p ≤ 1048576) }
-    ensures wrote { Wrote out.old p (segment left (name_at s.now at)) out.new result }
+    ensures wrote { Wrote out.old p (segment (behind + 1) (name_at s.now at)) out.new result }
     ensures upper_bound { result ≤ p + 1 + le2 s.now at }
 {
     let e = wire::put_from(out, p, resolved_parts::name_at(s, at), 0);
-    if 1 < left {
-        return wire::put_byte(out, e, 0x2E);
+    if 0 < behind {
+        return wire::put_byte(out, e, b'.');
     }
     e
 }
@@ -133,13 +109,11 @@ fn put_path(s: &[u8], at: usize, out: &mut [u8], start: usize) -> usize
     requires { Accepted s.now 64 91 at × (le2 s.now (at + 4) ≡ 65) × (length s.now ≤ 65536) × (start ≤ 524288) }
     ensures { (a : Accepted s.now 64 91 at) (path : List Name) → expr_of (tree a) ≡ ExprKind.FieldRef path → Wrote out.old start (join path) out.new result }
 {
-    let mut left = wire::read2(s, at + 6);
     let mut q = at + 8;
     let mut p = start;
-    while 0 < left {
-        p = put_segment(s, q, left, out, p);
+    for behind in (0..wire::read2(s, at + 6)).rev() {
+        p = put_segment(s, q, behind, out, p);
         q = resolved_parts::next_name(s, q);
-        left -= 1;
     }
     p
 }
@@ -151,10 +125,8 @@ fn put_prefix(out: &mut [u8], depth: usize) -> usize
     ensures value { result ≡ 8 * depth }
 {
     let mut p = 0;
-    let mut k = 0;
-    while k < depth {
+    for _ in 0..depth {
         p = wire::put_from(out, p, b"element.", 0);
-        k += 1;
     }
     p
 }
