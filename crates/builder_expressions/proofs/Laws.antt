@@ -9,7 +9,12 @@ use lib.Dec.{leb, eqb}
 use lib.ListN.{length, get_or, take, drop, length-take}
 use lib.Seq.{take_at}
 use borrow.Author.Tests.{eqb-true, eqb-false, leb-true, leb-false, le-leb, lt-leb, lt-ltb, le-ltb}
+use Rattle.std.specs.Prelude as std
+use Rattle.std.proofs.lemmas.Option.{none-some, same_Some}
+use Rattle.std.specs.Prelude.{Some, None, Result, Ok, Err}
 use Rattle.errors.specs.Refusal.{done, refused, plain, UnsupportedExpression, MissingParameter}
+use Rattle.errors.specs.declared.Reason.{Reason}
+use Rattle.errors.specs.declared.Reason.TheVariants as reason
 use Rattle.answers.specs.Answers.{AnswersIn}
 use Rattle.answers.proofs.Laws.{makes, refuses}
 use Rattle.blocks.specs.Bytes.{bytes, le2, le4, le8}
@@ -31,8 +36,6 @@ use Rattle.wire.specs.Poke.{Wrote}
 use Rattle.wire.proofs.Laws.{poke_length, poke_whole, parts, no_parts}
 use Rattle.resolved_parts.specs.Types.{texts_of}
 use Rattle.builder_registry.specs.Words.{Standing, Indexed, Looked, entries_of, entry_name}
-use Rattle.builder_registry.specs.declared.Found.{Found}
-use Rattle.builder_registry.specs.declared.Found.TheVariants.{At, Missing}
 use Rattle.builder_registry.proofs.Laws.{standing, looked_entry, looked_missing, long_lookup}
 use Rattle.builder_paths.specs.Joined.{prefix_of, path_of}
 use Rattle.builder_nodes.specs.declared.Built.{Built}
@@ -40,8 +43,6 @@ use Rattle.builder_nodes.specs.Built.{Builds, Within, node_start}
 use Rattle.builder_nodes.proofs.Laws.{node_closed, step_passes, step_goes}
 use Rattle.builder_expressions.specs.Ready.{Ready}
 use Rattle.builder_expressions.specs.Operation.{Operation, Operates}
-
--- ---- accepted expressions
 
 -- ---- literals
 
@@ -66,6 +67,10 @@ signed c l h = each Signed 4 4 ((λ v. refl), ((λ v. refl), ((λ v. refl), ((λ
 -- the literal of a literal expression
 literal_one : {l m : LiteralExpr} → ExprKind.Literal l ≡ ExprKind.Literal m → l ≡ m
 literal_one e = cc
+
+-- a literal's block ends inside the bytes
+pub literal_inside : {s : List ℕ} {expr : ℕ} → Accepted s 64 91 expr → le2 s (expr + 4) ≡ 64 → expr + 15 ≤ length s
+literal_inside a k = (literal_at a k).inside
 
 -- the test of the highest bit, as the code makes it
 negative_test : (v : ℕ) → unless_negative v ≡ cond (leb (2 ^ 63) v) none (some v)
@@ -104,29 +109,29 @@ module _ (owner prefix : Name) (l : LiteralExpr) (g : Registry) where
   literal_refused e = need_none UnsupportedExpression _ g e
 
 -- what building an expression leaves
-abbrev pub Leaves : (s xs : List ℕ) (at : ℕ) (ws ys : List ℕ) (r : Built) (owner : Name) (depth expr n : ℕ) → Type 0
+abbrev pub Leaves : (s xs : List ℕ) (at : ℕ) (ws ys : List ℕ) (r : Result Built Reason) (owner : Name) (depth expr n : ℕ) → Type 0
 Leaves s xs at ws ys r owner depth expr n =
     (a : Accepted s 64 91 expr) → Builds s xs at ws ys r (build_expr_ir owner (prefix_of depth) (expr_of (tree a)) (entries_of s ws n))
 
 -- what `build_literal` leaves: the same under every owner and prefix, and over every registry with its index
-abbrev pub LeavesLiteral : (s xs : List ℕ) (at : ℕ) (ys : List ℕ) (r : Built) (expr n : ℕ) → Type 0
+abbrev pub LeavesLiteral : (s xs : List ℕ) (at : ℕ) (ys : List ℕ) (r : Result Built Reason) (expr n : ℕ) → Type 0
 LeavesLiteral s xs at ys r expr n =
     (owner prefix : Name) (ws : List ℕ) → Indexed s ws n → (a : Accepted s 64 91 expr) →
     Builds s xs at ws ys r (build_expr_ir owner prefix (expr_of (tree a)) (entries_of s ws n))
 
 module _ {s xs ys : List ℕ} {at expr n : ℕ} (k : le2 s (expr + 4) ≡ 64) {b : Bool} (neg : Negative s expr b) where
   -- the answer of `build_literal` for a negative literal
-  pub literal_stops : {u : ℕ} → b ≡ true → LeavesLiteral s xs at ys (record { at = u; count = n; number = 14 }) expr n
+  pub literal_stops : b ≡ true → LeavesLiteral s xs at ys (Err reason.UnsupportedExpression) expr n
   literal_stops t owner prefix ws x a =
       let p = literal_at a k in
-      refuses (omega arith) (rw p.is (literal_refused owner prefix _ _ (neg a _ p.is ∙ rw t)))
+      refuses (rw p.is (literal_refused owner prefix _ _ (neg a _ p.is ∙ rw t)))
 
   -- its answer else
   pub literal_made : {v u d : ℕ} → b ≡ false → v ≡ le8 s (expr + 7) → d ≡ default_alignment →
-      Wrote xs at (write (node_tree (IrNode.Const unplaced (aligned d) v))) ys u → LeavesLiteral s xs at ys (record { at = u; count = n; number = 0 }) expr n
+      Wrote xs at (write (node_tree (IrNode.Const unplaced (aligned d) v))) ys u → LeavesLiteral s xs at ys (Ok (record { at = u; count = n })) expr n
   literal_made t e f w owner prefix ws x a =
       let p = literal_at a k in
-      makes _ refl (rw p.is (literal_gives owner prefix _ _ (neg a _ p.is ∙ rw t))) (record { entries = refl; index = x; wrote = rw (e, f) at w })
+      makes _ (rw p.is (literal_gives owner prefix _ _ (neg a _ p.is ∙ rw t))) (record { entries = refl; index = x; wrote = rw (e, f) at w })
 
 -- ---- paths
 
@@ -151,21 +156,20 @@ module _ (owner path : Name) (g : Registry) where
   path_missing : lookup_name owner path g ≡ none → build_path owner path g ≡ refused (plain 12)
   path_missing e = path_steps ∙ need_none MissingParameter _ g e
 
-module _ {s xs ws ys : List ℕ} {at n : ℕ} (owner path : Name) {r : Found} (l : Looked s ws n r (lookup_name owner path (entries_of s ws n))) where
+module _ {s xs ws ys : List ℕ} {at n : ℕ} (owner path : Name) {r : std.Option ℕ} (l : Looked s ws n r (lookup_name owner path (entries_of s ws n))) where
   -- the answer of `build_path` for a path that is found and short
-  pub ref_made : {i u : ℕ} → Indexed s ws n → r ≡ At i → length path ≤ 255 →
+  pub ref_made : {i u : ℕ} → Indexed s ws n → r ≡ Some i → length path ≤ 255 →
       Wrote xs at (write (node_tree (IrNode.FieldRef unplaced default_metadata path (some (entry_name s (get_or ws i 0)))))) ys u →
-      Builds s xs at ws ys (record { at = u; count = n; number = 0 }) (build_path owner path (entries_of s ws n))
-  ref_made x e h w = makes _ refl (path_gives owner path _ (looked_entry e l).1 h) (record { entries = refl; index = x; wrote = w })
+      Builds s xs at ws ys (Ok (record { at = u; count = n })) (build_path owner path (entries_of s ws n))
+  ref_made x e h w = makes _ (path_gives owner path _ (looked_entry e l).1 h) (record { entries = refl; index = x; wrote = w })
 
   -- for a long one
-  pub ref_long : {i u : ℕ} → r ≡ At i → 255 < length path →
-      Builds s xs at ws ys (record { at = u; count = n; number = 17 }) (build_path owner path (entries_of s ws n))
-  ref_long e h = refuses (omega arith) (path_long owner path _ (looked_entry e l).1 h)
+  pub ref_long : {i : ℕ} → r ≡ Some i → 255 < length path → Builds s xs at ws ys (Err reason.LimitExceeded) (build_path owner path (entries_of s ws n))
+  ref_long e h = refuses (path_long owner path _ (looked_entry e l).1 h)
 
   -- for one that is not found
-  pub ref_missing : {u : ℕ} → r ≡ Missing → Builds s xs at ws ys (record { at = u; count = n; number = 12 }) (build_path owner path (entries_of s ws n))
-  ref_missing e = refuses (omega arith) (path_missing owner path _ (looked_missing e l))
+  pub ref_missing : r ≡ None → Builds s xs at ws ys (Err reason.MissingParameter) (build_path owner path (entries_of s ws n))
+  ref_missing e = refuses (path_missing owner path _ (looked_missing e l))
 
 -- ---- field references
 
@@ -218,22 +222,22 @@ module _ {s : List ℕ} {expr : ℕ} (k : le2 s (expr + 4) ≡ 65) where
     -- the answer of `build_field_ref` for `__buffer_size`
     pub buffer_made : {u : ℕ} → Indexed s ws n → b ≡ true →
         Wrote xs at (write (node_tree (IrNode.FieldRef unplaced default_metadata buffer_size none))) ys u →
-        Leaves s xs at ws ys (record { at = u; count = n; number = 0 }) owner depth expr n
+        Leaves s xs at ws ys (Ok (record { at = u; count = n })) owner depth expr n
     buffer_made x t w a =
         let f = field_ref_at a k in
-        makes _ refl (rw f.is (buffer_gives owner (prefix_of depth) _ _ (sym (is a _ f.is) ∙ t))) (record { entries = refl; index = x; wrote = w })
+        makes _ (rw f.is (buffer_gives owner (prefix_of depth) _ _ (sym (is a _ f.is) ∙ t))) (record { entries = refl; index = x; wrote = w })
 
     -- longer than any path of the registry
-    pub path_stops : {l u : ℕ} → Standing s ws n → length owner ≤ 255 → b ≡ false → Long s expr depth l → 511 < l →
-        Leaves s xs at ws ys (record { at = u; count = n; number = 12 }) owner depth expr n
+    pub path_stops : {l : ℕ} → Standing s ws n → length owner ≤ 255 → b ≡ false → Long s expr depth l → 511 < l →
+        Leaves s xs at ws ys (Err reason.MissingParameter) owner depth expr n
     path_stops {l} st o t g h a =
         let f = field_ref_at a k in
         let m : 511 < length (path_of depth (texts_of f.list.got.0)) = rw (g a _ f.is) at h in
-        refuses (omega arith)
+        refuses
         (rw f.is (path_is owner (prefix_of depth) _ _ (sym (is a _ f.is) ∙ t) ∙ path_missing owner _ _ (long_lookup st owner _ o m)))
 
     -- its answer for a path that was copied
-    pub path_made : {l e : ℕ} {x₁ x₂ : List ℕ} {r : Built} → b ≡ false → Long s expr depth l → l ≤ 511 → length x₁ ≡ 512 → Put s expr depth x₁ x₂ e →
+    pub path_made : {l e : ℕ} {x₁ x₂ : List ℕ} {r : Result Built Reason} → b ≡ false → Long s expr depth l → l ≤ 511 → length x₁ ≡ 512 → Put s expr depth x₁ x₂ e →
         Builds s xs at ws ys r (build_path owner (take e x₂) (entries_of s ws n)) → Leaves s xs at ws ys r owner depth expr n
     path_made {l} {e} {x₁} {x₂} t g h x p m a =
         let f = field_ref_at a k in
@@ -247,31 +251,31 @@ abbrev Becomes : ℕ → ℕ → Type 0
 Becomes c k = (operation_of k ≡ some (get_or operations (k + c - 134) BinaryOp.AddChecked)) × (op_kind (get_or operations (k + c - 134) BinaryOp.AddChecked) ≡ k + c)
 
 -- such a kind has an operation
-operates : (c : ℕ) {k : ℕ} → 65 ≤ c → c ≤ 66 → 68 ≤ k → k ≤ 78 → Becomes c k → Operates k (k + c)
+operates : (c : ℕ) {k : ℕ} → 65 ≤ c → c ≤ 66 → 68 ≤ k → k ≤ 78 → Becomes c k → Operates k (Some (k + c))
 operates c i j l h o = Operates.operation (record { low = l; high = h; op = _; is = o.0; node = o.1; least = omega arith; most = omega arith })
 
 -- the kinds 68 to 72
-pub low_operates : {k : ℕ} → 68 ≤ k → k < 73 → Operates k (k + 66)
+pub low_operates : {k : ℕ} → 68 ≤ k → k < 73 → Operates k (Some (k + 66))
 unfolding operation_of operations
 low_operates {k} l h =
     operates 66 (omega arith) (omega arith) l (omega arith)
     (each (Becomes 66) 5 68 ((refl, refl), ((refl, refl), ((refl, refl), ((refl, refl), ((refl, refl), tt))))) k l (omega arith))
 
 -- the kinds 74 to 78
-pub high_operates : {k : ℕ} → 74 ≤ k → k < 79 → Operates k (k + 65)
+pub high_operates : {k : ℕ} → 74 ≤ k → k < 79 → Operates k (Some (k + 65))
 unfolding operation_of operations
 high_operates {k} l h =
     operates 65 (omega arith) (omega arith) (omega arith) (omega arith)
     (each (Becomes 65) 5 74 ((refl, refl), ((refl, refl), ((refl, refl), ((refl, refl), ((refl, refl), tt))))) k l (omega arith))
 
 -- what the answer of `operation_kind` says of the kind that was read: it becomes a node of this kind
-pub is_operation : {j k kind : ℕ} → k ≡ j → (kind ≡ 0 → ⊥) → Operates k kind → Operation j kind
-is_operation e z (Operates.operation o) = rw (← e) o
-is_operation e z (Operates.other n) = absurd (z refl)
+pub is_operation : {j k kind : ℕ} {r : std.Option ℕ} → k ≡ j → r ≡ Some kind → Operates k r → Operation j kind
+is_operation {kind = kind} e z (Operates.operation {kind = q} o) = rw (← e, ← same_Some q kind z) o
+is_operation e z (Operates.other n) = absurd (none-some _ z)
 
 -- or it becomes none
-pub no_operation : {j k kind : ℕ} → k ≡ j → kind ≡ 0 → Operates k kind → operation_of j ≡ none
-no_operation e z (Operates.operation o) = absurd (let y : ⊥ = omega (arith, o.least) in y)
+pub no_operation : {j k : ℕ} {r : std.Option ℕ} → k ≡ j → r ≡ None → Operates k r → operation_of j ≡ none
+no_operation e z (Operates.operation o) = absurd (none-some _ (sym z))
 no_operation e z (Operates.other n) = rw (← e) n
 
 -- the other kinds have none
@@ -342,10 +346,9 @@ module _ (owner prefix : Name) (g : Registry) where
       low false q = next (eqb (le2 s (at + 4)) 67) refl (eqb-false _ _ q)
 
 -- the answer of `build_expr_ir` for a kind that becomes no node
-pub other_stops : {s xs ws ys : List ℕ} {at expr k kind u : ℕ} (owner : Name) (depth n : ℕ) → k ≡ le2 s (expr + 4) → (k ≡ 64 → ⊥) → (k ≡ 65 → ⊥) → kind ≡ 0 →
-    Operates k kind → Leaves s xs at ws ys (record { at = u; count = n; number = 14 }) owner depth expr n
-other_stops owner depth n e x y z o a =
-    refuses (omega arith) (other_refused owner (prefix_of depth) _ a (rw e at x) (rw e at y) (no_operation e z o))
+pub other_stops : {s xs ws ys : List ℕ} {at expr k : ℕ} {r : std.Option ℕ} (owner : Name) (depth n : ℕ) → k ≡ le2 s (expr + 4) → (k ≡ 64 → ⊥) → (k ≡ 65 → ⊥) →
+    r ≡ None → Operates k r → Leaves s xs at ws ys (Err reason.UnsupportedExpression) owner depth expr n
+other_stops owner depth n e x y z o a = refuses (other_refused owner (prefix_of depth) _ a (rw e at x) (rw e at y) (no_operation e z o))
 
 -- ---- two operands
 
@@ -396,7 +399,7 @@ module _ {s ws : List ℕ} {n depth expr at kind p : ℕ} {owner : Name} (r : Re
 
     -- the cursor behind both stays in the room of the whole
     pub both_within : {m : Built} → Within l.at (1024 * (4 + le4 s q)) m →
-        (at + 4 ≤ m.at) × (m.at < 2 ^ 61) × Within at (1024 * (4 + le4 s expr)) (record { at = m.at; count = m.count; number = 0 })
+        (at + 4 ≤ m.at) × (m.at < 2 ^ 61) × Within at (1024 * (4 + le4 s expr)) m
     both_within {m} v =
         let b = right_at in (
           omega (arith, w.low, v.low),
@@ -410,38 +413,33 @@ pub two_written : {xs x₁ x₂ x₃ ys : List ℕ} {at p q u v : ℕ} (k a : �
     Wrote xs at (write (node_block k (aligned a) (cons m (cons n nil)))) ys u
 two_written {x₃} {u} k a m n w f g c = node_closed k a (cons m (cons n nil)) w (parts m (cons n nil) f (parts n nil g (no_parts x₃ u))) c
 
-module _ {s ws : List ℕ} {kind : ℕ} (owner : Name) (depth n expr : ℕ) (o : Operation (le2 s (expr + 4)) kind) {x₁ x₂ : List ℕ}
-    {p : ℕ} {l : Built} (f : Leaves s x₁ p ws x₂ l owner depth (expr + 6) n) where
+module _ {s ws : List ℕ} {kind : ℕ} (owner : Name) (depth n expr : ℕ) (o : Operation (le2 s (expr + 4)) kind) {x₁ x₂ : List ℕ} {p : ℕ} where
   -- the first operand is refused
-  pub left_stops : {xs ys : List ℕ} {at u m : ℕ} → (l.number ≡ 0 → ⊥) →
-      Leaves s xs at ws ys (record { at = u; count = m; number = l.number }) owner depth expr n
-  left_stops z a =
+  pub left_stops : {e : Reason} {xs ys : List ℕ} {at : ℕ} → Leaves s x₁ p ws x₂ (Err e) owner depth (expr + 6) n → Leaves s xs at ws ys (Err e) owner depth expr n
+  left_stops f a =
       let b = binary_at a o.low o.high in
-      rw (b.is, binary_steps owner (prefix_of depth) _ _ _ (entries_of s ws n) o.is) (step_passes _ _ _ refl z (f b.left))
+      rw (b.is, binary_steps owner (prefix_of depth) _ _ _ (entries_of s ws n) o.is) (step_passes _ _ _ (f b.left))
 
-  module _ {q : ℕ} (z : l.number ≡ 0) (e : q ≡ expr + 10 + le4 s (expr + 6)) {x₃ : List ℕ} {r : Built}
-      (g : Leaves s x₂ l.at ws x₃ r owner depth q l.count) where
+  module _ {l : Built} (f : Leaves s x₁ p ws x₂ (Ok l) owner depth (expr + 6) n) {q : ℕ} (e : q ≡ expr + 10 + le4 s (expr + 6)) {x₃ : List ℕ} where
     -- what the second operand leaves, at the offset as the definition has it, over the registry that the first left
-    right_leaves : {h : Registry} → entries_of s ws l.count ≡ h → (a : Accepted s 64 91 (expr + 10 + le4 s (expr + 6))) →
-        Builds s x₂ l.at ws x₃ r (build_expr_ir owner (prefix_of depth) (expr_of (tree a)) h)
-    right_leaves i a = rw (← i) (subst (λ (j : ℕ). Leaves s x₂ l.at ws x₃ r owner depth j l.count) e g a)
+    right_leaves : {r : Result Built Reason} {h : Registry} → Leaves s x₂ l.at ws x₃ r owner depth q l.count → entries_of s ws l.count ≡ h →
+        (a : Accepted s 64 91 (expr + 10 + le4 s (expr + 6))) → Builds s x₂ l.at ws x₃ r (build_expr_ir owner (prefix_of depth) (expr_of (tree a)) h)
+    right_leaves {r} g i a = rw (← i) (subst (λ (j : ℕ). Leaves s x₂ l.at ws x₃ r owner depth j l.count) e g a)
 
     -- the second operand is refused
-    pub right_stops : {xs ys : List ℕ} {at u m : ℕ} → (r.number ≡ 0 → ⊥) →
-        Leaves s xs at ws ys (record { at = u; count = m; number = r.number }) owner depth expr n
-    right_stops y a =
+    pub right_stops : {c : Reason} {xs ys : List ℕ} {at : ℕ} → Leaves s x₂ l.at ws x₃ (Err c) owner depth q l.count → Leaves s xs at ws ys (Err c) owner depth expr n
+    right_stops g a =
         let b = binary_at a o.low o.high in
         rw (b.is, binary_steps owner (prefix_of depth) _ _ _ (entries_of s ws n) o.is)
-        (step_goes _ _ _ z (f b.left) (λ _ m. step_passes _ _ _ refl y (right_leaves m.entries b.right)))
+        (step_goes _ _ _ (f b.left) (λ _ m. step_passes _ _ _ (right_leaves g m.entries b.right)))
 
     -- both were built
-    pub both_made : {xs ys : List ℕ} {at d v : ℕ} → r.number ≡ 0 → d ≡ default_alignment → Wrote xs at (node_start kind d) x₁ p →
-        Wrote x₃ at (bytes 4 (r.at - at - 4)) ys v →
-        Leaves s xs at ws ys (record { at = r.at; count = r.count; number = 0 }) owner depth expr n
+    pub both_made : {r : Built} {xs ys : List ℕ} {at d v : ℕ} → Leaves s x₂ l.at ws x₃ (Ok r) owner depth q l.count → d ≡ default_alignment →
+        Wrote xs at (node_start kind d) x₁ p → Wrote x₃ at (bytes 4 (r.at - at - 4)) ys v → Leaves s xs at ws ys (Ok r) owner depth expr n
     unfolding node_tree give
-    both_made y t w c a =
+    both_made g t w c a =
         let b = binary_at a o.low o.high in
         rw (b.is, binary_steps owner (prefix_of depth) _ _ _ (entries_of s ws n) o.is)
-        (step_goes _ _ _ z (f b.left) (λ _ m. step_goes _ _ _ y (right_leaves m.entries b.right)
-        (λ _ k. AnswersIn.made _ refl
+        (step_goes _ _ _ (f b.left) (λ _ m. step_goes _ _ _ (right_leaves g m.entries b.right)
+        (λ _ k. AnswersIn.made _
         (record { entries = k.entries; index = k.index; wrote = rw o.node (two_written _ _ _ _ (rw t at w) m.wrote k.wrote c) }))))

@@ -1,5 +1,5 @@
 -- The expression kinds that become nodes of two operands.
-use Rattle.std.specs.Prelude.{ℕ, ◌≤◌, ◌≡◌}
+use Rattle.std.specs.Prelude.{ℕ, ◌≤◌, ◌≡◌, Option, Some, None}
 use Rattle.std.proofs.Math.Option.{some, none}
 use Rattle.ir.specs.Ir.{BinaryOp}
 use Rattle.ir.specs.Layout.{op_kind}
@@ -15,7 +15,7 @@ pub record Operation (k kind : ℕ) : Type 0 where
   pub least : 128 ≤ kind
   pub most : kind ≤ 144
 
--- an expression kind and what it becomes: the node kind of its operation, or 0 where it has none
-pub data Operates (k : ℕ) : ℕ → Type 0 where
-  operation : {kind : ℕ} → Operation k kind → Operates k kind
-  other : operation_of k ≡ none → Operates k 0
+-- an expression kind and what it becomes: the node kind of its operation, if it has one
+pub data Operates (k : ℕ) : Option ℕ → Type 0 where
+  operation : {kind : ℕ} → Operation k kind → Operates k (Some kind)
+  other : operation_of k ≡ none → Operates k None

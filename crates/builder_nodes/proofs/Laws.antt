@@ -1,11 +1,14 @@
 -- Nodes that are opened, then filled, then closed; what a builder's answer says, and how it goes on.
+use Rattle.std.specs.Prelude.{Result, Ok, Err}
 use mathlib.Core.Path.{◌≡◌, refl, sym, ap, ◌∙◌, subst}
 use mathlib.Core.List.{List, [], ◌++◌, append_assoc, append-nil}
-use Prim.Native.Nat.{ℕ, ◌+◌, ◌-◌, ◌≤◌, ◌<◌}
+use Prim.Native.Nat.{ℕ, ◌+◌, ◌-◌, ◌≤◌}
 use native.Mathlib.Omega.{arith}
 use Rattle.errors.specs.Refusal.{Outcome, done, refused, plain}
 use Rattle.errors.specs.Refusal.{◌>>=◌ as ◌and_then◌}
-use Rattle.answers.specs.Answers.{Answers, AnswersIn}
+use Rattle.errors.specs.declared.Reason.{Reason}
+use Rattle.errors.specs.Meaning.{number_of}
+use Rattle.answers.specs.Answers.{Answers}
 use Rattle.answers.proofs.Laws.{answered, unanswered, passes, goes}
 use Rattle.blocks.specs.Bytes.{bytes}
 use Rattle.blocks.specs.Tree.{Tree, num, nil, cons}
@@ -55,43 +58,41 @@ start_at {xs} {ys} {at} {p} k e w = subst (λ (z : ℕ). Wrote xs at (node_start
 
 -- ---- what a builder's answer says
 
-module _ {s xs us ys : List ℕ} {at : ℕ} {r : Built} {o : Outcome (IrNode × Registry)} where
-  -- a number of 0: the definition gives a node and the registry that the words hold, and the node was written
-  pub builds_done : r.number ≡ 0 → Builds s xs at us ys r o →
+module _ {s xs us ys : List ℕ} {at : ℕ} {o : Outcome (IrNode × Registry)} where
+  -- a value: the definition gives a node and the registry that the words hold, and the node was written
+  pub builds_done : {r : Built} → Builds s xs at us ys (Ok r) o →
       (n : IrNode) × (o ≡ done (n, entries_of s us r.count)) × Wrote xs at (write (node_tree n)) ys r.at
-  builds_done z b =
-      let a = answered z b in
+  builds_done b =
+      let a = answered b in
       (a.0.0, a.1 ∙ ap (λ (g : Registry). done (a.0.0, g)) (sym a.2.entries), a.2.wrote)
 
   -- and the words hold the index of that registry
-  pub builds_index : r.number ≡ 0 → Builds s xs at us ys r o → Indexed s us r.count
-  builds_index z b = (answered z b).2.index
+  pub builds_index : {r : Built} → Builds s xs at us ys (Ok r) o → Indexed s us r.count
+  builds_index b = (answered b).2.index
 
-  -- another number: the definition refuses with it
-  pub builds_refused : (r.number ≡ 0 → ⊥) → Builds s xs at us ys r o → (o ≡ refused (plain r.number)) × (0 < r.number)
-  builds_refused z b = unanswered z b
+  -- a reason: the definition refuses with its number
+  pub builds_refused : {e : Reason} → Builds s xs at us ys (Err e) o → o ≡ refused (plain (number_of e))
+  builds_refused b = unanswered b
 
 -- ---- how an action on the registry goes on, once its first step was answered
 
-module _ {A B : Type 0} {Made : A × Registry → Type 0} {Next : B × Registry → Type 0} {n : ℕ} (m : Build A) (k : A → Build B) (g : Registry) where
+module _ {A B R Q : Type 0} {Made : R → A × Registry → Type 0} {Next : Q → B × Registry → Type 0} (m : Build A) (k : A → Build B) (g : Registry) where
   -- a refusal is the answer of the whole
-  pub step_passes : {number : ℕ} → n ≡ number → (number ≡ 0 → ⊥) → Answers number Made (m g) → Answers n Next ((m >>= k) g)
+  pub step_passes : {e : Reason} → Answers Made (Err e) (m g) → Answers Next (Err e) ((m >>= k) g)
   unfolding ◌>>=◌
-  step_passes e z a = passes (λ (x : A × Registry). k x.0 x.1) e z a
+  step_passes a = passes (λ (x : A × Registry). k x.0 x.1) a
 
   -- what was made goes on
-  pub step_goes : {number : ℕ} → number ≡ 0 → Answers number Made (m g) → ((x : A × Registry) → Made x → Answers n Next (k x.0 x.1)) → Answers n Next ((m >>= k) g)
+  pub step_goes : {r : R} {q : Result Q Reason} → Answers Made (Ok r) (m g) → ((x : A × Registry) → Made r x → Answers Next q (k x.0 x.1)) →
+      Answers Next q ((m >>= k) g)
   unfolding ◌>>=◌
-  step_goes z a f = goes (λ (x : A × Registry). k x.0 x.1) z a f
+  step_goes a f = goes (λ (x : A × Registry). k x.0 x.1) a f
 
   -- whatever the answer is: a refusal is the whole's, and what was made goes on
-  pub step_then : Answers n Made (m g) → ((x : A × Registry) → n ≡ 0 → Made x → Answers n Next (k x.0 x.1)) → Answers n Next ((m >>= k) g)
-  unfolding ◌>>=◌ ◌and_then◌
-  step_then a f = go a
-    where
-      go : {o : Outcome (A × Registry)} → Answers n Made o → Answers n Next (◌and_then◌ o (λ x. k x.0 x.1))
-      go (AnswersIn.made x e h) = f x e h
-      go (AnswersIn.not i e l) = AnswersIn.not i e l
+  pub step_then : {r : Result R Reason} {q : Result Q Reason} → Answers Made r (m g) → ((e : Reason) → r ≡ Err e → q ≡ Err e) →
+      ((x : A × Registry) (v : R) → r ≡ Ok v → Made v x → Answers Next q (k x.0 x.1)) → Answers Next q ((m >>= k) g)
+  step_then {r = Ok v} a p f = step_goes a (λ x i. f x v refl i)
+  step_then {r = Err e} a p f = rw (p e refl) (step_passes a)
 
 module _ {A B : Type 0} (m : Build A) (g : Registry) where
   -- steps are the same however they are grouped
@@ -115,10 +116,6 @@ module _ {A B : Type 0} (m : Build A) (g : Registry) where
 
 -- ---- where the cursor goes
 
--- a refusal leaves the cursor where it was
-pub stopped : {at room n number : ℕ} → n ≤ 512 → Within at room (record { at = at; count = n; number = number })
-stopped h = record { low = omega arith; high = omega arith; count = h }
-
 -- what stays within some room stays within more
 pub widened : {at room more : ℕ} {r : Built} → room ≤ more → Within at room r → Within at more r
 widened h w = record { low = w.low; high = omega (arith, w.high); count = w.count }
@@ -128,5 +125,5 @@ pub behind : {at p room more : ℕ} {r : Built} (d : ℕ) → p ≡ at + d → d
 behind d e h w = record { low = omega (arith, w.low); high = omega (arith, w.high); count = w.count }
 
 -- a cursor behind what was built
-pub ends_at : {at r room n number : ℕ} → at ≤ r → r ≤ at + room → n ≤ 512 → Within at room (record { at = r; count = n; number = number })
+pub ends_at : {at r room n : ℕ} → at ≤ r → r ≤ at + room → n ≤ 512 → Within at room (record { at = r; count = n })
 ends_at l h c = record { low = l; high = h; count = c }

@@ -2,6 +2,7 @@
 use mathlib.Core.Path.{◌≡◌, refl, sym, ◌∙◌, subst}
 use mathlib.Core.Bool.{Bool, true, false, cond}
 use mathlib.Core.List.{List, ◌++◌}
+use Rattle.std.proofs.Common.{◌⊎◌, inl, inr}
 use mathlib.Core.Option.{some, none}
 use Prim.Native.Nat.{ℕ, ◌+◌, ◌-◌, ◌≤◌}
 use native.Mathlib.Omega.{arith}
@@ -35,15 +36,12 @@ module _ {xs ys : List ℕ} {at r code c : ℕ} (e : c ≡ code) where
   unfolding text_flag
   flag_there b h f = rw (eq-eqb code (code_of OptText) (sym e ∙ h)) f
 
-  -- a count where it has cases
-  pub count_cases : (n : ℕ) → c ≡ code_of cases → Wrote xs at (bytes 2 n) ys r → Wrote xs at (count_part code n) ys r
+  -- a count where it has cases or arguments
+  pub count_there : (n : ℕ) → (c ≡ code_of cases) ⊎ ((c ≡ code_of cases → ⊥) × (c ≡ code_of arguments)) → Wrote xs at (bytes 2 n) ys r →
+      Wrote xs at (count_part code n) ys r
   unfolding count_part write
-  count_cases n h f = rw (eq-eqb code (code_of cases) (sym e ∙ h)) f
-
-  -- or arguments
-  pub count_arguments : (n : ℕ) → (c ≡ code_of cases → ⊥) → c ≡ code_of arguments → Wrote xs at (bytes 2 n) ys r → Wrote xs at (count_part code n) ys r
-  unfolding count_part write
-  count_arguments n d h f = rw (ne_eqb code (code_of cases) (λ q. d (e ∙ q)), eq-eqb code (code_of arguments) (sym e ∙ h)) f
+  count_there n (inl h) f = rw (eq-eqb code (code_of cases) (sym e ∙ h)) f
+  count_there n (inr h) f = rw (ne_eqb code (code_of cases) (λ q. h.0 (e ∙ q)), eq-eqb code (code_of arguments) (sym e ∙ h.1)) f
 
   -- the flag 0 where it has an optional node
   pub no_node_there : c ≡ code_of optional_node → Wrote xs at (write (num 1 0)) ys r → Wrote xs at (no_node code) ys r
@@ -136,7 +134,7 @@ start_length : (k a : ℕ) → length (node_start k a) ≡ 15
 unfolding node_start write opened bytes
 start_length k a = refl
 
--- the answer of `start_node`
+-- the answer of `open_node`
 pub started : {xs ys zs vs : List ℕ} {at p q r : ℕ} (k a : ℕ) → 128 ≤ k → k ≤ 144 → Wrote xs at (opened k) ys p →
     Wrote ys p (number_part (code_at k 0) a) zs q → Wrote zs q (text_flag false (code_at k 1)) vs r →
     Wrote xs at (node_start k a) vs r × (r ≡ at + 15)
@@ -161,13 +159,13 @@ module _ {xs ys zs : List ℕ} {at p q : ℕ} (a : ℕ) where
   unfolding number_part code_at parts_of node_table write
   align_started f g = (both f g, omega (arith, f.end, g.end, start_length 131 a, bytes_length 8 a))
 
-  -- the answer of `const_node`
-  pub const_closed : {vs : List ℕ} {m e : ℕ} (v : ℕ) → m ≡ a → Wrote xs at (node_start 129 m) ys p →
+  -- the answer of `put_const`
+  pub const_closed : {vs : List ℕ} {e : ℕ} (v : ℕ) → Wrote xs at (node_start 129 a) ys p →
       Wrote ys p (number_part (code_at 129 2) v) zs q → Wrote zs at (bytes 4 (q - at - 4)) vs e →
       Wrote xs at (write (node_tree (IrNode.Const unplaced (aligned a) v))) vs q × (q ≡ at + 23)
   unfolding number_part code_at parts_of node_table write node_tree
-  const_closed {m = m} v i f g c =
-      (node_closed 129 a (cons (num 8 v) nil) (start_at 129 i f) (parts (num 8 v) nil g (no_parts zs q)) c, omega (arith, f.end, g.end, start_length 129 m, bytes_length 8 v))
+  const_closed v f g c =
+      (node_closed 129 a (cons (num 8 v) nil) f (parts (num 8 v) nil g (no_parts zs q)) c, omega (arith, f.end, g.end, start_length 129 a, bytes_length 8 v))
 
   -- `put_const_or_zero` of another value writes a Const node in an AlignUp node
   pub value_closed : {vs : List ℕ} {e : ℕ} (v : ℕ) → (v ≡ 0 → ⊥) → Wrote xs at (node_start 131 a ++ write (num 8 a)) ys p →

@@ -1,6 +1,7 @@
 -- What a builder of a node leaves.
-use Rattle.std.specs.Prelude.{ℕ, ◌+◌, ◌≤◌, ◌≡◌, Bool, cond, ◌||◌, List, [], ◌++◌, eqb}
+use Rattle.std.specs.Prelude.{ℕ, ◌+◌, ◌≤◌, ◌≡◌, Bool, cond, ◌||◌, List, [], ◌++◌, eqb, Result}
 use Rattle.errors.specs.Refusal.{Outcome}
+use Rattle.errors.specs.declared.Reason.{Reason}
 use Rattle.answers.specs.Answers.{Answers}
 use Rattle.blocks.specs.declared.Part.{Part}
 use Rattle.blocks.specs.declared.Part.TheVariants.{Number, OptText, OptBlock, Blocks}
@@ -20,11 +21,11 @@ pub record BuiltIn (s xs : List ℕ) (at : ℕ) (us ys : List ℕ) (r : Built) (
   pub index : Indexed s us r.count
   pub wrote : Wrote xs at (write (node_tree x.0)) ys r.at
 
--- that, or the refusal, of which nothing is said but its number
-abbrev pub Builds : (s xs : List ℕ) (at : ℕ) (us ys : List ℕ) (r : Built) → Outcome (IrNode × Registry) → Type 0
-Builds s xs at us ys r = Answers r.number (BuiltIn s xs at us ys r)
+-- that, or the refusal, of which nothing is said but its reason
+abbrev pub Builds : (s xs : List ℕ) (at : ℕ) (us ys : List ℕ) → Result Built Reason → Outcome (IrNode × Registry) → Type 0
+Builds s xs at us ys = Answers (BuiltIn s xs at us ys)
 
--- whatever is built: the cursor moves by at most `room`, and the registry has at most 512 entries
+-- where something was built: the cursor moved by at most `room`, and the registry has at most 512 entries
 pub record Within (at room : ℕ) (r : Built) : Type 0 where
   pub low : at ≤ r.at
   pub high : r.at ≤ at + room

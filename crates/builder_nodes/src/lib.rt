@@ -15,12 +15,11 @@ ghost use Rattle.builder_nodes.specs.Built.{node_start, number_part, text_flag, 
 
 use ir_nodes::NodeMetadata;
 
-// The next cursor, how many entries the registry has, and the number of a refusal or 0.
+// What a builder of a node answers, if it does not refuse: the next cursor, and how many entries the registry has.
 #[derive(Clone, Copy)]
 pub struct Built {
     pub at: usize,
     pub count: usize,
-    pub number: u64,
 }
 
 // A number, as part i of a node kind.
@@ -74,10 +73,7 @@ pub fn put_count_part(out: &mut [u8], at: usize, kind: usize, i: usize, count: u
     ensures lower_bound { (at ≤ result) × (result ≤ at + 2) }
 {
     let code = ir_nodes::node_part(kind, i);
-    if code == ir_nodes::CASES {
-        return wire::put_le(out, at, 2, count as u64);
-    }
-    if code == ir_nodes::ARGUMENTS {
+    if code == ir_nodes::CASES || code == ir_nodes::ARGUMENTS {
         return wire::put_le(out, at, 2, count as u64);
     }
     at
@@ -95,25 +91,16 @@ pub fn put_no_node(out: &mut [u8], at: usize, kind: usize, i: usize) -> usize
     at
 }
 
-// A node of a kind, as far as its metadata.
-fn start_node(out: &mut [u8], at: usize, kind: usize, meta: NodeMetadata) -> usize
-    requires { (at < 2 ^ 60 + 64) × (128 ≤ kind) × (kind ≤ 144) }
-    ensures wrote { Wrote out.old at (node_start kind meta.alignment) out.new result }
-    ensures value { result ≡ at + 15 }
-{
-    let p = wire::open_block(out, at, kind as u64);
-    let q = put_number_part(out, p, kind, 0, meta.alignment);
-    put_text_flag(out, q, kind, 1, false)
-}
-
 // A node of a kind, as far as its metadata, with no size text. A part that is a node is that node's block, with nothing before
 // it: the operands of AddChecked to RightShift, the node of AlignUp and the count of SumOverArray are put by what builds them.
 pub fn open_node(out: &mut [u8], at: usize, kind: usize, alignment: u64) -> usize
-    requires { (at < 2 ^ 60) × (128 ≤ kind) × (kind ≤ 144) }
+    requires { (at < 2 ^ 60 + 64) × (128 ≤ kind) × (kind ≤ 144) }
     ensures wrote { Wrote out.old at (node_start kind alignment) out.new result }
     ensures value { result ≡ at + 15 }
 {
-    start_node(out, at, kind, NodeMetadata::aligned(alignment))
+    let p = wire::open_block(out, at, kind as u64);
+    let q = put_number_part(out, p, kind, 0, alignment);
+    put_text_flag(out, q, kind, 1, false)
 }
 
 // `align_node`, as far as the node that it aligns.
@@ -136,24 +123,15 @@ pub fn open_add(out: &mut [u8], at: usize) -> usize
 }
 
 // A Const node, also where it stands in an AlignUp node.
-fn const_node(out: &mut [u8], at: usize, value: u64, alignment: u64) -> usize
+pub fn put_const(out: &mut [u8], at: usize, value: u64, alignment: u64) -> usize
     requires { at < 2 ^ 60 + 64 }
     ensures wrote { Wrote out.old at (write (node_tree (IrNode.Const unplaced (aligned alignment) value))) out.new result }
     ensures value { result ≡ at + 23 }
 {
-    let p = start_node(out, at, 129, NodeMetadata::aligned(alignment));
+    let p = open_node(out, at, 129, alignment);
     let q = put_number_part(out, p, 129, 2, value);
     wire::close_block(out, at, q);
     q
-}
-
-// A Const node.
-pub fn put_const(out: &mut [u8], at: usize, value: u64, alignment: u64) -> usize
-    requires { at < 2 ^ 60 }
-    ensures wrote { Wrote out.old at (write (node_tree (IrNode.Const unplaced (aligned alignment) value))) out.new result }
-    ensures value { result ≡ at + 23 }
-{
-    const_node(out, at, value, alignment)
 }
 
 // `const_or_zero`
@@ -168,7 +146,7 @@ pub fn put_const_or_zero(out: &mut [u8], at: usize, value: u64, alignment: u64) 
         return p;
     }
     let p = open_align(out, at, alignment);
-    let q = const_node(out, p, value, alignment);
+    let q = put_const(out, p, value, alignment);
     wire::close_block(out, at, q);
     q
 }

@@ -2,6 +2,8 @@
 -- found by it. Assumes nothing.
 use Prim.Native.Nat.{ℕ, zero, suc, ◌+◌, ◌-◌, ◌*◌, ◌/◌, ◌%◌, ◌≤◌, ◌<◌}
 use native.Mathlib.Omega.{arith}
+use Rattle.std.specs.Prelude as std
+use Rattle.std.specs.Prelude.{Some, None, IfSome, is_some}
 use mathlib.Core.Path.{◌≡◌, refl, sym, ap, ap₂, ◌∙◌}
 use mathlib.Core.Bool.{Bool, true, false, ◌&&◌, ◌||◌, cond}
 use mathlib.Core.List.{List, [], ◌∷◌, ◌++◌, map, append-nil}
@@ -9,7 +11,7 @@ use lib.Dec.{eqb, leb, ltb}
 use lib.ListN.{length, take, drop, get_or, set, length-set, length-drop, drop_of_length-le}
 use lib.Seq.{take_all, take-take, take-set-le, drop-set-lt, drop_at, length-take-le, get_or-take, get_or-set_same, get_or-set_other}
 use borrow.Rule.Slice.PartMut.{put_mid, take_put, same_len_mid}
-use borrow.Author.Tests.{eq-eqb, ne_eqb, eqb-true, eqb-false, leb-true, leb-false, lt-ltb, le-ltb}
+use borrow.Author.Tests.{eqb-true, eqb-false, leb-true, leb-false, lt-ltb, le-ltb}
 use Rattle.marks.specs.Mark.{mark_of}
 use Rattle.marks.specs.Table.{Linked, Table, Prior}
 use Rattle.marks.proofs.Marks.{mark_append}
@@ -18,36 +20,35 @@ use Rattle.marks.proofs.Walks.{Walk, walk_last, walk_before, walk_end, walk_more
 use Rattle.blocks.specs.Name.{Name, same, among}
 use Rattle.blocks.proofs.Name.{false_true, and_left, and_right, same_refl, same_eq}
 use Rattle.builder.specs.Names.{is_empty, normalize_path}
-use Rattle.builder.specs.Registry.{Entry, Registry, keyed_by, entry_of as path_entry}
+use Rattle.builder.specs.Registry.{Entry, Registry, keyed_by}
 use Rattle.builder_names.specs.Views.{alias_of}
 use Rattle.builder_names.proofs.Colons.{aliases_are}
 use Rattle.builder_names.proofs.Qualified.{or_false}
-use Rattle.builder_registry.specs.declared.Alias.{Alias}
-use Rattle.builder_registry.specs.declared.Alias.TheVariants.{Mark, LeftOut}
+use Rattle.builder_registry.specs.declared.Made.{Made}
 use Rattle.builder_registry.specs.Word.{owner_at, path_at, made_of, word_of, derived_word}
-use Rattle.builder_registry.specs.Words.{held, made_path, made_entry, entry_of, entries_of}
+use Rattle.builder_registry.specs.Texts.{made_path}
+use Rattle.builder_registry.specs.Words.{held, made_entry, entry_by, entry_of, entries_of, path_by, alias_by}
 use Rattle.builder_registry.specs.Words.{key_in, alias_in, owner_mark, key_mark, alias_mark, slot_of, slot_mark, Indexed, Sought, Marked, AliasIs, Linking}
-use Rattle.builder_registry.specs.Place.{place_of}
+use Rattle.builder_registry.specs.Place.{place_of, found_at}
 use Rattle.builder_registry.proofs.Word.{word_owner, word_path, word_made, still_owner, still_path, still_made}
 use Rattle.builder_registry.proofs.Keys.{owner_is}
-use Rattle.builder_registry.proofs.Places.{entries_length, entry_at, by_place}
+use Rattle.builder_registry.proofs.Places.{entries_length, entry_at, by_place, found_some, found_nothing, none_place, some_place, some_within}
 
 -- ---- the keys of the entry that a word holds
 
--- those of a path, where b says so, or of a made parameter
-keys_by : (b : Bool) (o p : Name) (m : ℕ) →
-    (cond b (path_entry o p) (made_entry m o)).keys ≡
-    normalize_path o (cond b p (made_path m)) ∷
-    cond (is_empty (cond b (alias_of p (normalize_path o (cond b p (made_path m)))) [])) []
-    (cond b (alias_of p (normalize_path o (cond b p (made_path m)))) [] ∷ [])
+-- those of a path, or of a made parameter
+keys_by : (m : std.Option Made) (o p : Name) →
+    (entry_by o p m).keys ≡
+    normalize_path o (path_by p m) ∷
+    cond (is_empty (alias_by p (normalize_path o (path_by p m)) m)) [] (alias_by p (normalize_path o (path_by p m)) m ∷ [])
 unfolding made_entry
-keys_by true o p m = ap (λ (x : List Name). normalize_path o p ∷ x) (aliases_are p (normalize_path o p))
-keys_by false o p m = refl
+keys_by None o p = ap (λ (x : List Name). normalize_path o p ∷ x) (aliases_are p (normalize_path o p))
+keys_by (Some m) o p = refl
 
 -- the first key, and the alias where there is one
 keys_are : (s : List ℕ) (w : ℕ) → (entry_of s w).keys ≡ key_in s w ∷ cond (is_empty (alias_in s w)) [] (alias_in s w ∷ [])
 unfolding entry_of key_in alias_in
-keys_are s w = keys_by (eqb (made_of w) 0) (held s (owner_at w)) (held s (path_at w)) (made_of w)
+keys_are s w = keys_by (made_of w) (held s (owner_at w)) (held s (path_at w))
 
 -- ---- the marks of slots
 
@@ -107,7 +108,7 @@ module _ (ws : List ℕ) (h : 1663 ≤ length ws) (n key : ℕ) (ys : List ℕ)
     (first : (f : ℕ → ℕ) → Linked (take (length ws - 512) (drop 512 ws)) f (2 * n) → f (2 * n) ≡ key → Linked ys f (2 * n + 1)) where
   -- the answer of `link` for an entry with an alias
   pub linking_both : (zs : List ℕ) (mark : ℕ) → ((f : ℕ → ℕ) → Linked ys f (2 * n + 1) → f (2 * n + 1) ≡ mark → Linked zs f (2 * n + 1 + 1)) →
-      (a : Alias) → a ≡ Mark mark → Linking ws n key a (put_mid 512 (length ws - 512) ws zs)
+      (a : std.Option ℕ) → a ≡ Some mark → Linking ws n key a (put_mid 512 (length ws - 512) ws zs)
   linking_both zs mark second a e =
       let q : 2 * n + 1 + 1 ≡ 2 * n + 2 = omega arith in
       rw e (record {
@@ -117,7 +118,7 @@ module _ (ws : List ℕ) (h : 1663 ≤ length ws) (n key : ℕ) (ys : List ℕ)
 
   -- for one whose alias is left out
   pub linking_one : length ys ≡ length (take (length ws - 512) (drop 512 ws)) → n < 512 →
-      (a : Alias) → a ≡ LeftOut → Linking ws n key a (put_mid 512 (length ws - 512) ws ys)
+      (a : std.Option ℕ) → a ≡ None → Linking ws n key a (put_mid 512 (length ws - 512) ws ys)
   linking_one g few a e =
       let q : 2 * n + 1 + 1 ≡ 2 * n + 2 = omega arith in
       rw e (record {
@@ -136,7 +137,7 @@ index_none ws ys h g l s = record {
   linked = rw (put_drop ws (omega arith) ys) (l (slot_mark s (put_mid 512 (length ws - 512) ws ys)));
 }
 
-module _ (s ws us : List ℕ) (n w key : ℕ) (alias : Alias) (few : n < 512) (room : 1663 ≤ length ws) (l : Linking (set ws n w) n key alias us) where
+module _ (s ws us : List ℕ) (n w key : ℕ) (alias : std.Option ℕ) (few : n < 512) (room : 1663 ≤ length ws) (l : Linking (set ws n w) n key alias us) where
   -- the entries before it stay
   before : take n us ≡ take n ws
   before = take_fewer s us (set ws n w) 512 l.same n (omega arith) ∙ take-set-le n ws n w (omega arith)
@@ -270,10 +271,6 @@ module _ (o x : Name) where
       go true k = omega arith
       go false k = omega arith
 
-  -- the place is that of an entry, or behind them
-  place_within : (g : Registry) → place_of o x g ≤ length g
-  place_within = by_place o x (λ es i. i ≤ length es) (omega arith) (λ e es h. omega arith) (λ e es i h ih. omega arith)
-
 -- fewer entries
 take_entries : (s ws : List ℕ) (n k : ℕ) → k ≤ n → take k (entries_of s ws n) ≡ entries_of s ws k
 unfolding entries_of
@@ -352,29 +349,38 @@ index_linked {s} {ws} {n} x = rw (part_all ws (omega (arith, x.room))) x.linked
 abbrev pub index_table : {s ws : List ℕ} {n : ℕ} → Indexed s ws n → Table (take (length ws - 512) (drop 512 ws))
 index_table {s} {ws} {n} x = record { marks = slot_mark s ws; count = 2 * n; linked = index_linked x }
 
--- an entry of a slot that was asked, if it has the key, does not stand before the one that was kept
-abbrev pub Kept_first : List ℕ → List ℕ → Name → Name → ℕ → ℕ → Type 0
-Kept_first s ws o x found k = keyed_by o x (entry_of s (get_or ws (k / 2) 0)) ≡ true → found ≤ k / 2
+-- an entry was kept, and e does not stand before it
+abbrev pub Kept_before : std.Option ℕ → ℕ → Type 0
+Kept_before None e = ⊥
+Kept_before (Some found) e = found ≤ e
 
--- the search among n entries: the entry that was kept has the key, if it is one, and the walk stands before slot j
-pub record Searching (s ws : List ℕ) (n : ℕ) (o x : Name) (mark found j : ℕ) : Type 0 where
-  pub within : found ≤ n
-  pub keyed : found < n → keyed_by o x (entry_of s (get_or ws found 0)) ≡ true
+-- an entry of a slot that was asked, if it has the key, does not stand before the one that was kept
+abbrev pub Kept_first : List ℕ → List ℕ → Name → Name → std.Option ℕ → ℕ → Type 0
+Kept_first s ws o x found k = keyed_by o x (entry_of s (get_or ws (k / 2) 0)) ≡ true → Kept_before found (k / 2)
+
+-- the search among n entries: the entry that was kept has the key, and the walk stands before slot j
+pub record Searching (s ws : List ℕ) (n : ℕ) (o x : Name) (mark : ℕ) (found : std.Option ℕ) (j : ℕ) : Type 0 where
+  pub within : IfSome found (λ e. e < n)
+  pub keyed : IfSome found (λ e. keyed_by o x (entry_of s (get_or ws e 0)) ≡ true)
   pub walk : Walk (slot_mark s ws) mark (2 * n) (Kept_first s ws o x found) j
 
 module _ {s ws : List ℕ} {n : ℕ} {o x : Name} {mark : ℕ} where
   -- it begins with none
-  pub searching_first : {r : ℕ} → Prior (slot_mark s ws) mark (2 * n) r → Searching s ws n o x mark n r
-  searching_first q = record { within = omega arith; keyed = λ l. absurd (let z : ⊥ = omega arith in z); walk = walk_last q }
+  pub searching_first : {r : ℕ} → Prior (slot_mark s ws) mark (2 * n) r → Searching s ws n o x mark None r
+  searching_first q = record { within = tt; keyed = tt; walk = walk_last q }
 
-  module _ {found j r : ℕ} (w : Searching s ws n o x mark found j) (z : 0 < j) (q : Prior (slot_mark s ws) mark (j - 1) r)
-      {b : Bool} (f : b ≡ keyed_by o x (entry_of s (get_or ws ((j - 1) / 2) 0))) where
+  module _ {found : std.Option ℕ} {j r : ℕ} (w : Searching s ws n o x mark found j) (z : 0 < j) (q : Prior (slot_mark s ws) mark (j - 1) r)
+      {b : Bool} (f : b ≡ keyed_by o x (entry_of s (get_or (take n ws) ((j - 1) / 2) 0))) where
+    -- the test of the slot's entry
+    tested : b ≡ keyed_by o x (entry_of s (get_or ws ((j - 1) / 2) 0))
+    tested = f ∙ ap (λ (v : ℕ). keyed_by o x (entry_of s v)) (get_or-take n ws ((j - 1) / 2) 0 (omega (arith, w.walk.within)))
+
     -- the entry of the slot has the key: it is kept, since it does not stand behind one that was
-    pub searching_hit : b ≡ true → Searching s ws n o x mark ((j - 1) / 2) r
+    pub searching_hit : b ≡ true → Searching s ws n o x mark (Some ((j - 1) / 2)) r
     searching_hit e = record {
       within = omega (arith, w.walk.within);
-      keyed = λ l. sym f ∙ e;
-      walk = (walk_before {P = Kept_first s ws o x ((j - 1) / 2)} (walk_more (λ k h p g. omega arith) w.walk) z (λ g. omega arith) q).0;
+      keyed = sym tested ∙ e;
+      walk = (walk_before {P = Kept_first s ws o x (Some ((j - 1) / 2))} (walk_more (λ k h p g. omega arith) w.walk) z (λ g. omega arith) q).0;
     }
 
     -- it has not
@@ -382,73 +388,69 @@ module _ {s ws : List ℕ} {n : ℕ} {o x : Name} {mark : ℕ} where
     searching_miss e = record {
       within = w.within;
       keyed = w.keyed;
-      walk = (walk_before w.walk z (λ g. false_true (sym e ∙ (f ∙ g))) q).0;
+      walk = (walk_before w.walk z (λ g. false_true (sym e ∙ (tested ∙ g))) q).0;
     }
 
-  module _ {found j : ℕ} (fit : n ≤ length ws) (em : mark ≡ key_mark o x) (w : Searching s ws n o x mark found j) where
-    -- the place does not lie behind the entry that was kept
-    found_low : place_of o x (entries_of s ws n) ≤ found
-    found_low = go (leb n found) refl
-      where
-        go : (b : Bool) → leb n found ≡ b → place_of o x (entries_of s ws n) ≤ found
-        go true e = omega (arith, leb-true n found e, place_within o x (entries_of s ws n), entries_length s ws n fit)
-        go false e =
-            let l : found < n = leb-false n found e in
-            place_le o x (entry_of s 0) (entries_of s ws n) found (omega (arith, entries_length s ws n fit))
-            (ap (keyed_by o x) (entry_at s ws n fit found l) ∙ w.keyed l)
+  module _ {j : ℕ} (fit : n ≤ length ws) (em : mark ≡ key_mark o x) (z : j ≤ 0) where
+    -- at the end of the walk, a slot of the place's entry was asked
+    asked : {found : std.Option ℕ} → Searching s ws n o x mark found j → place_of o x (entries_of s ws n) < n →
+        Kept_before found (place_of o x (entries_of s ws n))
+    asked w l =
+        let p = place_of o x (entries_of s ws n) in
+        let q : 2 * p / 2 ≡ p = omega arith in
+        let r : (2 * p + 1) / 2 ≡ p = omega arith in
+        let k = keyed s ws n fit o x mark em l in
+        spot_slot s ws n fit o x mark em l
+        (λ f. rw q at (walk_end w.walk z (2 * p) (omega arith) f (rw q k)))
+        (λ f. rw r at (walk_end w.walk z (2 * p + 1) (omega arith) f (rw r k)))
 
-    -- nor before it: a slot of the place's entry was asked
-    found_high : j ≤ 0 → found ≤ place_of o x (entries_of s ws n)
-    found_high z = go (leb n (place_of o x (entries_of s ws n))) refl
+    -- so what was kept is the first that has the key, if any has
+    pub searching_end : (found : std.Option ℕ) → Searching s ws n o x mark found j → found ≡ found_at o x (entries_of s ws n)
+    searching_end None w = sym (found_nothing o x (entries_of s ws n) (go (leb n (place_of o x (entries_of s ws n))) refl))
       where
-        go : (b : Bool) → leb n (place_of o x (entries_of s ws n)) ≡ b → found ≤ place_of o x (entries_of s ws n)
-        go true e = omega (arith, leb-true n (place_of o x (entries_of s ws n)) e, w.within)
-        go false e =
-            let p = place_of o x (entries_of s ws n) in
-            let l : p < n = leb-false n (place_of o x (entries_of s ws n)) e in
-            let q : 2 * p / 2 ≡ p = omega arith in
-            let r : (2 * p + 1) / 2 ≡ p = omega arith in
-            let k = keyed s ws n fit o x mark em l in
-            spot_slot s ws n fit o x mark em l
-            (λ f. rw q at (walk_end w.walk z (2 * p) (omega arith) f (rw q k)))
-            (λ f. rw r at (walk_end w.walk z (2 * p + 1) (omega arith) f (rw r k)))
-
-    -- at the end of the walk it is the first that has the key
-    pub searching_end : j ≤ 0 → found ≡ place_of o x (entries_of s ws n)
-    searching_end z = omega (arith, found_low, found_high z)
+        go : (b : Bool) → leb n (place_of o x (entries_of s ws n)) ≡ b → length (entries_of s ws n) ≤ place_of o x (entries_of s ws n)
+        go true e = omega (arith, leb-true n (place_of o x (entries_of s ws n)) e, entries_length s ws n fit)
+        go false e = absurd (asked w (leb-false n (place_of o x (entries_of s ws n)) e))
+    searching_end (Some e) w =
+        let low : place_of o x (entries_of s ws n) ≤ e =
+        place_le o x (entry_of s 0) (entries_of s ws n) e (omega (arith, w.within, entries_length s ws n fit))
+        (ap (keyed_by o x) (entry_at s ws n fit e w.within) ∙ w.keyed) in
+        let high : e ≤ place_of o x (entries_of s ws n) = asked w (omega (arith, w.within)) in
+        let same : e ≡ place_of o x (entries_of s ws n) = omega arith in
+        ap Some same ∙ sym (found_some o x (entries_of s ws n) (omega (arith, w.within, entries_length s ws n fit)))
 
 -- ---- what is searched for
 
 -- the key of an owner whose name stands at an offset
-pub sought_at : {s : List ℕ} {m h at : ℕ} {o k : Name} → m ≡ mark_of h k → h ≡ owner_mark o → o ≡ held s at → Sought s m at o k
+pub sought_at : {s : List ℕ} {m h at : ℕ} {o k : Name} → m ≡ mark_of h k → h ≡ owner_mark o → o ≡ held s at → Sought s m (Some at) o k
 sought_at {o = o} {k = k} e f g = record {
   mark = e ∙ ap (λ (x : ℕ). mark_of x k) f;
-  owner = λ l. sym (ap (same o) (sym g) ∙ same_refl o);
+  owner = sym (ap (same o) (sym g) ∙ same_refl o);
 }
 
 -- of an owner whose offset is not known
-pub sought_any : {s : List ℕ} {m h : ℕ} {o k : Name} → m ≡ mark_of h k → h ≡ owner_mark o → Sought s m 65536 o k
-sought_any {k = k} e f = record { mark = e ∙ ap (λ (x : ℕ). mark_of x k) f; owner = λ l. absurd (let z : ⊥ = omega arith in z) }
+pub sought_any : {s : List ℕ} {m h : ℕ} {o k : Name} → m ≡ mark_of h k → h ≡ owner_mark o → Sought s m None o k
+sought_any {k = k} e f = record { mark = e ∙ ap (λ (x : ℕ). mark_of x k) f; owner = tt }
 
 -- the same of a key in two parts
-pub sought_joined : {s : List ℕ} {m h g : ℕ} {o : Name} (a b : Name) → m ≡ mark_of h b → h ≡ mark_of g a → g ≡ owner_mark o → Sought s m 65536 o (a ++ b)
+pub sought_joined : {s : List ℕ} {m h g : ℕ} {o : Name} (a b : Name) → m ≡ mark_of h b → h ≡ mark_of g a → g ≡ owner_mark o → Sought s m None o (a ++ b)
 sought_joined {g = g} a b e f i = sought_any (e ∙ (ap (λ (x : ℕ). mark_of x b) f ∙ sym (mark_append g a b))) i
 
 -- ---- the alias of a word's entry
 
 -- as the code finds it
-pub alias_is : (s : List ℕ) (w : ℕ) {m : ℕ} {o p n a : Name} → m ≡ made_of w → m ≡ 0 → o ≡ held s (owner_at w) → p ≡ held s (path_at w) →
-    n ≡ normalize_path o p → a ≡ alias_of p n → a ≡ alias_in s w
+pub alias_is : (s : List ℕ) (w : ℕ) {r : std.Option Made} {o p n a : Name} → r ≡ made_of w → is_some r ≡ false → o ≡ held s (owner_at w) →
+    p ≡ held s (path_at w) → n ≡ normalize_path o p → a ≡ alias_of p n → a ≡ alias_in s w
 unfolding alias_in key_in
-alias_is s w em z eo ep en ea =
-    let q : eqb (made_of w) 0 ≡ true = eq-eqb (made_of w) 0 (sym em ∙ z) in
-    rw (q, ← eo, ← ep, ← en) ea
+alias_is s w {r = None} em z eo ep en ea = rw (← em, ← eo, ← ep, ← en) ea
+alias_is s w {r = Some m} em z eo ep en ea = absurd (false_true (sym z))
 
 -- a made parameter has none
-pub alias_made : (s : List ℕ) (w : ℕ) (g : Registry) {m : ℕ} → m ≡ made_of w → (m ≡ 0 → ⊥) →
+pub alias_made : (s : List ℕ) (w : ℕ) (g : Registry) (r : std.Option Made) → r ≡ made_of w → is_some r ≡ true →
     18446744073709551616 ≤ alias_mark g (held s (owner_at w)) (alias_in s w)
 unfolding alias_in alias_mark
-alias_made s w g em z = rw (ne_eqb (made_of w) 0 (λ e. z (em ∙ e))) (omega arith)
+alias_made s w g None em z = false_true z
+alias_made s w g (Some m) em z = rw (← em) (omega arith)
 
 -- nor has a path whose alias is empty
 pub alias_none : (s : List ℕ) (w : ℕ) (g : Registry) (a : Name) → a ≡ alias_in s w → length a ≡ 0 →
@@ -461,13 +463,16 @@ alias_none s w g a e l = rw (← e) (go a l)
     go [] l = omega arith
     go (x ∷ xs) l = absurd (let z : ⊥ = omega arith in z)
 
-module _ (s ws : List ℕ) (n w : ℕ) (fit : n ≤ length ws) (o : Name) (eo : o ≡ held s (owner_at w)) {a : Name} (ea : a ≡ alias_in s w) {i : ℕ} where
+module _ (s ws : List ℕ) (n w : ℕ) (fit : n ≤ length ws) (o : Name) (eo : o ≡ held s (owner_at w)) {a : Name} (ea : a ≡ alias_in s w) where
   -- an alias that is a key of an entry before is left out
-  pub alias_known : i ≡ place_of o a (entries_of s ws n) → i < n → 18446744073709551616 ≤ alias_mark (entries_of s ws n) (held s (owner_at w)) (alias_in s w)
+  pub alias_known : (r : std.Option ℕ) → r ≡ found_at o a (entries_of s ws n) → is_some r ≡ true →
+      18446744073709551616 ≤ alias_mark (entries_of s ws n) (held s (owner_at w)) (alias_in s w)
   unfolding alias_mark
-  alias_known e l =
+  alias_known None e l = false_true l
+  alias_known (Some i) e l =
       let q : ltb (place_of o a (entries_of s ws n)) (length (entries_of s ws n)) ≡ true =
-      lt-ltb (place_of o a (entries_of s ws n)) (length (entries_of s ws n)) (omega (arith, entries_length s ws n fit)) in
+      lt-ltb (place_of o a (entries_of s ws n)) (length (entries_of s ws n))
+      (omega (arith, some_place s ws n fit o a e refl, some_within s ws n fit o a e refl, entries_length s ws n fit)) in
       rw (← ea, ← eo, q) (go (is_empty a))
     where
       go : (b : Bool) → 18446744073709551616 ≤ cond (b || true) 18446744073709551616 (key_mark o a)
@@ -475,12 +480,14 @@ module _ (s ws : List ℕ) (n w : ℕ) (fit : n ≤ length ws) (o : Name) (eo : 
       go false = omega arith
 
   -- any other has its mark
-  pub alias_new : {m h : ℕ} → (length a ≡ 0 → ⊥) → i ≡ place_of o a (entries_of s ws n) → n ≤ i → m ≡ mark_of h a → h ≡ owner_mark (held s (owner_at w)) →
-      alias_mark (entries_of s ws n) (held s (owner_at w)) (alias_in s w) ≡ m
+  pub alias_new : (r : std.Option ℕ) {m h : ℕ} → (length a ≡ 0 → ⊥) → r ≡ found_at o a (entries_of s ws n) → is_some r ≡ false → m ≡ mark_of h a →
+      h ≡ owner_mark (held s (owner_at w)) → alias_mark (entries_of s ws n) (held s (owner_at w)) (alias_in s w) ≡ m
   unfolding alias_mark
-  alias_new {m} {h} z e l em eh =
+  alias_new (Some i) z e l em eh = absurd (false_true (sym l))
+  alias_new None {m} {h} z e l em eh =
       let q : ltb (place_of o a (entries_of s ws n)) (length (entries_of s ws n)) ≡ false =
-      le-ltb (place_of o a (entries_of s ws n)) (length (entries_of s ws n)) (omega (arith, entries_length s ws n fit)) in
+      le-ltb (place_of o a (entries_of s ws n)) (length (entries_of s ws n))
+      (omega (arith, none_place s ws n fit o a e refl, entries_length s ws n fit)) in
       rw (← ea, ← eo, q) (go a z ∙ sym (em ∙ ap (λ (x : ℕ). mark_of x a) (eh ∙ ap owner_mark (sym eo))))
     where
       go : (a : Name) → (length a ≡ 0 → ⊥) → cond (is_empty a || false) 18446744073709551616 (key_mark o a) ≡ key_mark o a
@@ -490,17 +497,17 @@ module _ (s ws : List ℕ) (n w : ℕ) (fit : n ≤ length ws) (o : Name) (eo : 
 -- ---- the marks of a new entry
 
 -- of a path
-pub marked_path : {s : List ℕ} {owner path w h m : ℕ} {o p k : Name} → w ≡ word_of owner path 0 → owner < 65536 → path < 65536 →
+pub marked_path : {s : List ℕ} {owner path w h m : ℕ} {o p k : Name} → w ≡ word_of owner path None → owner < 65536 → path < 65536 →
     o ≡ held s owner → p ≡ held s path → h ≡ owner_mark (held s owner) → k ≡ normalize_path o p → m ≡ mark_of h k → Marked s w h m
 unfolding key_in
 marked_path {s} {owner} {path} {w} {h} {m} {o} {p} {k} ew a b eo ep eh ek em =
-    let x : owner_at w ≡ owner = ap owner_at ew ∙ word_owner owner path 0 a b (omega arith) in
-    let y : path_at w ≡ path = ap path_at ew ∙ word_path owner path 0 a b (omega arith) in
-    let z : made_of w ≡ 0 = ap made_of ew ∙ word_made owner path 0 a b (omega arith) in
+    let x : owner_at w ≡ owner = ap owner_at ew ∙ word_owner owner path None a b in
+    let y : path_at w ≡ path = ap path_at ew ∙ word_path owner path None a b in
+    let z : made_of w ≡ None = ap made_of ew ∙ word_made owner path None a b in
     record { owner = rw x eh; key = rw (x, z, y, ← eo, ← ep, ← ek) (em ∙ ap (λ (u : ℕ). mark_of u k) (eh ∙ ap owner_mark (sym eo))) }
 
 -- of a made parameter
-pub marked_made : (s : List ℕ) (owner made w : ℕ) {h m : ℕ} {o p k : Name} → ((t : List ℕ) → entry_of t w ≡ made_entry made (held t owner)) →
+pub marked_made : (s : List ℕ) (owner : ℕ) (made : Made) (w : ℕ) {h m : ℕ} {o p k : Name} → ((t : List ℕ) → entry_of t w ≡ made_entry made (held t owner)) →
     o ≡ held s owner → p ≡ made_path made → h ≡ owner_mark o → k ≡ normalize_path o p → m ≡ mark_of h k → Marked s w h m
 unfolding made_entry
 marked_made s owner made w {h} {m} {o} {p} {k} e eo ep eh ek em =

@@ -1,14 +1,16 @@
--- A word's names, its keys, and the texts of made parameters. Assumes nothing.
+-- A word's names and its keys. Assumes nothing.
 use Prim.Native.Nat.{ℕ, ◌+◌, ◌-◌, ◌≤◌, ◌<◌}
 use native.Mathlib.Omega.{arith}
 use mathlib.Core.Path.{◌≡◌, refl, sym, ap, ap₂, ◌∙◌}
 use mathlib.Core.Bool.{Bool, true, false, not, ◌&&◌, cond}
 use mathlib.Core.List.{List, [], ◌∷◌, ◌++◌}
-use lib.Dec.{eqb, leb}
+use lib.Dec.{leb}
 use lib.ListN.{length, take, drop, length-take}
-use borrow.Author.Tests.{le-leb, lt-leb, leb-true, eq-eqb, ne_eqb, not-true}
+use borrow.Author.Tests.{le-leb, lt-leb, leb-true, not-true}
+use Rattle.std.specs.Prelude as std
+use Rattle.std.specs.Prelude.{Some, None, IfSome}
 use Rattle.blocks.specs.Bytes.{le2, name_at}
-use Rattle.blocks.specs.Name.{Name, ascii, same, among}
+use Rattle.blocks.specs.Name.{Name, same, among}
 use Rattle.blocks.proofs.Name.{same_eq}
 use Rattle.builder.specs.Names.{is_empty, normalize_path, alternate_owner_aliases}
 use Rattle.builder.specs.Registry.{Entry, keyed_by, entry_of as path_entry}
@@ -16,7 +18,9 @@ use Rattle.builder_names.specs.Views.{alias_of, colons_before}
 use Rattle.builder_names.proofs.Colons.{aliases_are}
 use Rattle.builder_names.proofs.Qualified.{or_false, not_alias}
 use Rattle.builder_registry.specs.Word.{owner_at, path_at, made_of, derived_of}
-use Rattle.builder_registry.specs.Words.{held, flagged, made_path, made_entry, entry_of}
+use Rattle.builder_registry.specs.Words.{held, flagged, made_entry, entry_by, entry_of}
+use Rattle.builder_registry.specs.Texts.{made_path}
+use Rattle.builder_registry.specs.declared.Made.{Made}
 
 -- ---- the name at an offset
 
@@ -61,23 +65,6 @@ pub held_of : (s : List ℕ) {r : Name} {a b : ℕ} → r ≡ held s a → a ≡
 held_of s f e = f ∙ ap (held s) e
 
 pub ruleset helds = (held_none, held_out, held_long, held_in, held_short)
-
--- ---- the text of a made parameter
-
-module _ {A : Type 0} (made : ℕ) (a b c : A) where
-  -- the answer of `pick` for a computed tag
-  pub pick_first : made ≡ 1 → a ≡ cond (eqb made 1) a (cond (eqb made 2) b c)
-  pick_first e = rw (eq-eqb made 1 e)
-
-  -- for a union variant
-  pub pick_second : (made ≡ 1 → ⊥) → made ≡ 2 → b ≡ cond (eqb made 1) a (cond (eqb made 2) b c)
-  pick_second h e = rw (ne_eqb made 1 h, eq-eqb made 2 e)
-
-  -- for a payload size
-  pub pick_third : (made ≡ 1 → ⊥) → (made ≡ 2 → ⊥) → c ≡ cond (eqb made 1) a (cond (eqb made 2) b c)
-  pick_third h k = rw (ne_eqb made 1 h, ne_eqb made 2 k)
-
-pub ruleset picks = (pick_first, pick_second, pick_third)
 
 -- ---- the keys of an entered path
 
@@ -124,41 +111,27 @@ module _ (o p h r n : Name) (e : n ≡ normalize_path o p) (b : Bool) (f : b ≡
 
 pub ruleset entered_keys = (keys_normal, keys_other, keys_none, keys_alias)
 
--- ---- the key of a made parameter
-
--- its path, as the code gives it
-pub made_text : (made : ℕ) (t : Name) →
-    t ≡ cond (eqb made 1) (ascii "__computed_tag") (cond (eqb made 2) (ascii "__variant") (ascii "__payload_size")) →
-    t ≡ made_path made
-unfolding made_path
-made_text made t e = e
-
--- the answer of `made_has`: the normal path of its path is its one key
-pub made_key : (o k : Name) (made : ℕ) (t n : Name) (b : Bool) → t ≡ made_path made → n ≡ normalize_path o t → b ≡ same k n →
-    b ≡ same k (normalize_path o (made_path made))
-made_key o k made t n b e f g = g ∙ ap (same k) (f ∙ ap (normalize_path o) e)
-
 -- ---- what a word holds
 
 module _ (s : List ℕ) (w : ℕ) where
   -- the owner of the entry that a word holds
   pub owner_is : (entry_of s w).owner ≡ held s (owner_at w)
   unfolding entry_of made_entry
-  owner_is = go (eqb (made_of w) 0)
+  owner_is = go (made_of w)
     where
-      go : (b : Bool) → (cond b (path_entry (held s (owner_at w)) (held s (path_at w))) (made_entry (made_of w) (held s (owner_at w)))).owner ≡ held s (owner_at w)
-      go true = refl
-      go false = refl
+      go : (m : std.Option Made) → (entry_by (held s (owner_at w)) (held s (path_at w)) m).owner ≡ held s (owner_at w)
+      go None = refl
+      go (Some m) = refl
 
   -- the entry of a word that holds a path
-  pub entry_path : made_of w ≡ 0 → entry_of s w ≡ flagged (derived_of w) (path_entry (held s (owner_at w)) (held s (path_at w)))
+  pub entry_path : made_of w ≡ None → entry_of s w ≡ flagged (derived_of w) (path_entry (held s (owner_at w)) (held s (path_at w)))
   unfolding entry_of
-  entry_path e = rw (eq-eqb (made_of w) 0 e)
+  entry_path e = rw e
 
   -- the entry of a word that holds a made parameter
-  pub entry_made : (made_of w ≡ 0 → ⊥) → entry_of s w ≡ flagged (derived_of w) (made_entry (made_of w) (held s (owner_at w)))
+  pub entry_made : (m : Made) → made_of w ≡ Some m → entry_of s w ≡ flagged (derived_of w) (made_entry m (held s (owner_at w)))
   unfolding entry_of
-  entry_made e = rw (ne_eqb (made_of w) 0 e)
+  entry_made m e = rw e
 
   module _ (o k : Name) (t : Bool) (e : t ≡ same o (held s (owner_at w))) where
     -- the answer of `has_key` for another owner
@@ -174,37 +147,21 @@ module _ (s : List ℕ) (w : ℕ) where
       owner_same : held s (owner_at w) ≡ o
       owner_same = sym (same_eq o (held s (owner_at w)) (sym e ∙ h))
 
-      -- the answer of `has_key` for a path, where m is the word's made parameter
-      pub word_path : (m : ℕ) (p : Name) (b : Bool) → m ≡ made_of w → m ≡ 0 → p ≡ held s (path_at w) →
+      -- the answer of `has_key` for a path, where r is what the word says of its made parameter
+      pub word_path : {r : std.Option Made} {p : Name} {b : Bool} → r ≡ made_of w → r ≡ None → p ≡ held s (path_at w) →
           b ≡ among k (path_entry o p).keys → b ≡ keyed_by o k (entry_of s w)
-      word_path m p b em z f g =
+      word_path em z f g =
           g ∙
           sym (keys_of ∙ (ap (λ (y : Entry). among k y.keys) (entry_path (sym em ∙ z)) ∙ ap₂ (λ (y z : Name). among k (path_entry y z).keys) owner_same (sym f)))
 
       -- its answer for a made parameter
-      pub word_made : (m : ℕ) (b : Bool) → m ≡ made_of w → (m ≡ 0 → ⊥) → b ≡ same k (normalize_path o (made_path m)) → b ≡ keyed_by o k (entry_of s w)
+      pub word_made : {r : std.Option Made} {m : Made} {b : Bool} → r ≡ made_of w → r ≡ Some m → b ≡ same k (normalize_path o (made_path m)) →
+          b ≡ keyed_by o k (entry_of s w)
       unfolding among made_entry
-      word_made m b em z g =
-          g ∙ ap (λ (i : ℕ). same k (normalize_path o (made_path i))) em ∙
-          sym (keys_of ∙ (ap (λ (y : Entry). among k y.keys) (entry_made (λ y. z (em ∙ y))) ∙
-          (or_false (same k (normalize_path (held s (owner_at w)) (made_path (made_of w)))) ∙
-          ap (λ (y : Name). same k (normalize_path y (made_path (made_of w)))) owner_same)))
+      word_made {m = m} em z g =
+          g ∙
+          sym (keys_of ∙ (ap (λ (y : Entry). among k y.keys) (entry_made m (sym em ∙ z)) ∙
+          (or_false (same k (normalize_path (held s (owner_at w)) (made_path m))) ∙
+          ap (λ (y : Name). same k (normalize_path y (made_path m))) owner_same)))
 
 pub ruleset word_keys = (word_other, word_path, word_made)
-
--- ---- an owner that is known
-
-module _ (s : List ℕ) (o : Name) (at : ℕ) (b : Bool) where
-  -- at the same offset stands the same name
-  pub owner_known : (known : ℕ) → (known < 65536 → b ≡ same o (held s known)) → at < 65536 → at ≡ known → b ≡ same o (held s at)
-  owner_known known e l f = e (omega arith) ∙ ap (λ (i : ℕ). same o (held s i)) (sym f)
-
-  -- at another it is compared
-  pub owner_compared : (n : Name) → n ≡ held s at → b ≡ same o n → b ≡ same o (held s at)
-  owner_compared n e f = f ∙ ap (same o) e
-
-  -- and the offset is that of a word
-  pub owner_word : (w : ℕ) → b ≡ same o (held s at) → at ≡ owner_at w → b ≡ same o (held s (owner_at w))
-  owner_word w e f = e ∙ ap (λ (i : ℕ). same o (held s i)) f
-
-pub ruleset owners = (owner_known, owner_compared)

@@ -1,5 +1,8 @@
 -- What callers of the registry use.
 use mathlib.Core.Path.{◌≡◌, refl, sym, ap, ap₂, ◌∙◌}
+use Rattle.std.specs.Prelude as std
+use Rattle.std.specs.Prelude.{Some, None, Ok}
+use Rattle.std.proofs.lemmas.Option.{none-some, same_Some}
 use mathlib.Core.List.{List, ◌++◌}
 use mathlib.Core.Option.{Option, some, none}
 use Prim.Native.Nat.{ℕ, ◌+◌, ◌≤◌, ◌<◌}
@@ -14,10 +17,7 @@ use Rattle.builder.specs.Names.{normalize_path, rsplit_once, qualified, qualify_
 use Rattle.builder.specs.Registry.{Registry, lookup_name, mark_derived}
 use Rattle.builder.specs.Nodes.{lookup_qualified}
 use Rattle.resolved_parts.specs.Types.{Named}
-use Rattle.builder_registry.specs.declared.Held.{Held}
 use Rattle.builder_registry.specs.declared.Tagged.{Tagged}
-use Rattle.builder_registry.specs.declared.Found.{Found}
-use Rattle.builder_registry.specs.declared.Found.TheVariants.{At, Missing}
 use Rattle.builder_registry.specs.Words.{held, entries_of, entry_name, Indexed, Standing, Kept, Tags, Looked}
 use Rattle.builder_registry.proofs.Long.{find_long, mark_long, normal_long}
 
@@ -30,35 +30,35 @@ held_name {s} {at} n = rw (le-leb (at + 2 + le2 s at) (length s) n.inside, le-le
 pub standing : {s ws us : List ℕ} {n m : ℕ} → Standing s ws n → length us ≡ length ws → m ≤ 512 → Indexed s us m → Standing s us m
 standing a e h i = record { size = a.size; words = rw e a.words; count = h; index = i }
 
--- ---- what an answer says, by its number or its variant
+-- ---- what an answer says
 
 -- a change that was not refused gives the registry that the words hold
-pub kept_done : {s us : List ℕ} {r : Held} {o : Outcome (Unit × Registry)} → r.number ≡ 0 → Kept s us r o → o ≡ done (tt, entries_of s us r.count)
-kept_done z k = let a = answered z k in a.1 ∙ ap (λ (g : Registry). done (tt, g)) (sym a.2.entries)
+pub kept_done : {s us : List ℕ} {n : ℕ} {o : Outcome (Unit × Registry)} → Kept s us (Ok n) o → o ≡ done (tt, entries_of s us n)
+kept_done k = let a = answered k in a.1 ∙ ap (λ (g : Registry). done (tt, g)) (sym a.2.entries)
 
 -- and leaves the index of it
-pub kept_index : {s us : List ℕ} {r : Held} {o : Outcome (Unit × Registry)} → r.number ≡ 0 → Kept s us r o → Indexed s us r.count
-kept_index z k = (answered z k).2.index
+pub kept_index : {s us : List ℕ} {n : ℕ} {o : Outcome (Unit × Registry)} → Kept s us (Ok n) o → Indexed s us n
+kept_index k = (answered k).2.index
 
 -- with a name: that of the entry at the place
-pub tags_done : {s us : List ℕ} {r : Tagged} {o : Outcome (Name × Registry)} → r.number ≡ 0 → Tags s us r o →
+pub tags_done : {s us : List ℕ} {r : Tagged} {o : Outcome (Name × Registry)} → Tags s us (Ok r) o →
     (r.at < r.count) × (o ≡ done (entry_name s (get_or us r.at 0), entries_of s us r.count))
-tags_done z t =
-    let a = answered z t in
+tags_done t =
+    let a = answered t in
     (a.2.within, a.1 ∙ ap₂ (λ (n : Name) (g : Registry). done (n, g)) a.2.named (sym a.2.entries))
 
 -- and the index
-pub tags_index : {s us : List ℕ} {r : Tagged} {o : Outcome (Name × Registry)} → r.number ≡ 0 → Tags s us r o → Indexed s us r.count
-tags_index z t = (answered z t).2.index
+pub tags_index : {s us : List ℕ} {r : Tagged} {o : Outcome (Name × Registry)} → Tags s us (Ok r) o → Indexed s us r.count
+tags_index t = (answered t).2.index
 
 -- a name that was found is that of the entry at the place
-pub looked_entry : {s ws : List ℕ} {n i : ℕ} {f : Found} {o : Option Name} → f ≡ At i → Looked s ws n f o → (i < n) × (o ≡ some (entry_name s (get_or ws i 0)))
-looked_entry {i} e (Looked.at {i = j} h) = let z : j ≡ i = cc in rw (← z) (h, refl)
-looked_entry e Looked.missing = let z : ◌≡◌ {A = ℕ} 0 1 = cc in absurd (omega arith)
+pub looked_entry : {s ws : List ℕ} {n i : ℕ} {f : std.Option ℕ} {o : Option Name} → f ≡ Some i → Looked s ws n f o → (i < n) × (o ≡ some (entry_name s (get_or ws i 0)))
+looked_entry {i} e (Looked.at {i = j} h) = let z : j ≡ i = same_Some j i e in rw (← z) (h, refl)
+looked_entry e Looked.missing = absurd (none-some _ e)
 
 -- one that was not found is none
-pub looked_missing : {s ws : List ℕ} {n : ℕ} {f : Found} {o : Option Name} → f ≡ Missing → Looked s ws n f o → o ≡ none
-looked_missing e (Looked.at h) = let z : ◌≡◌ {A = ℕ} 0 1 = cc in absurd (omega arith)
+pub looked_missing : {s ws : List ℕ} {n : ℕ} {f : std.Option ℕ} {o : Option Name} → f ≡ None → Looked s ws n f o → o ≡ none
+looked_missing e (Looked.at h) = absurd (none-some _ (sym e))
 looked_missing e Looked.missing = refl
 
 -- ---- long paths

@@ -5,10 +5,10 @@ use mathlib.Core.Path.{◌≡◌, refl, sym, ap, ◌∙◌}
 use mathlib.Core.Bool.{Bool, true, false, ◌&&◌}
 use mathlib.Core.List.{List, [], ◌∷◌, map}
 use mathlib.Core.Option.{none}
-use lib.Dec.{eqb}
 use lib.ListN.{length, take, length-drop}
-use borrow.Author.Tests.{eqb-true, eqb-false}
-use Rattle.blocks.specs.Name.{Name, ascii, same, among}
+use Rattle.std.specs.Prelude as std
+use Rattle.std.specs.Prelude.{Some, None}
+use Rattle.blocks.specs.Name.{Name, same, among}
 use Rattle.blocks.proofs.Name.{same_eq}
 use Rattle.wire.proofs.Names.{same_long}
 use Rattle.builder.specs.Names.{is_some, strip_owner, normalize_path, alternate_owner_aliases}
@@ -17,10 +17,12 @@ use Rattle.builder_names.proofs.Strip.{normal_rest, normal_whole}
 use Rattle.builder_names.proofs.Colons.{before_rest}
 use Rattle.builder_names.proofs.Qualified.{not_alias}
 use Rattle.builder_registry.specs.Word.{owner_at, path_at, made_of}
-use Rattle.builder_registry.specs.Words.{held, made_path, made_entry, entry_of, entries_of}
+use Rattle.builder_registry.specs.Words.{held, made_entry, entry_of, entries_of}
+use Rattle.builder_registry.specs.Texts.{made_path}
+use Rattle.builder_registry.specs.declared.Made.{Made}
 use Rattle.builder_registry.specs.Place.{place_of}
 use Rattle.builder_registry.proofs.Keys.{held_bound, entry_path, entry_made}
-use Rattle.builder_registry.proofs.Names.{normal_short, picked_short}
+use Rattle.builder_registry.proofs.Names.{normal_short, made_short}
 use Rattle.builder_registry.proofs.Places.{find_none, mark_none}
 
 -- ---- a long key
@@ -39,26 +41,20 @@ module _ (k : Name) (long : 255 < length k) where
   unfolding among
   not_path o p h = rw (not_same (normalize_path o p) (omega (arith, normal_short o p))) (not_short_alias p (normalize_path o p) h)
 
-  -- the path of a made parameter is short
-  made_short : (m : ℕ) → length (made_path m) ≤ 255
-  unfolding made_path
-  made_short m =
-      picked_short 255 m (ascii "__computed_tag") (ascii "__variant") (ascii "__payload_size") (omega arith) (omega arith) (omega arith)
-
   -- nor the key of a made parameter
-  not_made : (m : ℕ) (o : Name) → among k (made_entry m o).keys ≡ false
+  not_made : (m : Made) (o : Name) → among k (made_entry m o).keys ≡ false
   unfolding among made_entry
   not_made m o = rw (not_same (normalize_path o (made_path m)) (omega (arith, normal_short o (made_path m), made_short m)))
 
   -- nor a key of the entry that a word holds
   not_key : (s : List ℕ) (w : ℕ) → among k (entry_of s w).keys ≡ false
-  not_key s w = go (eqb (made_of w) 0) refl
+  not_key s w = go (made_of w) refl
     where
-      go : (b : Bool) → eqb (made_of w) 0 ≡ b → among k (entry_of s w).keys ≡ false
-      go true h =
-          ap (λ (y : Entry). among k y.keys) (entry_path s w (eqb-true (made_of w) 0 h)) ∙
+      go : (m : std.Option Made) → made_of w ≡ m → among k (entry_of s w).keys ≡ false
+      go None h =
+          ap (λ (y : Entry). among k y.keys) (entry_path s w h) ∙
           not_path (held s (owner_at w)) (held s (path_at w)) (held_bound s (path_at w) refl)
-      go false h = ap (λ (y : Entry). among k y.keys) (entry_made s w (eqb-false (made_of w) 0 h)) ∙ not_made (made_of w) (held s (owner_at w))
+      go (Some m) h = ap (λ (y : Entry). among k y.keys) (entry_made s w m h) ∙ not_made m (held s (owner_at w))
 
   -- so no word's entry has it under any owner
   not_held : (o : Name) (s : List ℕ) (w : ℕ) → keyed_by o k (entry_of s w) ≡ false

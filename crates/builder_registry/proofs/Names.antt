@@ -2,22 +2,22 @@
 use Prim.Native.Nat.{ℕ, ◌+◌, ◌≤◌}
 use native.Mathlib.Omega.{arith}
 use mathlib.Core.Path.{◌≡◌, refl, sym, ap, ap₂, ◌∙◌}
-use mathlib.Core.Bool.{Bool, true, false, cond}
+use mathlib.Core.Bool.{Bool, true, false}
 use mathlib.Core.List.{List, ◌++◌}
-use mathlib.Core.Option.{some, none}
-use lib.Dec.{eqb}
+use Rattle.std.specs.Prelude as std
+use Rattle.std.specs.Prelude.{Some, None}
 use lib.ListN.{length, drop, length-drop, length-append}
-use borrow.Author.Tests.{eqb-true, eqb-false}
-use Rattle.blocks.specs.Name.{Name, ascii, same}
-use Rattle.ir.specs.Ir.{IrParameter}
+use Rattle.blocks.specs.Name.{Name, same}
 use Rattle.builder.specs.Names.{is_some, strip_owner, normalize_path, canonical_name}
 use Rattle.builder.specs.Registry.{Entry}
 use Rattle.builder_names.specs.Views.{alone}
 use Rattle.builder_names.proofs.Strip.{normal_same, normal_rest, normal_whole, dot_length}
 use Rattle.builder_names.proofs.Canonical.{canonical_alone, canonical_rest}
 use Rattle.builder_registry.specs.Word.{owner_at, path_at, made_of}
-use Rattle.builder_registry.specs.Words.{held, flagged, made_parameter, made_entry, entry_of, entry_name}
-use Rattle.builder_registry.specs.Texts.{made_end, made_text, describing}
+use Rattle.builder_registry.specs.Words.{held, made_parameter, made_entry, entry_of, entry_name}
+use Rattle.builder_registry.specs.Texts.{made_path, made_end, describing}
+use Rattle.builder_registry.specs.declared.Made.{Made}
+use Rattle.builder_registry.specs.declared.Made.TheVariants.{ComputedTag, Variant, PayloadSize}
 use Rattle.builder_registry.proofs.Keys.{held_bound, entry_path, entry_made}
 
 -- ---- lengths
@@ -43,106 +43,62 @@ canonical_short o p = go (alone o p) refl
     go true e = omega (arith, ap length (canonical_alone o p true e refl))
     go false e = omega (arith, ap length (canonical_rest o p false e refl), dot_length o (normalize_path o p), normal_short o p)
 
--- a text of a made parameter is as short as the longest of the three
-pub picked_short : (k m : ℕ) (a b c : Name) → length a ≤ k → length b ≤ k → length c ≤ k → length (cond (eqb m 1) a (cond (eqb m 2) b c)) ≤ k
-picked_short k m a b c x y z = go (eqb m 1) (eqb m 2)
-  where
-    go : (s t : Bool) → length (cond s a (cond t b c)) ≤ k
-    go true t = x
-    go false true = y
-    go false false = z
+-- the path of a made parameter
+pub made_short : (m : Made) → length (made_path m) ≤ 14
+made_short ComputedTag = omega arith
+made_short Variant = omega arith
+made_short PayloadSize = omega arith
 
 -- the end of its name
-end_short : (m : ℕ) → length (made_end m) ≤ 13
-unfolding made_end
-end_short m =
-    picked_short 13 m (ascii ".computed_tag") (ascii ".variant") (ascii ".payload_size") (omega arith) (omega arith) (omega arith)
-
--- the same of the text that the code picked
-pub end_bound : (m : ℕ) (t : Name) → t ≡ made_end m → length t ≤ 13
-end_bound m t e = omega (arith, ap length e, end_short m)
-
--- its description
-pub text_short : (m : ℕ) → length (made_text m) ≤ 80
-unfolding made_text
-text_short m =
-    picked_short 80 m (ascii "Computed enum tag expression") (ascii "Active union variant selector")
-    (ascii "Runtime payload size (bytes) selecting size-discriminated variant") (omega arith) (omega arith) (omega arith)
-
--- ---- a made parameter
-
--- a made parameter: its name, its description, and whether it is derived
-made_whole : (m : ℕ) (o : Name) → made_parameter m o ≡ record { name = o ++ made_end m; description = some (made_text m); derived = eqb m 1 }
-unfolding made_parameter made_end made_text
-made_whole m o = go (eqb m 1) (eqb m 2)
-  where
-    go : (b t : Bool) →
-        cond {A = IrParameter} b
-        (record { name = o ++ ascii ".computed_tag"; description = some (ascii "Computed enum tag expression"); derived = true })
-        (cond t
-        (record { name = o ++ ascii ".variant"; description = some (ascii "Active union variant selector"); derived = false })
-        (record { name = o ++ ascii ".payload_size"; description = some (ascii "Runtime payload size (bytes) selecting size-discriminated variant"); derived = false })) ≡
-        record {
-          name = o ++ cond b (ascii ".computed_tag") (cond t (ascii ".variant") (ascii ".payload_size"));
-          description =
-              some (cond b (ascii "Computed enum tag expression") (cond t (ascii "Active union variant selector") (ascii "Runtime payload size (bytes) selecting size-discriminated variant")));
-          derived = b;
-        }
-    go true t = refl
-    go false true = refl
-    go false false = refl
-
--- only a computed tag is derived from the start
-pub made_flagged : (m : ℕ) (o : Name) → flagged (eqb m 1) (made_entry m o) ≡ made_entry m o
-unfolding made_entry
-made_flagged m o = rw (made_whole m o)
+pub end_short : (m : Made) → length (made_end m) ≤ 13
+end_short ComputedTag = omega arith
+end_short Variant = omega arith
+end_short PayloadSize = omega arith
 
 -- ---- the name of an entry
 
 module _ (s : List ℕ) (w : ℕ) where
   -- the name of a path is the canonical one
-  pub name_path : made_of w ≡ 0 → entry_name s w ≡ canonical_name (held s (owner_at w)) (held s (path_at w))
+  pub name_path : made_of w ≡ None → entry_name s w ≡ canonical_name (held s (owner_at w)) (held s (path_at w))
   name_path e = ap (λ (y : Entry). y.parameter.name) (entry_path s w e)
 
   -- the name of a made parameter is the owner and the end
-  pub name_made : (made_of w ≡ 0 → ⊥) → entry_name s w ≡ held s (owner_at w) ++ made_end (made_of w)
-  unfolding made_entry
-  name_made e = ap (λ (y : Entry). y.parameter.name) (entry_made s w e) ∙ ap (λ (p : IrParameter). p.name) (made_whole (made_of w) (held s (owner_at w)))
+  pub name_made : (m : Made) → made_of w ≡ Some m → entry_name s w ≡ held s (owner_at w) ++ made_end m
+  unfolding made_entry made_parameter
+  name_made m e = ap (λ (y : Entry). y.parameter.name) (entry_made s w m e)
 
-  -- the answers of `name_length`: m is the word's made parameter, o its owner
-  module _ (m : ℕ) (em : m ≡ made_of w) (o : Name) (f : o ≡ held s (owner_at w)) (l : length o ≤ 255) where
+  -- the answers of `name_length`: r is what the word says of its made parameter, o its owner
+  module _ {r : std.Option Made} (em : r ≡ made_of w) {o : Name} (f : o ≡ held s (owner_at w)) where
     -- a path: the canonical name is as long
-    pub length_path : (p : Name) (r : ℕ) → p ≡ held s (path_at w) → length p ≤ 255 → m ≡ 0 → r ≡ length (canonical_name o p) →
-        (r ≡ length (entry_name s w)) × (r ≤ 511)
-    length_path p r g k z e =
-        (e ∙ ap length (ap₂ canonical_name f g ∙ sym (name_path (sym em ∙ z))), omega (arith, canonical_short o p))
+    pub length_path : {p : Name} {k : ℕ} → p ≡ held s (path_at w) → r ≡ None → k ≡ length (canonical_name o p) → k ≡ length (entry_name s w)
+    length_path g z e = e ∙ ap length (ap₂ canonical_name f g ∙ sym (name_path (sym em ∙ z)))
 
     -- a made parameter: the owner and the end are as long
-    pub length_made : (t : Name) → (m ≡ 0 → ⊥) → t ≡ made_end m → (length o + length t ≡ length (entry_name s w)) × (length o + length t ≤ 511)
-    length_made t z g =
-        (sym (length-append o t) ∙ ap length (ap₂ (λ (x y : Name). x ++ y) f (g ∙ ap made_end em) ∙ sym (name_made (λ y. z (em ∙ y)))), omega (arith, ap length g, end_short m))
+    pub length_made : {m : Made} {t : Name} → r ≡ Some m → t ≡ made_end m → length o + length t ≡ length (entry_name s w)
+    length_made {m} {t} z g =
+        sym (length-append o t) ∙ ap length (ap₂ (λ (x y : Name). x ++ y) f g ∙ sym (name_made m (sym em ∙ z)))
 
 -- ---- bounds that hold of every word
 
 -- no entry's name has more than 511 bytes
 pub entry_short : (s : List ℕ) (w : ℕ) → length (entry_name s w) ≤ 511
-entry_short s w = go (eqb (made_of w) 0) refl
+entry_short s w = go (made_of w) refl
   where
-    go : (b : Bool) → eqb (made_of w) 0 ≡ b → length (entry_name s w) ≤ 511
-    go true h =
-        omega (arith, ap length (name_path s w (eqb-true (made_of w) 0 h)), canonical_short (held s (owner_at w)) (held s (path_at w)), held_bound s (owner_at w) refl, held_bound s (path_at w) refl)
-    go false h =
-        omega (arith, ap length (name_made s w (eqb-false (made_of w) 0 h)), length-append (held s (owner_at w)) (made_end (made_of w)), end_short (made_of w), held_bound s (owner_at w) refl)
+    go : (m : std.Option Made) → made_of w ≡ m → length (entry_name s w) ≤ 511
+    go None h =
+        omega (arith, ap length (name_path s w h), canonical_short (held s (owner_at w)) (held s (path_at w)), held_bound s (owner_at w) refl, held_bound s (path_at w) refl)
+    go (Some m) h =
+        omega (arith, ap length (name_made s w m h), length-append (held s (owner_at w)) (made_end m), end_short m, held_bound s (owner_at w) refl)
+
+pub ruleset name_lengths = (length_path, length_made, entry_short, end_short)
 
 -- ---- the description of an entry
 
 -- what the code writes as the description
 pub described : (s : List ℕ) (w : ℕ) → (entry_of s w).parameter.description ≡ describing (made_of w)
-unfolding describing made_entry
-described s w = go (eqb (made_of w) 0) refl
+unfolding made_entry made_parameter
+described s w = go (made_of w) refl
   where
-    go : (b : Bool) → eqb (made_of w) 0 ≡ b → (entry_of s w).parameter.description ≡ cond b none (some (made_text (made_of w)))
-    go true h = ap (λ (y : Entry). y.parameter.description) (entry_path s w (eqb-true (made_of w) 0 h))
-    go false h =
-        ap (λ (y : Entry). y.parameter.description) (entry_made s w (eqb-false (made_of w) 0 h)) ∙
-        ap (λ (p : IrParameter). p.description) (made_whole (made_of w) (held s (owner_at w)))
+    go : (m : std.Option Made) → made_of w ≡ m → (entry_of s w).parameter.description ≡ describing m
+    go None h = ap (λ (y : Entry). y.parameter.description) (entry_path s w h)
+    go (Some m) h = ap (λ (y : Entry). y.parameter.description) (entry_made s w m h)

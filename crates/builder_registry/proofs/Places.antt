@@ -1,7 +1,6 @@
 -- The place of a path in the registry, and what is found there. Assumes nothing.
 use Prim.Native.Nat.{ℕ, suc, ◌+◌, ◌≤◌, ◌<◌}
 use native.Mathlib.Omega.{arith}
-use native.Mathlib.Nat.{add-zero}
 use native.Mathlib.Numerals.{add-one}
 use mathlib.Core.Path.{◌≡◌, refl, sym, ap, ◌∙◌}
 use mathlib.Core.Bool.{Bool, true, false, cond}
@@ -9,14 +8,17 @@ use mathlib.Core.List.{List, [], ◌∷◌}
 use mathlib.Core.Option.{Option, some, none}
 use lib.ListN.{length, take, drop, get_or, set, length-map, get_or-map, drop_of_length-le}
 use lib.Seq.{drop-cons, get_or-take, length-take-le}
-use borrow.Author.Tests.{lt-ltb, le-ltb}
+use lib.Dec.{ltb}
+use borrow.Author.Tests.{lt-ltb, le-ltb, ltb-true, ltb-false}
+use Rattle.std.specs.Prelude as std
+use Rattle.std.specs.Prelude.{Some, None}
+use Rattle.std.proofs.lemmas.Option.{cond_some, none-some}
 use Rattle.blocks.specs.Name.{Name}
 use Rattle.builder.specs.Names.{normalize_path}
-use Rattle.builder.specs.Registry.{Entry, Registry, keyed_by, find_key, lookup_name, derived_entry, mark}
+use Rattle.builder.specs.Registry.{Entry, Registry, keyed_by, find_key, parameter_name, lookup_name, derived_entry, mark}
 use Rattle.builder.specs.Nodes.{lookup_qualified}
 use Rattle.builder_names.specs.Views.{key_of}
 use Rattle.builder_names.proofs.Strip.{none_some}
-use Rattle.builder_registry.specs.declared.Found.TheVariants.{At, Missing}
 use Rattle.builder_registry.specs.Words.{entry_of, entries_of, Looked}
 use Rattle.builder_registry.specs.Place.{place_of, found_at, found_in}
 
@@ -40,30 +42,6 @@ module _ (s ws : List ℕ) (n : ℕ) (fit : n ≤ length ws) where
   -- from n on there is none
   pub entries_end : (i : ℕ) → n ≤ i → drop i (entries_of s ws n) ≡ []
   entries_end i h = drop_of_length-le (entries_of s ws n) {i = i} (omega (arith, entries_length))
-
-  -- ---- the loop: none of the entries before i has the key
-  module _ (o x : Name) (i : ℕ) (e : place_of o x (entries_of s ws n) ≡ i + place_of o x (drop i (entries_of s ws n))) where
-    -- the loop came to the end: the answer is n
-    pub place_end : n ≤ i → i ≤ n → n ≡ place_of o x (entries_of s ws n)
-    unfolding place_of
-    place_end h k = let q : i ≡ n = omega arith in sym (e ∙ rw (entries_end i h, add-zero, q))
-
-    module _ (l : i < n) (b : Bool) (f : b ≡ keyed_by o x (entry_of s (get_or ws i 0))) where
-      -- the entry at i has the key: the answer is i
-      pub place_here : b ≡ true → i ≡ place_of o x (entries_of s ws n)
-      unfolding place_of
-      place_here h = sym (e ∙ rw (entries_from i l, ← f, h, add-zero))
-
-      -- it has another: the loop goes on
-      pub place_more : b ≡ false → place_of o x (entries_of s ws n) ≡ i + 1 + place_of o x (drop (i + 1) (entries_of s ws n))
-      unfolding place_of
-      place_more h = e ∙ rw (entries_from i l, ← f, h) (omega arith)
-
-pub ruleset places = (place_end, place_here, place_more)
-
--- the answer of `path_place`: that of the path's key
-pub path_place : (o p k : Name) (g : Registry) (i : ℕ) → k ≡ normalize_path o p → i ≡ place_of o k g → i ≡ place_of o (normalize_path o p) g
-path_place o p k g i e f = f ∙ ap (λ (x : Name). place_of o x g) e
 
 -- ---- what stands at the place
 
@@ -130,55 +108,90 @@ module _ (o q : Name) where
       (λ e es h l. absurd (let z : ⊥ = omega arith in z))
       (λ e es i h ih l. mark_next e es h ∙ ap (λ (r : Registry). e ∷ r) (ih (omega arith)))
 
--- ---- the same of the words, where the place is i
+  -- the place is that of an entry, or behind them
+  pub place_within : (g : Registry) → place_of o q g ≤ length g
+  place_within = by_place o q (λ es i. i ≤ length es) (omega arith) (λ e es h. omega arith) (λ e es i h ih. omega arith)
 
-module _ (s ws : List ℕ) (n : ℕ) (fit : n ≤ length ws) (o k : Name) (i : ℕ) (e : i ≡ place_of o k (entries_of s ws n)) where
-  -- the key is found in the entry at i
-  pub found_at_lem : i < n → find_key o k (entries_of s ws n) ≡ some (entry_of s (get_or ws i 0)).parameter
-  found_at_lem h =
-      find_at o k (entry_of s 0) (entries_of s ws n) (omega (arith, entries_length s ws n fit)) ∙ rw (← e, entry_at s ws n fit i h)
+-- ---- what the answer r of a search says
 
-  -- it is not found
-  pub found_none : n ≤ i → find_key o k (entries_of s ws n) ≡ none
-  found_none h = find_none o k (entries_of s ws n) (omega (arith, entries_length s ws n fit))
+module _ (o k : Name) (g : Registry) where
+  -- where an entry has the key, its place is the answer
+  pub found_some : place_of o k g < length g → found_at o k g ≡ Some (place_of o k g)
+  unfolding found_at
+  found_some h = rw (lt-ltb (place_of o k g) (length g) h) refl
 
-  -- the mark is set in the entry at i
-  pub marked_at : i < n → mark o k (entries_of s ws n) ≡ set (entries_of s ws n) i (derived_entry (entry_of s (get_or ws i 0)))
-  marked_at h =
-      mark_at o k (entry_of s 0) (entries_of s ws n) (omega (arith, entries_length s ws n fit)) ∙ rw (← e, entry_at s ws n fit i h)
+  -- else there is none
+  pub found_nothing : length g ≤ place_of o k g → found_at o k g ≡ None
+  unfolding found_at
+  found_nothing h = rw (le-ltb (place_of o k g) (length g) h) refl
 
-  -- no mark is set
-  pub marked_none : n ≤ i → mark o k (entries_of s ws n) ≡ entries_of s ws n
-  marked_none h = mark_none o k (entries_of s ws n) (omega (arith, entries_length s ws n fit))
+  -- an answer is the place of an entry
+  at_place : {i : ℕ} → found_at o k g ≡ Some i → (i ≡ place_of o k g) × (i < length g)
+  unfolding found_at
+  at_place {i} e =
+      let q = cond_some (ltb (place_of o k g) (length g)) (place_of o k g) i e in
+      (sym q.1, omega (arith, ltb-true (place_of o k g) (length g) q.0, q.1))
 
-  module _ (x : Option Name) (q : key_of o x ≡ some k) where
-    -- the answer of a lookup of a path with this key: the name that is looked up is that of the entry at i, and this is its place
-    pub looked_at : i < n → Looked s ws n (At i) (lookup_qualified o x (entries_of s ws n)) × (At i ≡ found_in o x (entries_of s ws n))
-    unfolding lookup_name found_at
-    looked_at h = go x q
-      where
-        go : (x : Option Name) → key_of o x ≡ some k → Looked s ws n (At i) (lookup_qualified o x (entries_of s ws n)) × (At i ≡ found_in o x (entries_of s ws n))
-        go none q = none_some q
-        go (some p) q =
-            let z : normalize_path o p ≡ k = cc in (
-              rw (z, found_at_lem h) (Looked.at h),
-              rw (z, ← e, entries_length s ws n fit, lt-ltb i n h) refl,
-            )
+  -- no answer: the place is behind them
+  at_end : found_at o k g ≡ None → length g ≤ place_of o k g
+  at_end e = go (ltb (place_of o k g) (length g)) refl
+    where
+      go : (b : Bool) → ltb (place_of o k g) (length g) ≡ b → length g ≤ place_of o k g
+      go true h = absurd (none-some _ (sym e ∙ found_some (ltb-true (place_of o k g) (length g) h)))
+      go false h = ltb-false (place_of o k g) (length g) h
 
-    -- or there is none
-    pub looked_none : n ≤ i → Looked s ws n Missing (lookup_qualified o x (entries_of s ws n)) × (Missing ≡ found_in o x (entries_of s ws n))
-    unfolding lookup_name found_at
-    looked_none h = go x q
-      where
-        go : (x : Option Name) → key_of o x ≡ some k → Looked s ws n Missing (lookup_qualified o x (entries_of s ws n)) × (Missing ≡ found_in o x (entries_of s ws n))
-        go none q = none_some q
-        go (some p) q =
-            let z : normalize_path o p ≡ k = cc in (
-              rw (z, found_none h) Looked.missing,
-              rw (z, ← e, entries_length s ws n fit, le-ltb i n h) refl,
-            )
+module _ (s ws : List ℕ) (n : ℕ) (fit : n ≤ length ws) (o k : Name) {r : std.Option ℕ} (e : r ≡ found_at o k (entries_of s ws n)) where
+  -- no entry has the key: it is not found, and nothing is marked
+  pub found_none : r ≡ None → find_key o k (entries_of s ws n) ≡ none
+  found_none z = find_none o k (entries_of s ws n) (at_end o k (entries_of s ws n) (sym e ∙ z))
+
+  pub marked_none : r ≡ None → mark o k (entries_of s ws n) ≡ entries_of s ws n
+  marked_none z = mark_none o k (entries_of s ws n) (at_end o k (entries_of s ws n) (sym e ∙ z))
+
+  -- its place is behind them
+  pub none_place : r ≡ None → n ≡ place_of o k (entries_of s ws n)
+  none_place z =
+      omega (arith, at_end o k (entries_of s ws n) (sym e ∙ z), place_within o k (entries_of s ws n), entries_length s ws n fit)
+
+  module _ {i : ℕ} (z : r ≡ Some i) where
+    -- the entry at i has it: that is its place
+    pub some_place : i ≡ place_of o k (entries_of s ws n)
+    some_place = (at_place o k (entries_of s ws n) (sym e ∙ z)).0
+
+    -- among the n entries
+    pub some_within : i < n
+    some_within = omega (arith, (at_place o k (entries_of s ws n) (sym e ∙ z)).1, entries_length s ws n fit)
+
+    -- the key is found in that entry
+    pub found_entry : find_key o k (entries_of s ws n) ≡ some (entry_of s (get_or ws i 0)).parameter
+    found_entry =
+        find_at o k (entry_of s 0) (entries_of s ws n) (omega (arith, some_place, some_within, entries_length s ws n fit)) ∙
+        rw (← some_place, entry_at s ws n fit i some_within)
+
+    -- the mark is set in it
+    pub marked_at : mark o k (entries_of s ws n) ≡ set (entries_of s ws n) i (derived_entry (entry_of s (get_or ws i 0)))
+    marked_at =
+        mark_at o k (entry_of s 0) (entries_of s ws n) (omega (arith, some_place, some_within, entries_length s ws n fit)) ∙
+        rw (← some_place, entry_at s ws n fit i some_within)
+
+  -- so a lookup of a path with this key gives the name of that entry, or none
+  pub looked : (x : Option Name) → key_of o x ≡ some k → Looked s ws n r (lookup_qualified o x (entries_of s ws n))
+  unfolding lookup_name
+  looked none q = none_some q
+  looked (some p) q = let z : normalize_path o p ≡ k = cc in rw z (go r refl)
+    where
+      go : (f : std.Option ℕ) → r ≡ f → Looked s ws n f (parameter_name (find_key o k (entries_of s ws n)))
+      go None h = rw (found_none h) Looked.missing
+      go (Some i) h = rw (found_entry h) (Looked.at (some_within h))
+
+  -- and this is its place
+  pub looked_in : (x : Option Name) → key_of o x ≡ some k → r ≡ found_in o x (entries_of s ws n)
+  looked_in none q = none_some q
+  looked_in (some p) q = let z : normalize_path o p ≡ k = cc in rw z e
 
 -- where there is no path to look for, nothing is found
-pub looked_nothing : (s ws : List ℕ) (n : ℕ) (o : Name) (x : Option Name) → x ≡ none →
-    Looked s ws n Missing (lookup_qualified o x (entries_of s ws n)) × (Missing ≡ found_in o x (entries_of s ws n))
-looked_nothing s ws n o x e = rw e (Looked.missing, refl)
+pub looked_nothing : (s ws : List ℕ) (n : ℕ) (o : Name) (x : Option Name) → x ≡ none → Looked s ws n None (lookup_qualified o x (entries_of s ws n))
+looked_nothing s ws n o x e = rw e Looked.missing
+
+pub nothing_in : (s ws : List ℕ) (n : ℕ) (o : Name) (x : Option Name) → x ≡ none → None ≡ found_in o x (entries_of s ws n)
+nothing_in s ws n o x e = rw e refl

@@ -6,7 +6,8 @@ use mathlib.Core.Bool.{Bool, true, false, cond}
 use mathlib.Core.List.{List, [], ◌∷◌, ◌++◌, append_assoc}
 use lib.ListN.{length, drop, get_or, set, length-append}
 use lib.Seq.{set_comm}
-use borrow.Author.Tests.{eq-eqb, ne_eqb}
+use Rattle.std.specs.Prelude as std
+use Rattle.std.specs.Prelude.{Some, None}
 use Rattle.blocks.specs.Bytes.{bytes}
 use Rattle.blocks.specs.Name.{Name, same}
 use Rattle.blocks.specs.Tree.{Tree, name, num, nil, cons}
@@ -18,58 +19,50 @@ use Rattle.wire.proofs.Laws.{both, parts, no_parts, closed, bytes_length}
 use Rattle.builder_names.proofs.Canonical.{with_end}
 use Rattle.builder.specs.Names.{canonical_name}
 use Rattle.builder.specs.Registry.{Entry, Registry, owner_parameters}
+use Rattle.builder_registry.specs.declared.Made.{Made}
 use Rattle.builder_registry.specs.Word.{owner_at, path_at, made_of, derived_of}
 use Rattle.builder_registry.specs.Words.{held, entry_of, entries_of, entry_name}
 use Rattle.builder_registry.specs.Texts.{made_end, made_text, describing}
 use Rattle.builder_registry.specs.Place.{if_owned, owned}
 use Rattle.builder_registry.proofs.Keys.{owner_is}
-use Rattle.builder_registry.proofs.Names.{name_path, name_made, entry_short, text_short, described}
+use Rattle.builder_registry.proofs.Names.{name_path, name_made, entry_short, described}
 use Rattle.builder_registry.proofs.Places.{entries_from, entries_end}
 
 -- ---- an entry's name
 
 module _ {xs ys : List ℕ} {at r : ℕ} (s : List ℕ) (w : ℕ) where
   -- how far the write of an entry's name goes
-  name_end : Wrote xs at (write (name (entry_name s w))) ys r → Wrote xs at (write (name (entry_name s w))) ys r × ((at ≤ r) × (r ≤ at + 513))
-  name_end f = let e = with_end (entry_name s w) f in (f, (omega (arith, e.1), omega (arith, e.1, entry_short s w)))
+  pub name_end : Wrote xs at (write (name (entry_name s w))) ys r → (at ≤ r) × (r ≤ at + 513)
+  name_end f = let e = with_end (entry_name s w) f in (omega (arith, e.1), omega (arith, e.1, entry_short s w))
 
-  module _ (m : ℕ) (em : m ≡ made_of w) (o : Name) (e : o ≡ held s (owner_at w)) where
+  -- m is what the word says of its made parameter, o its owner
+  module _ {m : std.Option Made} (em : m ≡ made_of w) {o : Name} (e : o ≡ held s (owner_at w)) where
     -- a path: the canonical name was written
-    pub name_puts_path : (p : Name) → p ≡ held s (path_at w) → m ≡ 0 → Wrote xs at (write (name (canonical_name o p))) ys r →
-        Wrote xs at (write (name (entry_name s w))) ys r × ((at ≤ r) × (r ≤ at + 513))
-    name_puts_path p g z f = name_end (rw (name_path s w (sym em ∙ z), ← e, ← g) f)
+    pub name_puts_path : {p : Name} → p ≡ held s (path_at w) → m ≡ None → Wrote xs at (write (name (canonical_name o p))) ys r →
+        Wrote xs at (write (name (entry_name s w))) ys r
+    name_puts_path g z f = rw (name_path s w (sym em ∙ z), ← e, ← g) f
 
     -- a made parameter: the length, the owner and the end were written one behind the other
-    pub name_puts_made : {us vs : List ℕ} {p q : ℕ} (t : Name) (n : ℕ) → (m ≡ 0 → ⊥) → t ≡ made_end m → n ≡ length (entry_name s w) →
+    pub name_puts_made : {us vs : List ℕ} {p q n : ℕ} {made : Made} {t : Name} → m ≡ Some made → t ≡ made_end made → n ≡ length (entry_name s w) →
         Wrote xs at (bytes 2 n) us p → Wrote us p (drop 0 o) vs q → Wrote vs q (drop 0 t) ys r →
-        Wrote xs at (write (name (entry_name s w))) ys r × ((at ≤ r) × (r ≤ at + 513))
+        Wrote xs at (write (name (entry_name s w))) ys r
     unfolding write
-    name_puts_made t n z g l a b c =
-        name_end (subst (λ (x : Name). Wrote xs at (bytes 2 (length (entry_name s w)) ++ x) ys r)
-        (ap₂ (λ (x y : Name). x ++ y) e (g ∙ ap made_end em) ∙ sym (name_made s w (λ y. z (em ∙ y))))
-        (rw l at (both a (both b c))))
+    name_puts_made {made = made} z g l a b c =
+        subst (λ (x : Name). Wrote xs at (bytes 2 (length (entry_name s w)) ++ x) ys r)
+        (ap₂ (λ (x y : Name). x ++ y) e g ∙ sym (name_made s w made (sym em ∙ z)))
+        (rw l at (both a (both b c)))
 
 -- ---- an entry's description
 
-module _ {xs ys : List ℕ} {at r : ℕ} (m : ℕ) where
+module _ {xs ys : List ℕ} {at r : ℕ} {m : std.Option Made} where
   -- a path has no description: the flag 0
-  pub puts_none : m ≡ 0 → Wrote xs at (write (num 1 0)) ys r → Wrote xs at (write (optional_tree name (describing m))) ys r
-  unfolding describing
-  puts_none e f = rw (eq-eqb m 0 e) (parts (num 1 0) nil f (no_parts ys r))
+  pub puts_none : m ≡ None → Wrote xs at (write (num 1 0)) ys r → Wrote xs at (write (optional_tree name (describing m))) ys r
+  puts_none e f = rw e (parts (num 1 0) nil f (no_parts ys r))
 
   -- a made parameter has one: the flag 1 and the text
-  pub puts_some : {us : List ℕ} {p : ℕ} (t : Name) → (m ≡ 0 → ⊥) → t ≡ made_text m → Wrote xs at (write (num 1 1)) us p →
+  pub puts_some : {us : List ℕ} {p : ℕ} {made : Made} {t : Name} → m ≡ Some made → t ≡ made_text made → Wrote xs at (write (num 1 1)) us p →
       Wrote us p (write (name t)) ys r → Wrote xs at (write (optional_tree name (describing m))) ys r
-  unfolding describing
-  puts_some t e g a b = rw (ne_eqb m 0 e, ← g) (parts (num 1 1) (name t) a b)
-
--- how far that write goes
-pub some_bound : (m : ℕ) (t : Name) {at p r : ℕ} → t ≡ made_text m → p ≡ at + 1 → r ≡ p + (2 + length t) → (at ≤ r) × (r ≤ at + 83)
-some_bound m t e f g = (omega arith, omega (arith, ap length e, text_short m))
-
--- and that its end does not overflow
-pub some_fits : (m : ℕ) (t : Name) (at : ℕ) {p k : ℕ} → t ≡ made_text m → p ≡ at + 1 → at + 81 < k → p + length t < k
-some_fits m t at e f g = omega (arith, ap length e, text_short m)
+  puts_some {t = t} e g a b = rw (e, ← g) (parts (num 1 1) (name t) a b)
 
 -- ---- a parameter
 
@@ -79,12 +72,12 @@ flag_is true = refl
 flag_is false = refl
 
 -- the parts of a parameter one behind the other, and its length, are its block
-pub puts_parameter : {xs ks bs cs ds ys : List ℕ} {at p q u e v : ℕ} (s : List ℕ) (w : ℕ) (m : ℕ) (d : Bool) → m ≡ made_of w →
+pub puts_parameter : {xs ks bs cs ds ys : List ℕ} {at p q u e v : ℕ} (s : List ℕ) (w : ℕ) {m : std.Option Made} (d : Bool) → m ≡ made_of w →
     d ≡ derived_of w → Wrote xs at (opened 162) ks p → Wrote ks p (write (name (entry_name s w))) bs q →
     Wrote bs q (write (optional_tree name (describing m))) cs u → Wrote cs u (write (num 1 (cond d 1 0))) ds e → Wrote ds at (bytes 4 (e - at - 4)) ys v →
     Wrote xs at (write (parameter_tree (entry_of s w).parameter)) ys e
 unfolding entry_of
-puts_parameter s w m d em ed f g h i j =
+puts_parameter s w d em ed f g h i j =
     rw (described s w, ← flag_is (derived_of w))
     (closed unplaced 162 (cons (name (entry_name s w)) (cons (optional_tree name (describing (made_of w))) (cons (num 1 (cond (derived_of w) 1 0)) nil)))
     (both f (parts _ _ g (parts _ _ (rw em at h) (parts _ _ (rw ed at i) (no_parts _ _))))) j)

@@ -1,14 +1,34 @@
 -- The fields of a word: what was packed is read again, and the derived flag leaves the others as they were. Assumes nothing.
 use Prim.Native.Nat.{ℕ, ◌+◌, ◌*◌, ◌/◌, ◌%◌, ◌≤◌, ◌<◌}
 use native.Mathlib.Omega.{arith}
-use mathlib.Core.Path.{◌≡◌}
+use mathlib.Core.Path.{◌≡◌, refl}
 use mathlib.Core.Bool.{true, false}
+use Rattle.std.specs.Prelude.{Option, Some, None}
 use borrow.Author.Tests.{eqb-false}
-use Rattle.builder_registry.specs.Word.{owner_at, path_at, made_of, derived_of, word_of, derived_word}
+use Rattle.builder_registry.specs.Word.{owner_at, path_at, made_code, made_at, made_of, derived_of, word_of, derived_word}
+use Rattle.builder_registry.specs.declared.Made.{Made}
+use Rattle.builder_registry.specs.declared.Made.TheVariants.{ComputedTag, Variant, PayloadSize}
+
+-- ---- the number of a made parameter
+
+-- it has two bits
+pub code_short : (m : Option Made) → made_code m ≤ 3
+code_short None = omega arith
+code_short (Some ComputedTag) = omega arith
+code_short (Some Variant) = omega arith
+code_short (Some PayloadSize) = omega arith
+
+-- and is read again
+code_read : (m : Option Made) → made_at (made_code m) ≡ m
+unfolding made_at
+code_read None = refl
+code_read (Some ComputedTag) = refl
+code_read (Some Variant) = refl
+code_read (Some PayloadSize) = refl
 
 -- ---- a word of these fields
 
-module _ (o p m : ℕ) (ho : o < 65536) (hp : p < 65536) (hm : m ≤ 3) where
+module _ (o p : ℕ) (m : Option Made) (ho : o < 65536) (hp : p < 65536) where
   -- its owner
   pub word_owner : owner_at (word_of o p m) ≡ o
   unfolding owner_at word_of
@@ -18,22 +38,22 @@ module _ (o p m : ℕ) (ho : o < 65536) (hp : p < 65536) (hm : m ≤ 3) where
   pub word_path : path_at (word_of o p m) ≡ p
   unfolding path_at word_of
   word_path =
-      let e : (o + 65536 * p + 4294967296 * m) / 65536 ≡ p + 65536 * m = omega arith in
-      let f : (p + 65536 * m) % 65536 ≡ p = omega arith in
+      let e : (o + 65536 * p + 4294967296 * made_code m) / 65536 ≡ p + 65536 * made_code m = omega arith in
+      let f : (p + 65536 * made_code m) % 65536 ≡ p = omega arith in
       rw (e, f)
 
   -- its made parameter
   pub word_made : made_of (word_of o p m) ≡ m
   unfolding made_of word_of
   word_made =
-      let e : (o + 65536 * p + 4294967296 * m) / 4294967296 ≡ m = omega arith in
-      let f : m % 4 ≡ m = omega arith in
-      rw (e, f)
+      let e : (o + 65536 * p + 4294967296 * made_code m) / 4294967296 ≡ made_code m = omega arith in
+      let f : made_code m % 4 ≡ made_code m = omega (arith, code_short m) in
+      rw (e, f) (code_read m)
 
   -- it is not derived
   pub word_plain : derived_of (word_of o p m) ≡ false
   unfolding derived_of word_of
-  word_plain = let e : (o + 65536 * p + 4294967296 * m) / 17179869184 ≡ 0 = omega arith in rw e
+  word_plain = let e : (o + 65536 * p + 4294967296 * made_code m) / 17179869184 ≡ 0 = omega (arith, code_short m) in rw e
 
 -- ---- a word made a derived one
 

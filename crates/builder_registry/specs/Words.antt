@@ -1,10 +1,12 @@
 -- The registry in working words: an entry in each word (specs/Word.antt), in order of entry.
-use Rattle.std.specs.Prelude.{ℕ, ◌+◌, ◌*◌, ◌/◌, ◌%◌, ◌≤◌, ◌<◌, ◌≡◌, Bool, true, false, ◌&&◌, ◌||◌, cond, List, [], ◌∷◌, ◌++◌, map, leb, ltb, eqb, length, take, drop, get_or}
+use Rattle.std.specs.Prelude.{ℕ, ◌+◌, ◌*◌, ◌/◌, ◌%◌, ◌≤◌, ◌<◌, ◌≡◌, Bool, true, false, ◌&&◌, ◌||◌, cond, List, [], ◌∷◌, ◌++◌, map, leb, ltb, eqb, length, take, drop, get_or, Some, None, Result, IfSome}
+use Rattle.std.specs.Prelude as std
 use Rattle.std.proofs.Math.Option.{Option, some, none}
 use Rattle.errors.specs.Refusal.{Outcome}
+use Rattle.errors.specs.declared.Reason.{Reason}
 use Rattle.answers.specs.Answers.{Answers}
 use Rattle.blocks.specs.Bytes.{le2, name_at}
-use Rattle.blocks.specs.Name.{Name, ascii, same}
+use Rattle.blocks.specs.Name.{Name, same}
 use Rattle.ir.specs.Ir.{IrParameter}
 use Rattle.marks.specs.Mark.{mark_of}
 use Rattle.marks.specs.Table.{Linked}
@@ -13,34 +15,25 @@ use Rattle.builder.specs.Registry.{Entry, Registry, entry_of as path_entry}
 use Rattle.builder_names.specs.Views.{alias_of}
 use Rattle.builder_registry.specs.Place.{place_of}
 use Rattle.builder_registry.specs.Word.{owner_at, path_at, made_of, derived_of}
-use Rattle.builder_registry.specs.declared.Alias.{Alias}
-use Rattle.builder_registry.specs.declared.Alias.TheVariants.{Mark, LeftOut}
-use Rattle.builder_registry.specs.declared.Held.{Held}
+use Rattle.builder_registry.specs.Texts.{made_path, made_end, made_text}
+use Rattle.builder_registry.specs.declared.Made.{Made}
+use Rattle.builder_registry.specs.declared.Made.TheVariants.{ComputedTag, Variant, PayloadSize}
 use Rattle.builder_registry.specs.declared.Tagged.{Tagged}
-use Rattle.builder_registry.specs.declared.Found.{Found}
-use Rattle.builder_registry.specs.declared.Found.TheVariants.{At, Missing}
 
 -- the name at an offset; empty where it does not lie inside the bytes, or is longer than any name of a set
 unfoldable pub held : List ℕ → ℕ → Name
 held s at = cond (leb (at + 2 + le2 s at) (length s) && leb (le2 s at) 255) (name_at s at) []
 
--- a parameter that the builder makes: 1 computed tag, 2 union variant, 3 payload size. Its path, and what it is under an owner.
-unfoldable pub made_path : ℕ → Name
-made_path made = cond (eqb made 1) (ascii "__computed_tag") (cond (eqb made 2) (ascii "__variant") (ascii "__payload_size"))
+-- what a made parameter is under an owner: a computed tag is derived
+abbrev pub made_derived : Made → Bool
+made_derived ComputedTag = true
+made_derived Variant = false
+made_derived PayloadSize = false
 
-unfoldable pub made_parameter : ℕ → Name → IrParameter
-made_parameter made owner =
-    cond (eqb made 1)
-    (record { name = owner ++ ascii ".computed_tag"; description = some (ascii "Computed enum tag expression"); derived = true })
-    (cond (eqb made 2)
-    (record { name = owner ++ ascii ".variant"; description = some (ascii "Active union variant selector"); derived = false })
-    (record {
-      name = owner ++ ascii ".payload_size";
-      description = some (ascii "Runtime payload size (bytes) selecting size-discriminated variant");
-      derived = false;
-    }))
+unfoldable pub made_parameter : Made → Name → IrParameter
+made_parameter made owner = record { name = owner ++ made_end made; description = some (made_text made); derived = made_derived made }
 
-unfoldable pub made_entry : ℕ → Name → Entry
+unfoldable pub made_entry : Made → Name → Entry
 made_entry made owner = record { owner = owner; keys = normalize_path owner (made_path made) ∷ []; parameter = made_parameter made owner }
 
 -- the entry with this derived flag
@@ -51,11 +44,14 @@ flagged d e = record {
   parameter = record { name = e.parameter.name; description = e.parameter.description; derived = d };
 }
 
+-- the entry of an owner: that of a path, or a made one
+abbrev pub entry_by : Name → Name → std.Option Made → Entry
+entry_by owner path None = path_entry owner path
+entry_by owner path (Some made) = made_entry made owner
+
 -- the entry that a word holds
 unfoldable pub entry_of : List ℕ → ℕ → Entry
-entry_of s w =
-    flagged (derived_of w)
-    (cond (eqb (made_of w) 0) (path_entry (held s (owner_at w)) (held s (path_at w))) (made_entry (made_of w) (held s (owner_at w))))
+entry_of s w = flagged (derived_of w) (entry_by (held s (owner_at w)) (held s (path_at w)) (made_of w))
 
 -- the first n words as a registry
 unfoldable pub entries_of : List ℕ → List ℕ → ℕ → Registry
@@ -67,13 +63,23 @@ entry_name s w = (entry_of s w).parameter.name
 
 -- ---- the index: from word 512 on, a table of marks (crate marks) with two slots for each entry
 
+-- the path of an entry: the one that was entered, or that of the made parameter
+abbrev pub path_by : Name → std.Option Made → Name
+path_by path None = path
+path_by path (Some made) = made_path made
+
 -- the first key of the entry that a word holds: its normal path
 unfoldable pub key_in : List ℕ → ℕ → Name
-key_in s w = normalize_path (held s (owner_at w)) (cond (eqb (made_of w) 0) (held s (path_at w)) (made_path (made_of w)))
+key_in s w = normalize_path (held s (owner_at w)) (path_by (held s (path_at w)) (made_of w))
+
+-- the alias of a path that was entered; a made parameter has none
+abbrev pub alias_by : Name → Name → std.Option Made → Name
+alias_by path key None = alias_of path key
+alias_by path key (Some made) = []
 
 -- its other key, the alias; empty where it has none
 unfoldable pub alias_in : List ℕ → ℕ → Name
-alias_in s w = cond (eqb (made_of w) 0) (alias_of (held s (path_at w)) (key_in s w)) []
+alias_in s w = alias_by (held s (path_at w)) (key_in s w) (made_of w)
 
 -- the mark of an owner: of its name, and behind it a byte that no name has, so that one text, split into an owner and a key in two ways, has two marks
 abbrev pub owner_mark : Name → ℕ
@@ -102,23 +108,23 @@ pub record Indexed (s ws : List ℕ) (n : ℕ) : Type 0 where
   pub room : 1663 ≤ length ws
   pub linked : Linked (drop 512 ws) (slot_mark s ws) (2 * n)
 
--- what is searched for: m is the mark of the key, and the name of the owner o stands at the offset, if that is one
-pub record Sought (s : List ℕ) (m at : ℕ) (o key : Name) : Type 0 where
+-- what is searched for: m is the mark of the key, and the name of the owner o stands at the offset, where one is known
+pub record Sought (s : List ℕ) (m : ℕ) (known : std.Option ℕ) (o key : Name) : Type 0 where
   pub mark : m ≡ key_mark o key
-  pub owner : at < 65536 → true ≡ same o (held s at)
+  pub owner : IfSome known (λ at. true ≡ same o (held s at))
 
 -- the marks by which the entry of a word is linked: that of its owner, o, and that of its first key, k
 pub record Marked (s : List ℕ) (w o k : ℕ) : Type 0 where
   pub owner : o ≡ owner_mark (held s (owner_at w))
   pub key : k ≡ key_mark (held s (owner_at w)) (key_in s w)
 
--- what the code says of an alias's mark m
-abbrev pub AliasIs : ℕ → Alias → Type 0
-AliasIs m (Mark x) = m ≡ x
-AliasIs m LeftOut = 18446744073709551616 ≤ m
+-- what the code says of an alias's mark m: none where it is left out
+abbrev pub AliasIs : ℕ → std.Option ℕ → Type 0
+AliasIs m (Some x) = m ≡ x
+AliasIs m None = 18446744073709551616 ≤ m
 
 -- What linking the entry n by these marks leaves: the entries' words as they were, and in the index two slots more.
-pub record Linking (ws : List ℕ) (n key : ℕ) (alias : Alias) (us : List ℕ) : Type 0 where
+pub record Linking (ws : List ℕ) (n key : ℕ) (alias : std.Option ℕ) (us : List ℕ) : Type 0 where
   pub same : take 512 us ≡ take 512 ws
   pub linked : (f : ℕ → ℕ) → Linked (drop 512 ws) f (2 * n) → f (2 * n) ≡ key → AliasIs (f (2 * n + 1)) alias → Linked (drop 512 us) f (2 * n + 2)
 
@@ -130,14 +136,14 @@ pub record Standing (s ws : List ℕ) (n : ℕ) : Type 0 where
   pub count : n ≤ 512
   pub index : Indexed s ws n
 
--- What a change of the registry leaves: the entries in the words us and their index, or the refusal, of which nothing is said but
--- its number.
-pub record KeptIn (s us : List ℕ) (r : Held) (x : Unit {0} × Registry) : Type 0 where
-  pub entries : entries_of s us r.count ≡ x.1
-  pub index : Indexed s us r.count
+-- What a change of the registry leaves: n entries in the words us and their index, or the refusal, of which nothing is said but
+-- its reason.
+pub record KeptIn (s us : List ℕ) (n : ℕ) (x : Unit {0} × Registry) : Type 0 where
+  pub entries : entries_of s us n ≡ x.1
+  pub index : Indexed s us n
 
-abbrev pub Kept : (s us : List ℕ) (r : Held) → Outcome (Unit × Registry) → Type 0
-Kept s us r = Answers r.number (KeptIn s us r)
+abbrev pub Kept : (s us : List ℕ) → Result ℕ Reason → Outcome (Unit × Registry) → Type 0
+Kept s us = Answers (KeptIn s us)
 
 -- the same where a name is answered: that of the entry at r.at, which is one of them
 pub record TagIn (s us : List ℕ) (r : Tagged) (x : Name × Registry) : Type 0 where
@@ -146,10 +152,10 @@ pub record TagIn (s us : List ℕ) (r : Tagged) (x : Name × Registry) : Type 0 
   pub within : r.at < r.count
   pub index : Indexed s us r.count
 
-abbrev pub Tags : (s us : List ℕ) (r : Tagged) → Outcome (Name × Registry) → Type 0
-Tags s us r = Answers r.number (TagIn s us r)
+abbrev pub Tags : (s us : List ℕ) → Result Tagged Reason → Outcome (Name × Registry) → Type 0
+Tags s us = Answers (TagIn s us)
 
 -- a name found in the registry: that of the entry at i
-pub data Looked (s ws : List ℕ) (n : ℕ) : Found → Option Name → Type 0 where
-  at : {i : ℕ} → i < n → Looked s ws n (At i) (some (entry_name s (get_or ws i 0)))
-  missing : Looked s ws n Missing none
+pub data Looked (s ws : List ℕ) (n : ℕ) : std.Option ℕ → Option Name → Type 0 where
+  at : {i : ℕ} → i < n → Looked s ws n (Some i) (some (entry_name s (get_or ws i 0)))
+  missing : Looked s ws n None none

@@ -2,6 +2,7 @@
 use mathlib.Core.Path.{◌≡◌, refl, sym, ap, subst, ◌∙◌}
 use mathlib.Core.Bool.{Bool, true, false, cond}
 use mathlib.Core.List.{List, [], ◌∷◌}
+use Rattle.std.specs.Int.{from_bool}
 use Prim.Native.Nat.{ℕ, zero, suc, ◌+◌, ◌-◌, ◌≤◌, ◌<◌}
 use native.Mathlib.Numerals.{sub-one}
 use native.Mathlib.Omega.{arith}
@@ -9,11 +10,10 @@ use lib.ListN.{length, get_or}
 use lib.Dec.{ltb}
 use borrow.Author.Tests.{lt-ltb}
 use Rattle.blocks.specs.Bytes.{le2, name_at}
-use Rattle.blocks.specs.Name.{Name, ascii}
+use Rattle.blocks.specs.Name.{Name}
 use Rattle.blocks.specs.Tree.{entries}
 use Rattle.accepted.specs.Accepted.{Item, Entries}
 use Rattle.accepted.proofs.Laws.{none_left, name_entry}
-use Rattle.builder.specs.Names.{ends_with}
 use Rattle.builder.specs.Nodes.{payload_paths}
 use Rattle.resolved_parts.specs.Types.{Named, PathsAt, texts_of}
 use Rattle.resolved_parts.proofs.Laws.{entry_named}
@@ -50,24 +50,15 @@ chosen_more true n ns = refl
 chosen_more false n ns = refl
 
 -- the same where the names stand in the set: the first of those that are left, then the rest
-names_more : (s : List ℕ) (only : Bool) (left q u : ℕ) → 0 < left → u ≡ le2 s q →
-    chosen only (names_at s left q) ≡ cond (taken only (name_at s q)) (name_at s q ∷ chosen only (names_at s (left - 1) (q + 2 + u))) (chosen only (names_at s (left - 1) (q + 2 + u)))
+names_more : (s : List ℕ) (only : Bool) (left q : ℕ) {p : ℕ} → 0 < left → p ≡ q + 2 + le2 s q →
+    chosen only (names_at s left q) ≡ cond (taken only (name_at s q)) (name_at s q ∷ chosen only (names_at s (left - 1) p)) (chosen only (names_at s (left - 1) p))
 unfolding names_at
-names_more s only zero q u h e = absurd (omega arith)
-names_more s only (suc n) q u h e = rw (sub-one, e) (chosen_more only (name_at s q) (names_at s n (q + 2 + le2 s q)))
+names_more s only zero q h e = absurd (omega arith)
+names_more s only (suc n) q h e = rw (sub-one, e) (chosen_more only (name_at s q) (names_at s n (q + 2 + le2 s q)))
 
 -- behind the first name the rest of the list stands
-next : {s : List ℕ} {left q u : ℕ} → 0 < left → u ≡ le2 s q → Entries s Item.names left q → Entries s Item.names (left - 1) (q + 2 + u)
+next : {s : List ℕ} {left q p : ℕ} → 0 < left → p ≡ q + 2 + le2 s q → Entries s Item.names left q → Entries s Item.names (left - 1) p
 next h e l = rw e (name_entry l h).2.rest
-
--- the first of the names that are left lies inside the set
-pub name_in : {s : List ℕ} {left q : ℕ} → 0 < left → Entries s Item.names left q → q + 2 + le2 s q ≤ length s
-name_in h l = (entry_named l h).inside
-
--- the weight that the code computes where only payload sizes are chosen
-pub weighs : {only b : Bool} {n m : Name} → only ≡ true → m ≡ n → b ≡ ends_with (ascii ".payload_size") m → (w : ℕ) → w ≡ cond b 1 0 →
-    w ≡ cond (taken only n) 1 0
-weighs {n} o e f w h = rw o (h ∙ rw (f, e) refl)
 
 -- ---- counting
 
@@ -91,19 +82,24 @@ weight_one : (b : Bool) → cond b 1 0 ≤ 1
 weight_one true = omega arith
 weight_one false = omega arith
 
--- one path more is counted
-pub count_more : {s : List ℕ} {only : Bool} {paths left q m w u : ℕ} → 0 < left → w ≡ cond (taken only (name_at s q)) 1 0 → u ≡ le2 s q →
-    Counting s only paths left q m → Counting s only paths (left - 1) (q + 2 + u) (m + w)
-count_more {s} {only} {paths} {left} {q} {m} {w} {u} h e f c = record {
+-- the code's number of a test
+from_one : (b : Bool) → from_bool b ≡ cond b 1 0
+from_one true = refl
+from_one false = refl
+
+-- one path more is counted by its weight
+pub count_more : {s : List ℕ} {only : Bool} {paths left k q p m w : ℕ} {b : Bool} → 0 < left → left - 1 ≡ k → b ≡ taken only (name_at s q) → w ≡ from_bool b →
+    p ≡ q + 2 + le2 s q → Counting s only paths left q m → Counting s only paths k p (m + w)
+count_more {s} {only} {paths} {left} {q = q} {p} {m} {b = b} h z e g f c = rw (← z, g, from_one b, e) (record {
   here = next h f c.here;
   most = omega (arith, weight_one (taken only (name_at s q)), c.most);
   is = omega (
     arith,
     c.is,
-    ap length (names_more s only left q u h f),
-    counted (taken only (name_at s q)) (name_at s q) (chosen only (names_at s (left - 1) (q + 2 + u))),
+    ap length (names_more s only left q h f),
+    counted (taken only (name_at s q)) (name_at s q) (chosen only (names_at s (left - 1) p)),
   );
-}
+})
 
 -- behind the last path the count is that of the chosen ones
 pub count_end : {s : List ℕ} {only : Bool} {paths left q m : ℕ} → left ≤ 0 → Counting s only paths left q m → (m ≡ length (picks s only paths)) × (m ≤ 64)
@@ -134,36 +130,36 @@ pub seek_begin : {s : List ℕ} {only : Bool} {paths left i : ℕ} → PathsAt s
 seek_begin p h e = rw e (record { here = p.list; within = h; is = refl })
 
 -- a name with a weight of at most j is passed: the one at j is at j less its weight behind it
-passed : (b : Bool) (n : Name) (ns : List Name) (j w : ℕ) → w ≡ cond b 1 0 → w ≤ j →
-    (get_or (cond b (n ∷ ns) ns) j [] ≡ get_or ns (j - w) []) × (j < length (cond b (n ∷ ns) ns) → j - w < length ns)
-passed true n ns zero w e h = absurd (omega arith)
-passed true n ns (suc j) w e h = rw (e, sub-one) (refl, λ l. omega arith)
-passed false n ns j w e h = let z : j - w ≡ j = omega arith in rw z (refl, λ l. l)
+passed : (b : Bool) (n : Name) (ns : List Name) (j : ℕ) → cond b 1 0 ≤ j →
+    (get_or (cond b (n ∷ ns) ns) j [] ≡ get_or ns (j - cond b 1 0) []) × (j < length (cond b (n ∷ ns) ns) → j - cond b 1 0 < length ns)
+passed true n ns zero h = absurd (omega arith)
+passed true n ns (suc j) h = rw sub-one (refl, λ l. omega arith)
+passed false n ns j h = let z : j - 0 ≡ j = omega arith in rw z (refl, λ l. l)
 
 -- the path was not this one: it is among those behind it
-pub seek_more : {s : List ℕ} {only : Bool} {paths i left q j w u : ℕ} → 0 < left → w ≡ cond (taken only (name_at s q)) 1 0 → w ≤ j →
-    u ≡ le2 s q → Seeking s only paths i left q j → Seeking s only paths i (left - 1) (q + 2 + u) (j - w)
-seek_more {s} {only} {left} {q} {j} {w} {u} h e g f c =
-    let p = passed (taken only (name_at s q)) (name_at s q) (chosen only (names_at s (left - 1) (q + 2 + u))) j w e g in
-    record {
+pub seek_more : {s : List ℕ} {only : Bool} {paths i left k q p j w : ℕ} {b : Bool} → 0 < left → left - 1 ≡ k → b ≡ taken only (name_at s q) → w ≡ from_bool b →
+    w ≤ j → p ≡ q + 2 + le2 s q → Seeking s only paths i left q j → Seeking s only paths i k p (j - w)
+seek_more {s} {only} {left = left} {q = q} {p} {j} {b = b} h z e d g f c =
+    let y = passed (taken only (name_at s q)) (name_at s q) (chosen only (names_at s (left - 1) p)) j (rw (d, from_one b, e) at g) in
+    rw (← z, d, from_one b, e) (record {
       here = next h f c.here;
-      within = p.1 (subst (λ (ns : List Name). j < length ns) (names_more s only left q u h f) c.within);
-      is = sym p.0 ∙ sym (ap (λ (ns : List Name). get_or ns j []) (names_more s only left q u h f)) ∙ c.is;
-    }
+      within = y.1 (subst (λ (ns : List Name). j < length ns) (names_more s only left q h f) c.within);
+      is = sym y.0 ∙ sym (ap (λ (ns : List Name). get_or ns j []) (names_more s only left q h f)) ∙ c.is;
+    })
 
 -- the name whose weight is over j is the one at j
-first_chosen : (b : Bool) (n : Name) (ns : List Name) (j w : ℕ) → w ≡ cond b 1 0 → j < w → get_or (cond b (n ∷ ns) ns) j [] ≡ n
-first_chosen true n ns zero w e h = refl
-first_chosen true n ns (suc j) w e h = absurd (omega arith)
-first_chosen false n ns j w e h = absurd (omega arith)
+first_chosen : (b : Bool) (n : Name) (ns : List Name) (j : ℕ) → j < cond b 1 0 → get_or (cond b (n ∷ ns) ns) j [] ≡ n
+first_chosen true n ns zero g = refl
+first_chosen true n ns (suc j) g = absurd (omega arith)
+first_chosen false n ns j g = absurd (omega arith)
 
 -- the path is this one
-pub seek_hit : {s : List ℕ} {only : Bool} {paths i left q j w : ℕ} → 0 < left → w ≡ cond (taken only (name_at s q)) 1 0 → j < w →
+pub seek_hit : {s : List ℕ} {only : Bool} {paths i left q j w : ℕ} {b : Bool} → 0 < left → b ≡ taken only (name_at s q) → w ≡ from_bool b → j < w →
     Seeking s only paths i left q j → Named s q × (name_at s q ≡ get_or (picks s only paths) i [])
-seek_hit {s} {only} {left} {q} {j} {w} h e g c = (
+seek_hit {s} {only} {left = left} {q} {j} {b = b} h e d g c = (
   entry_named c.here h,
-  sym (first_chosen (taken only (name_at s q)) (name_at s q) (chosen only (names_at s (left - 1) (q + 2 + le2 s q))) j w e g)
-      ∙ sym (ap (λ (ns : List Name). get_or ns j []) (names_more s only left q (le2 s q) h refl))
+  sym (first_chosen (taken only (name_at s q)) (name_at s q) (chosen only (names_at s (left - 1) (q + 2 + le2 s q))) j (rw (d, from_one b, e) at g))
+      ∙ sym (ap (λ (ns : List Name). get_or ns j []) (names_more s only left q h refl))
       ∙ c.is,
 )
 

@@ -3,7 +3,7 @@ use mathlib.Core.Path.{◌≡◌, refl, sym, ap, ◌∙◌}
 use mathlib.Core.Bool.{Bool, true, false}
 use mathlib.Core.List.{List, [], ◌∷◌, ◌++◌}
 use mathlib.Core.Option.{Option, some, none}
-use Prim.Native.Nat.{ℕ, zero, suc, ◌+◌, ◌-◌, ◌*◌, ◌≤◌, ◌<◌}
+use Prim.Native.Nat.{ℕ, zero, suc, ◌+◌, ◌-◌, ◌≤◌, ◌<◌}
 use native.Mathlib.Numerals.{sub-one}
 use native.Mathlib.Omega.{arith}
 use lib.ListN.{length, take, get_or, length-append}
@@ -11,6 +11,10 @@ use lib.Seq.{take-suc, take-length}
 use borrow.Author.Tests.{le-leb, lt-leb}
 use Rattle.errors.specs.Refusal.{Outcome, done, refused, MissingParameter}
 use Rattle.errors.specs.Refusal.{◌>>=◌ as ◌and_then◌}
+use Rattle.std.specs.Prelude as std
+use Rattle.std.specs.Prelude.{Some, None, Result, Ok, Err}
+use Rattle.errors.specs.declared.Reason.{Reason}
+use Rattle.errors.specs.declared.Reason.TheVariants as reason
 use Rattle.answers.specs.Answers.{AnswersIn}
 use Rattle.blocks.specs.Bytes.{bytes}
 use Rattle.blocks.specs.Name.{Name}
@@ -23,12 +27,10 @@ use Rattle.builder.specs.Nodes.{ref_text, build_field_ref_nodes, add_all, combin
 use Rattle.wire.specs.Poke.{Wrote}
 use Rattle.wire.proofs.Laws.{parts, no_parts}
 use Rattle.resolved_parts.specs.Types.{PathsAt, texts_of}
-use Rattle.builder_registry.specs.declared.Found.{Found}
-use Rattle.builder_registry.specs.declared.Found.TheVariants.{At, Missing}
 use Rattle.builder_registry.specs.Words.{Looked, entries_of, entry_name, Indexed}
 use Rattle.builder_registry.proofs.Laws.{looked_entry, looked_missing}
 use Rattle.builder_nodes.specs.declared.Built.{Built}
-use Rattle.builder_nodes.specs.Built.{Builds, Within, node_start}
+use Rattle.builder_nodes.specs.Built.{Builds, node_start}
 use Rattle.builder_nodes.proofs.Laws.{node_closed, step_passes, step_goes, step_assoc, step_same}
 use Rattle.builder_sums.specs.Ready.{chosen}
 use Rattle.builder_sums.specs.Paths.{picks, build_ref}
@@ -108,34 +110,34 @@ module _ (owner : Name) where
 ref_length : (owner path : Name) → length (ref_text owner path) ≡ length owner + (1 + length path)
 ref_length owner path = simp length-append (omega arith)
 
-module _ {s ws xs ys : List ℕ} {n at : ℕ} {f : Found} (owner : Name) {path name : Name} (e : path ≡ name)
+module _ {s ws xs ys : List ℕ} {n at : ℕ} {f : std.Option ℕ} (owner : Name) {path name : Name} (e : path ≡ name)
     (l : Looked s ws n f (lookup_name owner path (entries_of s ws n))) where
   -- no entry has the path
-  pub ref_missing : f ≡ Missing → Builds s xs at ws ys (record { at = at; count = n; number = 12 }) (build_ref owner name (entries_of s ws n))
+  pub ref_missing : f ≡ None → Builds s xs at ws ys (Err reason.MissingParameter) (build_ref owner name (entries_of s ws n))
   unfolding build_ref ◌>>=◌ ◌and_then◌ reads need refuse
-  ref_missing m = rw (← e, looked_missing m l) (AnswersIn.not 12 refl (omega arith))
+  ref_missing m = rw (← e, looked_missing m l) AnswersIn.not
 
   -- the text owner.path is too long
-  pub ref_long : {i : ℕ} → f ≡ At i → 255 < length owner + (1 + length path) →
-      Builds s xs at ws ys (record { at = at; count = n; number = 17 }) (build_ref owner name (entries_of s ws n))
+  pub ref_long : {i : ℕ} → f ≡ Some i → 255 < length owner + (1 + length path) →
+      Builds s xs at ws ys (Err reason.LimitExceeded) (build_ref owner name (entries_of s ws n))
   unfolding build_ref ◌>>=◌ ◌and_then◌ reads need require give refuse
   ref_long m h =
-      rw (← e, (looked_entry m l).1, lt-leb (length (ref_text owner path)) 255 (omega (arith, ref_length owner path))) (AnswersIn.not 17 refl (omega arith))
+      rw (← e, (looked_entry m l).1, lt-leb (length (ref_text owner path)) 255 (omega (arith, ref_length owner path))) AnswersIn.not
 
   -- the reference was written
-  pub ref_done : {i w r : ℕ} → Indexed s ws n → f ≡ At i → length owner + (1 + length path) ≤ 255 → w ≡ get_or ws i 0 →
-      Wrote xs at (write (node_tree (ref_node owner path (entry_name s w)))) ys r →
-      Builds s xs at ws ys (record { at = r; count = n; number = 0 }) (build_ref owner name (entries_of s ws n))
+  pub ref_done : {i r : ℕ} → Indexed s ws n → f ≡ Some i → length owner + (1 + length path) ≤ 255 →
+      Wrote xs at (write (node_tree (ref_node owner path (entry_name s (get_or ws i 0))))) ys r →
+      Builds s xs at ws ys (Ok (record { at = r; count = n })) (build_ref owner name (entries_of s ws n))
   unfolding build_ref ◌>>=◌ ◌and_then◌ reads need require give
-  ref_done {i} x m h d v =
+  ref_done {i} x m h v =
       rw (← e, (looked_entry m l).1, le-leb (length (ref_text owner path)) 255 (omega (arith, ref_length owner path)))
-      (AnswersIn.made (ref_node owner path (entry_name s (get_or ws i 0)), entries_of s ws n) refl
-      (record { entries = refl; index = x; wrote = rw d at v }))
+      (AnswersIn.made (ref_node owner path (entry_name s (get_or ws i 0)), entries_of s ws n)
+      (record { entries = refl; index = x; wrote = v }))
 
 -- ---- a sum, in the code's form
 
 -- the sum of the first path alone
-pub sum_first : {s xs us ys : List ℕ} {at k : ℕ} {r : Built} (owner : Name) (cs : List Name) (g : Registry) → k ≡ 1 → 0 < length cs →
+pub sum_first : {s xs us ys : List ℕ} {at k : ℕ} {r : Result Built Reason} (owner : Name) (cs : List Name) (g : Registry) → k ≡ 1 → 0 < length cs →
     Builds s xs at us ys r (build_ref owner (get_or cs 0 []) g) → Builds s xs at us ys r (sum_refs owner (take k cs) g)
 sum_first owner [] g e h b = absurd (omega arith)
 sum_first owner (c ∷ cs) g e h b = rw (e, sum_one owner c g) b
@@ -150,33 +152,31 @@ whole owner (x ∷ cs) (suc (suc m)) g a b c =
     rw sub-one
     (ap (λ (ps : List Name). sum_refs owner ps g) (take-suc (x ∷ cs) (suc m) [] (omega arith)) ∙ sum_last owner x (take m cs) (get_or (x ∷ cs) (suc m) []) g)
 
-module _ {s xs ws x₁ x₂ : List ℕ} {at k p : ℕ} {l : Built} (owner : Name) (cs : List Name) (n : ℕ) (h : 0 < k) (h₁ : k ≡ 1 → ⊥)
-    (h₂ : k ≤ length cs) (w : Wrote xs at (node_start 134 1) x₁ p)
-    (b : Builds s x₁ p ws x₂ l (sum_refs owner (take (k - 1) cs) (entries_of s ws n))) where
+module _ {s xs ws x₁ x₂ : List ℕ} {at k p : ℕ} (owner : Name) (cs : List Name) (n : ℕ) (h : 0 < k) (h₁ : k ≡ 1 → ⊥) (h₂ : k ≤ length cs) where
   -- the sum of one less was refused
-  pub sum_stops : {ys : List ℕ} {j : ℕ} → (l.number ≡ 0 → ⊥) →
-      Builds s xs at ws ys (record { at = at; count = j; number = l.number }) (sum_refs owner (take k cs) (entries_of s ws n))
-  sum_stops z = rw (whole owner cs k (entries_of s ws n) h h₁ h₂) (step_passes (sum_refs owner (take (k - 1) cs)) _ (entries_of s ws n) refl z b)
+  pub sum_stops : {e : Reason} {ys : List ℕ} → Builds s x₁ p ws x₂ (Err e) (sum_refs owner (take (k - 1) cs) (entries_of s ws n)) →
+      Builds s xs at ws ys (Err e) (sum_refs owner (take k cs) (entries_of s ws n))
+  sum_stops b = rw (whole owner cs k (entries_of s ws n) h h₁ h₂) (step_passes (sum_refs owner (take (k - 1) cs)) _ (entries_of s ws n) b)
 
-  module _ {x₃ : List ℕ} {m : Built} (z : l.number ≡ 0)
-      (v : Builds s x₂ l.at ws x₃ m (build_ref owner (get_or cs (k - 1) []) (entries_of s ws l.count))) where
+  module _ {l : Built} (b : Builds s x₁ p ws x₂ (Ok l) (sum_refs owner (take (k - 1) cs) (entries_of s ws n))) {x₃ : List ℕ} where
     -- the last reference was refused
-    pub sum_stops_last : {ys : List ℕ} {j : ℕ} → (m.number ≡ 0 → ⊥) →
-        Builds s xs at ws ys (record { at = at; count = j; number = m.number }) (sum_refs owner (take k cs) (entries_of s ws n))
-    sum_stops_last y =
+    pub sum_stops_last : {e : Reason} {ys : List ℕ} → Builds s x₂ l.at ws x₃ (Err e) (build_ref owner (get_or cs (k - 1) []) (entries_of s ws l.count)) →
+        Builds s xs at ws ys (Err e) (sum_refs owner (take k cs) (entries_of s ws n))
+    sum_stops_last v =
         rw (whole owner cs k (entries_of s ws n) h h₁ h₂)
-        (step_goes (sum_refs owner (take (k - 1) cs)) _ (entries_of s ws n) z b
-        (λ x e. step_passes (build_ref owner (get_or cs (k - 1) [])) _ x.1 refl y (rw e.entries at v)))
+        (step_goes (sum_refs owner (take (k - 1) cs)) _ (entries_of s ws n) b
+        (λ x e. step_passes (build_ref owner (get_or cs (k - 1) [])) _ x.1 (rw e.entries at v)))
 
     -- both were written, and the length of the Add is patched in
-    pub sum_done : {ys : List ℕ} {q : ℕ} → m.number ≡ 0 → Wrote x₃ at (bytes 4 (m.at - at - 4)) ys q →
-        Builds s xs at ws ys (record { at = m.at; count = m.count; number = 0 }) (sum_refs owner (take k cs) (entries_of s ws n))
+    pub sum_done : {m : Built} {ys : List ℕ} {q : ℕ} → Wrote xs at (node_start 134 1) x₁ p →
+        Builds s x₂ l.at ws x₃ (Ok m) (build_ref owner (get_or cs (k - 1) []) (entries_of s ws l.count)) →
+        Wrote x₃ at (bytes 4 (m.at - at - 4)) ys q → Builds s xs at ws ys (Ok m) (sum_refs owner (take k cs) (entries_of s ws n))
     unfolding node_tree give
-    sum_done y u =
+    sum_done {m} w v u =
         rw (whole owner cs k (entries_of s ws n) h h₁ h₂)
-        (step_goes (sum_refs owner (take (k - 1) cs)) _ (entries_of s ws n) z b
-        (λ x e. step_goes (build_ref owner (get_or cs (k - 1) [])) _ x.1 y (rw e.entries at v)
-        (λ r f. AnswersIn.made (added x.0 r.0, r.1) refl (record {
+        (step_goes (sum_refs owner (take (k - 1) cs)) _ (entries_of s ws n) b
+        (λ x e. step_goes (build_ref owner (get_or cs (k - 1) [])) _ x.1 (rw e.entries at v)
+        (λ r f. AnswersIn.made (added x.0 r.0, r.1) (record {
           entries = f.entries;
           index = f.index;
           wrote = node_closed 134 1
@@ -184,27 +184,20 @@ module _ {s xs ws x₁ x₂ : List ℕ} {at k p : ℕ} {l : Built} (owner : Name
               (parts (node_tree x.0) (cons (node_tree r.0) nil) e.wrote (parts (node_tree r.0) nil f.wrote (no_parts x₃ m.at))) u;
         }))))
 
--- ---- where the cursor goes
-
--- the Add has the 15 bytes of its head, the sum of one less and one reference
-pub sum_within : {at k p : ℕ} {l m : Built} → 0 < k → p ≡ at + 15 → Within p (1115 * (k - 1)) l → Within l.at 1100 m →
-    Within at (1115 * k) (record { at = m.at; count = m.count; number = 0 })
-sum_within h f a b = record { low = omega (arith, a.low, b.low); high = omega (arith, a.high, b.high); count = b.count }
-
 -- ---- all the chosen paths
 
--- no path is chosen: refusal 11
-pub sum_none : {s xs us ys : List ℕ} {at n k q : ℕ} (owner : Name) (only : Bool) (g : Registry) → k ≡ length (picks s only q) → k ≡ 0 → (p : PathsAt s q) →
-    Builds s xs at us ys (record { at = at; count = n; number = 11 }) (sum_refs owner (chosen only (texts_of p.list.got.0)) g)
+-- no path is chosen
+pub sum_none : {s xs us ys : List ℕ} {at k q : ℕ} (owner : Name) (only : Bool) (g : Registry) → k ≡ length (picks s only q) → k ≡ 0 → (p : PathsAt s q) →
+    Builds s xs at us ys (Err reason.MissingDynamicRefs) (sum_refs owner (chosen only (texts_of p.list.got.0)) g)
 unfolding sum_refs build_field_ref_nodes combine_checked_add ◌>>=◌ ◌and_then◌ give refuse
-sum_none {s} {xs} {us} {ys} {at} {n} {q} owner only g e z p = rw (picks_are only p) (go (picks s only q) (omega arith))
+sum_none {s} {xs} {us} {ys} {at} {q = q} owner only g e z p = rw (picks_are only p) (go (picks s only q) (omega arith))
   where
-    go : (ps : List Name) → length ps ≡ 0 → Builds s xs at us ys (record { at = at; count = n; number = 11 }) (sum_refs owner ps g)
-    go [] h = AnswersIn.not 11 refl (omega arith)
+    go : (ps : List Name) → length ps ≡ 0 → Builds s xs at us ys (Err reason.MissingDynamicRefs) (sum_refs owner ps g)
+    go [] h = AnswersIn.not
     go (x ∷ ps) h = absurd (omega arith)
 
 -- the sum of all the chosen paths
-pub sum_all : {s xs us ys : List ℕ} {at k : ℕ} {r : Built} (owner : Name) (only : Bool) (q : ℕ) (g : Registry) →
+pub sum_all : {s xs us ys : List ℕ} {at k : ℕ} {r : Result Built Reason} (owner : Name) (only : Bool) (q : ℕ) (g : Registry) →
     k ≡ length (picks s only q) → Builds s xs at us ys r (sum_refs owner (take k (picks s only q)) g) → (p : PathsAt s q) →
     Builds s xs at us ys r (sum_refs owner (chosen only (texts_of p.list.got.0)) g)
 sum_all {s} owner only q g e b p = rw (picks_are only p) (rw (e, take-length (picks s only q)) at b)
