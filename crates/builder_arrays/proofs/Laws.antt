@@ -1,16 +1,19 @@
 -- What the code of arrays leaves, place by place. Assumes nothing.
+use Rattle.std.specs.Prelude.{Option, Some, None, is_some, is_none, Result, Ok, Err}
 use mathlib.Core.Path.{◌≡◌, refl, sym, ◌∙◌, ap}
-use mathlib.Core.Bool.{Bool, true, false, ◌&&◌}
+use mathlib.Core.Bool.{Bool, true, false, not, ◌&&◌}
 use mathlib.Core.List.{List, ◌++◌}
 use Prim.Native.Nat.{ℕ, ◌+◌, ◌*◌, ◌^◌, ◌≤◌, ◌<◌}
 use native.Mathlib.Omega.{arith}
 use lib.ListN.{length}
-use Rattle.errors.specs.Refusal.{Outcome, refused, plain, UnsupportedArrayElement}
+use Rattle.errors.specs.Refusal.{Outcome, UnsupportedArrayElement}
+use Rattle.errors.specs.declared.Reason.{Reason}
+use Rattle.errors.specs.declared.Reason.TheVariants as reason
 use Rattle.answers.specs.Answers.{AnswersIn}
 use Rattle.answers.proofs.Laws.{refuses, makes}
 use Rattle.blocks.specs.Bytes.{le2, le4}
 use Rattle.blocks.specs.Name.{Name}
-use Rattle.blocks.specs.Tree.{name, num, nil, cons}
+use Rattle.blocks.specs.Tree.{name, nil, cons}
 use Rattle.blocks.specs.Write.{write}
 use Rattle.accepted.specs.Accepted.{Accepted, tree, name_at}
 use Rattle.expr.specs.Expr.{ExprKind, expr_of}
@@ -24,22 +27,21 @@ use Rattle.ir.specs.Layout.{node_tree}
 use Rattle.ir_nodes.specs.Codes.{code_at}
 use Rattle.builder.specs.Registry.{Registry, Build, ◌>>=◌, give, extend_with}
 use Rattle.builder.specs.Nodes.{align_node, product, is_variable, build_expr_ir, sum_over_array, build_array_node_with_prefix}
-use Rattle.builder.proofs.Steps.{step_refused, need_some, need_none}
+use Rattle.builder.proofs.Steps.{need_some, need_none}
 use Rattle.wire.specs.Poke.{Wrote}
 use Rattle.wire.proofs.Laws.{parts, no_parts}
 use Rattle.builder_registry.specs.Words.{Kept, Indexed, entries_of}
-use Rattle.builder_registry.specs.declared.Held.{Held}
 use Rattle.builder_registry.proofs.Laws.{standing}
 use Rattle.builder_paths.specs.Joined.{prefix_of}
 use Rattle.builder_nodes.specs.declared.Built.{Built}
-use Rattle.builder_nodes.specs.Built.{Builds, Within, node_start, text_flag}
-use Rattle.builder_nodes.proofs.Laws.{node_closed, align_closed, builds_index, step_passes, step_goes, step_then, stopped, widened}
+use Rattle.builder_nodes.specs.Built.{Builds, Within, text_flag}
+use Rattle.builder_nodes.proofs.Laws.{node_closed, align_closed, builds_index, step_passes, step_goes, widened}
 use Rattle.builder_nodes.proofs.Parts.{sum_element, sum_field}
 use Rattle.builder_expressions.specs.Ready.{Ready as ReadyCount}
 use Rattle.builder_expressions.proofs.Laws.{two_written}
 use Rattle.builder_arrays.specs.declared.Shape.{Shape}
 use Rattle.builder_arrays.specs.Ready.{ReadyInside}
-use Rattle.builder_arrays.specs.Array.{Opened, counted, summed, Closed, Finished}
+use Rattle.builder_arrays.specs.Array.{Opened, counted, summed, Closed}
 use Rattle.builder_arrays.specs.Shapes.{ShapeAt}
 use Rattle.builder_arrays.proofs.Steps.{element_of, array_sums, array_multiplies, element_constant, element_inside, element_refused, deeper, is_array, not_target, not_array}
 
@@ -47,14 +49,13 @@ use Rattle.builder_arrays.proofs.Steps.{element_of, array_sums, array_multiplies
 
 -- the shape that the code reads says what the array and its element are
 pub shaped : {s : List ℕ} {at : ℕ} {a : Accepted s 1 7 at} {h e : TypeHead} {p : ArrayParts} {b : Bool} (depth : ℕ) → HeadAt a h →
-    (q : ArrayAt a p) → HeadAt q.element e → b ≡ (p.jagged && e.variable) →
+    (q : ArrayAt a p) → HeadAt q.element e → b ≡ (p.jagged && is_none e.size) →
     ShapeAt a depth (record {
       depth = depth;
       sums = b;
       alignment = h.alignment;
       size = p.size;
       element = p.element;
-      variable = e.variable;
       constant = e.size;
       inner = e.alignment;
       references = e.references;
@@ -75,32 +76,37 @@ shaped {p} depth h q i x =
       owners = i.owners;
     }
 
--- the code's flag is the definition's question
-variable_as : (b : Bool) (v : ℕ) → is_variable (sized b v) ≡ b
-variable_as true v = refl
-variable_as false v = refl
+-- the code's answer whether there is no constant size
+pub none_as : (v : Option ℕ) {b : Bool} → is_some v ≡ not b → b ≡ is_none v
+none_as v {b = true} e = rw e
+none_as v {b = false} e = rw e
+
+-- an element has no constant size where its size is variable
+variable_as : (v : Option ℕ) → is_variable (sized v) ≡ is_none v
+variable_as None = refl
+variable_as (Some v) = refl
 
 -- ---- the beginning of an array
 
--- the two nodes are opened
-pub opens : {xs x₁ ys : List ℕ} {at p q : ℕ} (kind alignment : ℕ) → p ≡ at + 23 → Wrote xs at (node_start 131 alignment ++ write (num 8 alignment)) x₁ p →
-    Wrote x₁ p (node_start kind alignment) ys q → Opened xs at kind alignment ys q
-opens kind alignment e w v = record { one = _; align = rw e at w; node = rw e at v }
-
-module _ {s xs ws y₁ us : List ℕ} {at : ℕ} {c : Built} (owner prefix : Name) (x : ExprKind) (os : List Owner) (g : Registry)
-    (b : Builds s xs at ws y₁ c (build_expr_ir owner prefix x g)) where
+module _ {s xs ws y₁ us : List ℕ} {at : ℕ} (owner prefix : Name) (x : ExprKind) (os : List Owner) (g : Registry) where
   -- the count was refused
-  pub count_stops : {ys : List ℕ} → (c.number ≡ 0 → ⊥) → Builds s xs at us ys c (counted owner prefix x os g)
+  pub count_stops : {ys : List ℕ} {e : Reason} → Builds s xs at ws y₁ (Err e) (build_expr_ir owner prefix x g) → Builds s xs at us ys (Err e) (counted owner prefix x os g)
   unfolding counted
-  count_stops z = step_passes _ _ g refl z b
+  count_stops b = step_passes _ _ g b
 
-  -- the count was built, and the element's references enter or are refused
-  pub count_goes : {k : Held} → c.number ≡ 0 → Kept s us k (extend_with os (entries_of s ws c.count)) →
-      Builds s xs at us y₁ (record { at = c.at; count = k.count; number = k.number }) (counted owner prefix x os g)
+  -- the count was built, and the element's references were refused
+  pub enter_stops : {ys : List ℕ} {c : Built} {e : Reason} → Builds s xs at ws y₁ (Ok c) (build_expr_ir owner prefix x g) → Kept s us (Err e) (extend_with os (entries_of s ws c.count)) →
+      Builds s xs at us ys (Err e) (counted owner prefix x os g)
   unfolding counted give
-  count_goes z h =
-      step_goes _ _ g z b (λ y m. step_then (extend_with os) (λ _. give y.0) y.1 (rw m.entries at h)
-      (λ x e k. AnswersIn.made _ e (record { entries = k.entries; index = k.index; wrote = m.wrote })))
+  enter_stops b h = step_goes _ _ g b (λ y m. step_passes (extend_with os) (λ _. give y.0) y.1 (rw m.entries at h))
+
+  -- the count was built, and the element's references entered
+  pub count_goes : {c : Built} {k : ℕ} → Builds s xs at ws y₁ (Ok c) (build_expr_ir owner prefix x g) → Kept s us (Ok k) (extend_with os (entries_of s ws c.count)) →
+      Builds s xs at us y₁ (Ok (record { at = c.at; count = k })) (counted owner prefix x os g)
+  unfolding counted give
+  count_goes b h =
+      step_goes _ _ g b (λ y m. step_goes (extend_with os) (λ _. give y.0) y.1 (rw m.entries at h)
+      (λ x e. AnswersIn.made _ (record { entries = e.entries; index = e.index; wrote = m.wrote })))
 
 -- ---- the end of an array
 
@@ -130,41 +136,40 @@ module _ {xs y₀ y₁ : List ℕ} {at alignment q u : ℕ} (h : Head) (count : 
 abbrev Multiplied : Head → Build IrNode → Build IrNode → Registry → Outcome (IrNode × Registry)
 Multiplied h m e g = (m >>= (λ count. e >>= (λ element. give (product h count element)))) g
 
--- the element was built behind the count m, and the array finished
+-- the count m was built
 module _ {s xs y₀ ws y₁ : List ℕ} {at alignment q : ℕ} {c : Built} (h : Head) (m e : Build IrNode) (g : Registry) (d : h.alignment ≡ alignment)
-    (o : Opened xs at 136 alignment y₀ q) (z : c.number ≡ 0) (i : Builds s y₀ q ws y₁ c (m g)) where
-  -- the product's bytes, or the element's refusal
-  multiplies : {us y₂ ys : List ℕ} {n : ℕ} {b r : Built} → ((k : Registry) → entries_of s ws c.count ≡ k → Builds s y₁ c.at us y₂ b (e k)) →
-      Finished y₂ at n b ys r → Builds s xs at us ys r (Multiplied h m e g)
+    (o : Opened xs at 136 alignment y₀ q) (i : Builds s y₀ q ws y₁ (Ok c) (m g)) where
+  -- the element was built behind it, and the array closed
+  multiplies : {us y₂ ys : List ℕ} {b : Built} → ((k : Registry) → entries_of s ws c.count ≡ k → Builds s y₁ c.at us y₂ (Ok b) (e k)) →
+      Closed y₂ at b.at ys → Builds s xs at us ys (Ok b) (Multiplied h m e g)
   unfolding give
-  multiplies f (Finished.closed p t) =
-      step_goes m _ g z i (λ x v. step_goes e _ x.1 p (f x.1 v.entries)
-      (λ y w. AnswersIn.made _ refl (record {
+  multiplies f t =
+      step_goes m _ g i (λ x v. step_goes e _ x.1 (f x.1 v.entries)
+      (λ y w. AnswersIn.made _ (record {
         entries = w.entries;
         index = w.index;
         wrote = product_written h x.0 d v.wrote y.0 o w.wrote t;
       })))
-  multiplies f (Finished.stopped p) = step_goes m _ g z i (λ x v. step_passes e _ x.1 refl p (f x.1 v.entries))
 
-  -- the element is refused, over whatever registry
-  multiplies_not : {us ys : List ℕ} {k u v : ℕ} → 0 < k → ((j : Registry) → e j ≡ refused (plain k)) →
-      Builds s xs at us ys (record { at = u; count = v; number = k }) (Multiplied h m e g)
-  multiplies_not l f = step_goes m _ g z i (λ x v. refuses l (step_refused e _ x.1 (f x.1)))
+  -- the element was refused
+  multiplies_not : {us y₂ ys : List ℕ} {b : Reason} → ((k : Registry) → entries_of s ws c.count ≡ k → Builds s y₁ c.at us y₂ (Err b) (e k)) →
+      Builds s xs at us ys (Err b) (Multiplied h m e g)
+  multiplies_not f = step_goes m _ g i (λ x v. step_passes e _ x.1 (f x.1 v.entries))
 
 -- ---- an array by its shape
 
 -- what building an array leaves, where the entries were g
-abbrev pub Leaves : (s xs : List ℕ) (at : ℕ) (us ys : List ℕ) (r : Built) (owner : Name) (depth array : ℕ) (g : Registry) → Type 0
+abbrev pub Leaves : (s xs : List ℕ) (at : ℕ) (us ys : List ℕ) (r : Result Built Reason) (owner : Name) (depth array : ℕ) (g : Registry) → Type 0
 Leaves s xs at us ys r owner depth array g = (a : Accepted s 1 7 array) → Builds s xs at us ys r (build_array_node_with_prefix owner (prefix_of depth) (type_of (tree a)) g)
 
 -- what sum_over_array leaves
-abbrev SumLeft : (s xs : List ℕ) (at : ℕ) (us ys : List ℕ) (r : Built) (owner : Name) (depth alignment size element : ℕ) (g : Registry) → Type 0
+abbrev SumLeft : (s xs : List ℕ) (at : ℕ) (us ys : List ℕ) (r : Result Built Reason) (owner : Name) (depth alignment size element : ℕ) (g : Registry) → Type 0
 SumLeft s xs at us ys r owner depth alignment size element g =
     (e : Accepted s 64 91 size) (t : Accepted s 1 7 element) (h : Head) → h.alignment ≡ alignment →
     Builds s xs at us ys r (summed h owner (prefix_of depth) (expr_of (tree e)) (kind_of (type_of (tree t))) g)
 
 -- what build_counted leaves
-abbrev Counts : (s xs : List ℕ) (at : ℕ) (us ys : List ℕ) (r : Built) (owner : Name) (p : Shape) (g : Registry) → Type 0
+abbrev Counts : (s xs : List ℕ) (at : ℕ) (us ys : List ℕ) (r : Result Built Reason) (owner : Name) (p : Shape) (g : Registry) → Type 0
 Counts s xs at us ys r owner p g =
     (e : Accepted s 64 91 p.size) (f : Accepted s 32 32 p.references) →
     Builds s xs at us ys r (counted owner (prefix_of p.depth) (expr_of (tree e)) (owners_of (tree f)) g)
@@ -172,95 +177,108 @@ Counts s xs at us ys r owner p g =
 module _ {s : List ℕ} {array : ℕ} {p : Shape} (owner : Name) (depth : ℕ) (g : Registry) (sh : (a : Accepted s 1 7 array) → ShapeAt a depth p) where
   -- whether a jagged array sums over its elements, as the code has it
   sums_as : (a : Accepted s 1 7 array) → ((sh a).jagged && is_variable (head (type_of (tree (sh a).element))).size) ≡ p.sums
-  sums_as a = rw ((sh a).inner_size, variable_as p.variable p.constant) (sym (sh a).sums)
+  sums_as a = rw ((sh a).inner_size, variable_as p.constant) (sym (sh a).sums)
 
   -- a jagged array of variable elements is what `sum_over_array` leaves
-  pub sums_leave : {xs us ys : List ℕ} {at : ℕ} {r : Built} → p.sums ≡ true →
+  pub sums_leave : {xs us ys : List ℕ} {at : ℕ} {r : Result Built Reason} → p.sums ≡ true →
       SumLeft s xs at us ys r owner p.depth p.alignment p.size p.element g → Leaves s xs at us ys r owner depth array g
   sums_leave t b a =
       let q = sh a in
       rw (← q.inside, array_sums owner (prefix_of p.depth) (type_of (tree a)) _ _ _ g q.is (sums_as a ∙ t)) (b q.size q.element (head (type_of (tree a))) q.alignment)
 
-  module _ {xs y₀ ws y₁ : List ℕ} {at q : ℕ} {c : Built} (t : p.sums ≡ false) (o : Opened xs at 136 p.alignment y₀ q) (k : Counts s y₀ q ws y₁ c owner p g) where
-    -- the element as it is built inside
-    abbrev element_at : (a : Accepted s 1 7 array) → Build IrNode
-    element_at a = element_of owner (prefix_of depth) (type_of (tree (sh a).element))
+  -- the element as it is built inside
+  abbrev element_at : (a : Accepted s 1 7 array) → Build IrNode
+  element_at a = element_of owner (prefix_of depth) (type_of (tree (sh a).element))
 
-    -- the count, with the element's references entered
-    abbrev count_at : (a : Accepted s 1 7 array) → Build IrNode
-    count_at a = counted owner (prefix_of depth) (expr_of (tree (sh a).size)) (head (type_of (tree (sh a).element))).dynamic_params
+  -- the count, with the element's references entered
+  abbrev count_at : (a : Accepted s 1 7 array) → Build IrNode
+  count_at a = counted owner (prefix_of depth) (expr_of (tree (sh a).size)) (head (type_of (tree (sh a).element))).dynamic_params
 
-    -- every other array multiplies its count with its element
-    multiplied : (a : Accepted s 1 7 array) → build_array_node_with_prefix owner (prefix_of depth) (type_of (tree a)) g ≡ Multiplied (head (type_of (tree a))) (count_at a) (element_at a) g
-    multiplied a = array_multiplies owner (prefix_of depth) (type_of (tree a)) _ _ _ g (sh a).is (sums_as a ∙ t)
+  -- every other array multiplies its count with its element
+  multiplied : p.sums ≡ false → (a : Accepted s 1 7 array) →
+      build_array_node_with_prefix owner (prefix_of depth) (type_of (tree a)) g ≡ Multiplied (head (type_of (tree a))) (count_at a) (element_at a) g
+  multiplied t a = array_multiplies owner (prefix_of depth) (type_of (tree a)) _ _ _ g (sh a).is (sums_as a ∙ t)
 
+  module _ {xs y₀ ws y₁ : List ℕ} {at q : ℕ} (t : p.sums ≡ false) (o : Opened xs at 136 p.alignment y₀ q) where
     -- the count that the code built is the definition's
-    counts : (a : Accepted s 1 7 array) → Builds s y₀ q ws y₁ c (count_at a g)
-    counts a = rw ((sh a).owners, ← (sh a).inside) (k (sh a).size (sh a).references)
+    counts : {r : Result Built Reason} → Counts s y₀ q ws y₁ r owner p g → (a : Accepted s 1 7 array) → Builds s y₀ q ws y₁ r (count_at a g)
+    counts k a = rw ((sh a).owners, ← (sh a).inside) (k (sh a).size (sh a).references)
 
     -- the count, or the references, were refused
-    pub counted_stops : {us ys : List ℕ} {u v : ℕ} → (c.number ≡ 0 → ⊥) → Leaves s xs at us ys (record { at = u; count = v; number = c.number }) owner depth array g
-    counted_stops z a = rw (multiplied a) (step_passes (count_at a) _ g refl z (counts a))
+    pub counted_stops : {us ys : List ℕ} {e : Reason} → Counts s y₀ q ws y₁ (Err e) owner p g → Leaves s xs at us ys (Err e) owner depth array g
+    counted_stops k a = rw (multiplied t a) (step_passes (count_at a) _ g (counts k a))
 
-    module _ (z : c.number ≡ 0) where
+    module _ {c : Built} (k : Counts s y₀ q ws y₁ (Ok c) owner p g) where
       -- an element of variable size that is no array
-      pub element_stops : {us ys : List ℕ} {u v : ℕ} → p.variable ≡ true → (le2 s (p.element + 4) ≡ 5 → ⊥) →
-          Leaves s xs at us ys (record { at = u; count = v; number = 13 }) owner depth array g
-      element_stops e f a =
+      pub element_stops : {us ys : List ℕ} → p.constant ≡ None → (le2 s (p.element + 4) ≡ 5 → ⊥) →
+          Leaves s xs at us ys (Err reason.UnsupportedArrayElement) owner depth array g
+      element_stops {ys} e f a =
           let q = sh a in
-          rw (multiplied a)
-          (multiplies_not (head (type_of (tree a))) (count_at a) (element_at a) g q.alignment o z (counts a) (omega arith)
-          (λ j. element_refused _ _ _ j (q.inner_size ∙ rw e) (not_array q.element f)))
+          rw (multiplied t a)
+          (multiplies_not (head (type_of (tree a))) (count_at a) (element_at a) g q.alignment o (counts k a) {y₂ = ys}
+          (λ j _. refuses (element_refused _ _ _ j (q.inner_size ∙ rw e) (not_array q.element f))))
 
-      -- an element that is an array: built one array deeper
-      pub element_nests : {us y₂ ys : List ℕ} {n : ℕ} {b r : Built} → p.variable ≡ true → le2 s (p.element + 4) ≡ 5 →
-          Leaves s y₁ c.at us y₂ b owner (p.depth + 1) p.element (entries_of s ws c.count) → Finished y₂ at n b ys r → Leaves s xs at us ys r owner depth array g
-      element_nests {us} {y₂} {b} e f w h a =
-          let q = sh a in
-          let x : (j : Registry) → element_at a j ≡ build_array_node_with_prefix owner (prefix_of (p.depth + 1)) (type_of (tree q.element)) j = λ j.
-          rw (q.inside, deeper depth) (element_inside _ _ _ j (q.inner_size ∙ rw e) (is_array q.element f).1) in
-          rw (multiplied a)
-          (multiplies (head (type_of (tree a))) (count_at a) (element_at a) g q.alignment o z (counts a) (λ j i. rw (x j, ← i) (w q.element)) h)
+      module _ {us y₂ : List ℕ} {r : Result Built Reason} (e : p.constant ≡ None) (f : le2 s (p.element + 4) ≡ 5)
+          (w : Leaves s y₁ c.at us y₂ r owner (p.depth + 1) p.element (entries_of s ws c.count)) where
+        -- an element that is an array is built one array deeper
+        deeper_at : (a : Accepted s 1 7 array) (j : Registry) → entries_of s ws c.count ≡ j → Builds s y₁ c.at us y₂ r (element_at a j)
+        deeper_at a j i =
+            let q = sh a in
+            let x : element_at a j ≡ build_array_node_with_prefix owner (prefix_of (p.depth + 1)) (type_of (tree q.element)) j =
+            rw (q.inside, deeper depth) (element_inside _ _ _ j (q.inner_size ∙ rw e) (is_array q.element f).1) in
+            rw (x, ← i) (w q.element)
 
-      -- an element of constant size
-      pub element_made : {y₂ ys : List ℕ} {n u : ℕ} {r : Built} → p.variable ≡ false →
-          Wrote y₁ c.at (write (node_tree (IrNode.Const unplaced (aligned p.inner) p.constant))) y₂ u →
-          Finished y₂ at n (record { at = u; count = c.count; number = 0 }) ys r → Leaves s xs at ws ys r owner depth array g
-      element_made e w h a =
+        -- it was refused
+        pub nested_stops : {ys : List ℕ} {b : Reason} → r ≡ Err b → Leaves s xs at us ys (Err b) owner depth array g
+        nested_stops u a =
+            rw (multiplied t a)
+            (multiplies_not (head (type_of (tree a))) (count_at a) (element_at a) g (sh a).alignment o (counts k a) {y₂ = y₂} (λ j i. rw (← u) (deeper_at a j i)))
+
+        -- it was built, and the array closed
+        pub nested_goes : {ys : List ℕ} {b : Built} → r ≡ Ok b → Closed y₂ at b.at ys → Leaves s xs at us ys (Ok b) owner depth array g
+        nested_goes u h a =
+            rw (multiplied t a)
+            (multiplies (head (type_of (tree a))) (count_at a) (element_at a) g (sh a).alignment o (counts k a) (λ j i. rw (← u) (deeper_at a j i)) h)
+
+      -- an element of constant size, and the array closed
+      pub element_made : {y₂ ys : List ℕ} {v u : ℕ} → p.constant ≡ Some v →
+          Wrote y₁ c.at (write (node_tree (IrNode.Const unplaced (aligned p.inner) v))) y₂ u → Closed y₂ at u ys →
+          Leaves s xs at ws ys (Ok (record { at = u; count = c.count })) owner depth array g
+      element_made {v} e w h a =
           let q = sh a in
-          let k : (head (type_of (tree q.element))).size ≡ Size.Const p.constant = q.inner_size ∙ rw e in
-          rw (multiplied a)
-          (multiplies (head (type_of (tree a))) (count_at a) (element_at a) g q.alignment o z (counts a)
-          (λ j i. makes _ refl (element_constant _ _ _ j k ∙ rw q.inner_alignment) (record { entries = i; index = builds_index z (counts a); wrote = w })) h)
+          let d : (head (type_of (tree q.element))).size ≡ Size.Const v = q.inner_size ∙ rw e in
+          rw (multiplied t a)
+          (multiplies (head (type_of (tree a))) (count_at a) (element_at a) g q.alignment o (counts k a)
+          (λ j i. makes _ (element_constant _ _ _ j d ∙ rw q.inner_alignment) (record { entries = i; index = builds_index (counts k a); wrote = w })) h)
 
 -- ---- a sum over an array
 
-module _ {s xs y₀ ws y₁ : List ℕ} {at q : ℕ} {c : Built} (owner : Name) (depth : ℕ) {alignment size element : ℕ} (g : Registry) (o : Opened xs at 144 alignment y₀ q)
-    (k : (e : Accepted s 64 91 size) → Builds s y₀ q ws y₁ c (build_expr_ir owner (prefix_of depth) (expr_of (tree e)) g)) where
+module _ {s xs y₀ ws y₁ : List ℕ} {at q : ℕ} (owner : Name) (depth : ℕ) {alignment size element : ℕ} (g : Registry) (o : Opened xs at 144 alignment y₀ q) where
   -- the count was refused
-  pub sum_count_stops : {us ys : List ℕ} {u v : ℕ} → (c.number ≡ 0 → ⊥) → SumLeft s xs at us ys (record { at = u; count = v; number = c.number }) owner depth alignment size element g
+  pub sum_count_stops : {us ys : List ℕ} {b : Reason} →
+      ((e : Accepted s 64 91 size) → Builds s y₀ q ws y₁ (Err b) (build_expr_ir owner (prefix_of depth) (expr_of (tree e)) g)) → SumLeft s xs at us ys (Err b) owner depth alignment size element g
   unfolding summed
-  sum_count_stops z e t h d = step_passes _ _ g refl z (k e)
+  sum_count_stops k e t h d = step_passes _ _ g (k e)
 
-  module _ (z : c.number ≡ 0) where
-    -- an element that is no type reference: 13
-    pub sum_element_stops : {us ys : List ℕ} {w u v : ℕ} → w ≡ le2 s (element + 4) → (w ≡ 7 → ⊥) →
-        SumLeft s xs at us ys (record { at = u; count = v; number = 13 }) owner depth alignment size element g
+  module _ {c : Built} (k : (e : Accepted s 64 91 size) → Builds s y₀ q ws y₁ (Ok c) (build_expr_ir owner (prefix_of depth) (expr_of (tree e)) g)) where
+    -- an element that is no type reference
+    pub sum_element_stops : {us ys : List ℕ} → (le2 s (element + 4) ≡ 7 → ⊥) →
+        SumLeft s xs at us ys (Err reason.UnsupportedArrayElement) owner depth alignment size element g
     unfolding summed sum_over_array
-    sum_element_stops x y e t h d = step_goes _ _ g z (k e) (λ n m. refuses (omega arith) (need_none UnsupportedArrayElement _ n.1 (not_target t (rw x at y))))
+    sum_element_stops y e t h d = step_goes _ _ g (k e) (λ n m. refuses (need_none UnsupportedArrayElement _ n.1 (not_target t y)))
 
     -- the names of the called type and of the owner stand behind the count
     pub sum_made : {y₂ y₃ ys : List ℕ} {v w j : ℕ} {n : Name} → ((t : Accepted s 1 7 element) → TargetAt t j) → n ≡ name_at s j →
         Wrote y₁ c.at (text_flag true (code_at 144 3) ++ write (name n)) y₂ v → Wrote y₂ v (text_flag true (code_at 144 4) ++ write (name owner)) y₃ w → Closed y₃ at w ys →
-        SumLeft s xs at ws ys (record { at = w; count = c.count; number = 0 }) owner depth alignment size element g
+        SumLeft s xs at ws ys (Ok (record { at = w; count = c.count })) owner depth alignment size element g
     unfolding summed sum_over_array give
     sum_made x y a b f e t h d =
-        step_goes _ _ g z (k e) (λ n m. makes _ refl (need_some UnsupportedArrayElement _ n.1 (ap target_of (x t).is))
+        step_goes _ _ g (k e) (λ n m. makes _ (need_some UnsupportedArrayElement _ n.1 (ap target_of (x t).is))
         (record { entries = m.entries; index = m.index; wrote = sum_written h n.0 d m.wrote _ owner o (rw y at a) b f }))
 
 -- where a sum ends: the two nodes' heads, the count, and two names
 pub sum_ends : {at q u v i j room : ℕ} {c : Built} → q ≡ at + 38 → Within q room c → (c.at ≤ u) × (u ≤ c.at + 3 + i) → (u ≤ v) × (v ≤ u + 3 + j) →
-    i ≤ 255 → j ≤ 255 → (at + 38 ≤ v) × Within at (2048 + room) (record { at = v; count = c.count; number = 0 })
+    i ≤ 255 → j ≤ 255 → (at + 38 ≤ v) × Within at (2048 + room) (record { at = v; count = c.count })
 sum_ends e w f g h k =
     (omega (arith, w.low), record { low = omega (arith, w.low); high = omega (arith, w.high); count = w.count })
 
@@ -308,10 +326,9 @@ module _ {s ws : List ℕ} {n depth array at : ℕ} {owner : Name} {p : Shape} (
 
     module _ {b : Built} (v : Within c.at (1024 * (4 + le4 s p.element)) b) where
       -- what closing the array stands on
-      pub finish_ready : (at + 38 ≤ b.at) × (b.at < 2 ^ 61)
-      finish_ready = (omega (arith, w.low, v.low), omega (arith, r.ready.cursor, q.room, w.high, v.high))
+      pub close_ready : (at + 38 ≤ b.at) × (b.at < 2 ^ 61)
+      close_ready = (omega (arith, w.low, v.low), omega (arith, r.ready.cursor, q.room, w.high, v.high))
 
       -- a closed array is as short as an array may be
-      pub finish_within : {xs ys : List ℕ} {f : Built} → Finished xs at n b ys f → Within at (1024 * (4 + le4 s array)) f
-      finish_within (Finished.closed z c) = record { low = omega (arith, w.low, v.low); high = omega (arith, q.room, w.high, v.high); count = v.count }
-      finish_within (Finished.stopped z) = stopped r.ready.standing.count
+      pub close_within : Within at (1024 * (4 + le4 s array)) b
+      close_within = record { low = omega (arith, w.low, v.low); high = omega (arith, q.room, w.high, v.high); count = v.count }

@@ -1,5 +1,6 @@
 -- The owner of an array that is a root.
-use mathlib.Core.Path.{◌≡◌, refl, sym, ap, subst, ◌∙◌}
+use Rattle.std.specs.Prelude.{Option, Some, None, is_some, Result, Err}
+use mathlib.Core.Path.{◌≡◌, refl, sym, ap, ◌∙◌}
 use mathlib.Core.Bool.{Bool, true, false, cond}
 use mathlib.Core.List.{List, [], ◌∷◌}
 use mathlib.Core.Option.{some}
@@ -8,7 +9,9 @@ use native.Mathlib.Omega.{arith}
 use lib.ListN.{length, take, drop, length-drop}
 use lib.Seq.{take_all}
 use Rattle.errors.specs.Refusal.{MissingDynamicRefs}
-use Rattle.answers.specs.Answers.{AnswersIn}
+use Rattle.errors.specs.declared.Reason.{Reason}
+use Rattle.errors.specs.declared.Reason.TheVariants as reason
+use Rattle.answers.proofs.Laws.{refuses}
 use Rattle.blocks.specs.Bytes.{le2}
 use Rattle.blocks.specs.Name.{Name, ascii}
 use Rattle.blocks.specs.Grammar.{parts_of, find_row, grammar, node_table}
@@ -21,16 +24,11 @@ use Rattle.builder.specs.Names.{rsplit_once}
 use Rattle.builder.specs.Registry.{Registry}
 use Rattle.builder.specs.Nodes.{has, field_key, select_array_owner, build_array_node_with_prefix, build_array_node}
 use Rattle.builder.proofs.Steps.{need_some, need_none}
-use Rattle.builder_names.specs.declared.Split.{Split}
-use Rattle.builder_names.specs.declared.Split.TheVariants.{At as SplitAt, Missing as SplitNone}
-use Rattle.builder_names.specs.Views.{Parts as Split_parts}
+use Rattle.builder_names.specs.Views.{Parts}
 use Rattle.resolved_parts.specs.declared.TypeHead.{TypeHead}
-use Rattle.resolved_parts.specs.declared.Paths.{Paths}
-use Rattle.resolved_parts.specs.declared.Paths.TheVariants.{At, Missing}
 use Rattle.resolved_parts.specs.Types.{Named, HeadAt, PathsFound, owners_of}
 use Rattle.resolved_parts.proofs.Laws.{inside}
 use Rattle.resolved_parts.proofs.Fields.{owner_named, owner_at}
-use Rattle.resolved_parts.proofs.Owners.{found_paths, found_none}
 use Rattle.builder_paths.specs.Joined.{prefix_of}
 use Rattle.builder_nodes.specs.declared.Built.{Built}
 use Rattle.builder_nodes.specs.Built.{Builds}
@@ -53,20 +51,25 @@ first_is {s} {b} g h =
 
 -- ---- in the code's form
 
-module _ {s : List ℕ} {b : ℕ} {key : Name} (name : Name) {x : Paths} (f : (g : Accepted s 32 32 b) → PathsFound s key (owners_of (tree g)) x) where
-  -- the key is an owner
-  pub under_key : {q : ℕ} → x ≡ At q → (g : Accepted s 32 32 b) → key ≡ owner_under key name (owners_of (tree g))
-  under_key e g = rw (found_paths e (f g)).1 refl
+-- an owner is there where its paths are found
+has_as : {s : List ℕ} {n : Name} {os : List Owner} {x : Option ℕ} → PathsFound s n os x → has n os ≡ is_some x
+has_as (PathsFound.at p g) = rw g refl
+has_as (PathsFound.missing g) = rw g refl
 
-  module _ {y : Paths} (e : x ≡ Missing) (k : (g : Accepted s 32 32 b) → PathsFound s name (owners_of (tree g)) y) where
+module _ {s : List ℕ} {b : ℕ} {key : Name} (name : Name) {x : Option ℕ} (f : (g : Accepted s 32 32 b) → PathsFound s key (owners_of (tree g)) x) where
+  -- the key is an owner
+  pub under_key : is_some x ≡ true → (g : Accepted s 32 32 b) → key ≡ owner_under key name (owners_of (tree g))
+  under_key e g = rw (has_as (f g) ∙ e) refl
+
+  module _ {y : Option ℕ} (e : is_some x ≡ false) (k : (g : Accepted s 32 32 b) → PathsFound s name (owners_of (tree g)) y) where
     -- it is none, but the type's name is one
-    pub under_name : {q : ℕ} → y ≡ At q → (g : Accepted s 32 32 b) → name ≡ owner_under key name (owners_of (tree g))
-    under_name d g = rw (found_none e (f g), (found_paths d (k g)).1) refl
+    pub under_name : is_some y ≡ true → (g : Accepted s 32 32 b) → name ≡ owner_under key name (owners_of (tree g))
+    under_name d g = rw (has_as (f g) ∙ e, has_as (k g) ∙ d) refl
 
     -- neither is: the first owner
-    pub under_first : {o : Name} → y ≡ Missing → 0 < le2 s (b + 6) → o ≡ name_at s (b + 6 + 2 + 6) → (g : Accepted s 32 32 b) →
+    pub under_first : {o : Name} → is_some y ≡ false → 0 < le2 s (b + 6) → o ≡ name_at s (b + 6 + 2 + 6) → (g : Accepted s 32 32 b) →
         o ≡ owner_under key name (owners_of (tree g))
-    under_first d p q g = q ∙ sym (first_is g p).1 ∙ rw (found_none e (f g), found_none d (k g)) refl
+    under_first d p q g = q ∙ sym (first_is g p).1 ∙ rw (has_as (f g) ∙ e, has_as (k g) ∙ d) refl
 
 -- ---- at the root
 
@@ -110,17 +113,19 @@ module _ {s : List ℕ} {array at : ℕ} {h : TypeHead} (f : (a : Accepted s 1 7
   pub root_ready : {ws : List ℕ} {n c : ℕ} → Ready s ws n array at → c ≡ le2 s (h.references + 6) → (c ≡ 0 → ⊥) → SomeOwner s h.references
   root_ready r e z = record { owners = (f r.type).references; some_owner = omega arith; size = r.standing.size }
 
-  module _ {xs us ys : List ℕ} {r : Built} (es : Registry) where
-    -- there is no owner: 11
-    pub root_none : {c : ℕ} → c ≡ le2 s (h.references + 6) → c ≡ 0 → r.number ≡ 11 → (a : Accepted s 1 7 array) → Builds s xs at us ys r (build_array_node (type_of (tree a)) es)
+  module _ {xs us ys : List ℕ} (es : Registry) where
+    -- there is no owner
+    pub root_none : {c : ℕ} → c ≡ le2 s (h.references + 6) → c ≡ 0 → (a : Accepted s 1 7 array) →
+        Builds s xs at us ys (Err reason.MissingDynamicRefs) (build_array_node (type_of (tree a)) es)
     unfolding build_array_node select_array_owner
-    root_none e z k a =
+    root_none e z a =
         let o : (head (type_of (tree a))).dynamic_params ≡ [] = (f a).owners ∙ no_owners (f a).references (omega (arith, e, z)) in
-        rw (need_none MissingDynamicRefs (λ owner. build_array_node_with_prefix owner [] (type_of (tree a))) es
-        (ap (select_array_owner (head (type_of (tree a)))) o)) (AnswersIn.not 11 k (omega arith))
+        refuses
+        (need_none MissingDynamicRefs (λ owner. build_array_node_with_prefix owner [] (type_of (tree a))) es
+        (ap (select_array_owner (head (type_of (tree a)))) o))
 
     -- the array is built under the owner that is selected
-    pub root_is : {nm owner : Name} → nm ≡ name_at s (array + 6) →
+    pub root_is : {nm owner : Name} {r : Result Built Reason} → nm ≡ name_at s (array + 6) →
         ((g : Accepted s 32 32 h.references) (d : Head) → d.name ≡ nm → select_array_owner d (owners_of (tree g)) ≡ some owner) →
         ((a : Accepted s 1 7 array) → Builds s xs at us ys r (build_array_node_with_prefix owner (prefix_of 0) (type_of (tree a)) es)) →
         (a : Accepted s 1 7 array) → Builds s xs at us ys r (build_array_node (type_of (tree a)) es)
@@ -132,22 +137,14 @@ module _ {s : List ℕ} {array at : ℕ} {h : TypeHead} (f : (a : Accepted s 1 7
 
 -- ---- the key in a name
 
--- `::` stands inside the name
-pub behind_fits : (nm : Name) {r : Split} {i : ℕ} → Split_parts nm r → r ≡ SplitAt i → i + 2 ≤ length nm
-behind_fits nm p e = (subst (Split_parts nm) e p).0
-
 -- what stands behind a place, as a part
 behind_whole : (nm : Name) (j : ℕ) → take (length nm - j) (drop j nm) ≡ drop j nm
 behind_whole nm j = take_all (length nm - j) (drop j nm) (rw length-drop (omega arith))
 
 -- the key is what stands behind the last `::`
-pub key_behind : (nm : Name) {r : Split} {i : ℕ} → Split_parts nm r → r ≡ SplitAt i → field_key (rsplit_once nm) ≡ take (length nm - (i + 2)) (drop (i + 2) nm)
-key_behind nm {i} p k = ap field_key (subst (Split_parts nm) k p).1 ∙ sym (behind_whole nm (i + 2))
+pub key_behind : (nm : Name) (i : ℕ) → Parts nm (Some i) → field_key (rsplit_once nm) ≡ take (length nm - (i + 2)) (drop (i + 2) nm)
+key_behind nm i p = ap field_key p.1 ∙ sym (behind_whole nm (i + 2))
 
 -- without `::` the key is `array`
-pub key_array : (nm : Name) {r : Split} → Split_parts nm r → r ≡ SplitNone → field_key (rsplit_once nm) ≡ ascii "array"
-key_array nm p k = ap field_key (subst (Split_parts nm) k p)
-
--- which is short
-pub array_short : {key : Name} → key ≡ ascii "array" → length key ≤ 255
-array_short e = rw e (omega arith)
+pub key_array : (nm : Name) → Parts nm None → field_key (rsplit_once nm) ≡ ascii "array"
+key_array nm p = ap field_key p

@@ -1,5 +1,5 @@
 -- An array's node, part by part.
-use Rattle.std.specs.Prelude.{ℕ, ◌+◌, ◌-◌, ◌≡◌, List, ◌++◌}
+use Rattle.std.specs.Prelude.{ℕ, ◌+◌, ◌-◌, List, ◌++◌}
 use Rattle.blocks.specs.Bytes.{bytes}
 use Rattle.blocks.specs.Name.{Name}
 use Rattle.blocks.specs.Tree.{num}
@@ -10,7 +10,6 @@ use Rattle.ir.specs.Ir.{IrNode}
 use Rattle.builder.specs.Registry.{Build, ◌>>=◌, give, extend_with}
 use Rattle.builder.specs.Nodes.{build_expr_ir, sum_over_array}
 use Rattle.wire.specs.Poke.{Wrote}
-use Rattle.builder_nodes.specs.declared.Built.{Built}
 use Rattle.builder_nodes.specs.Built.{node_start}
 
 -- An AlignUp node and in it a node of a kind, both as far as their metadata.
@@ -39,8 +38,3 @@ pub record Closed (xs : List ℕ) (at end : ℕ) (ys : List ℕ) : Type 0 where
   pub q : ℕ
   pub one : Wrote xs (at + 23) (bytes 4 (end - (at + 23) - 4)) inner p
   pub two : Wrote inner at (bytes 4 (end - at - 4)) ys q
-
--- what is left behind the last part
-pub data Finished (xs : List ℕ) (at n : ℕ) (last : Built) (ys : List ℕ) : Built → Type 0 where
-  closed : last.number ≡ 0 → Closed xs at last.at ys → Finished xs at n last ys (record { at = last.at; count = last.count; number = 0 })
-  stopped : (last.number ≡ 0 → ⊥) → Finished xs at n last ys (record { at = at; count = n; number = last.number })

@@ -1,5 +1,5 @@
 -- What the shape of an array says of it.
-use Rattle.std.specs.Prelude.{ℕ, ◌+◌, ◌≤◌, ◌≡◌, Bool, ◌&&◌, List}
+use Rattle.std.specs.Prelude.{ℕ, ◌+◌, ◌≤◌, ◌≡◌, Bool, ◌&&◌, List, is_none}
 use Rattle.blocks.specs.Bytes.{le4}
 use Rattle.accepted.specs.Accepted.{Accepted, tree}
 use Rattle.expr.specs.Expr.{expr_of}
@@ -18,8 +18,8 @@ pub record ShapeAt {s : List ℕ} {at : ℕ} (a : Accepted s 1 7 at) (depth : �
   pub room : 20 + le4 s r.element + le4 s r.size ≤ le4 s at
   pub jagged : Bool
   pub is : kind_of (type_of (tree a)) ≡ ResolvedTypeKind.Array (type_of (tree element)) (expr_of (tree size)) jagged
-  pub sums : r.sums ≡ (jagged && r.variable)
+  pub sums : r.sums ≡ (jagged && is_none r.constant)
   pub alignment : (head (type_of (tree a))).alignment ≡ r.alignment
-  pub inner_size : (head (type_of (tree element))).size ≡ sized r.variable r.constant
+  pub inner_size : (head (type_of (tree element))).size ≡ sized r.constant
   pub inner_alignment : (head (type_of (tree element))).alignment ≡ r.inner
   pub owners : (head (type_of (tree element))).dynamic_params ≡ owners_of (tree references)

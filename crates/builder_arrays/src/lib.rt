@@ -1,10 +1,11 @@
 // builder.rs, arrays: `build_array_node`, `build_array_node_with_prefix`, `select_array_owner`.
+// The set, the words, the output and the counts in them stay parameters: a count or the cursor is another at each call, and a struct of
+// them that is made anew for each is no plainer.
 #![tactic(auto)]
 
-ghost use Rattle.std.specs.Prelude.{◌≡◌, ◌&&◌, ◌+◌, ◌*◌, ◌^◌, ◌≤◌, ◌<◌, length};
+ghost use Rattle.std.specs.Prelude.{◌≡◌, ◌+◌, ◌*◌, ◌^◌, ◌≤◌, ◌<◌, length, IfOk};
 ghost use Rattle.std.proofs.Math.Option.{some};
 ghost use Rattle.blocks.specs.Bytes.{le2, le4};
-ghost use Rattle.blocks.specs.Name.{ascii};
 ghost use Rattle.accepted.specs.Accepted.{Accepted, tree};
 ghost use Rattle.expr.specs.Expr.{expr_of};
 ghost use Rattle.resolved.specs.Resolved.{Head, head, kind_of};
@@ -16,18 +17,17 @@ ghost use Rattle.builder_paths.specs.Joined.{prefix_of};
 ghost use Rattle.builder_nodes.specs.Built.{Builds, Within};
 ghost use Rattle.builder_expressions.specs.Ready.{Ready as ReadyCount};
 ghost use Rattle.builder_arrays.specs.Ready.{Ready, ReadyInside};
-ghost use Rattle.builder_arrays.specs.Array.{Opened, counted, summed, Closed, Finished};
+ghost use Rattle.builder_arrays.specs.Array.{Opened, counted, summed, Closed};
 ghost use Rattle.builder_arrays.specs.Shapes.{ShapeAt};
 ghost use Rattle.builder_arrays.specs.Owner.{SomeOwner, owner_under};
 
 use builder_expressions::Nested;
-use builder_names::Split;
 use builder_nodes::Built;
-use resolved_parts::Paths;
+use errors::Reason;
 
 // An array: inside how many arrays it stands, whether it is a jagged one of variable elements, its alignment, the offset of its
-// size expression, and the offset of its element. Of the element: whether its size is variable, the constant size (0 where
-// variable), the alignment, and the offset of its references block.
+// size expression, and the offset of its element. Of the element: its constant size (None where the size is variable), its
+// alignment, and the offset of its references block.
 #[derive(Clone, Copy)]
 pub struct Shape {
     pub depth: usize,
@@ -35,20 +35,9 @@ pub struct Shape {
     pub alignment: u64,
     pub size: usize,
     pub element: usize,
-    pub variable: bool,
-    pub constant: u64,
+    pub constant: Option<u64>,
     pub inner: u64,
     pub references: usize,
-}
-
-// Whether both hold.
-fn both(a: bool, b: bool) -> bool
-    ensures { result ≡ (a && b) }
-{
-    if a {
-        return b;
-    }
-    false
 }
 
 // The shape of an array, from its head, its parts and its element's head.
@@ -61,11 +50,10 @@ fn read_shape(s: &[u8], array: Nested) -> Shape
     let inner = resolved_parts::type_head(s, parts.element);
     Shape {
         depth: array.depth,
-        sums: both(parts.jagged, inner.variable),
+        sums: parts.jagged && inner.size.is_none(),
         alignment: head.alignment,
         size: parts.size,
         element: parts.element,
-        variable: inner.variable,
         constant: inner.size,
         inner: inner.alignment,
         references: inner.references,
@@ -82,35 +70,6 @@ fn open_array(out: &mut [u8], at: usize, kind: usize, alignment: u64) -> usize
     builder_nodes::open_node(out, p, kind, alignment)
 }
 
-// The count of an array; then the element's references enter.
-fn build_counted(
-    s: &[u8],
-    words: &mut [u64],
-    n: usize,
-    owner: &[u8],
-    p: Shape,
-    out: &mut [u8],
-    at: usize,
-) -> Built
-    requires { ReadyCount s.now words.old n owner.now p.depth p.size at × Accepted s.now 32 32 p.references }
-    ensures within { Within at (1024 * (4 + le4 s.now p.size)) result }
-    ensures builds { (e : Accepted s.now 64 91 p.size) (f : Accepted s.now 32 32 p.references) → Builds s.now out.old at words.new out.new result (counted owner.now (prefix_of p.depth) (expr_of (tree e)) (owners_of (tree f)) (entries_of s.now words.old n)) }
-{
-    let offset = p.size;
-    let depth = p.depth;
-    let e = Nested { offset, depth };
-    let c = builder_expressions::build_expr_ir(s, words, n, owner, e, out, at);
-    if c.number != 0 {
-        return c;
-    }
-    let k = builder_registry::extend_with(s, words, c.count, p.references);
-    Built {
-        at: c.at,
-        count: k.count,
-        number: k.number,
-    }
-}
-
 // The lengths of the two nodes that an array begins with.
 fn close_array(out: &mut [u8], at: usize, end: usize)
     requires { (at + 38 ≤ end) × (end < 2 ^ 61) }
@@ -120,25 +79,30 @@ fn close_array(out: &mut [u8], at: usize, end: usize)
     wire::close_block(out, at, end);
 }
 
-// An array whose last part was built: closed, unless that was refused.
-fn finish(out: &mut [u8], at: usize, n: usize, last: Built) -> Built
-    requires { (at + 38 ≤ last.at) × (last.at < 2 ^ 61) }
-    ensures { Finished out.old at n last out.new result }
+// The count of an array; then the element's references enter.
+fn build_counted(
+    s: &[u8],
+    words: &mut [u64],
+    n: usize,
+    owner: &[u8],
+    p: Shape,
+    out: &mut [u8],
+    at: usize,
+) -> Result<Built, Reason>
+    requires { ReadyCount s.now words.old n owner.now p.depth p.size at × Accepted s.now 32 32 p.references }
+    ensures within { IfOk result (Within at (1024 * (4 + le4 s.now p.size))) }
+    ensures builds { (e : Accepted s.now 64 91 p.size) (f : Accepted s.now 32 32 p.references) → Builds s.now out.old at words.new out.new result (counted owner.now (prefix_of p.depth) (expr_of (tree e)) (owners_of (tree f)) (entries_of s.now words.old n)) }
 {
-    if last.number != 0 {
-        return Built {
-            at,
-            count: n,
-            number: last.number,
-        };
-    }
-    let end = last.at;
-    close_array(out, at, end);
-    Built {
-        at: end,
-        count: last.count,
-        number: 0,
-    }
+    let e = Nested {
+        offset: p.size,
+        depth: p.depth,
+    };
+    let counted = builder_expressions::build_expr_ir(s, words, n, owner, e, out, at)?;
+    let count = builder_registry::extend_with(s, words, counted.count, p.references)?;
+    Ok(Built {
+        at: counted.at,
+        count,
+    })
 }
 
 // A jagged array of variable elements: only of a type reference.
@@ -150,40 +114,29 @@ fn sum_over_array(
     p: Shape,
     out: &mut [u8],
     at: usize,
-) -> Built
+) -> Result<Built, Reason>
     requires { ReadyCount s.now words.now n owner.now p.depth p.size (at + 38) × Accepted s.now 1 7 p.element }
-    ensures within { Within at (2048 + 1024 * (4 + le4 s.now p.size)) result }
+    ensures within { IfOk result (Within at (2048 + 1024 * (4 + le4 s.now p.size))) }
     ensures builds { (e : Accepted s.now 64 91 p.size) (t : Accepted s.now 1 7 p.element) (h : Head) → h.alignment ≡ p.alignment → Builds s.now out.old at words.now out.new result (summed h owner.now (prefix_of p.depth) (expr_of (tree e)) (kind_of (type_of (tree t))) (entries_of s.now words.now n)) }
 {
     let q = open_array(out, at, 144, p.alignment);
-    let offset = p.size;
-    let depth = p.depth;
-    let e = Nested { offset, depth };
-    let c = builder_expressions::build_expr_ir(s, words, n, owner, e, out, q);
-    if c.number != 0 {
-        return Built {
-            at,
-            count: n,
-            number: c.number,
-        };
-    }
+    let e = Nested {
+        offset: p.size,
+        depth: p.depth,
+    };
+    let counted = builder_expressions::build_expr_ir(s, words, n, owner, e, out, q)?;
     let element = p.element;
     if wire::read2(s, element + 4) != 7 {
-        return Built {
-            at,
-            count: n,
-            number: 13,
-        };
+        return Err(Reason::UnsupportedArrayElement);
     }
     let target = resolved_parts::name_at(s, resolved_parts::target(s, element));
-    let u = builder_nodes::put_text_part(out, c.at, 144, 3, target);
-    let v = builder_nodes::put_text_part(out, u, 144, 4, owner);
-    close_array(out, at, v);
-    Built {
-        at: v,
-        count: c.count,
-        number: 0,
-    }
+    let u = builder_nodes::put_text_part(out, counted.at, 144, 3, target);
+    let end = builder_nodes::put_text_part(out, u, 144, 4, owner);
+    close_array(out, at, end);
+    Ok(Built {
+        at: end,
+        count: counted.count,
+    })
 }
 
 // An array: it calls itself on its element, which is shorter.
@@ -195,9 +148,9 @@ pub fn build_array_node_with_prefix(
     array: Nested,
     out: &mut [u8],
     at: usize,
-) -> Built
+) -> Result<Built, Reason>
     requires { ReadyInside s.now words.old n owner.now array.depth array.offset at }
-    ensures within { Within at (1024 * (4 + le4 s.now array.offset)) result }
+    ensures within { IfOk result (Within at (1024 * (4 + le4 s.now array.offset))) }
     ensures builds { (a : Accepted s.now 1 7 array.offset) → Builds s.now out.old at words.new out.new result (build_array_node_with_prefix owner.now (prefix_of array.depth) (type_of (tree a)) (entries_of s.now words.old n)) }
 {
     let p = read_shape(s, array);
@@ -205,35 +158,37 @@ pub fn build_array_node_with_prefix(
         return sum_over_array(s, words, n, owner, p, out, at);
     }
     let q = open_array(out, at, 136, p.alignment);
-    let c = build_counted(s, words, n, owner, p, out, q);
-    if c.number != 0 {
-        return Built {
-            at,
-            count: n,
-            number: c.number,
-        };
-    }
-    if p.variable {
-        let offset = p.element;
-        if wire::read2(s, offset + 4) != 5 {
-            return Built {
-                at,
-                count: n,
-                number: 13,
-            };
+    let counted = build_counted(s, words, n, owner, p, out, q)?;
+    match p.constant {
+        Some(size) => {
+            let end = builder_nodes::put_const(out, counted.at, size, p.inner);
+            close_array(out, at, end);
+            Ok(Built {
+                at: end,
+                count: counted.count,
+            })
         }
-        let depth = p.depth + 1;
-        let element = Nested { offset, depth };
-        let b = build_array_node_with_prefix(s, words, c.count, owner, element, out, c.at);
-        return finish(out, at, n, b);
+        None => {
+            if wire::read2(s, p.element + 4) != 5 {
+                return Err(Reason::UnsupportedArrayElement);
+            }
+            let element = Nested {
+                offset: p.element,
+                depth: p.depth + 1,
+            };
+            let built = build_array_node_with_prefix(
+                s,
+                words,
+                counted.count,
+                owner,
+                element,
+                out,
+                counted.at,
+            )?;
+            close_array(out, at, built.at);
+            Ok(built)
+        }
     }
-    let u = builder_nodes::put_const(out, c.at, p.constant, p.inner);
-    let b = Built {
-        at: u,
-        count: c.count,
-        number: 0,
-    };
-    finish(out, at, n, b)
 }
 
 // The owner under a key: the key where it is an owner, else the type's name where that is one, else the first owner.
@@ -242,33 +197,28 @@ fn owner_under<'a>(s: &'a [u8], references: usize, name: &'a [u8], key: &'a [u8]
     ensures result_len_bound { length result.now ≤ 255 }
     ensures result_value { (g : Accepted s.now 32 32 references) → result.now ≡ owner_under key.now name.now (owners_of (tree g)) }
 {
-    match resolved_parts::get(s, references, key) {
-        Paths::At(_) => key,
-        Paths::Missing => match resolved_parts::get(s, references, name) {
-            Paths::At(_) => name,
-            Paths::Missing => resolved_parts::name_at(s, references + 6 + 2 + 6),
-        },
+    if resolved_parts::get(s, references, key).is_some() {
+        return key;
     }
+    if resolved_parts::get(s, references, name).is_some() {
+        return name;
+    }
+    resolved_parts::name_at(s, references + 6 + 2 + 6)
 }
 
 // The owner of an array that is a root, from its name and its references, which have an owner: under the part of the name
-// behind its last `::`, otherwise under `array`.
-fn select_array_owner<'a>(
-    s: &'a [u8],
-    references: usize,
-    name: &'a [u8],
-    otherwise: &'a [u8],
-) -> &'a [u8]
-    requires { SomeOwner s.now references × (length name.now ≤ 255) × (otherwise.now ≡ ascii "array") }
+// behind its last `::`, or under `array` where it has none.
+fn select_array_owner<'a>(s: &'a [u8], references: usize, name: &'a [u8]) -> &'a [u8]
+    requires { SomeOwner s.now references × (length name.now ≤ 255) }
     ensures result_len_bound { length result.now ≤ 255 }
     ensures g_value { (g : Accepted s.now 32 32 references) (h : Head) → h.name ≡ name.now → select_array_owner h (owners_of (tree g)) ≡ some result.now }
 {
     match builder_names::last_colons(name) {
-        Split::At(i) => {
+        Some(i) => {
             let behind = i + 2;
             owner_under(s, references, name, &name[behind..])
         }
-        Split::Missing => owner_under(s, references, name, otherwise),
+        None => owner_under(s, references, name, b"array"),
     }
 }
 
@@ -280,21 +230,17 @@ pub fn build_array_node(
     array: usize,
     out: &mut [u8],
     at: usize,
-) -> Built
+) -> Result<Built, Reason>
     requires { Ready s.now words.old n array at }
-    ensures within { Within at (1024 * (4 + le4 s.now array)) result }
+    ensures within { IfOk result (Within at (1024 * (4 + le4 s.now array))) }
     ensures builds { (a : Accepted s.now 1 7 array) → Builds s.now out.old at words.new out.new result (build_array_node (type_of (tree a)) (entries_of s.now words.old n)) }
 {
     let references = resolved_parts::type_head(s, array).references;
     if wire::read2(s, references + 6) == 0 {
-        return Built {
-            at,
-            count: n,
-            number: 11,
-        };
+        return Err(Reason::MissingDynamicRefs);
     }
     let name = resolved_parts::name_at(s, array + 6);
-    let owner = select_array_owner(s, references, name, b"array");
+    let owner = select_array_owner(s, references, name);
     let root = Nested {
         offset: array,
         depth: 0,

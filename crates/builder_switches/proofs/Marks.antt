@@ -5,7 +5,7 @@ use mathlib.Core.List.{List, [], ◌∷◌, ◌++◌}
 use Prim.Native.Nat.{ℕ, ◌+◌, ◌≤◌, ◌<◌}
 use native.Mathlib.Omega.{arith}
 use lib.ListN.{length, take, drop}
-use lib.Seq.{take-append_seam, length-take-le}
+use lib.Seq.{take-append_seam}
 use lib.Dec.{leb, eqb}
 use borrow.Author.Tests.{le-leb, lt-leb, leb-true, leb-false, eqb-true, eqb-false}
 use Rattle.blocks.specs.Bytes.{le2, le4}
@@ -31,10 +31,6 @@ use Rattle.builder_registry.proofs.Laws.{long_mark}
 pub path_is : (path : List Name) → path_of 0 path ≡ join path
 unfolding prefix_of apply_path_prefix
 path_is path = refl
-
--- the part of the buffer that holds the path has its length
-pub part_long : (m : ℕ) (ys : List ℕ) → m ≤ 511 → length ys ≡ 512 → m ≡ length (take m ys)
-part_long m ys h l = sym (length-take-le m ys (omega arith))
 
 -- a path that was written whole into the buffer
 pub path_held : {xs ys : List ℕ} {r : ℕ} (m : ℕ) (path : List Name) → length xs ≡ 512 → m ≤ 511 → m ≡ length (path_of 0 path) →
@@ -76,13 +72,15 @@ module _ {s : List ℕ} {e : ℕ} (owner : Name) (g : Registry) (k : le2 s (e + 
       ∙ one_ref (texts_of f.list.got.0) (sym (t a (texts_of f.list.got.0) f.is) ∙ n) in
       rw z m
 
-  module _ {m : ℕ} (u : (a : Accepted s 64 91 e) (path : List Name) → expr_of (tree a) ≡ ExprKind.FieldRef path → m ≡ length (path_of 0 path)) where
+  module _ {m : ℕ}
+      (u : (a : Accepted s 64 91 e) (path : List Name) → expr_of (tree a) ≡ ExprKind.FieldRef path → m ≡ length (path_of 0 path)) where
     -- a path of over 511 bytes is no entry's: nothing is marked
     pub mark_long : {ws : List ℕ} {n : ℕ} → b ≡ false → 511 < m → Standing s ws n → length owner ≤ 255 → g ≡ entries_of s ws n →
         (a : Accepted s 64 91 e) → g ≡ mark_all owner (field_refs (expr_of (tree a))) g
     mark_long {ws} {n} h l st o d a =
         let f = field_ref_at a k in
-        let p : m ≡ length (join (texts_of f.list.got.0)) = u a (texts_of f.list.got.0) f.is ∙ ap length (path_is (texts_of f.list.got.0)) in
+        let p : m ≡ length (join (texts_of f.list.got.0)) = u a (texts_of f.list.got.0) f.is
+        ∙ ap length (path_is (texts_of f.list.got.0)) in
         marks_one h a (rw d (sym (long_mark st owner (join (texts_of f.list.got.0)) o (omega arith))))
 
     -- any other is marked as it stands in the buffer
@@ -117,7 +115,8 @@ module _ {s : List ℕ} {e : ℕ} (owner : Name) (g : Registry) where
   nothing a z = rw z refl
 
   -- 64, 66, 67: a literal, a size and an alignment have no references
-  pub low_marks : (u : ℕ) → u ≡ le2 s (e + 4) → (u ≡ 65 → ⊥) → u < 68 → (a : Accepted s 64 91 e) → g ≡ mark_all owner (field_refs (expr_of (tree a))) g
+  pub low_marks : (u : ℕ) → u ≡ le2 s (e + 4) → (u ≡ 65 → ⊥) → u < 68 → (a : Accepted s 64 91 e) →
+      g ≡ mark_all owner (field_refs (expr_of (tree a))) g
   unfolding field_refs
   low_marks u d n h a =
       let o = opened a refl refl in
@@ -158,14 +157,16 @@ module _ {s : List ℕ} {e : ℕ} (owner : Name) (g : Registry) where
       let x = binary_at a (omega arith) (omega arith) in
       let ls = field_refs (expr_of (tree x.left)) in
       let rs = field_refs (expr_of (tree x.right)) in
-      let z : field_refs (expr_of (tree a)) ≡ ls ++ rs = ap field_refs x.is ∙ rw (in_range_lem (le2 s (e + 4)) (omega arith) (omega arith)) refl in
+      let z : field_refs (expr_of (tree a)) ≡ ls ++ rs = ap field_refs x.is
+      ∙ rw (in_range_lem (le2 s (e + 4)) (omega arith) (omega arith)) refl in
       (rw w at j) x.right
       ∙ ap (mark_all owner rs) (f x.left)
       ∙ sym (mark_both owner ls rs g)
       ∙ ap (λ (ns : List Name). mark_all owner ns g) (sym z)
 
 -- the operand of 68 to 82, or the left one: a block inside the expression
-pub left_in : {s : List ℕ} {e : ℕ} (u : ℕ) → u ≡ le2 s (e + 4) → 68 ≤ u → u ≤ 82 → Accepted s 64 91 e → Accepted s 64 91 (e + 6) × (6 + le4 s (e + 6) ≤ le4 s e)
+pub left_in : {s : List ℕ} {e : ℕ} (u : ℕ) → u ≡ le2 s (e + 4) → 68 ≤ u → u ≤ 82 → Accepted s 64 91 e →
+    Accepted s 64 91 (e + 6) × (6 + le4 s (e + 6) ≤ le4 s e)
 left_in {s} {e} u d l m a = go (leb u 78) refl
   where
     go : (b : Bool) → leb u 78 ≡ b → Accepted s 64 91 (e + 6) × (6 + le4 s (e + 6) ≤ le4 s e)
