@@ -1,6 +1,8 @@
 -- Building the types of a set one after the other, and the layout around them.
+use Rattle.std.specs.Prelude.{Result, Ok, Err, is_ok, is_err}
 use mathlib.Core.Path.{◌≡◌, refl, sym, ◌∙◌, ap, subst}
 use mathlib.Core.Bool.{Bool, true, false, ◌&&◌}
+use mathlib.Core.Logic.{◌⊎◌, inl, inr}
 use mathlib.Core.List.{List, [], ◌∷◌, ◌++◌, append_assoc, append-nil}
 use Prim.Native.Nat.{ℕ, zero, suc, ◌+◌, ◌-◌, ◌*◌, ◌^◌, ◌≤◌, ◌<◌}
 use native.Mathlib.Numerals.{add-one, sub-one}
@@ -12,16 +14,14 @@ use lib.Dec.{leb}
 use Rattle.blocks.proofs.Name.{and_left}
 use borrow.Author.Tests.{le-leb, lt-leb, leb-true}
 use Rattle.errors.proofs.Laws.{done_one, not_done, bound, bound_done}
-use Rattle.value.specs.declared.Value.{Value}
-use Rattle.value.specs.Number.{number_of}
 use Rattle.errors.specs.Refusal.{Refusal, Outcome, done, refused, ◌>>=◌, at_type, plain, answered, ask, enough, unread}
 use Rattle.errors.specs.Answer.{built}
 use Rattle.errors.specs.declared.Refusal as code
-use Rattle.errors.specs.declared.Length.{Length}
-use Rattle.errors.specs.declared.Length.TheVariants as answer
-use Rattle.errors.specs.Meaning.{refusal_of, length_of}
-use Rattle.answers.specs.Answers.{AnswersIn, refusal_in}
-use Rattle.answers.proofs.Laws.{unanswered, refuses, makes}
+use Rattle.errors.specs.declared.Reason.{Reason}
+use Rattle.errors.specs.declared.Unread.{Unread}
+use Rattle.errors.specs.Meaning.{number_of, refusal_of, length_of}
+use Rattle.answers.specs.Answers.{refusal_in}
+use Rattle.answers.proofs.Laws.{unanswered}
 use Rattle.answers.proofs.Laws as answers
 use Rattle.blocks.specs.Bytes.{le2, le4, bytes}
 use Rattle.blocks.specs.Tree.{Tree, num, cons, nil, entries}
@@ -36,15 +36,13 @@ use Rattle.ir.specs.Layout.{type_ir_tree, entries_tree, layout_tree}
 use Rattle.builder.specs.Build.{build_type, build_types, holds, write_layout, build_set, output_after}
 use Rattle.wire.specs.Poke.{Wrote, opened}
 use Rattle.wire.proofs.Laws.{none, both, closed, poke_whole, poke_length}
-use Rattle.reader_leaf.specs.declared.Read.{Read}
-use Rattle.reader_leaf.specs.declared.Read.TheVariants.{Ok, Refused}
+use Rattle.reader_leaf.specs.Answer.{read_of}
 use Rattle.reader.specs.Input.{input_of}
-use Rattle.reader_calls.specs.Inputs.{read_call, passed, passed_of}
+use Rattle.reader_calls.specs.Inputs.{read_call, passed}
 use Rattle.reader_calls.proofs.Laws.{called, passed_no}
 use Rattle.lookup.proofs.Types.{set_list}
-use Rattle.builder_type.specs.declared.TypeTree.{TypeTree}
 use Rattle.builder_type.specs.Built.{BuildsType, ReadyWords as TypeReady}
-use Rattle.builder_set.specs.Sets.{TypesAt, Ready, holds_at, layout_of, Leaves}
+use Rattle.builder_set.specs.Sets.{TypesAt, Ready, BuildsTypes, holds_at, layout_of, Leaves}
 
 -- ---- the loop
 
@@ -64,17 +62,14 @@ pub record Reached (s xs : List ℕ) (at : ℕ) (ys : List ℕ) (left from place
 pub record Loop (s xs : List ℕ) (at : ℕ) (ys : List ℕ) (left from place p : ℕ) : Type 0 where
   pub on : (t : Tree) → read_set s ≡ done t → Reached s xs at ys left from place p t
 
--- what the loop keeps: as many types are passed as `place` says, the output is written as far as p, and the words and the output
--- are as long as they were
-pub record Building (s ws₀ xs₀ : List ℕ) (at : ℕ) (ws xs : List ℕ) (left from place p : ℕ) : Type 0 where
+-- what the loop keeps: as many types are passed as `place` says, and the output is written as far as p
+pub record Building (s xs₀ : List ℕ) (at : ℕ) (ws xs : List ℕ) (left from place p : ℕ) : Type 0 where
   pub types : place + left ≤ 256
   pub low : at ≤ p
   pub high : p ≤ at + 2 ^ 42 * place
   pub inside : from ≤ 65536
   pub ready : Ready s ws
   pub loop : Loop s xs₀ at xs left from place p
-  pub words : length ws ≡ length ws₀
-  pub out : length xs ≡ length xs₀
 
 -- before the first type nothing was built
 prepend_none : (o : Outcome (List TypeIr)) → o ≡ prepend [] o
@@ -118,12 +113,12 @@ module _ (types : List ResolvedType) (i : ℕ) (T : ResolvedType) (rest : List R
 
 -- ---- in the code's form: b is what building the type at `from` left
 
--- what building all types answers
-abbrev pub Made : (xs : List ℕ) (at : ℕ) (ys : List ℕ) (place number end : ℕ) (t : Tree) → Type 0
-Made xs at ys place number end t = AnswersIn place number (TypesAt xs at ys end) (build_types (types_of t) 0 (types_of t))
+-- what building all types leaves
+abbrev pub Made : (xs : List ℕ) (at : ℕ) (ys : List ℕ) (r : Result ℕ code.Refusal) (t : Tree) → Type 0
+Made xs at ys r t = BuildsTypes xs at ys r (build_types (types_of t) 0 (types_of t))
 
--- what is asked of it
-abbrev pub Makes : (s ys : List ℕ) (from p : ℕ) (zs : List ℕ) (b : TypeTree) → Type 0
+-- what building the next type leaves
+abbrev pub Makes : (s ys : List ℕ) (from p : ℕ) (zs : List ℕ) (b : Result ℕ Reason) → Type 0
 Makes s ys from p zs b = (t : Tree) (a : Accepted s 1 7 from) → read_set s ≡ done t → BuildsType ys p zs b (build_type (types_of t) (type_of (tree a)))
 
 module _ {s xs ys : List ℕ} {at left from place p : ℕ} {t : Tree} (q : Reached s xs at ys left from place p t) (e : Enter q.list) where
@@ -134,27 +129,24 @@ module _ {s xs ys : List ℕ} {at left from place p : ℕ} {t : Tree} (q : Reach
   next_is = ap (λ (u : Tree). prepend q.built (build_types (types_of t) place (entries type_of u))) e.after.tree
 
   -- the next type was built: its own tree stands behind the others
-  reach_more : {zs : List ℕ} {b : TypeTree} (o : Outcome TypeIr) → build_type (types_of t) (type_of (tree e.child)) ≡ o → BuildsType ys p zs b o → b.number ≡ 0 →
-      Reached s xs at zs (left - 1) (from + 4 + le4 s from) (place + 1) b.at t
-  reach_more _ d (AnswersIn.made x n m) z = record {
-    list = e.after.rest;
-    built = q.built ++ (x ∷ []);
-    wrote = rw (entries_more q.built x) (both q.wrote m.wrote);
-    whole = q.whole ∙ next_is ∙ one_built (types_of t) place (type_of (tree e.child)) (entries type_of e.after.rest.got.0) q.built d;
-  }
-  reach_more _ d (AnswersIn.not k n h) z = absurd (omega arith)
+  reach_more : {zs : List ℕ} {end : ℕ} → BuildsType ys p zs (Ok end) (build_type (types_of t) (type_of (tree e.child))) →
+      Reached s xs at zs (left - 1) (from + 4 + le4 s from) (place + 1) end t
+  reach_more b =
+      let (x, d, m) = answers.answered b in
+      record {
+        list = e.after.rest;
+        built = q.built ++ (x ∷ []);
+        wrote = rw (entries_more q.built x) (both q.wrote m.wrote);
+        whole = q.whole ∙ next_is ∙ one_built (types_of t) place (type_of (tree e.child)) (entries type_of e.after.rest.got.0) q.built d;
+      }
 
-  -- the next type was refused: so is the set, with its number and place
-  reach_none : {zs : List ℕ} {b : TypeTree} {number end : ℕ} (o : Outcome TypeIr) → build_type (types_of t) (type_of (tree e.child)) ≡ o → BuildsType ys p zs b o →
-      (b.number ≡ 0 → ⊥) → number ≡ b.number → Made xs at zs place number end t
-  reach_none _ d (AnswersIn.made x n w) z g = absurd (z n)
-  reach_none {number} _ d (AnswersIn.not m n h) z g =
-      let i : number ≡ m = g ∙ n in
-      refuses (omega arith)
-      (q.whole
-      ∙ next_is
-      ∙ one_refused (types_of t) place (type_of (tree e.child)) (entries type_of e.after.rest.got.0) q.built d
-      ∙ ap (λ (k : ℕ). refused (refusal_in place k)) (sym i))
+  -- the next type was refused: so is the set, with its reason and place
+  reach_none : {zs vs : List ℕ} {d : Reason} {r : code.Refusal} → BuildsType ys p zs (Err d) (build_type (types_of t) (type_of (tree e.child))) →
+      refusal_of r ≡ refusal_in place (number_of d) → Made xs at vs (Err r) t
+  reach_none {r} b g =
+      let i : build_types (types_of t) 0 (types_of t) ≡ refused (refusal_of r) =
+      q.whole ∙ next_is ∙ one_refused (types_of t) place (type_of (tree e.child)) (entries type_of e.after.rest.got.0) q.built (unanswered b) ∙ ap refused (sym g) in
+      rw i BuildsTypes.not
 
 module _ {s xs ys : List ℕ} {at left from place p : ℕ} where
   -- the type that is next
@@ -165,28 +157,27 @@ module _ {s xs ys : List ℕ} {at left from place p : ℕ} where
       (e.child, omega (arith, o.high, e.child.fits))
 
   -- it is built, and the next one stands behind it
-  pub go_on : {zs : List ℕ} {b : TypeTree} (u : ℕ) → 0 < left → Makes s ys from p zs b → b.number ≡ 0 → u ≡ le4 s from → Loop s xs at ys left from place p →
-      Loop s xs at zs (left - 1) (from + (4 + u)) (place + 1) b.at
-  go_on {zs} {b} u h f z g c =
+  pub go_on : {zs : List ℕ} {end u : ℕ} → 0 < left → Makes s ys from p zs (Ok end) → u ≡ le4 s from → Loop s xs at ys left from place p →
+      Loop s xs at zs (left - 1) (from + (4 + u)) (place + 1) end
+  go_on {zs} {end} {u} h f g c =
       let l : from + 4 + le4 s from ≡ from + (4 + u) = omega arith in
-      subst (λ (k : ℕ). Loop s xs at zs (left - 1) k (place + 1) b.at) l (record {
-        on = λ t r. let e = block_entry (c.on t r).list h in reach_more (c.on t r) e _ refl (f t e.child r) z;
+      subst (λ (k : ℕ). Loop s xs at zs (left - 1) k (place + 1) end) l (record {
+        on = λ t r. let e = block_entry (c.on t r).list h in reach_more (c.on t r) e (f t e.child r);
       })
 
   -- it is refused
-  pub stopped : {zs : List ℕ} {b : TypeTree} {number end : ℕ} → 0 < left → Makes s ys from p zs b → (b.number ≡ 0 → ⊥) → number ≡ b.number → Loop s xs at ys left from place p →
-      (t : Tree) → read_set s ≡ done t → Made xs at zs place number end t
-  stopped h f z g c t d = let e = block_entry (c.on t d).list h in reach_none (c.on t d) e _ refl (f t e.child d) z g
+  pub stopped : {zs vs : List ℕ} {d : Reason} {r : code.Refusal} → 0 < left → Makes s ys from p zs (Err d) → refusal_of r ≡ refusal_in place (number_of d) →
+      Loop s xs at ys left from place p → (t : Tree) → read_set s ≡ done t → Made xs at vs (Err r) t
+  stopped h f g c t i = let e = block_entry (c.on t i).list h in reach_none (c.on t i) e (f t e.child i) g
 
 -- no type is left
-pub no_more : {s xs ys : List ℕ} {at left from place p number : ℕ} → left ≤ 0 → number ≡ 0 → Loop s xs at ys left from place p → (t : Tree) → read_set s ≡ done t →
-    Made xs at ys place number p t
+pub no_more : {s xs ys : List ℕ} {at left from place p : ℕ} → left ≤ 0 → Loop s xs at ys left from place p → (t : Tree) → read_set s ≡ done t → Made xs at ys (Ok p) t
 unfolding prepend build_types entries
-no_more {place} h z c t e =
+no_more {place} {p} h c t e =
     let q = c.on t e in
-    makes q.built z
-    (q.whole ∙ ap (λ (v : Tree × ℕ). prepend q.built (build_types (types_of t) place (entries type_of v.0))) (none_left q.list h) ∙ ap done (append-nil q.built))
-    q.wrote
+    let i : build_types (types_of t) 0 (types_of t) ≡ done q.built =
+    q.whole ∙ ap (λ (v : Tree × ℕ). prepend q.built (build_types (types_of t) place (entries type_of v.0))) (none_left q.list h) ∙ ap done (append-nil q.built) in
+    rw i (BuildsTypes.made q.built q.wrote)
 
 -- ---- what the calls stand on
 
@@ -212,43 +203,28 @@ set_counts r = let l = set_list r.set.1 in (l.0, l.3)
 
 -- ---- 18
 
+-- what is read is what reading answers with a value
+read_is : {A : Type 0} (r : Result A Unread) → is_ok r ≡ answered (read_of r)
+read_is (Ok a) = refl
+read_is (Err u) = refl
+
+-- an input is read where its tree is
+input_is : (m : ℕ) (o : Outcome Tree) → answered (input_of m o) ≡ answered o
+unfolding input_of
+input_is m (done t) = refl
+input_is m (refused q) = refl
+
 module _ (out : List ℕ) (n : ℕ) where
-  -- the output is too short
-  pub holds_out : length out < n → false ≡ holds_at out n
+  -- the output is too short, or the layout too long
+  pub holds_not : (length out < n) ⊎ ((n ≤ length out) × (65536 < n)) → false ≡ holds_at out n
   unfolding holds_at
-  holds_out h = rw (lt-leb _ _ h) refl
+  holds_not (inl h) = rw (lt-leb _ _ h) refl
+  holds_not (inr h) = rw (le-leb _ _ h.0, lt-leb _ _ h.1) refl
 
-  -- the layout is too long
-  pub holds_long : 65536 < n → false ≡ holds_at out n
+  -- else it holds where it is read
+  pub holds_read : (m : ℕ) (r : Result ℕ Unread) → n ≤ length out → n ≤ 65536 → read_of r ≡ input_of m (read_layout (take n out)) → is_ok r ≡ holds_at out n
   unfolding holds_at
-  holds_long h = rw (lt-leb _ _ h) (go (leb n (length out)))
-    where
-      go : (b : Bool) → false ≡ ((b && false) && answered (read_layout (take n out)))
-      go true = refl
-      go false = refl
-
-  module _ (m : ℕ) {r : Read} (h : n ≤ length out) (k : n ≤ 65536) (e : r ≡ input_of m (read_layout (take n out))) where
-    -- what the reader accepts, reading accepts
-    read_is : (o : Outcome Tree) → r ≡ input_of m o → {i : ℕ} → r ≡ Ok i → answered o ≡ true
-    unfolding input_of
-    read_is (done t) d f = refl
-    read_is (refused q) d f = let z : ◌≡◌ {A = ℕ} 0 1 = cc in absurd (omega arith)
-
-    -- what the reader refuses, reading refuses
-    unread_is : (o : Outcome Tree) → r ≡ input_of m o → {q i : ℕ} → r ≡ Refused q i → answered o ≡ false
-    unfolding input_of
-    unread_is (done t) d f = let z : ◌≡◌ {A = ℕ} 0 1 = cc in absurd (omega arith)
-    unread_is (refused q) d f = refl
-
-    -- the layout is read: it holds
-    pub holds_yes : {i : ℕ} → r ≡ Ok i → true ≡ holds_at out n
-    unfolding holds_at
-    holds_yes f = rw (le-leb _ _ h, le-leb _ _ k, read_is (read_layout (take n out)) e f) refl
-
-    -- it is not read: it does not
-    pub holds_no : {q i : ℕ} → r ≡ Refused q i → false ≡ holds_at out n
-    unfolding holds_at
-    holds_no f = rw (le-leb _ _ h, le-leb _ _ k, unread_is (read_layout (take n out)) e f) refl
+  holds_read m r h k e = read_is r ∙ ap answered e ∙ input_is m (read_layout (take n out)) ∙ rw (le-leb _ _ h, le-leb _ _ k) refl
 
 -- ---- the layout
 
@@ -320,12 +296,12 @@ unfolding write_layout ◌>>=◌ ask
 is_held out ts h = rw h refl
 
 -- a layout was built: its length is answered
-leaves_made : {xs ys : List ℕ} {r : Length} {o : Outcome (List ℕ)} (bs : List ℕ) → o ≡ done bs → length_of r ≡ done (length bs) → ys ≡ bs ++ drop (length bs) xs → Leaves xs ys r o
+leaves_made : {xs ys : List ℕ} {r : Result ℕ code.Refusal} {o : Outcome (List ℕ)} (bs : List ℕ) → o ≡ done bs → length_of r ≡ done (length bs) → ys ≡ bs ++ drop (length bs) xs → Leaves xs ys r o
 unfolding built
 leaves_made {xs} {ys} bs e f w = record { is = rw (e, f); left = λ cs d. let g : bs ≡ cs = done_one (sym e ∙ d) in rw (← g) w }
 
 -- none was: the refusal is answered
-leaves_none : {xs ys : List ℕ} {r : Length} {o : Outcome (List ℕ)} {q : Refusal} → o ≡ refused q → length_of r ≡ refused q → Leaves xs ys r o
+leaves_none : {xs ys : List ℕ} {r : Result ℕ code.Refusal} {o : Outcome (List ℕ)} {q : Refusal} → o ≡ refused q → length_of r ≡ refused q → Leaves xs ys r o
 unfolding built
 leaves_none e f = record { is = rw (e, f); left = λ cs d. absurd (not_done (sym e ∙ d)) }
 
@@ -334,42 +310,44 @@ decided : (out : ℕ) (t : Tree) {ts : List TypeIr} → build_types (types_of t)
 unfolding layout_of
 decided out t e = bound_done (write_layout out) e
 
--- the code's refusal of a type
-pub at_place : (n place : ℕ) (v : Value) → number_of v ≡ 0 → refusal_of (record { number = n; place = place; offset = 0; value = v }) ≡ refusal_in place n
-unfolding refusal_of
-at_place n place v e = rw e
+-- types that were refused
+types_refused : {xs ys : List ℕ} {at : ℕ} {r : code.Refusal} {o : Outcome (List TypeIr)} → BuildsTypes xs at ys (Err r) o → o ≡ refused (refusal_of r)
+types_refused BuildsTypes.not = refl
 
-module _ (s : List ℕ) {xs xs₁ xs₂ xs₃ : List ℕ} {p q place number end n : ℕ} (o : Wrote xs 0 (opened 160) xs₁ p) (k : Wrote xs₁ p (bytes 2 n) xs₂ q) (c : n ≡ le2 s 6)
-    (f : (t : Tree) → read_set s ≡ done t → Made xs₂ q xs₃ place number end t) where
-  -- a type refused
-  pub types_no : {x : code.Refusal} → (number ≡ 0 → ⊥) → refusal_of x ≡ refusal_in place number → (t : Tree) → read_set s ≡ done t →
-      Leaves xs xs₃ (answer.Refused x) (layout_of (length xs) t)
-  unfolding layout_of ◌>>=◌
-  types_no z g t e =
-      let h : build_types (types_of t) 0 (types_of t) ≡ refused (refusal_in place number) = (unanswered z (f t e)).0 in
-      let d : layout_of (length xs) t ≡ refused (refusal_in place number) = rw h in
-      leaves_none d (ap refused g)
+-- types that were built
+types_done : {xs ys : List ℕ} {at end : ℕ} {o : Outcome (List TypeIr)} → BuildsTypes xs at ys (Ok end) o → (ts : List TypeIr) × (o ≡ done ts) × TypesAt xs at ys end ts
+types_done (BuildsTypes.made ts w) = (ts, refl, w)
 
-  -- all are built
-  module _ {ys : List ℕ} {v : ℕ} (z : number ≡ 0) (d : Wrote xs₃ 0 (bytes 4 (end - 0 - 4)) ys v) (t : Tree) (e : read_set s ≡ done t) where
-    -- all types were built: their trees and their bytes
-    all_made : (ts : List TypeIr) × (build_types (types_of t) 0 (types_of t) ≡ done ts) × Wrote xs 0 (write (layout_tree ts)) ys end
-    all_made = let (ts, g, w) = answers.answered z (f t e) in (ts, g, layout_is ts o k w d (c ∙ set_count s e g))
+-- a type was refused
+pub types_no : (s : List ℕ) {xs xs₂ xs₃ ys : List ℕ} {q : ℕ} {r : code.Refusal} → ((t : Tree) → read_set s ≡ done t → Made xs₂ q xs₃ (Err r) t) →
+    (t : Tree) → read_set s ≡ done t → Leaves xs ys (Err r) (layout_of (length xs) t)
+unfolding layout_of ◌>>=◌
+types_no s {xs} {r} f t e =
+    let h : build_types (types_of t) 0 (types_of t) ≡ refused (refusal_of r) = types_refused (f t e) in
+    let d : layout_of (length xs) t ≡ refused (refusal_of r) = rw h in
+    leaves_none d refl
 
-    -- the layout holds: its bytes stand at the start of the output
-    pub layout_yes : true ≡ holds_at ys end → Leaves xs ys (answer.Bytes end) (layout_of (length xs) t)
-    layout_yes h =
-        let (ts, g, w) = all_made in
-        let y : holds (length xs) (write (layout_tree ts)) ≡ true = same_holds w ∙ sym h in
-        let l : length (write (layout_tree ts)) ≤ length xs = leb-true _ _ (and_left _ _ (and_left _ _ y)) in
-        leaves_made (write (layout_tree ts)) (decided (length xs) t g ∙ is_held (length xs) ts y) (ap done (w.end ∙ zero-add _)) (whole_is w l)
+-- all are built
+module _ (s : List ℕ) {xs xs₁ xs₂ xs₃ ys : List ℕ} {p q end n v : ℕ} (o : Wrote xs 0 (opened 160) xs₁ p) (k : Wrote xs₁ p (bytes 2 n) xs₂ q) (c : n ≡ le2 s 6)
+    (f : (t : Tree) → read_set s ≡ done t → Made xs₂ q xs₃ (Ok end) t) (d : Wrote xs₃ 0 (bytes 4 (end - 0 - 4)) ys v) (t : Tree) (e : read_set s ≡ done t) where
+  -- their trees and their bytes
+  all_made : (ts : List TypeIr) × (build_types (types_of t) 0 (types_of t) ≡ done ts) × Wrote xs 0 (write (layout_tree ts)) ys end
+  all_made = let (ts, g, w) = types_done (f t e) in (ts, g, layout_is ts o k w d (c ∙ set_count s e g))
 
-    -- it does not: 18
-    pub layout_no : {x : code.Refusal} → false ≡ holds_at ys end → refusal_of x ≡ plain 18 → Leaves xs ys (answer.Refused x) (layout_of (length xs) t)
-    layout_no h g =
-        let (ts, b, w) = all_made in
-        let y : holds (length xs) (write (layout_tree ts)) ≡ false = same_holds w ∙ sym h in
-        leaves_none (decided (length xs) t b ∙ not_held (length xs) ts y) (ap refused g)
+  -- the layout holds: its bytes stand at the start of the output
+  pub layout_yes : true ≡ holds_at ys end → Leaves xs ys (Ok end) (layout_of (length xs) t)
+  layout_yes h =
+      let (ts, g, w) = all_made in
+      let y : holds (length xs) (write (layout_tree ts)) ≡ true = same_holds w ∙ sym h in
+      let l : length (write (layout_tree ts)) ≤ length xs = leb-true _ _ (and_left _ _ (and_left _ _ y)) in
+      leaves_made (write (layout_tree ts)) (decided (length xs) t g ∙ is_held (length xs) ts y) (ap done (w.end ∙ zero-add _)) (whole_is w l)
+
+  -- it does not
+  pub layout_no : {x : code.Refusal} → false ≡ holds_at ys end → refusal_of x ≡ plain 18 → Leaves xs ys (Err x) (layout_of (length xs) t)
+  layout_no h g =
+      let (ts, b, w) = all_made in
+      let y : holds (length xs) (write (layout_tree ts)) ≡ false = same_holds w ∙ sym h in
+      leaves_none (decided (length xs) t b ∙ not_held (length xs) ts y) (ap refused g)
 
 -- ---- the questions before building
 
@@ -384,35 +362,39 @@ asked_first n out set = go (enough n) (small set) (read_set set) (λ t. build_ty
     go (done u) (done v) (refused r) k = refl
     go (done u) (done v) (done t) k = refl
 
-module _ (n : ℕ) (set : List ℕ) {r : Read} (d : passed_of r ≡ passed (read_call read_set n set)) where
+module _ (n : ℕ) (set : List ℕ) where
   -- a question was not passed: its refusal
-  pub set_unread : (xs : List ℕ) {q o : ℕ} {x : code.Refusal} → r ≡ Refused q o → refusal_of x ≡ unread q o → Leaves xs xs (answer.Refused x) (build_set n (length xs) set)
+  pub set_unread : (xs : List ℕ) (u : Unread) {x : code.Refusal} → refused (unread (number_of u.reason) u.offset) ≡ passed (read_call read_set n set) →
+      refusal_of x ≡ unread (number_of u.reason) u.offset → Leaves xs xs (Err x) (build_set n (length xs) set)
   unfolding ◌>>=◌
-  set_unread xs e g =
-      leaves_none (asked_first n (length xs) set ∙ ap (λ (z : Outcome Tree). z >>= layout_of (length xs)) (passed_no (read_call read_set n set) d e)) (ap refused g)
+  set_unread xs u d g =
+      leaves_none (asked_first n (length xs) set ∙ ap (λ (z : Outcome Tree). z >>= layout_of (length xs)) (passed_no (read_call read_set n set) d)) (ap refused g)
 
-  module _ {i : ℕ} (e : r ≡ Ok i) where
+  module _ (d : done tt ≡ passed (read_call read_set n set)) where
     -- all were: what the layout leaves
-    pub set_read : (xs : List ℕ) {ys : List ℕ} {a : Length} → ((t : Tree) → read_set set ≡ done t → Leaves xs ys a (layout_of (length xs) t)) → Leaves xs ys a (build_set n (length xs) set)
+    pub set_read : (xs : List ℕ) {ys : List ℕ} {a : Result ℕ code.Refusal} → ((t : Tree) → read_set set ≡ done t → Leaves xs ys a (layout_of (length xs) t)) →
+        Leaves xs ys a (build_set n (length xs) set)
     set_read xs {ys} {a} g =
-        let j = called d e in
+        let j = called d in
         subst (Leaves xs ys a) (sym (asked_first n (length xs) set ∙ bound_done (layout_of (length xs)) j.is)) (g j.tree j.input_read)
 
     -- building stands on a set that was read, and on the words
     pub set_ready : {ws : List ℕ} → (8192 ≤ n → 1663 ≤ length ws) → Ready set ws
-    set_ready h = let j = called d e in record { size = j.size; words = h j.words; set = (j.tree, j.input_read) }
+    set_ready h = let j = called d in record { size = j.size; words = h j.words; set = (j.tree, j.input_read) }
 
 -- ---- what a call leaves
 
 -- where a length is answered, the layout stands in the output
-pub left_built : {xs ys : List ℕ} {a : Length} {n : ℕ} (o : Outcome (List ℕ)) → Leaves xs ys a o → a ≡ answer.Bytes n → (length_of (answer.Bytes n) ≡ built o) × (ys ≡ output_after xs o)
+pub left_built : {xs ys : List ℕ} (r : Result ℕ code.Refusal) (o : Outcome (List ℕ)) → Leaves xs ys r o → false ≡ is_err r → ys ≡ output_after xs o
 unfolding output_after built
-left_built (done bs) l f = (ap length_of (sym f) ∙ l.is, l.left bs refl)
-left_built (refused q) l f = absurd (not_done (sym (ap length_of (sym f) ∙ l.is)))
+left_built (Ok n) (done bs) l e = l.left bs refl
+left_built (Ok n) (refused q) l e = absurd (not_done (sym l.is))
+left_built (Err q) o l e = absurd (cc)
 
 -- where a refusal is, the output is cleared
-pub left_cleared : {xs ys zs : List ℕ} {a : Length} {q : code.Refusal} (o : Outcome (List ℕ)) → Leaves xs ys a o → a ≡ answer.Refused q → zs ≡ replicate (length ys) 0 → length ys ≡ length xs →
-    (length_of (answer.Refused q) ≡ built o) × (zs ≡ output_after xs o)
+pub left_cleared : {xs ys zs : List ℕ} (r : Result ℕ code.Refusal) (o : Outcome (List ℕ)) → Leaves xs ys r o → true ≡ is_err r → zs ≡ replicate (length ys) 0 →
+    length ys ≡ length xs → zs ≡ output_after xs o
 unfolding output_after built
-left_cleared (done bs) l f c h = absurd (not_done (ap length_of (sym f) ∙ l.is))
-left_cleared (refused r) l f c h = (ap length_of (sym f) ∙ l.is, c ∙ ap (λ (n : ℕ). replicate n 0) h)
+left_cleared (Ok n) o l e c h = absurd (cc)
+left_cleared (Err q) (done bs) l e c h = absurd (not_done l.is)
+left_cleared (Err q) (refused s) l e c h = c ∙ ap (λ (n : ℕ). replicate n 0) h

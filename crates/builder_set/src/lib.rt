@@ -2,75 +2,58 @@
 // leaves the output all zeros.
 #![tactic(auto)]
 
-ghost use Rattle.std.specs.Prelude.{◌≡◌, ◌+◌, ◌^◌, ◌≤◌, ◌<◌, length};
+ghost use Rattle.std.specs.Prelude.{◌≡◌, ◌+◌, ◌^◌, ◌≤◌, ◌<◌, length, IfOk};
 ghost use Rattle.errors.specs.Refusal.{done, words_after};
 ghost use Rattle.errors.specs.Answer.{built};
-ghost use Rattle.errors.specs.Meaning.{length_of};
-ghost use Rattle.answers.specs.Answers.{AnswersIn};
+ghost use Rattle.errors.specs.Meaning.{number_of, refusal_of, length_of};
+ghost use Rattle.answers.specs.Answers.{refusal_in};
 ghost use Rattle.blocks.specs.Tree.{Tree};
 ghost use Rattle.blocks.specs.Read.{read_set};
 ghost use Rattle.resolved.specs.Set.{types_of};
 ghost use Rattle.builder.specs.Build.{build_types, build_set, output_after};
-ghost use Rattle.builder_set.specs.Sets.{Ready, TypesAt, holds_at, layout_of, Leaves};
+ghost use Rattle.builder_set.specs.Sets.{Ready, BuildsTypes, holds_at, layout_of, Leaves};
 
-use errors::{Length, Refusal};
-use reader_leaf::Read;
+use errors::{Length, Reason, Refusal};
 use value::Value;
 
-// The next cursor; the number of a refusal or 0, and the place of the type that it is of.
-#[derive(Clone, Copy)]
-pub struct Types {
-    pub at: usize,
-    pub number: u64,
-    pub place: usize,
+// A refusal of the type at a place.
+fn of_type(place: usize, reason: Reason) -> Refusal
+    ensures { refusal_of result ≡ refusal_in place (number_of reason) }
+{
+    Refusal {
+        reason,
+        place,
+        offset: 0,
+        value: Value::of(0),
+    }
 }
 
-// The type trees of an accepted set, one behind the other.
-fn build_types(s: &[u8], words: &mut [u64], out: &mut [u8], at: usize) -> Types
+// The type trees of an accepted set, one behind the other: the cursor behind them.
+fn build_types(s: &[u8], words: &mut [u64], out: &mut [u8], at: usize) -> Result<usize, Refusal>
     requires { Ready s.now words.old × (at < 2 ^ 54) }
-    ensures at_le_at { (at ≤ result.at) × (result.at ≤ at + 2 ^ 50) }
-    ensures answers_in { (t : Tree) → read_set s.now ≡ done t → AnswersIn result.place result.number (TypesAt out.old at out.new result.at) (build_types (types_of t) 0 (types_of t)) }
+    ensures at_le_at { IfOk result (λ end. (at ≤ end) × (end ≤ at + 2 ^ 50)) }
+    ensures builds_types { (t : Tree) → read_set s.now ≡ done t → BuildsTypes out.old at out.new result (build_types (types_of t) 0 (types_of t)) }
 {
-    let mut left = wire::read2(s, 6);
     let mut from = 8;
-    let mut place = 0;
     let mut p = at;
-    while 0 < left {
-        let b = builder_type::build_type(s, words, from, out, p);
-        if b.number != 0 {
-            return Types {
-                at,
-                number: b.number,
-                place,
-            };
+    for place in 0..wire::read2(s, 6) {
+        match builder_type::build_type(s, words, from, out, p) {
+            Ok(end) => p = end,
+            Err(reason) => return Err(of_type(place, reason)),
         }
-        p = b.at;
-        let length = 4 + wire::read4(s, from);
-        from += length;
-        place += 1;
-        left -= 1;
+        from += 4 + wire::read4(s, from);
     }
-    Types {
-        at: p,
-        number: 0,
-        place,
-    }
+    Ok(p)
 }
 
 // 18, after all types have built: whether the output and 65,536 both hold the layout, and it is read.
 fn holds(out: &[u8], n: usize) -> bool
     ensures { result ≡ holds_at out.now n }
 {
-    if out.len() < n {
+    if out.len() < n || 65536 < n {
         return false;
     }
-    if 65536 < n {
-        return false;
-    }
-    match reader_quick::read_input(&out[..n], 256, 160) {
-        Read::Refused(_, _) => false,
-        Read::Ok(_) => true,
-    }
+    reader_quick::read_input(&out[..n], 256, 160).is_ok()
 }
 
 // The layout of an accepted set, at the start of the output.
@@ -80,21 +63,13 @@ fn build_layout(s: &[u8], words: &mut [u64], out: &mut [u8]) -> Length
 {
     let p = wire::open_block(out, 0, 160);
     let q = wire::put_le(out, p, 2, wire::read2(s, 6) as u64);
-    let r = build_types(s, words, out, q);
-    if r.number != 0 {
-        return Length::Refused(Refusal {
-            number: r.number,
-            place: r.place,
-            offset: 0,
-            value: Value::of(0),
-        });
-    }
-    let end = r.at;
+    let end = build_types(s, words, out, q)?;
     wire::close_block(out, 0, end);
     if holds(out, end) {
-        return Length::Bytes(end);
+        Ok(end)
+    } else {
+        Err(Refusal::plain(Reason::OutputTooSmall))
     }
-    Length::Refused(Refusal::plain(18))
 }
 
 // The questions of a call with n working words, of which those for the registry are lent; then the layout.
@@ -102,10 +77,8 @@ fn built(n: usize, set: &[u8], out: &mut [u8], words: &mut [u64]) -> Length
     requires { 8192 ≤ n → 1663 ≤ length words.old }
     ensures { Leaves out.old out.new result (build_set n (length out.old) set.now) }
 {
-    match reader_calls::one_read(n, set, 32, 36) {
-        Read::Refused(q, o) => Length::Refused(Refusal::unread(q, o)),
-        Read::Ok(_) => build_layout(set, words, out),
-    }
+    reader_calls::one_read(n, set, 32, 36)?;
+    build_layout(set, words, out)
 }
 
 // The same, and a refusal leaves the output all zeros.
@@ -115,13 +88,10 @@ fn settled(n: usize, set: &[u8], out: &mut [u8], words: &mut [u64]) -> Length
     ensures out_after { out.new ≡ output_after out.old (build_set n (length out.old) set.now) }
 {
     let a = built(n, set, out, words);
-    match a {
-        Length::Bytes(count) => Length::Bytes(count),
-        Length::Refused(r) => {
-            wire::clear_bytes(out);
-            Length::Refused(r)
-        }
+    if a.is_err() {
+        wire::clear_bytes(out);
     }
+    a
 }
 
 // Builds every type of a set in set order: the layout at the start of the output, bytes behind it stay.
@@ -132,8 +102,7 @@ pub fn build_set(set: &[u8], out: &mut [u8], words: &mut [u64]) -> Length
 {
     let n = words.len();
     wire::clear_words(words);
-    let most = reader_calls::used(n, builder_registry::WORDS);
-    let registry = &mut words[..most];
+    let registry = &mut words[..n.min(builder_registry::WORDS)];
     let a = settled(n, set, out, registry);
     wire::clear_words(registry);
     a

@@ -1,4 +1,6 @@
--- What the code leaves, place by place: padding, the end of the prefix, the next node, sums, the count, the struct.
+-- What the code leaves, place by place: the end of the prefix, the next node, sums, the count, the struct.
+use Rattle.std.specs.Prelude as std
+use Rattle.std.specs.Prelude.{Some, None, SomeIff, Result, Ok, Err}
 use mathlib.Core.Path.{◌≡◌, refl, sym, ◌∙◌, ap, subst}
 use mathlib.Core.Bool.{Bool, true, false, cond}
 use mathlib.Core.List.{List, ◌∷◌}
@@ -10,6 +12,8 @@ use lib.ListN.{length}
 use borrow.Author.Tests.{lt-ltb, le-ltb}
 use Rattle.errors.specs.Refusal.{Outcome, done, refused, plain}
 use Rattle.errors.specs.Refusal.{◌>>=◌ as ◌and_then◌}
+use Rattle.errors.specs.declared.Reason.{Reason}
+use Rattle.errors.specs.declared.Reason.TheVariants as reason
 use Rattle.answers.specs.Answers.{AnswersIn}
 use Rattle.answers.proofs.Laws.{answered, refuses, makes, passes, goes}
 use Rattle.blocks.specs.Bytes.{le2, le4, bytes}
@@ -36,90 +40,55 @@ use Rattle.builder_registry.proofs.Laws.{standing}
 use Rattle.builder_nodes.specs.declared.Built.{Built}
 use Rattle.builder_nodes.specs.Built.{Builds, node_start}
 use Rattle.builder_nodes.proofs.Laws.{node_closed}
-use Rattle.builder_structs.specs.declared.End.{End}
-use Rattle.builder_structs.specs.declared.End.TheVariants.{At, Over}
 use Rattle.builder_structs.specs.declared.Rest.{Rest}
 use Rattle.builder_structs.specs.declared.Run.{Run}
 use Rattle.builder_structs.specs.Fold.{up_to, combine, summed}
-use Rattle.builder_structs.specs.Next.{fields_of, pad_size, prefix_end, end_of, State, state_of, state_at, field_node, next_of, next, nodes_of, count_of}
-use Rattle.builder_structs.specs.Field.{with_align, ClosesAligned}
+use Rattle.builder_structs.specs.Next.{fields_of, pad_size, const_end, prefix_end, end_of, State, state_of, state_at, field_node, next_of, next, nodes_of, count_of}
+use Rattle.builder_structs.specs.Field.{with_align}
 use Rattle.builder_structs.specs.Ready.{ReadyNext, ReadySum, RanIn, Ran, Goes}
 use Rattle.builder_structs.proofs.Fold.{sum_node, plus, more, summed_one, summed_at}
 use Rattle.builder_structs.proofs.Next.{struct_is}
-use Rattle.builder_structs.proofs.Field.{Opened}
-
--- ---- padding
-
-module _ (placed : Bool) (offset end : ℕ) where
-  -- a field with an offset behind the prefix: the padding is the difference
-  pub pad_some : placed ≡ true → offset - end ≡ pad_size end (offset_of placed offset)
-  pad_some e = rw e
-
-  -- a field with an offset that the prefix has reached has none
-  pub pad_none : placed ≡ true → offset ≤ end → 0 ≡ pad_size end (offset_of placed offset)
-  pad_none e l = rw e (omega arith)
-
-  -- a field without an offset has none
-  pub pad_absent : placed ≡ false → 0 ≡ pad_size end (offset_of placed offset)
-  pad_absent e = rw e
-
--- a field without padding makes one node
-pub one_node : {v : ℕ} (end : ℕ) (o : Option ℕ) → v ≡ pad_size end o → v ≡ 0 → 1 ≡ nodes_of end o 0
-one_node end o e z = let h : pad_size end o ≤ 0 = omega arith in rw (le-ltb 0 (pad_size end o) h)
-
--- a field with padding makes two
-pub two_nodes : {v : ℕ} (end : ℕ) (o : Option ℕ) → v ≡ pad_size end o → (v ≡ 0 → ⊥) → 2 ≡ nodes_of end o 0
-two_nodes end o e z = let h : 0 < pad_size end o = omega arith in rw (lt-ltb 0 (pad_size end o) h)
+use Rattle.builder_structs.proofs.Field.{Opened, FieldLeft, aligned_closes}
 
 -- ---- the end of the prefix
 
-module _ {s : List ℕ} {kind : ℕ} {h : TypeHead} (placed : Bool) (offset end : ℕ) (hd : (a : Accepted s 1 7 kind) → HeadAt a h) where
-  -- a field without an offset does not move the end of the prefix
-  pub end_unplaced : placed ≡ false → (a : Accepted s 1 7 kind) → At end ≡ end_of (prefix_end end (offset_of placed offset) (head (type_of (tree a))).size)
-  unfolding prefix_end
-  end_unplaced e a = rw e
+module _ {s : List ℕ} {kind : ℕ} {h : TypeHead} (end : ℕ) (hd : (a : Accepted s 1 7 kind) → HeadAt a h) where
+  -- the end of the prefix behind a field, as the code has it
+  abbrev After : std.Option ℕ → std.Option ℕ → Type 0
+  After offset v = (a : Accepted s 1 7 kind) → v ≡ end_of (prefix_end end (offset_of offset) (head (type_of (tree a))).size)
 
-  -- nor does a field of variable size
-  pub end_variable : placed ≡ true → h.variable ≡ true → (a : Accepted s 1 7 kind) → At end ≡ end_of (prefix_end end (offset_of placed offset) (head (type_of (tree a))).size)
+  -- a field of variable size does not move it
+  pub end_variable : (place : ℕ) → h.size ≡ None → After (Some place) (Some end)
   unfolding prefix_end
-  end_variable e v a = rw ((hd a).size, e, v)
+  end_variable place e a = rw ((hd a).size, e)
 
-  -- a constant field with an offset moves it behind itself
-  pub end_const : placed ≡ true → h.variable ≡ false → offset < 2 ^ 64 → h.size ≤ 18446744073709551615 - offset → (a : Accepted s 1 7 kind) →
-      At (offset + h.size) ≡ end_of (prefix_end end (offset_of placed offset) (head (type_of (tree a))).size)
+  -- a constant field with an offset moves it behind itself, unless that is 2^64 or more
+  pub end_const : (place : ℕ) {size : ℕ} {v : std.Option ℕ} → h.size ≡ Some size → SomeIff v (place + size < 2 ^ 64) (place + size) → After (Some place) v
   unfolding prefix_end
-  end_const e v f l a = rw ((hd a).size, e, v, lt-ltb (offset + h.size) (2 ^ 64) (omega arith))
-
-  -- unless that is 2^64 or more
-  pub end_over : placed ≡ true → h.variable ≡ false → offset < 2 ^ 64 → 18446744073709551615 - offset < h.size → (a : Accepted s 1 7 kind) →
-      Over ≡ end_of (prefix_end end (offset_of placed offset) (head (type_of (tree a))).size)
-  unfolding prefix_end
-  end_over e v f l a = rw ((hd a).size, e, v, le-ltb (offset + h.size) (2 ^ 64) (omega arith))
+  end_const place {size} {v} e f a = rw ((hd a).size, e) (go v f)
+    where
+      go : (v : std.Option ℕ) → SomeIff v (place + size < 2 ^ 64) (place + size) → v ≡ end_of (const_end (place + size))
+      go None f = let l : 2 ^ 64 ≤ place + size = omega (arith, f) in rw (le-ltb (place + size) (2 ^ 64) l)
+      go (Some x) f = rw (lt-ltb (place + size) (2 ^ 64) f.0, f.1)
 
 -- v is the end of the prefix behind a field
-abbrev EndIs : List ℕ → FieldParts → ℕ → End → Type 0
-EndIs s f end v = (a : Accepted s 1 7 f.kind) → v ≡ end_of (prefix_end end (offset_of f.placed f.offset) (head (type_of (tree a))).size)
+abbrev EndIs : List ℕ → FieldParts → ℕ → std.Option ℕ → Type 0
+EndIs s f end v = (a : Accepted s 1 7 f.kind) → v ≡ end_of (prefix_end end (offset_of f.offset) (head (type_of (tree a))).size)
 
 -- the end that the code gives is the definition's
-ended_at : {o : Option ℕ} {v : End} {n : ℕ} → v ≡ end_of o → v ≡ At n → o ≡ some n
-ended_at {o} {v} {n} e f = go o (sym e ∙ f)
-  where
-    go : (x : Option ℕ) → end_of x ≡ At n → x ≡ some n
-    go none q = let z : ◌≡◌ {A = ℕ} 0 1 = cc in absurd (omega arith)
-    go (some m) q = let i : m ≡ n = cc in ap some i
+ended_at : {o : Option ℕ} {n : ℕ} → Some n ≡ end_of o → o ≡ some n
+ended_at {o = none} e = absurd (cc)
+ended_at {o = some m} e = cc
 
 -- where the code gives none, neither does the definition
-ended_over : {o : Option ℕ} {v : End} → v ≡ end_of o → v ≡ Over → o ≡ none
-ended_over {o} e f = go o (sym e ∙ f)
-  where
-    go : (x : Option ℕ) → end_of x ≡ Over → x ≡ none
-    go none q = refl
-    go (some m) q = let z : ◌≡◌ {A = ℕ} 0 1 = cc in absurd (omega arith)
+ended_over : {o : Option ℕ} → None ≡ end_of o → o ≡ none
+ended_over {o = none} e = refl
+ended_over {o = some m} e = absurd (cc)
 
 -- ---- the next node
 
 -- r is what the next node leaves, where `left` fields are left from `field` on and the entries were g
-abbrev NextLeft : (s xs : List ℕ) (at : ℕ) (us ys : List ℕ) (r : Run) (references left field : ℕ) (g : Registry) (end : ℕ) (half : Bool) → Type 0
+abbrev NextLeft : (s xs : List ℕ) (at : ℕ) (us ys : List ℕ) (r : Result Run Reason) (references left field : ℕ) (g : Registry) (end : ℕ) (half : Bool) → Type 0
 NextLeft s xs at us ys r references left field g end half =
     (t : Tree) (d : Accepted s 32 32 references) (l : Listed s 33 33 left field) → read_set s ≡ done t →
     Ran s xs at us ys r (next (types_of t) (owners_of (tree d)) (state_of g (fields_of l.got.0) end half))
@@ -148,7 +117,7 @@ module _ {s : List ℕ} {left field : ℕ} {f : FieldParts} (h : 0 < left) (fp :
 
   -- the field
   abbrev field_at : Listed s 33 33 left field → ResolvedField
-  field_at l = record { name = name_at s (field + 6); offset = offset_of f.placed f.offset; field_type = type_of (tree (kind_at l)) }
+  field_at l = record { name = name_at s (field + 6); offset = offset_of f.offset; field_type = type_of (tree (kind_at l)) }
 
   -- the fields behind it
   abbrev rest_at : Listed s 33 33 left field → Listed s 33 33 (left - 1) (field + 4 + le4 s field)
@@ -169,64 +138,60 @@ module _ {s : List ℕ} {left field : ℕ} {f : FieldParts} (h : 0 < left) (fp :
     next_node l = next_first l true
 
     -- there is no padding
-    pub next_same : {v : ℕ} → v ≡ pad_size end (offset_of f.placed f.offset) → v ≡ 0 → (l : Listed s 33 33 left field) →
+    pub next_same : {v : ℕ} → v ≡ pad_size end (offset_of f.offset) → v ≡ 0 → (l : Listed s 33 33 left field) →
         next types refs (state_of g (fields_of l.got.0) end false) ≡ next types refs (state_of g (fields_of l.got.0) end true)
     unfolding next_of
     next_same e z l =
-        let p : pad_size end (offset_of f.placed f.offset) ≤ 0 = omega arith in
-        next_first l false ∙ rw (le-ltb 0 (pad_size end (offset_of f.placed f.offset)) p) (sym (next_node l))
+        let p : pad_size end (offset_of f.offset) ≤ 0 = omega arith in
+        next_first l false ∙ rw (le-ltb 0 (pad_size end (offset_of f.offset)) p) (sym (next_node l))
 
     -- there is padding: a constant
-    next_pad : {v : ℕ} → v ≡ pad_size end (offset_of f.placed f.offset) → (v ≡ 0 → ⊥) → (l : Listed s 33 33 left field) →
+    next_pad : {v : ℕ} → v ≡ pad_size end (offset_of f.offset) → (v ≡ 0 → ⊥) → (l : Listed s 33 33 left field) →
         next types refs (state_of g (fields_of l.got.0) end false) ≡ done (state_of g (fields_of l.got.0) end true, const_or_zero v 1)
     unfolding next_of
     next_pad {v} e z l =
-        let p : 0 < pad_size end (offset_of f.placed f.offset) = omega arith in
-        next_first l false ∙ rw (lt-ltb 0 (pad_size end (offset_of f.placed f.offset)) p, first_field l, e)
+        let p : 0 < pad_size end (offset_of f.offset) = omega arith in
+        next_first l false ∙ rw (lt-ltb 0 (pad_size end (offset_of f.offset)) p, first_field l, e)
 
     -- the end of the prefix is 2^64 or more: 16
-    node_over : {v : End} → EndIs s f end v → v ≡ Over → (l : Listed s 33 33 left field) →
+    node_over : EndIs s f end None → (l : Listed s 33 33 left field) →
         next types refs (state_of g (fields_of l.got.0) end true) ≡ refused (plain 16)
     unfolding field_node ◌and_then◌ need refuse
-    node_over pe e l = let q : prefix_end end (offset_of f.placed f.offset) (head (type_of (tree (kind_at l)))).size ≡ none = ended_over (pe (kind_at l)) e in next_node l ∙ rw q
+    node_over pe l = let q : prefix_end end (offset_of f.offset) (head (type_of (tree (kind_at l)))).size ≡ none = ended_over (pe (kind_at l)) in next_node l ∙ rw q
 
     -- the field's node, and the state behind it
-    node_at : {v : End} {n : ℕ} → EndIs s f end v → v ≡ At n → (l : Listed s 33 33 left field) →
+    node_at : {n : ℕ} → EndIs s f end (Some n) → (l : Listed s 33 33 left field) →
         next types refs (state_of g (fields_of l.got.0) end true) ≡
         ◌and_then◌ (build_field types refs (name_at s (field + 6)) (head (type_of (tree (kind_at l)))).size (head (type_of (tree (kind_at l)))) (kind_of (type_of (tree (kind_at l)))) g)
         (node_of n (fields_of (rest_at l).got.0))
     unfolding field_node ◌and_then◌ need give
-    node_at {n} pe e l = let q : prefix_end end (offset_of f.placed f.offset) (head (type_of (tree (kind_at l)))).size ≡ some n = ended_at (pe (kind_at l)) e in next_node l ∙ rw q
+    node_at {n} pe l = let q : prefix_end end (offset_of f.offset) (head (type_of (tree (kind_at l)))).size ≡ some n = ended_at (pe (kind_at l)) in next_node l ∙ rw q
 
   -- what the code leaves of it
-  module _ {references : ℕ} (g : Registry) (end : ℕ) {v : End} (pe : EndIs s f end v) where
-    -- 16, as the code leaves it
-    pub over_left : {xs us ys : List ℕ} {at u : ℕ} {x : Rest} → v ≡ Over →
-        NextLeft s xs at us ys (record { at = u; rest = x; number = 16 }) references left field g end true
-    over_left e t d l q = refuses (omega arith) (node_over (types_of t) (owners_of (tree d)) g end pe e l)
+  module _ {references : ℕ} (g : Registry) (end : ℕ) where
+    -- the end of the prefix is too large
+    pub over_left : {xs us ys : List ℕ} {at : ℕ} → EndIs s f end None → NextLeft s xs at us ys (Err reason.OffsetTooLarge) references left field g end true
+    over_left pe t d l q = refuses (node_over (types_of t) (owners_of (tree d)) g end pe l)
 
-    module _ {xs us ys : List ℕ} {at n : ℕ} {r : Built} (e : v ≡ At n)
-        (b : (t : Tree) (d : Accepted s 32 32 references) (a : Accepted s 1 7 f.kind) → read_set s ≡ done t →
-        Builds s xs at us ys r (build_field (types_of t) (owners_of (tree d)) (name_at s (field + 6)) (head (type_of (tree a))).size (head (type_of (tree a))) (kind_of (type_of (tree a))) g)) where
+    module _ {xs us zs : List ℕ} {at n : ℕ} (pe : EndIs s f end (Some n)) where
       -- the field was refused
-      pub node_stopped : {u : ℕ} {x : Rest} → (r.number ≡ 0 → ⊥) →
-          NextLeft s xs at us ys (record { at = u; rest = x; number = r.number }) references left field g end true
-      node_stopped {u} {x} z t d l q =
-          subst (Ran s xs at us ys (record { at = u; rest = x; number = r.number })) (sym (node_at (types_of t) (owners_of (tree d)) g end pe e l))
-          (passes (node_of n (fields_of (rest_at l).got.0)) refl z (b t d (kind_at l) q))
+      pub node_stopped : {vs ys : List ℕ} {e : Reason} → FieldLeft s xs at us zs (Err e) references (field + 6) f.kind g → NextLeft s xs at vs ys (Err e) references left field g end true
+      node_stopped {vs} {ys} {e} b t d l q =
+          rw (node_at (types_of t) (owners_of (tree d)) g end pe l)
+          (passes (node_of n (fields_of (rest_at l).got.0)) (b t d (kind_at l) q))
 
       -- the field was built: the next is the one behind it
-      pub node_left : {u : ℕ} → r.number ≡ 0 → u ≡ le4 s field →
-          NextLeft s xs at us ys (record { at = r.at; rest = record { count = r.count; field = field + 4 + u; left = left - 1; end = n; half = false }; number = 0 })
+      pub node_left : {u : ℕ} {r : Built} → FieldLeft s xs at us zs (Ok r) references (field + 6) f.kind g → u ≡ le4 s field →
+          NextLeft s xs at us zs (Ok (record { at = r.at; rest = record { count = r.count; field = field + 4 + u; left = left - 1; end = n; half = false } }))
           references left field g end true
-      node_left z eu t d l q =
+      node_left {r} b eu t d l q =
           let fs = fields_of (rest_at l).got.0 in
           subst (λ (k : ℕ).
-          Ran s xs at us ys (record { at = r.at; rest = record { count = r.count; field = field + 4 + k; left = left - 1; end = n; half = false }; number = 0 })
+          Ran s xs at us zs (Ok (record { at = r.at; rest = record { count = r.count; field = field + 4 + k; left = left - 1; end = n; half = false } }))
           (next (types_of t) (owners_of (tree d)) (state_of g (fields_of l.got.0) end true))) (sym eu)
-          (rw (node_at (types_of t) (owners_of (tree d)) g end pe e l)
-          (goes (node_of n fs) z (b t d (kind_at l) q) (λ x m.
-          AnswersIn.made _ refl (record {
+          (rw (node_at (types_of t) (owners_of (tree d)) g end pe l)
+          (goes (node_of n fs) (b t d (kind_at l) q) (λ x m.
+          AnswersIn.made _ (record {
             list = rest_at l;
             state = ap (λ (w : Registry). state_of w fs n false) (sym m.entries);
             index = m.index;
@@ -235,20 +200,21 @@ module _ {s : List ℕ} {left field : ℕ} {f : FieldParts} (h : 0 < left) (fp :
 
 -- ---- padding, or the field
 
--- no field is left: 11
-pub child_none : {s xs us ys : List ℕ} {at u references left field : ℕ} {x : Rest} (g : Registry) (end : ℕ) (half : Bool) → left ≡ 0 →
-    NextLeft s xs at us ys (record { at = u; rest = x; number = 11 }) references left field g end half
+-- no field is left
+pub child_none : {s xs us ys : List ℕ} {at references left field : ℕ} (g : Registry) (end : ℕ) (half : Bool) → left ≡ 0 →
+    NextLeft s xs at us ys (Err reason.MissingDynamicRefs) references left field g end half
 unfolding next_of fields fields_in view
-child_none g end half z t d l q = refuses (omega arith) (ap (λ (y : Tree × ℕ). next_of (types_of t) (owners_of (tree d)) (fields_of y.0) end half g) (none_left l (omega arith)))
+child_none g end half z t d l q =
+    refuses (ap (λ (y : Tree × ℕ). next_of (types_of t) (owners_of (tree d)) (fields_of y.0) end half g) (none_left l (omega arith)))
 
-module _ {s xs us ys : List ℕ} {at references left field : ℕ} {r : Run} (g : Registry) (end : ℕ) (half : Bool)
+module _ {s xs us ys : List ℕ} {at references left field : ℕ} {r : Result Run Reason} (g : Registry) (end : ℕ) (half : Bool)
     (k : NextLeft s xs at us ys r references left field g end true) where
   -- the padding is made: the field's node
   pub child_half : half ≡ true → NextLeft s xs at us ys r references left field g end half
   child_half e t d l q = subst (λ (b : Bool). Ran s xs at us ys r (next (types_of t) (owners_of (tree d)) (state_of g (fields_of l.got.0) end b))) (sym e) (k t d l q)
 
   -- there is no padding: the field's node
-  pub child_plain : {f : FieldParts} {v : ℕ} → half ≡ false → 0 < left → ((a : Accepted s 33 33 field) → FieldAt a f) → v ≡ pad_size end (offset_of f.placed f.offset) → v ≡ 0 →
+  pub child_plain : {f : FieldParts} {v : ℕ} → half ≡ false → 0 < left → ((a : Accepted s 33 33 field) → FieldAt a f) → v ≡ pad_size end (offset_of f.offset) → v ≡ 0 →
       NextLeft s xs at us ys r references left field g end half
   child_plain e h fp ev z t d l q =
       subst (λ (b : Bool). Ran s xs at us ys r (next (types_of t) (owners_of (tree d)) (state_of g (fields_of l.got.0) end b))) (sym e)
@@ -256,14 +222,14 @@ module _ {s xs us ys : List ℕ} {at references left field : ℕ} {r : Run} (g :
 
 -- there is padding
 pub child_pad : {s xs ws ys : List ℕ} {at u n references left field end v : ℕ} {half : Bool} {f : FieldParts} → Indexed s ws n → half ≡ false → 0 < left →
-    ((a : Accepted s 33 33 field) → FieldAt a f) → v ≡ pad_size end (offset_of f.placed f.offset) → (v ≡ 0 → ⊥) →
+    ((a : Accepted s 33 33 field) → FieldAt a f) → v ≡ pad_size end (offset_of f.offset) → (v ≡ 0 → ⊥) →
     Wrote xs at (write (node_tree (const_or_zero v 1))) ys u →
-    NextLeft s xs at ws ys (record { at = u; rest = record { count = n; field = field; left = left; end = end; half = true }; number = 0 }) references left field (entries_of s ws n) end half
+    NextLeft s xs at ws ys (Ok (record { at = u; rest = record { count = n; field = field; left = left; end = end; half = true } })) references left field (entries_of s ws n) end half
 child_pad {s} {xs} {ws} {ys} {at} {u} {n} {left} {field} {end} {v} x e h fp ev z w t d l q =
     subst (λ (b : Bool).
-    Ran s xs at ws ys (record { at = u; rest = record { count = n; field = field; left = left; end = end; half = true }; number = 0 })
+    Ran s xs at ws ys (Ok (record { at = u; rest = record { count = n; field = field; left = left; end = end; half = true } }))
     (next (types_of t) (owners_of (tree d)) (state_of (entries_of s ws n) (fields_of l.got.0) end b))) (sym e)
-    (makes _ refl (next_pad h fp (types_of t) (owners_of (tree d)) (entries_of s ws n) end ev z l) (record { list = l; state = refl; index = x; wrote = w }))
+    (makes _ (next_pad h fp (types_of t) (owners_of (tree d)) (entries_of s ws n) end ev z l) (record { list = l; state = refl; index = x; wrote = w }))
 
 -- ---- sums
 
@@ -275,70 +241,53 @@ unfolding node_tree
 sum_puts {x₃} {v} a b w₁ w₂ w₃ w₄ = node_closed 134 1 (cons (node_tree a) (cons (node_tree b) nil)) w₁ (parts (node_tree a) (cons (node_tree b) nil) w₂ (parts (node_tree b) nil w₃ (no_parts x₃ v))) w₄
 
 -- of any way to make the next node
-pub sum_one : {s xs us ys : List ℕ} {at k : ℕ} {r : Run} (nx : State → Outcome (State × IrNode)) (st : State) → k ≡ 1 → Ran s xs at us ys r (nx st) → Ran s xs at us ys r (summed nx k st)
+pub sum_one : {s xs us ys : List ℕ} {at k : ℕ} {r : Result Run Reason} (nx : State → Outcome (State × IrNode)) (st : State) → k ≡ 1 → Ran s xs at us ys r (nx st) → Ran s xs at us ys r (summed nx k st)
 sum_one {s} {xs} {us} {ys} {at} {r} nx st z g = subst (Ran s xs at us ys r) (sym (ap (λ (k : ℕ). summed nx k st) z ∙ summed_one nx st)) g
 
-module _ {s x₁ x₂ us : List ℕ} {k p : ℕ} {a : Run} (nx : State → Outcome (State × IrNode)) (st : State) (h : 0 < k) (z : k ≡ 1 → ⊥) (g : Ran s x₁ p us x₂ a (summed nx (k - 1) st)) where
+module _ {k : ℕ} (nx : State → Outcome (State × IrNode)) (st : State) (h : 0 < k) (z : k ≡ 1 → ⊥) where
   -- the sum, by the sum of the first
   sum_is : summed nx k st ≡ ◌and_then◌ (summed nx (k - 1) st) (more nx)
   sum_is = summed_at nx k st (λ e. omega arith) z
 
   -- the sum of the first was refused
-  pub sum_stops : {xs vs ys : List ℕ} {at : ℕ} → (a.number ≡ 0 → ⊥) → Ran s xs at vs ys a (summed nx k st)
-  sum_stops {xs} {vs} {ys} {at} z = subst (Ran s xs at vs ys a) (sym sum_is) (passes (more nx) refl z g)
+  pub sum_stops : {s xs x₁ x₂ us vs ys : List ℕ} {at p : ℕ} {e : Reason} → Ran s x₁ p us x₂ (Err e) (summed nx (k - 1) st) → Ran s xs at vs ys (Err e) (summed nx k st)
+  sum_stops g = rw sum_is (passes (more nx) g)
 
   -- the sum of the first, then the last
-  module _ {x₃ vs : List ℕ} {r : Run} (y : a.number ≡ 0) (f : (l : Listed s 33 33 a.rest.left a.rest.field) → Ran s x₂ a.at vs x₃ r (nx (state_at s us a.rest l))) where
+  module _ {s x₁ x₂ x₃ us vs : List ℕ} {p : ℕ} {a : Run} (g : Ran s x₁ p us x₂ (Ok a) (summed nx (k - 1) st)) where
     -- the last, from the state behind the first
-    last : (x : State × IrNode) → RanIn s x₁ p us x₂ a x → Ran s x₂ a.at vs x₃ r (nx x.0)
-    last x m = subst (λ (c : State). Ran s x₂ a.at vs x₃ r (nx c)) (sym m.state) (f m.list)
+    last : {r : Result Run Reason} → ((l : Listed s 33 33 a.rest.left a.rest.field) → Ran s x₂ a.at vs x₃ r (nx (state_at s us a.rest l))) →
+        (x : State × IrNode) → RanIn s x₁ p us x₂ a x → Ran s x₂ a.at vs x₃ r (nx x.0)
+    last {r} f x m = subst (λ (c : State). Ran s x₂ a.at vs x₃ r (nx c)) (sym m.state) (f m.list)
 
     -- the last was refused
-    pub sum_stops_last : {xs ws ys : List ℕ} {at : ℕ} → (r.number ≡ 0 → ⊥) → Ran s xs at ws ys r (summed nx k st)
-    sum_stops_last {xs} {ws} {ys} {at} z = subst (Ran s xs at ws ys r) (sym sum_is) (goes (more nx) y g (λ x m. passes (plus x) refl z (last x m)))
+    pub sum_stops_last : {xs ws ys : List ℕ} {at : ℕ} {e : Reason} →
+        ((l : Listed s 33 33 a.rest.left a.rest.field) → Ran s x₂ a.at vs x₃ (Err e) (nx (state_at s us a.rest l))) → Ran s xs at ws ys (Err e) (summed nx k st)
+    sum_stops_last f = rw sum_is (goes (more nx) g (λ x m. passes (plus x) (last f x m)))
 
     -- both were made: the Add node is closed
-    pub sum_done : {xs ys : List ℕ} {at q : ℕ} → Wrote xs at (node_start 134 1) x₁ p → r.number ≡ 0 → Wrote x₃ at (bytes 4 (r.at - at - 4)) ys q →
-        Ran s xs at vs ys r (summed nx k st)
-    sum_done {xs} {ys} {at} w z c =
-        subst (Ran s xs at vs ys r) (sym sum_is)
-        (goes (more nx) y g (λ x m.
-        goes (plus x) z (last x m) (λ o q. AnswersIn.made _ z
+    pub sum_done : {xs ys : List ℕ} {at q : ℕ} {r : Run} → ((l : Listed s 33 33 a.rest.left a.rest.field) → Ran s x₂ a.at vs x₃ (Ok r) (nx (state_at s us a.rest l))) →
+        Wrote xs at (node_start 134 1) x₁ p → Wrote x₃ at (bytes 4 (r.at - at - 4)) ys q → Ran s xs at vs ys (Ok r) (summed nx k st)
+    sum_done f w c =
+        rw sum_is
+        (goes (more nx) g (λ x m.
+        goes (plus x) (last f x m) (λ o q. AnswersIn.made _
         (record { list = q.list; state = q.state; index = q.index; wrote = sum_puts x.1 o.1 w m.wrote q.wrote c }))))
 
--- where a sum was not refused, the words hold the index of the entries
-pub ran_index : {s xs us ys : List ℕ} {at : ℕ} {r : Run} {o : Outcome (State × IrNode)} → r.number ≡ 0 → Ran s xs at us ys r o → Indexed s us r.rest.count
-ran_index z g = (answered z g).2.index
+-- where a sum was made, the words hold the index of the entries
+pub ran_index : {s xs us ys : List ℕ} {at : ℕ} {r : Run} {o : Outcome (State × IrNode)} → Ran s xs at us ys (Ok r) o → Indexed s us r.rest.count
+ran_index g = (answered g).2.index
 
--- what the next node stands on, from what a sum of nodes stands on
-pub next_ready : {s ws : List ℕ} {references k at p : ℕ} {from : Rest} → ReadySum s ws references from k at → p + 100 < 2 ^ 56 → ReadyNext s ws references from p
-next_ready a l = record { standing = a.standing; set = a.set; refs = a.refs; list = a.list; cursor = l }
-
--- an Add node begins with 15 bytes; behind them stands the sum of the first k - 1 nodes
-module _ {s : List ℕ} {at p : ℕ} (k : ℕ) {a : Run} (e : p ≡ at + 15) (h : 0 < k) (x : Goes s p (2 ^ 29 * (k - 1)) a) where
-  -- where that ends, how many entries there are, and the fields behind it
-  pub first_goes : Goes s at (2 ^ 29 * k) a
-  first_goes = record { low = omega (arith, x.low); high = omega (arith, x.high); count = x.count; list = x.list }
-
-  -- what the last node stands on
-  pub last_ready : {ws us : List ℕ} {references : ℕ} {from : Rest} → ReadySum s ws references from k at → length us ≡ length ws →
-      Indexed s us a.rest.count → ReadyNext s us references a.rest a.at
-  last_ready r l i = record {
-    standing = standing r.standing l x.count i;
-    set = r.set;
-    refs = r.refs;
-    list = x.list;
-    cursor = omega (arith, x.high, r.room);
-  }
-
-  module _ {r : Run} (y : Goes s a.at (2 ^ 28) r) where
-    -- where the Add node ends, how many entries there are, and the fields behind it
-    pub sum_goes : Goes s at (2 ^ 29 * k) r
-    sum_goes = record { low = omega (arith, x.low, y.low); high = omega (arith, x.high, y.high); count = y.count; list = y.list }
-
-    -- what closing it stands on
-    pub sum_ends : {ws : List ℕ} {references : ℕ} {from : Rest} → ReadySum s ws references from k at → (at + 4 ≤ r.at) × (r.at < 2 ^ 61)
-    sum_ends b = (omega (arith, x.low, y.low), omega (arith, x.high, y.high, b.room))
+-- an Add node begins with 15 bytes; behind them stands the sum of the first k - 1 nodes: what the last node stands on
+pub last_ready : {s ws us : List ℕ} {at p references : ℕ} {from : Rest} (k : ℕ) {a : Run} → p ≡ at + 15 → 0 < k → Goes s p (2 ^ 29 * (k - 1)) a →
+    ReadySum s ws references from k at → length us ≡ length ws → Indexed s us a.rest.count → ReadyNext s us references a.rest a.at
+last_ready k e h x r l i = record {
+  standing = standing r.standing l x.count i;
+  set = r.set;
+  refs = r.refs;
+  list = x.list;
+  cursor = omega (arith, x.high, r.room);
+}
 
 -- ---- the count
 
@@ -362,31 +311,30 @@ nodes_more end k o = go (ltb 0 (pad_size end o))
     go true = omega arith
     go false = omega arith
 
-module _ {s : List ℕ} {at k : ℕ} {f : FieldParts} {v : End} (end : ℕ) (fp : (a : Accepted s 33 33 at) → FieldAt a f) (ek : k ≡ nodes_of end (offset_of f.placed f.offset) 0)
-    (pe : EndIs s f end v) where
+module _ {s : List ℕ} {at k : ℕ} {f : FieldParts} (end : ℕ) (fp : (a : Accepted s 33 33 at) → FieldAt a f) (ek : k ≡ nodes_of end (offset_of f.offset) 0) where
   -- the field, its own nodes, and those of the fields u behind it
   count_one : (a : Accepted s 33 33 at) (u : Tree) (m : ℕ) {o : Option ℕ} →
-      prefix_end end (offset_of f.placed f.offset) (head (type_of (tree (fp a).type))).size ≡ o → elim o [ none ↦ 0 | some e ↦ count_of e (fields_of u) ] ≡ m →
+      prefix_end end (offset_of f.offset) (head (type_of (tree (fp a).type))).size ≡ o → elim o [ none ↦ 0 | some e ↦ count_of e (fields_of u) ] ≡ m →
       count_of end (fields_of (cons (tree a) u)) ≡ k + m
   unfolding count_of
   count_one a u m e i =
       ap (count_of end) ((fp a).is u)
-      ∙ ap (λ (o : Option ℕ). nodes_of end (offset_of f.placed f.offset) (elim o [ none ↦ 0 | some e ↦ count_of e (fields_of u) ])) e
-      ∙ ap (nodes_of end (offset_of f.placed f.offset)) i ∙ nodes_more end m (offset_of f.placed f.offset) ∙ ap (λ (z : ℕ). z + m) (sym ek)
+      ∙ ap (λ (o : Option ℕ). nodes_of end (offset_of f.offset) (elim o [ none ↦ 0 | some e ↦ count_of e (fields_of u) ])) e
+      ∙ ap (nodes_of end (offset_of f.offset)) i ∙ nodes_more end m (offset_of f.offset) ∙ ap (λ (z : ℕ). z + m) (sym ek)
 
   -- a field's nodes are counted, and the next field is reached
-  pub count_next : {left field rest n u m : ℕ} → 0 < rest → v ≡ At m → u ≡ le4 s at → Count s left field rest at end n → Count s left field (rest - 1) (at + 4 + u) m (n + k)
-  count_next {left} {field} {rest} {n} {u} {m} h e eu c =
+  pub count_next : {left field rest n u m : ℕ} → EndIs s f end (Some m) → 0 < rest → u ≡ le4 s at → Count s left field rest at end n → Count s left field (rest - 1) (at + 4 + u) m (n + k)
+  count_next {left} {field} {rest} {n} {u} {m} pe h eu c =
       subst (λ (j : ℕ). Count s left field (rest - 1) (at + 4 + j) m (n + k)) (sym eu)
       (steps (λ r. tree (block_entry r h).child) (λ r. (block_entry r h).after)
-      (λ r w y q. record { is = let a = (block_entry r h).child in let i = count_one a y (count_of m (fields_of y)) (ended_at (pe (fp a).type) e) refl in omega (arith, q.is, i) }) c)
+      (λ r w y q. record { is = let a = (block_entry r h).child in let i = count_one a y (count_of m (fields_of y)) (ended_at (pe (fp a).type)) refl in omega (arith, q.is, i) }) c)
 
   -- the end of the prefix is 2^64 or more: what is behind does not count
-  pub count_over : {left field rest n : ℕ} → 0 < rest → v ≡ Over → Count s left field rest at end n → (l : Listed s 33 33 left field) → n + k ≡ count_of 0 (fields_of l.got.0)
-  count_over h e c l =
+  pub count_over : {left field rest n : ℕ} → EndIs s f end None → 0 < rest → Count s left field rest at end n → (l : Listed s 33 33 left field) → n + k ≡ count_of 0 (fields_of l.got.0)
+  count_over pe h c l =
       let w = c.whole l in
       let a = block_entry w.0 h in
-      let i = count_one a.child a.after.rest.got.0 0 (ended_over (pe (fp a.child).type) e) refl in
+      let i = count_one a.child a.after.rest.got.0 0 (ended_over (pe (fp a.child).type)) refl in
       omega (arith, w.1.is, i, ap (λ (t : Tree). count_of end (fields_of t)) a.after.tree)
 
 -- no field is left: the count is the definition's
@@ -401,12 +349,9 @@ abbrev node_out : State × IrNode → Outcome (IrNode × Registry)
 node_out y = done (y.1, y.0.registry)
 
 -- what was built of a sum of nodes, without the fields that are left
-ran_built : {s xs us ys : List ℕ} {at : ℕ} {r : Run} {x : Outcome (State × IrNode)} → Ran s xs at us ys r x →
-    Builds s xs at us ys (record { at = r.at; count = r.rest.count; number = r.number }) (◌and_then◌ x node_out)
-unfolding ◌and_then◌
-ran_built (AnswersIn.made y z m) = AnswersIn.made (y.1, y.0.registry) z
-    (record { entries = ap (λ (c : State). c.registry) (sym m.state); index = m.index; wrote = m.wrote })
-ran_built (AnswersIn.not k z l) = AnswersIn.not k z l
+ran_built : {s xs us ys : List ℕ} {at : ℕ} {r : Run} {x : Outcome (State × IrNode)} → Ran s xs at us ys (Ok r) x →
+    Builds s xs at us ys (Ok (record { at = r.at; count = r.rest.count })) (◌and_then◌ x node_out)
+ran_built b = goes node_out b (λ y m. AnswersIn.made _ (record { entries = ap (λ (c : State). c.registry) (sym m.state); index = m.index; wrote = m.wrote }))
 
 -- that node, aligned
 up_is : (a : ℕ) (g : Registry) (x : Outcome (State × IrNode)) → ◌and_then◌ x (λ y. done (align_node y.1 a, y.0.registry)) ≡ with_align a (λ _. ◌and_then◌ x node_out) g
@@ -440,22 +385,34 @@ module _ {s : List ℕ} {kind k : ℕ} {h : TypeHead} {f : ListParts} (g : Regis
       ∙ ap (λ (m : ℕ). ◌and_then◌ (summed (next types (owners_of (tree (hd a).references))) k (state_of g (fields F) 0 false)) (up m)) (hd a).alignment
 
   -- there is no node
-  pub struct_none : {xs us ys : List ℕ} {at u c : ℕ} → k ≡ 0 → (t : Tree) (a : Accepted s 1 7 kind) (fs : Fields) → read_set s ≡ done t → kind_of (type_of (tree a)) ≡ ResolvedTypeKind.Struct fs →
-      Builds s xs at us ys (record { at = u; count = c; number = 11 }) (build_variable_struct (types_of t) (head (type_of (tree a))) fs g)
+  pub struct_none : {xs us ys : List ℕ} {at : ℕ} → k ≡ 0 → (t : Tree) (a : Accepted s 1 7 kind) (fs : Fields) → read_set s ≡ done t → kind_of (type_of (tree a)) ≡ ResolvedTypeKind.Struct fs →
+      Builds s xs at us ys (Err reason.MissingDynamicRefs) (build_variable_struct (types_of t) (head (type_of (tree a))) fs g)
   unfolding summed up_to combine ◌and_then◌
   struct_none z t a fs q e =
-      refuses (omega arith)
+      refuses
       (whole_is (types_of t) a e
       ∙ ap (λ (n : ℕ). ◌and_then◌ (summed (next (types_of t) (owners_of (tree (hd a).references))) n (state_of g (fields_of (fl a).list.got.0) 0 false)) (up h.alignment)) z)
 
-  -- the sum, aligned
-  pub struct_built : {us xs x₁ x₂ ys : List ℕ} {at p : ℕ} {r : Run} {b : Built} →
-      ((t : Tree) (d : Accepted s 32 32 h.references) (l : Listed s 33 33 f.count f.first) → read_set s ≡ done t →
-      Ran s x₁ p us x₂ r (summed (next (types_of t) (owners_of (tree d))) k (state_of g (fields_of l.got.0) 0 false))) →
-      Opened xs at h x₁ p → ClosesAligned x₂ at (record { at = r.at; count = r.rest.count; number = r.number }) ys b →
+  -- what the sum leaves
+  abbrev SumLeft : (us x₁ : List ℕ) (p : ℕ) (x₂ : List ℕ) (r : Result Run Reason) → Type 0
+  SumLeft us x₁ p x₂ r =
+      (t : Tree) (d : Accepted s 32 32 h.references) (l : Listed s 33 33 f.count f.first) → read_set s ≡ done t →
+      Ran s x₁ p us x₂ r (summed (next (types_of t) (owners_of (tree d))) k (state_of g (fields_of l.got.0) 0 false))
+
+  -- what the struct leaves
+  abbrev StructLeft : (xs : List ℕ) (at : ℕ) (us ys : List ℕ) (r : Result Built Reason) → Type 0
+  StructLeft xs at us ys r =
       (t : Tree) (a : Accepted s 1 7 kind) (fs : Fields) → read_set s ≡ done t → kind_of (type_of (tree a)) ≡ ResolvedTypeKind.Struct fs →
-      Builds s xs at us ys b (build_variable_struct (types_of t) (head (type_of (tree a))) fs g)
-  struct_built {us} {xs} {x₁} {ys} {at} {p} {b} sm w c t a fs q e =
+      Builds s xs at us ys r (build_variable_struct (types_of t) (head (type_of (tree a))) fs g)
+
+  -- the sum was refused
+  pub struct_stops : {us xs x₁ x₂ vs ys : List ℕ} {at p : ℕ} {e : Reason} → SumLeft us x₁ p x₂ (Err e) → StructLeft xs at vs ys (Err e)
+  struct_stops sm t a fs q e = rw (whole_is (types_of t) a e) (passes (up h.alignment) (sm t (hd a).references (fl a).list q))
+
+  -- it was built, and aligned
+  pub struct_built : {us xs x₁ x₂ ys : List ℕ} {at p c : ℕ} {r : Run} → SumLeft us x₁ p x₂ (Ok r) → Opened xs at h x₁ p →
+      Wrote x₂ at (bytes 4 (r.at - at - 4)) ys c → StructLeft xs at us ys (Ok (record { at = r.at; count = r.rest.count }))
+  struct_built sm w c t a fs q e =
       let o = summed (next (types_of t) (owners_of (tree (hd a).references))) k (state_of g (fields_of (fl a).list.got.0) 0 false) in
-      subst (Builds s xs at us ys b) (sym (whole_is (types_of t) a e ∙ up_is h.alignment g o))
-      (c s us xs x₁ p h.alignment (λ _. ◌and_then◌ o node_out) g w (ran_built (sm t (hd a).references (fl a).list q)))
+      rw (whole_is (types_of t) a e, up_is h.alignment g o)
+      (aligned_closes h.alignment (λ _. ◌and_then◌ o node_out) g w (ran_built (sm t (hd a).references (fl a).list q)) c)

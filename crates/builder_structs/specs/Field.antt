@@ -1,16 +1,14 @@
 -- A field's node and what follows it: its type's own references enter, and it is aligned.
-use Rattle.std.specs.Prelude.{ℕ, List, ◌++◌}
+use Rattle.std.specs.Prelude.{ℕ, List, Result, Ok}
 use Rattle.std.proofs.Math.Option.{some, none}
+use Rattle.errors.specs.declared.Reason.{Reason}
 use Rattle.blocks.specs.Name.{Name}
-use Rattle.blocks.specs.Tree.{num}
-use Rattle.blocks.specs.Write.{write}
 use Rattle.resolved.specs.Resolved.{Head, ResolvedType, ResolvedTypeKind, target_of}
 use Rattle.ir.specs.Ir.{IrNode}
 use Rattle.builder.specs.Registry.{Registry, Build, ◌>>=◌, give, extend_with}
 use Rattle.builder.specs.Nodes.{align_node, payload_paths, sum_refs, build_typeref_node, build_variable}
-use Rattle.wire.specs.Poke.{Wrote}
 use Rattle.builder_nodes.specs.declared.Built.{Built}
-use Rattle.builder_nodes.specs.Built.{Builds, node_start}
+use Rattle.builder_nodes.specs.Built.{Builds}
 
 -- a node, then the references of its type
 unfoldable pub with_own : Head → Build IrNode → Build IrNode
@@ -39,13 +37,6 @@ payload_of n h paths = with_align h.alignment (sum_refs n (payload_paths paths))
 
 -- Of whatever node was built, r is that node with the references of its type: the entries were in the words ws, and are
 -- in us.
-abbrev pub EntersOwn : (s ws : List ℕ) (node : Built) (h : Head) (us : List ℕ) (r : Built) → Type 0
+abbrev pub EntersOwn : (s ws : List ℕ) (node : Built) (h : Head) (us : List ℕ) (r : Result Built Reason) → Type 0
 EntersOwn s ws node h us r =
-    (xs ys : List ℕ) (at : ℕ) (m : Build IrNode) (g : Registry) → Builds s xs at ws ys node (m g) → Builds s xs at us ys r (with_own h m g)
-
--- Of whatever node was built behind the beginning of an AlignUp node at `at`, r is the AlignUp node: the output was ys, and
--- is zs.
-abbrev pub ClosesAligned : (ys : List ℕ) (at : ℕ) (node : Built) (zs : List ℕ) (r : Built) → Type 0
-ClosesAligned ys at node zs r =
-    (s us xs x₁ : List ℕ) (p a : ℕ) (m : Build IrNode) (g : Registry) → Wrote xs at (node_start 131 a ++ write (num 8 a)) x₁ p →
-    Builds s x₁ p us ys node (m g) → Builds s xs at us zs r (with_align a m g)
+    (xs ys : List ℕ) (at : ℕ) (m : Build IrNode) (g : Registry) → Builds s xs at ws ys (Ok node) (m g) → Builds s xs at us ys r (with_own h m g)

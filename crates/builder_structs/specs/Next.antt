@@ -1,5 +1,6 @@
 -- The nodes of a struct one by one: each field makes one, or two where there is padding before it.
-use Rattle.std.specs.Prelude.{ℕ, suc, ◌+◌, ◌-◌, ◌^◌, Bool, true, false, ◌&&◌, not, cond, List, [], ◌∷◌, ltb}
+use Rattle.std.specs.Prelude as std
+use Rattle.std.specs.Prelude.{ℕ, suc, ◌+◌, ◌-◌, ◌^◌, Bool, true, false, ◌&&◌, not, cond, List, [], ◌∷◌, ltb, Some, None}
 use Rattle.std.proofs.Math.Option.{Option, some, none}
 use Rattle.errors.specs.Refusal.{Outcome, done, refused, plain, MissingDynamicRefs}
 use Rattle.errors.specs.Refusal.{◌>>=◌ as ◌and_then◌}
@@ -11,8 +12,6 @@ use Rattle.ir.specs.Ir.{IrNode}
 use Rattle.builder.specs.Registry.{Registry, need}
 use Rattle.builder.specs.Nodes.{const_or_zero, build_field}
 use Rattle.builder_registry.specs.Words.{entries_of}
-use Rattle.builder_structs.specs.declared.End.{End}
-use Rattle.builder_structs.specs.declared.End.TheVariants.{At, Over}
 use Rattle.builder_structs.specs.declared.Rest.{Rest}
 
 -- the fields of a list of blocks 33
@@ -35,9 +34,9 @@ prefix_end so_far (some o) (Size.Const v) = const_end (o + v)
 prefix_end so_far (some o) Size.Variable = some so_far
 
 -- the same as the code has it
-abbrev pub end_of : Option ℕ → End
-end_of none = Over
-end_of (some n) = At n
+abbrev pub end_of : Option ℕ → std.Option ℕ
+end_of none = None
+end_of (some n) = Some n
 
 -- the registry, the fields that are left, the end of the prefix, and whether the first field's padding is made
 pub record State : Type 0 where

@@ -1,6 +1,7 @@
 -- What building the fields of a struct stands on, and what it leaves.
-use Rattle.std.specs.Prelude.{ℕ, ◌+◌, ◌*◌, ◌^◌, ◌≤◌, ◌<◌, ◌≡◌, List}
+use Rattle.std.specs.Prelude.{ℕ, ◌+◌, ◌*◌, ◌^◌, ◌≤◌, ◌<◌, ◌≡◌, List, Result}
 use Rattle.errors.specs.Refusal.{Outcome, done}
+use Rattle.errors.specs.declared.Reason.{Reason}
 use Rattle.answers.specs.Answers.{Answers}
 use Rattle.blocks.specs.Bytes.{le2}
 use Rattle.blocks.specs.Tree.{Tree}
@@ -12,7 +13,6 @@ use Rattle.ir.specs.Layout.{node_tree}
 use Rattle.wire.specs.Poke.{Wrote}
 use Rattle.resolved_parts.specs.Types.{Named, PathsAt}
 use Rattle.builder_registry.specs.Words.{Standing, Indexed}
-use Rattle.builder_nodes.specs.declared.Built.{Built}
 use Rattle.builder_structs.specs.declared.Rest.{Rest}
 use Rattle.builder_structs.specs.declared.Run.{Run}
 use Rattle.builder_structs.specs.Next.{State, state_at}
@@ -24,19 +24,13 @@ pub record ReadyType (s ws : List ℕ) (n type at : ℕ) : Type 0 where
   pub type_at : Accepted s 1 7 type
   pub cursor : at + 100 < 2 ^ 56
 
--- whatever was built of a field: its entries, and the registry unless it was refused
-pub record ReadyBehind (s ws : List ℕ) (node : Built) : Type 0 where
-  pub entries : node.count ≤ 512
-  pub standing : node.number ≡ 0 → Standing s ws node.count
-
--- a type of kind k that stands in an AlignUp node: an enum, a size-discriminated union or a type reference
-pub record ReadyInner (s ws : List ℕ) (n type k at : ℕ) : Type 0 where
+-- a type that stands in an AlignUp node: an enum, a size-discriminated union or a type reference
+pub record ReadyInner (s ws : List ℕ) (n type at : ℕ) : Type 0 where
   pub standing : Standing s ws n
   pub set : (t : Tree) × (read_set s ≡ done t)
   pub type_at : Accepted s 1 7 type
-  pub kind_is : le2 s (type + 4) ≡ k
-  pub from_enum : 4 ≤ k
-  pub no_array : k ≡ 5 → ⊥
+  pub from_enum : 4 ≤ le2 s (type + 4)
+  pub no_array : le2 s (type + 4) ≡ 5 → ⊥
   pub cursor : at < 2 ^ 56
 
 -- a field's name and its type
@@ -90,10 +84,10 @@ pub record RanIn (s xs : List ℕ) (at : ℕ) (us ys : List ℕ) (r : Run) (y : 
   pub wrote : Wrote xs at (write (node_tree y.1)) ys r.at
 
 -- the next node and the state behind it, or the refusal
-abbrev pub Ran : (s xs : List ℕ) (at : ℕ) (us ys : List ℕ) (r : Run) → Outcome (State × IrNode) → Type 0
-Ran s xs at us ys r = Answers r.number (RanIn s xs at us ys r)
+abbrev pub Ran : (s xs : List ℕ) (at : ℕ) (us ys : List ℕ) → Result Run Reason → Outcome (State × IrNode) → Type 0
+Ran s xs at us ys = Answers (RanIn s xs at us ys)
 
--- whatever is built: the cursor, the registry's count, and accepted fields behind
+-- where something was built: the cursor, the registry's count, and accepted fields behind
 pub record Goes (s : List ℕ) (at room : ℕ) (r : Run) : Type 0 where
   pub low : at ≤ r.at
   pub high : r.at ≤ at + room

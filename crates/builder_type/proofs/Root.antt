@@ -1,13 +1,15 @@
 -- The root node of a type, by its kind.
+use Rattle.std.specs.Prelude.{Some, None, Result, Ok, Err}
 use mathlib.Core.Path.{◌≡◌, refl, sym, ◌∙◌, ap, subst}
-use mathlib.Core.Bool.{Bool, true, false, not}
 use mathlib.Core.List.{List}
 use mathlib.Core.Option.{Option, none}
 use Prim.Native.Nat.{ℕ, ◌+◌, ◌*◌, ◌^◌, ◌≤◌}
 use native.Mathlib.Omega.{arith}
 use lib.ListN.{length}
 use Rattle.errors.specs.Refusal.{done}
-use Rattle.answers.specs.Answers.{AnswersIn}
+use Rattle.errors.specs.declared.Reason.{Reason}
+use Rattle.errors.specs.declared.Reason.TheVariants as reason
+use Rattle.answers.proofs.Laws.{refuses, makes}
 use Rattle.blocks.specs.Bytes.{le2, le4}
 use Rattle.blocks.specs.Tree.{Tree}
 use Rattle.blocks.specs.Read.{read_set}
@@ -21,8 +23,8 @@ use Rattle.ir.specs.Layout.{node_tree}
 use Rattle.accepted.specs.Accepted.{Accepted, tree}
 use Rattle.resolved_parts.specs.declared.TypeHead.{TypeHead}
 use Rattle.resolved_parts.specs.Types.{HeadAt, sized}
-use Rattle.resolved_parts.proofs.Laws.{inside, long, kind_of_lem, primitive}
-use Rattle.resolved_parts.proofs.Each.{fields_at, sized_at, enum_at, array_at, target_at}
+use Rattle.resolved_parts.proofs.Laws.{inside, long, primitive}
+use Rattle.resolved_parts.proofs.Each.{array_at}
 use Rattle.wire.specs.Poke.{Wrote}
 use Rattle.builder.specs.Registry.{Registry, Build, give, refuse}
 use Rattle.builder.specs.Nodes.{unless_target, build_typeref_node, build_variable, build_variable_struct, node_from_resolved}
@@ -31,23 +33,12 @@ use Rattle.builder_registry.specs.Words.{Indexed, entries_of}
 use Rattle.builder_nodes.specs.declared.Built.{Built}
 use Rattle.builder_nodes.specs.Built.{Builds, Within}
 use Rattle.builder_nodes.proofs.Laws.{widened}
-use Rattle.builder_calls.specs.Ready.{Ready as CallReady}
-use Rattle.builder_switches.specs.Ready.{Ready as SwitchReady}
 use Rattle.builder_arrays.specs.Ready.{Ready as ArrayReady}
 use Rattle.builder_arrays.proofs.Steps.{not_target}
-use borrow.Author.Tests.{not-true, not-false}
+use Rattle.builder_structs.proofs.Field.{a_struct, a_union, an_enum, a_sized, a_target}
 use Rattle.builder_type.specs.Built.{Ready}
 
 -- ---- what each builder stands on
-
-module _ {s ws : List ℕ} {n k kind at : ℕ} (a : Ready s ws n kind at) (e : k ≡ le2 s (kind + 4)) {u : ℕ} (f : k ≡ u) where
-  -- what a call, or a struct, stands on
-  pub call_ready : CallReady s ws n u kind at
-  call_ready = record { standing = a.standing; set = a.set; type_at = a.type_at; kind_is = sym e ∙ f; cursor = omega (arith, a.cursor) }
-
-  -- what a switch stands on
-  pub switch_ready : SwitchReady s ws n u kind at
-  switch_ready = record { standing = a.standing; type_at = a.type_at; kind_is = sym e ∙ f; cursor = omega (arith, a.cursor) }
 
 -- a type is at most as long as the set
 pub short_type : {s : List ℕ} {kind : ℕ} → Accepted s 1 7 kind → length s ≤ 65536 → kind + 6 ≤ length s × (le4 s kind ≤ 65536)
@@ -96,100 +87,83 @@ module _ (ts : List ResolvedType) (t : ResolvedType) where
 whole_type : (t : ResolvedType) → ResolvedType.resolved (head t) (kind_of t) ≡ t
 whole_type (ResolvedType.resolved h k) = refl
 
--- the kind that is left behind the others
-below : {k : ℕ} (m : ℕ) → k ≤ m + 1 → (k ≡ m + 1 → ⊥) → k ≤ m
-below m h n = omega arith
-
--- the first kind is left
-alone : {k : ℕ} → k ≤ 1 → 1 ≤ k → k ≡ 1
-alone h l = omega arith
-
--- a kind that the code does not name is that of a primitive type
-pub only_one : {s : List ℕ} {k kind : ℕ} → Accepted s 1 7 kind → k ≡ le2 s (kind + 4) → (k ≡ 7 → ⊥) → (k ≡ 2 → ⊥) → (k ≡ 3 → ⊥) → (k ≡ 4 → ⊥) → (k ≡ 5 → ⊥) → (k ≡ 6 → ⊥) → k ≡ 1
-only_one {k} a e n7 n2 n3 n4 n5 n6 =
-    let o : (1 ≤ k) × (k ≤ 7) = rw e (kind_of_lem a) in
-    alone (below 1 (below 2 (below 3 (below 4 (below 5 (below 6 o.1 n7) n6) n5) n4) n3) n2) o.0
-
 -- ---- what the code has built
 
 -- the answers of node_from_resolved
-abbrev pub Root : (s : List ℕ) (kind : ℕ) (xs : List ℕ) (at : ℕ) (us ys : List ℕ) (r : Built) (g : Registry) → Type 0
+abbrev pub Root : (s : List ℕ) (kind : ℕ) (xs : List ℕ) (at : ℕ) (us ys : List ℕ) (r : Result Built Reason) (g : Registry) → Type 0
 Root s kind xs at us ys r g = (t : Tree) (a : Accepted s 1 7 kind) → read_set s ≡ done t → Builds s xs at us ys r (node_from_resolved (types_of t) (type_of (tree a)) g)
 
-module _ {s : List ℕ} {k kind : ℕ} {xs : List ℕ} {at : ℕ} {us ys : List ℕ} {r : Built} (g : Registry) (e : k ≡ le2 s (kind + 4)) where
+module _ {s : List ℕ} {k kind : ℕ} {xs : List ℕ} {at : ℕ} {us ys : List ℕ} (g : Registry) (e : k ≡ le2 s (kind + 4)) where
   -- a type reference
-  pub call_built : k ≡ 7 →
+  pub call_built : {r : Result Built Reason} → k ≡ 7 →
       ((t : Tree) (a : Accepted s 1 7 kind) (target : Name) → read_set s ≡ done t → kind_of (type_of (tree a)) ≡ ResolvedTypeKind.TypeRef target →
       Builds s xs at us ys r (build_typeref_node (types_of t) (head (type_of (tree a))) target g)) → Root s kind xs at us ys r g
-  call_built f b t a d =
-      let i = (target_at refl (sym e ∙ f) a).is in
+  call_built {r} f b t a d =
+      let i = (a_target (sym e ∙ f) a).1 in
       subst (Builds s xs at us ys r) (sym (ap (λ (m : Build IrNode). m g) (call_root (types_of t) (type_of (tree a)) i))) (b t a _ d i)
 
   module _ {h : TypeHead} (w : (a : Accepted s 1 7 kind) → HeadAt a h) where
     -- of variable size: what is built for the kind is the root
-    variable_built : (t : Tree) (a : Accepted s 1 7 kind) {q : ResolvedTypeKind} → not h.variable ≡ false → kind_of (type_of (tree a)) ≡ q → target_of q ≡ none →
+    variable_built : {r : Result Built Reason} (t : Tree) (a : Accepted s 1 7 kind) {q : ResolvedTypeKind} → h.size ≡ None → kind_of (type_of (tree a)) ≡ q → target_of q ≡ none →
         Builds s xs at us ys r (build_variable (types_of t) (head (type_of (tree a))) q g) → Builds s xs at us ys r (node_from_resolved (types_of t) (type_of (tree a)) g)
-    variable_built t a v i n b =
-        let z : (head (type_of (tree a))).size ≡ Size.Variable = (w a).size ∙ ap (λ (b : Bool). sized b h.size) (not-false h.variable v) in
+    variable_built {r} t a v i n b =
+        let z : (head (type_of (tree a))).size ≡ Size.Variable = (w a).size ∙ ap sized v in
         subst (Builds s xs at us ys r) (sym (ap (λ (m : Build IrNode). m g) (variable_root (types_of t) (type_of (tree a)) i n z))) b
 
-    module _ (v : not h.variable ≡ false) where
+    module _ (v : h.size ≡ None) where
       -- a struct of variable size
-      pub struct_built : k ≡ 2 →
+      pub struct_built : {r : Result Built Reason} → k ≡ 2 →
           ((t : Tree) (a : Accepted s 1 7 kind) (fs : Fields) → read_set s ≡ done t → kind_of (type_of (tree a)) ≡ ResolvedTypeKind.Struct fs →
           Builds s xs at us ys r (build_variable_struct (types_of t) (head (type_of (tree a))) fs g)) → Root s kind xs at us ys r g
       unfolding build_variable
       struct_built f b t a d =
-          let u : le2 s (kind + 4) ≡ 2 = sym e ∙ f in
-          let i = (fields_at refl refl (omega arith) (omega arith) a).struct u in
+          let i = (a_struct (sym e ∙ f) a).1 in
           variable_built t a v i refl (b t a _ d i)
 
       -- a union of variable size
-      pub union_built : k ≡ 3 →
+      pub union_built : {r : Result Built Reason} → k ≡ 3 →
           ((a : Accepted s 1 7 kind) (fs : Fields) → kind_of (type_of (tree a)) ≡ ResolvedTypeKind.Union fs →
           Builds s xs at us ys r (build_union_node (head (type_of (tree a))) fs g)) → Root s kind xs at us ys r g
       unfolding build_variable
       union_built f b t a d =
-          let u : le2 s (kind + 4) ≡ 3 = sym e ∙ f in
-          let i = (fields_at refl refl (omega arith) (omega arith) a).union u in
+          let i = (a_union (sym e ∙ f) a).1 in
           variable_built t a v i refl (b a _ i)
 
       -- an enum of variable size
-      pub enum_built : k ≡ 4 →
+      pub enum_built : {r : Result Built Reason} → k ≡ 4 →
           ((a : Accepted s 1 7 kind) (x : ExprKind) (vs : Variants) → kind_of (type_of (tree a)) ≡ ResolvedTypeKind.Enum x vs →
           Builds s xs at us ys r (build_enum_node (head (type_of (tree a))) x vs g)) → Root s kind xs at us ys r g
       unfolding build_variable
       enum_built f b t a d =
-          let i = (enum_at (sym e ∙ f) refl refl refl a).is in
+          let i = (an_enum (sym e ∙ f) a).2 in
           variable_built t a v i refl (b a _ _ i)
 
       -- an array of variable size
-      pub array_built : k ≡ 5 → ((a : Accepted s 1 7 kind) → Builds s xs at us ys r (build_array_node (type_of (tree a)) g)) → Root s kind xs at us ys r g
+      pub array_built : {r : Result Built Reason} → k ≡ 5 → ((a : Accepted s 1 7 kind) → Builds s xs at us ys r (build_array_node (type_of (tree a)) g)) → Root s kind xs at us ys r g
       unfolding build_variable
-      array_built f b t a d =
+      array_built {r} f b t a d =
           let i = (array_at (sym e ∙ f) refl refl refl a).is in
           let j = ap (ResolvedType.resolved (head (type_of (tree a)))) (sym i) ∙ whole_type (type_of (tree a)) in
           variable_built t a v i refl (subst (λ (z : ResolvedType). Builds s xs at us ys r (build_array_node z g)) (sym j) (b a))
 
       -- a size-discriminated union of variable size
-      pub sized_built : k ≡ 6 →
+      pub sized_built : {r : Result Built Reason} → k ≡ 6 →
           ((a : Accepted s 1 7 kind) (vs : Variants) → kind_of (type_of (tree a)) ≡ ResolvedTypeKind.SizeDiscriminatedUnion vs →
           Builds s xs at us ys r (build_size_discriminated_union_node (head (type_of (tree a))) vs g)) → Root s kind xs at us ys r g
       unfolding build_variable
       sized_built f b t a d =
-          let i = (sized_at refl refl (sym e ∙ f) a).is in
+          let i = (a_sized (sym e ∙ f) a).1 in
           variable_built t a v i refl (b a _ i)
 
       -- a primitive type of variable size
-      pub primitive_built : k ≡ 1 → r.number ≡ 10 → Root s kind xs at us ys r g
+      pub primitive_built : k ≡ 1 → Root s kind xs at us ys (Err reason.UnsupportedSize) g
       unfolding build_variable refuse
-      primitive_built f n t a d = variable_built t a v (primitive a (sym e ∙ f)) refl (AnswersIn.not 10 n (omega arith))
+      primitive_built f t a d = variable_built t a v (primitive a (sym e ∙ f)) refl (refuses refl)
 
     -- of constant size, and no type reference
-    pub const_built : not h.variable ≡ true → (k ≡ 7 → ⊥) → r.number ≡ 0 → entries_of s us r.count ≡ g → Indexed s us r.count →
-        Wrote xs at (write (node_tree (IrNode.Const unplaced (aligned h.alignment) h.size))) ys r.at → Root s kind xs at us ys r g
-    const_built v f n c x o t a d =
-        let z : (head (type_of (tree a))).size ≡ Size.Const h.size = (w a).size ∙ ap (λ (b : Bool). sized b h.size) (not-true h.variable v) in
-        let i = const_root (types_of t) (type_of (tree a)) g (not_target a (λ u. f (e ∙ u))) z in
-        subst (Builds s xs at us ys r) (sym (i ∙ ap (λ (l : ℕ). done (IrNode.Const unplaced (aligned l) h.size, g)) (w a).alignment))
-        (AnswersIn.made _ n (record { entries = c; index = x; wrote = o }))
+    pub const_built : {n v u : ℕ} → h.size ≡ Some v → (k ≡ 7 → ⊥) → entries_of s us n ≡ g → Indexed s us n →
+        Wrote xs at (write (node_tree (IrNode.Const unplaced (aligned h.alignment) v))) ys u → Root s kind xs at us ys (Ok (record { at = u; count = n })) g
+    const_built {v} c f x i o t a d =
+        let z : (head (type_of (tree a))).size ≡ Size.Const v = (w a).size ∙ ap sized c in
+        makes _ (const_root (types_of t) (type_of (tree a)) g (not_target a (λ q. f (e ∙ q))) z ∙ ap (λ (l : ℕ). done (IrNode.Const unplaced (aligned l) v, g)) (w a).alignment)
+        (record { entries = x; index = i; wrote = o })

@@ -1,12 +1,14 @@
 -- The type tree of a type: its references enter the registry, then its root is built, then its parameters are listed.
+use Rattle.std.specs.Prelude.{Result, Ok, Err}
 use mathlib.Core.Path.{◌≡◌, refl, sym, ◌∙◌, subst}
 use mathlib.Core.List.{List, []}
 use Prim.Native.Nat.{ℕ, ◌+◌, ◌-◌, ◌^◌, ◌≤◌, ◌<◌}
 use lib.ListN.{length}
-use Rattle.errors.specs.Refusal.{Outcome, done}
+use Rattle.errors.specs.Refusal.{done}
 use Rattle.errors.specs.Refusal.{◌>>=◌ as ◌then◌}
+use Rattle.errors.specs.declared.Reason.{Reason}
 use Rattle.answers.specs.Answers.{Answers, AnswersIn}
-use Rattle.answers.proofs.Laws.{makes}
+use Rattle.answers.proofs.Laws.{makes, passes, goes}
 use Rattle.blocks.specs.Bytes.{bytes}
 use Rattle.blocks.specs.Tree.{Tree, name, num, nil, cons}
 use Rattle.blocks.specs.Read.{read_set}
@@ -25,13 +27,11 @@ use Rattle.builder.specs.Nodes.{node_from_resolved}
 use Rattle.builder.specs.BuildType.{filter_jagged_element_parameters, build_type_ir}
 use Rattle.builder.specs.Build.{build_type}
 use Rattle.builder.proofs.Steps.{reads_then}
-use Rattle.builder_registry.specs.declared.Held.{Held}
 use Rattle.builder_registry.specs.Words.{Standing, Indexed, KeptIn, Kept, entries_of}
 use Rattle.builder_nodes.specs.declared.Built.{Built}
 use Rattle.builder_nodes.specs.Built.{Builds}
 use Rattle.builder_nodes.proofs.Laws.{step_passes, step_goes}
 use Rattle.builder_parameters.specs.Ready.{Ready as ListReady}
-use Rattle.builder_type.specs.declared.TypeTree.{TypeTree}
 use Rattle.builder_type.specs.Built.{Ready, ReadyWords, TypeIn, BuildsType}
 use Rattle.builder_type.proofs.Root.{Root}
 
@@ -42,14 +42,11 @@ abbrev tree_of : ResolvedType → IrNode → List IrParameter → TypeIr
 tree_of t root ps = record { type_name = (head t).name; alignment = (head t).alignment; root = root; parameters = filter_jagged_element_parameters t ps }
 
 -- what is answered from an empty registry, without the registry behind it
-from_empty : {xs ys : List ℕ} {at : ℕ} {r : TypeTree} (ts : List ResolvedType) (t : ResolvedType) →
-    Answers r.number (λ (x : TypeIr × Registry). TypeIn xs at ys r x.0) (build_type_ir ts t []) → BuildsType xs at ys r (build_type ts t)
+from_empty : {xs ys : List ℕ} {at : ℕ} {r : Result ℕ Reason} (ts : List ResolvedType) (t : ResolvedType) →
+    Answers (λ (end : ℕ) (x : TypeIr × Registry). TypeIn xs at ys end x.0) r (build_type_ir ts t []) → BuildsType xs at ys r (build_type ts t)
 unfolding build_type ◌then◌
-from_empty {xs} {ys} {at} {r} ts t a = go a
-  where
-    go : {o : Outcome (TypeIr × Registry)} → Answers r.number (λ (x : TypeIr × Registry). TypeIn xs at ys r x.0) o → BuildsType xs at ys r (◌then◌ o (λ x. done x.0))
-    go (AnswersIn.made x e m) = AnswersIn.made x.0 e m
-    go (AnswersIn.not k e l) = AnswersIn.not k e l
+from_empty {r = Ok end} ts t a = goes (λ x. done x.0) a (λ x m. AnswersIn.made x.0 m)
+from_empty {r = Err e} ts t a = passes (λ x. done x.0) a
 
 -- an empty registry has no entries, whatever the words are
 none_held : (s ws : List ℕ) → entries_of s ws 0 ≡ []
@@ -72,59 +69,60 @@ joined {ys₃} {end} x o n a r l c =
     (both o (parts (name x.type_name) a' n (parts (num 8 x.alignment) r' a (parts (node_tree x.root) l' r (parts (list_tree parameter_tree x.parameters) nil l (no_parts ys₃ end)))))) c
 
 -- what `build_type` leaves
-abbrev TreeBuilt : (s : List ℕ) (kind : ℕ) (xs : List ℕ) (at : ℕ) (ys : List ℕ) (r : TypeTree) → Type 0
+abbrev TreeBuilt : (s : List ℕ) (kind : ℕ) (xs : List ℕ) (at : ℕ) (ys : List ℕ) (r : Result ℕ Reason) → Type 0
 TreeBuilt s kind xs at ys r = (t : Tree) (a : Accepted s 1 7 kind) → read_set s ≡ done t → BuildsType xs at ys r (build_type (types_of t) (type_of (tree a)))
 
--- the references of the type
-owned : {s us : List ℕ} (ws : List ℕ) {kind : ℕ} {h : TypeHead} {held : Held} (a : Accepted s 1 7 kind) → HeadAt a h →
-    ((b : Accepted s 32 32 h.references) → Kept s us held (extend_with (owners_of (tree b)) (entries_of s ws 0))) →
-    Kept s us held (extend_with (head (type_of (tree a))).dynamic_params [])
-owned {s} {us} ws {held} a o k =
-    subst (λ (g : Registry). Kept s us held (extend_with (head (type_of (tree a))).dynamic_params g)) (none_held s ws)
-    (subst (λ (l : List Owner). Kept s us held (extend_with l (entries_of s ws 0))) (sym o.owners) (k o.references))
+-- what the references of a type leave of an empty registry
+abbrev Entered : (s ws us : List ℕ) (references : ℕ) (r : Result ℕ Reason) → Type 0
+Entered s ws us references r = (b : Accepted s 32 32 references) → Kept s us r (extend_with (owners_of (tree b)) (entries_of s ws 0))
+
+-- the same by the type
+owned : {s us : List ℕ} (ws : List ℕ) {kind : ℕ} {h : TypeHead} {r : Result ℕ Reason} (a : Accepted s 1 7 kind) → HeadAt a h → Entered s ws us h.references r →
+    Kept s us r (extend_with (head (type_of (tree a))).dynamic_params [])
+owned {s} {us} ws {r} a o k =
+    subst (λ (g : Registry). Kept s us r (extend_with (head (type_of (tree a))).dynamic_params g)) (none_held s ws)
+    (subst (λ (l : List Owner). Kept s us r (extend_with l (entries_of s ws 0))) (sym o.owners) (k o.references))
 
 -- the root, from the registry that the references leave
-root_from : {s us vs ys₁ ys₂ : List ℕ} {kind p : ℕ} {held : Held} {root : Built} → Root s kind ys₁ p vs ys₂ root (entries_of s us held.count) →
-    (t : Tree) (a : Accepted s 1 7 kind) → read_set s ≡ done t → (x : Unit {0} × Registry) → KeptIn s us held x →
+root_from : {s us vs ys₁ ys₂ : List ℕ} {kind p n : ℕ} {root : Result Built Reason} → Root s kind ys₁ p vs ys₂ root (entries_of s us n) →
+    (t : Tree) (a : Accepted s 1 7 kind) → read_set s ≡ done t → (x : Unit {0} × Registry) → KeptIn s us n x →
     Builds s ys₁ p vs ys₂ root (node_from_resolved (types_of t) (type_of (tree a)) x.1)
 root_from {s} {vs} {ys₁} {ys₂} {p} {root} b t a d x m =
     subst (λ (g : Registry). Builds s ys₁ p vs ys₂ root (node_from_resolved (types_of t) (type_of (tree a)) g)) m.entries (b t a d)
 
-module _ {s xs ys : List ℕ} {kind at : ℕ} {r : TypeTree} where
-  module _ {h : TypeHead} (w : (a : Accepted s 1 7 kind) → HeadAt a h) {us : List ℕ} (ws : List ℕ) {held : Held}
-      (k : (b : Accepted s 32 32 h.references) → Kept s us held (extend_with (owners_of (tree b)) (entries_of s ws 0))) where
-    -- the references were refused, as the code leaves it
-    pub not_entered : (held.number ≡ 0 → ⊥) → r.number ≡ held.number → TreeBuilt s kind xs at ys r
+module _ {s xs us ys : List ℕ} {kind at : ℕ} {h : TypeHead} (w : (a : Accepted s 1 7 kind) → HeadAt a h) (ws : List ℕ) where
+  -- the references were refused
+  pub not_entered : {e : Reason} → Entered s ws us h.references (Err e) → TreeBuilt s kind xs at ys (Err e)
+  unfolding build_type_ir
+  not_entered k t a d = from_empty (types_of t) (type_of (tree a)) (step_passes (extend_with (head (type_of (tree a))).dynamic_params) _ [] (owned ws a (w a) k))
+
+  module _ {held : ℕ} (k : Entered s ws us h.references (Ok held)) {vs ys₁ ys₂ : List ℕ} {p : ℕ} where
+    -- the root was refused
+    pub no_root : {e : Reason} → Root s kind ys₁ p vs ys₂ (Err e) (entries_of s us held) → TreeBuilt s kind xs at ys (Err e)
     unfolding build_type_ir
-    not_entered z e t a d = from_empty (types_of t) (type_of (tree a)) (step_passes (extend_with (head (type_of (tree a))).dynamic_params) _ [] e z (owned ws a (w a) k))
+    no_root b t a d =
+        from_empty (types_of t) (type_of (tree a))
+        (step_goes (extend_with (head (type_of (tree a))).dynamic_params) _ [] (owned ws a (w a) k) (λ x m.
+        step_passes (node_from_resolved (types_of t) (type_of (tree a))) _ x.1 (root_from b t a d x m)))
 
-    module _ (z : held.number ≡ 0) {vs ys₁ ys₂ : List ℕ} {p : ℕ} {root : Built} (b : Root s kind ys₁ p vs ys₂ root (entries_of s us held.count)) where
-      -- the root was refused, as the code leaves it
-      pub no_root : (root.number ≡ 0 → ⊥) → r.number ≡ root.number → TreeBuilt s kind xs at ys r
-      unfolding build_type_ir
-      no_root f e t a d =
-          from_empty (types_of t) (type_of (tree a))
-          (step_goes (extend_with (head (type_of (tree a))).dynamic_params) _ [] z (owned ws a (w a) k) (λ x m.
-          step_passes (node_from_resolved (types_of t) (type_of (tree a))) _ x.1 e f (root_from b t a d x m)))
-
-      -- the type's tree was written
-      pub tree_built : {x₁ x₂ ys₃ n : List ℕ} {p₁ p₂ end q : ℕ} → root.number ≡ 0 → r.number ≡ 0 → r.at ≡ end → n ≡ name_at s (kind + 6) →
-          Wrote xs at (opened 161) x₁ p₁ → Wrote x₁ p₁ (write (name n)) x₂ p₂ → Wrote x₂ p₂ (bytes 8 h.alignment) ys₁ p →
-          ((a : Accepted s 1 7 kind) →
-          Wrote ys₂ root.at (write (list_tree parameter_tree (filter_jagged_element_parameters (type_of (tree a)) (into_parameters (entries_of s vs root.count))))) ys₃ end) →
-          Wrote ys₃ at (bytes 4 (end - at - 4)) ys q → TreeBuilt s kind xs at ys r
-      unfolding build_type_ir give
-      tree_built {x₁} {x₂} {ys₃} {n} {p₁} {p₂} {end} rz rn re en o nm al ps c t a d =
-          let T : ResolvedType = type_of (tree a) in
-          let nm' = subst (λ (l : List ℕ). Wrote x₁ p₁ (write (name l)) x₂ p₂) (en ∙ sym (w a).name) nm in
-          let al' = subst (λ (v : ℕ). Wrote x₂ p₂ (bytes 8 v) ys₁ p) (sym (w a).alignment) al in
-          let listed : Registry → Type 0 = λ (g : Registry). Wrote ys₂ root.at (write (list_tree parameter_tree (filter_jagged_element_parameters T (into_parameters g)))) ys₃ end in
-          from_empty (types_of t) T
-          (step_goes (extend_with (head T).dynamic_params) _ [] z (owned ws a (w a) k) (λ x m.
-          step_goes (node_from_resolved (types_of t) T) _ x.1 rz (root_from b t a d x m) (λ y i.
-          let made : TypeIr = tree_of T y.0 (into_parameters y.1) in
-          makes (made, y.1) rn (reads_then into_parameters _ y.1)
-          (record { wrote = subst (Wrote xs at (write (type_ir_tree made)) ys) (sym re) (joined made o nm' al' i.wrote (subst listed i.entries (ps a)) c) }))))
+    -- the type's tree was written
+    pub tree_built : {root : Built} {x₁ x₂ ys₃ n : List ℕ} {p₁ p₂ end q : ℕ} → Root s kind ys₁ p vs ys₂ (Ok root) (entries_of s us held) → n ≡ name_at s (kind + 6) →
+        Wrote xs at (opened 161) x₁ p₁ → Wrote x₁ p₁ (write (name n)) x₂ p₂ → Wrote x₂ p₂ (bytes 8 h.alignment) ys₁ p →
+        ((a : Accepted s 1 7 kind) →
+        Wrote ys₂ root.at (write (list_tree parameter_tree (filter_jagged_element_parameters (type_of (tree a)) (into_parameters (entries_of s vs root.count))))) ys₃ end) →
+        Wrote ys₃ at (bytes 4 (end - at - 4)) ys q → TreeBuilt s kind xs at ys (Ok end)
+    unfolding build_type_ir give
+    tree_built {root} {x₁} {x₂} {ys₃} {n} {p₁} {p₂} {end} b en o nm al ps c t a d =
+        let T : ResolvedType = type_of (tree a) in
+        let nm' = subst (λ (l : List ℕ). Wrote x₁ p₁ (write (name l)) x₂ p₂) (en ∙ sym (w a).name) nm in
+        let al' = subst (λ (v : ℕ). Wrote x₂ p₂ (bytes 8 v) ys₁ p) (sym (w a).alignment) al in
+        let listed : Registry → Type 0 = λ (g : Registry). Wrote ys₂ root.at (write (list_tree parameter_tree (filter_jagged_element_parameters T (into_parameters g)))) ys₃ end in
+        from_empty (types_of t) T
+        (step_goes (extend_with (head T).dynamic_params) _ [] (owned ws a (w a) k) (λ x m.
+        step_goes (node_from_resolved (types_of t) T) _ x.1 (root_from b t a d x m) (λ y i.
+        let made : TypeIr = tree_of T y.0 (into_parameters y.1) in
+        makes (made, y.1) (reads_then into_parameters _ y.1)
+        (record { wrote = joined made o nm' al' i.wrote (subst listed i.entries (ps a)) c }))))
 
 -- ---- what the calls stand on
 

@@ -1,6 +1,7 @@
 -- What building a type stands on, and what it leaves.
-use Rattle.std.specs.Prelude.{ℕ, ◌^◌, ◌≤◌, ◌<◌, ◌≡◌, List, length}
+use Rattle.std.specs.Prelude.{ℕ, ◌^◌, ◌≤◌, ◌<◌, ◌≡◌, List, length, Result}
 use Rattle.errors.specs.Refusal.{Outcome, done}
+use Rattle.errors.specs.declared.Reason.{Reason}
 use Rattle.answers.specs.Answers.{Answers}
 use Rattle.blocks.specs.Tree.{Tree}
 use Rattle.blocks.specs.Write.{write}
@@ -10,7 +11,6 @@ use Rattle.ir.specs.Ir.{TypeIr}
 use Rattle.ir.specs.Layout.{type_ir_tree}
 use Rattle.wire.specs.Poke.{Wrote}
 use Rattle.builder_registry.specs.Words.{Standing}
-use Rattle.builder_type.specs.declared.TypeTree.{TypeTree}
 
 -- the registry, an accepted set, a type in it, and a cursor
 pub record Ready (s ws : List ℕ) (n type at : ℕ) : Type 0 where
@@ -28,9 +28,9 @@ pub record ReadyWords (s ws : List ℕ) (type at : ℕ) : Type 0 where
   pub cursor : at < 2 ^ 55
 
 -- a type tree that was made: its bytes in the output ys, up to the next cursor
-pub record TypeIn (xs : List ℕ) (at : ℕ) (ys : List ℕ) (r : TypeTree) (x : TypeIr) : Type 0 where
-  pub wrote : Wrote xs at (write (type_ir_tree x)) ys r.at
+pub record TypeIn (xs : List ℕ) (at : ℕ) (ys : List ℕ) (end : ℕ) (x : TypeIr) : Type 0 where
+  pub wrote : Wrote xs at (write (type_ir_tree x)) ys end
 
--- that, or the refusal, of which nothing is said but its number
-abbrev pub BuildsType : (xs : List ℕ) (at : ℕ) (ys : List ℕ) (r : TypeTree) → Outcome TypeIr → Type 0
-BuildsType xs at ys r = Answers r.number (TypeIn xs at ys r)
+-- that, or the refusal, of which nothing is said but its reason
+abbrev pub BuildsType : (xs : List ℕ) (at : ℕ) (ys : List ℕ) → Result ℕ Reason → Outcome TypeIr → Type 0
+BuildsType xs at ys = Answers (TypeIn xs at ys)

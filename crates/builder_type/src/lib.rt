@@ -1,7 +1,7 @@
 // builder.rs, `node_from_resolved` and `build_type`.
 #![tactic(auto)]
 
-ghost use Rattle.std.specs.Prelude.{◌≡◌, ◌+◌, ◌^◌, ◌≤◌};
+ghost use Rattle.std.specs.Prelude.{◌≡◌, ◌+◌, ◌^◌, ◌≤◌, IfOk};
 ghost use Rattle.errors.specs.Refusal.{done};
 ghost use Rattle.blocks.specs.Tree.{Tree};
 ghost use Rattle.blocks.specs.Read.{read_set};
@@ -14,15 +14,12 @@ ghost use Rattle.builder_nodes.specs.Built.{Builds, Within};
 ghost use Rattle.builder_type.specs.Built.{Ready, ReadyWords, BuildsType};
 
 use builder_nodes::Built;
+use errors::Reason;
 
-// The cursor behind a type tree, and the number of a refusal or 0.
-#[derive(Clone, Copy)]
-pub struct TypeTree {
-    pub at: usize,
-    pub number: u64,
-}
+// The kind of a type reference.
+const REFERENCE: usize = 7;
 
-// The root node of the type at `kind`.
+// The root node of the type at `kind`, by its kind, which stays the format's number: it is matched where it is read.
 fn node_from_resolved(
     s: &[u8],
     words: &mut [u64],
@@ -30,23 +27,19 @@ fn node_from_resolved(
     kind: usize,
     out: &mut [u8],
     at: usize,
-) -> Built
+) -> Result<Built, Reason>
     requires { Ready s.now words.old n kind at }
-    ensures within { Within at (2 ^ 41) result }
+    ensures within { IfOk result (Within at (2 ^ 41)) }
     ensures builds { (t : Tree) (a : Accepted s.now 1 7 kind) → read_set s.now ≡ done t → Builds s.now out.old at words.new out.new result (node_from_resolved (types_of t) (type_of (tree a)) (entries_of s.now words.old n)) }
 {
     let k = wire::read2(s, kind + 4);
-    if k == 7 {
+    if k == REFERENCE {
         return builder_calls::build_typeref_node(s, words, n, kind, out, at);
     }
     let head = resolved_parts::type_head(s, kind);
-    if !head.variable {
-        let end = builder_nodes::put_const(out, at, head.size, head.alignment);
-        return Built {
-            at: end,
-            count: n,
-            number: 0,
-        };
+    if let Some(size) = head.size {
+        let end = builder_nodes::put_const(out, at, size, head.alignment);
+        return Ok(Built { at: end, count: n });
     }
     match k {
         2 => builder_structs::build_variable_struct(s, words, n, kind, out, at),
@@ -54,47 +47,33 @@ fn node_from_resolved(
         4 => builder_switches::build_enum_node(s, words, n, kind, out, at),
         5 => builder_arrays::build_array_node(s, words, n, kind, out, at),
         6 => builder_switches::build_size_discriminated_union_node(s, words, n, kind, out, at),
-        // a primitive type: 10
-        _ => Built {
-            at,
-            count: n,
-            number: 10,
-        },
+        // a primitive type
+        _ => Err(Reason::UnsupportedSize),
     }
 }
 
-// The type tree of the type at `kind`, from an empty registry, whatever the words hold before. Its root stands behind a name and a
-// number. A refusal leaves the cursor where it was. Nothing is said of the words after: the next type begins with an empty registry
-// again.
-pub fn build_type(s: &[u8], words: &mut [u64], kind: usize, out: &mut [u8], at: usize) -> TypeTree
+// The type tree of the type at `kind`, from an empty registry, whatever the words hold before: the cursor behind it. Its root stands
+// behind a name and a number. Nothing is said of the words after: the next type begins with an empty registry again.
+pub fn build_type(
+    s: &[u8],
+    words: &mut [u64],
+    kind: usize,
+    out: &mut [u8],
+    at: usize,
+) -> Result<usize, Reason>
     requires { ReadyWords s.now words.old kind (at + 512) }
-    ensures at_le_at { (at ≤ result.at) × (result.at ≤ at + 2 ^ 42) × ((result.number ≡ 0 → ⊥) → result.at ≡ at) }
+    ensures at_le_at { IfOk result (λ end. (at ≤ end) × (end ≤ at + 2 ^ 42)) }
     ensures builds_type { (t : Tree) (a : Accepted s.now 1 7 kind) → read_set s.now ≡ done t → BuildsType out.old at out.new result (build_type (types_of t) (type_of (tree a))) }
 {
     let head = resolved_parts::type_head(s, kind);
-    let references = head.references;
     builder_registry::begin(words);
-    let held = builder_registry::extend_with(s, words, 0, references);
-    let entered = held.count;
-    if held.number != 0 {
-        return TypeTree {
-            at,
-            number: held.number,
-        };
-    }
+    let entered = builder_registry::extend_with(s, words, 0, head.references)?;
     let name = resolved_parts::name_at(s, kind + 6);
     let body = wire::open_block(out, at, 161);
     let aligned = wire::put_name(out, body, name);
     let start = wire::put_le(out, aligned, 8, head.alignment);
-    let root = node_from_resolved(s, words, entered, kind, out, start);
-    if root.number != 0 {
-        return TypeTree {
-            at,
-            number: root.number,
-        };
-    }
-    let count = root.count;
-    let end = builder_parameters::put_parameters(s, words, count, kind, out, root.at);
+    let root = node_from_resolved(s, words, entered, kind, out, start)?;
+    let end = builder_parameters::put_parameters(s, words, root.count, kind, out, root.at);
     wire::close_block(out, at, end);
-    TypeTree { at: end, number: 0 }
+    Ok(end)
 }
