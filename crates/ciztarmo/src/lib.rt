@@ -12,6 +12,8 @@ ghost use Rattle.errors.specs.Refusal.{words_after};
 ghost use Rattle.interpreter.specs.Runs.{validate_runs, given};
 ghost use Rattle.errors.specs.Answer.{answer_words, all_answer_words, read, built};
 
+use errors::Words;
+
 // Whether a type set is read.
 #[unsafe(no_mangle)]
 pub extern "C" fn ciztarmo_read_set(words: &mut [u64], set: &[u8], answer: &mut [u64; 4])
@@ -64,7 +66,7 @@ pub extern "C" fn ciztarmo_build_set(
     ensures out_after { out.new ≡ output_after out.old (build_set (length words.old) (length out.old) set.now) }
     ensures words_after { words.new ≡ words_after words.old }
 {
-    let a = builder_set::build_set(set, out, words).answer();
+    let a = builder_set::build_set(set, out, words);
     *answer = a.words();
 }
 
@@ -74,7 +76,7 @@ pub extern "C" fn ciztarmo_layout_of(set: &[u8], out: &mut [u8], answer: &mut [u
     ensures answer_after { answer.new ≡ answer_words (built (build_set 8192 (length out.old) set.now)) }
     ensures out_after { out.new ≡ output_after out.old (build_set 8192 (length out.old) set.now) }
 {
-    let a = builder_set::layout_of(set, out).answer();
+    let a = builder_set::layout_of(set, out);
     *answer = a.words();
 }
 

@@ -22,14 +22,13 @@ use Rattle.interpreter.specs.Validate.{with_buffer_size, fits_buffer, validate_t
 use Rattle.wire.specs.Poke.{Wrote}
 use Rattle.wire.proofs.Laws.{both, none}
 use Rattle.value.specs.declared.Value.{Value}
-use Rattle.value.specs.Number.{number_of}
+use Rattle.value.specs.Number.{number_of as value_of}
 use Rattle.errors.specs.declared.Refusal.{Refusal}
-use Rattle.errors.specs.declared.Answer.{Answer}
-use Rattle.errors.specs.declared.Answer.TheVariants as answer
-use Rattle.errors.specs.Meaning.{refusal_of, outcome_of}
+use Rattle.std.specs.Prelude.{Result, Ok, Err}
+use Rattle.errors.specs.Meaning.{number_of, refusal_of, outcome_of}
 use Rattle.interpreter_validate.proofs.Laws.{run_at}
-use Rattle.reader_leaf.specs.declared.Read.TheVariants.{Ok}
-use Rattle.reader_calls.specs.Inputs.{read_call, passed, passed_of}
+use Rattle.reader_leaf.specs.Answer.{read_of}
+use Rattle.reader_calls.specs.Inputs.{read_call, passed}
 use Rattle.lengths_definition.specs.Lengths.{digits, decimal, nearest, fill, line, stopped, run_length, answer_lines}
 use Rattle.lengths_lines.specs.declared.Printed.TheVariants as printed
 use Rattle.lengths_lines.specs.Lines.{IsLayout, Answered, AcceptedRun}
@@ -161,8 +160,8 @@ length_is {s} a e f = f ∙ sym (length_of s a.read ∙ (run_at a.read e).long)
 -- ---- a layout that was read
 
 -- its questions are passed
-pub layout_passed : {s : List ℕ} → IsLayout s → passed_of (Ok 0) ≡ passed (read_call read_layout 8192 s)
-unfolding passed_of passed read_call enough small ask ◌>>=◌
+pub layout_passed : {s : List ℕ} → IsLayout s → read_of (Ok tt) ≡ passed (read_call read_layout 8192 s)
+unfolding passed read_call enough small ask ◌>>=◌
 layout_passed l = rw (le-leb _ _ l.small, l.read.1)
 
 -- ---- what an accepted run says
@@ -198,7 +197,7 @@ counted n s v c e =
         let r = bound (read_run v) _ _ f in
         (record { tree = r.0; read = r.1 }, rw (length_of v r.1) (counted_type (layout_of t) _ _ _ c r.2))
 
-module _ (n : ℕ) (s v : List ℕ) {a : Answer} {x : Value} {c : ℕ} (e : outcome_of a ≡ validate_run n s v) (f : a ≡ answer.Count x) (i : c ≡ number_of x) where
+module _ (n : ℕ) (s v : List ℕ) {a : Result Value Refusal} {x : Value} {c : ℕ} (e : outcome_of a ≡ validate_run n s v) (f : a ≡ Ok x) (i : c ≡ value_of x) where
   -- the run came to a count
   is_done : validate_run n s v ≡ done c
   is_done = sym e ∙ ap outcome_of f ∙ ap done (sym i)
@@ -217,19 +216,19 @@ module _ (n : ℕ) (s v : List ℕ) {a : Answer} {x : Value} {c : ℕ} (e : outc
   unfolding answer_lines
   answers_count run h g w = rw (is_done) (Answered.line w (λ more. rw (g, h)))
 
-module _ (n : ℕ) (s v : List ℕ) {a : Answer} {x : Refusal} (e : outcome_of a ≡ validate_run n s v) (f : a ≡ answer.Refused x) where
+module _ (n : ℕ) (s v : List ℕ) {a : Result Value Refusal} {x : Refusal} (e : outcome_of a ≡ validate_run n s v) (f : a ≡ Err x) where
   -- the run was refused
   is_refused : validate_run n s v ≡ refused (refusal_of x)
   is_refused = sym e ∙ ap outcome_of f
 
   -- a refusal of reading ends the output
-  pub answers_stop : (run : ℕ) {c r : ℕ} {xs ys : List ℕ} → x.number ≤ 6 → Wrote xs c (stopped (plain x.number)) ys r →
+  pub answers_stop : (run : ℕ) {c r : ℕ} {xs ys : List ℕ} → number_of x.reason ≤ 6 → Wrote xs c (stopped (plain (number_of x.reason))) ys r →
       Answered (answer_lines run (run_length v) (validate_run n s v)) xs c ys (printed.Last r)
   unfolding answer_lines stopped refusal_of
   answers_stop run h w = rw is_refused (Answered.last w (λ more. rw (le-leb _ _ h)))
 
   -- another is a line
-  pub answers_refused : (run : ℕ) {c r u : ℕ} {xs ys : List ℕ} → 6 < x.number → u ≡ number_of x.value → Wrote xs c (line run x.number u 0) ys r →
+  pub answers_refused : (run : ℕ) {c r u : ℕ} {xs ys : List ℕ} → 6 < number_of x.reason → u ≡ value_of x.value → Wrote xs c (line run (number_of x.reason) u 0) ys r →
       Answered (answer_lines run (run_length v) (validate_run n s v)) xs c ys (printed.Line r)
   unfolding answer_lines refusal_of
   answers_refused run h i w = rw is_refused (Answered.line w (λ more. rw (lt-leb _ _ h, i)))

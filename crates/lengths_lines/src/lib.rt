@@ -9,8 +9,8 @@ ghost use Rattle.wire.specs.Poke.{Wrote};
 ghost use Rattle.lengths_definition.specs.Lengths.{digits, decimal, nearest, fill, line, stopped, words, run_length, answer_lines};
 ghost use Rattle.lengths_lines.specs.Lines.{IsLayout, Answered, AcceptedRun, bytes_of};
 
-use errors::Answer;
-use reader_leaf::Read;
+// The last number of a refusal that ends the output: 1 to 6 are of an input.
+const LAST_OF_INPUT: u64 = 6;
 
 // What was printed for a run block, and the cursor behind it.
 #[derive(Clone, Copy)]
@@ -46,15 +46,13 @@ fn long_fill(count: u64, len: u64) -> u64
     let short = len - count;
     let mut whole: u64 = 0;
     let mut rest: u64 = 0;
-    let mut i: u64 = 0;
-    while i < 100 {
+    for _ in 0..100u64 {
         if rest < short {
             rest += count;
         } else {
             rest -= short;
             whole += 1;
         }
-        i += 1;
     }
     nearest(whole, rest, len)
 }
@@ -144,18 +142,19 @@ pub fn answer_at(run: u64, layout: &[u8], block: &[u8], out: &mut [u8], at: usiz
     ensures answered { Answered (answer_lines run (run_length block.now) (validate_run words layout.now block.now)) out.old at out.new result }
     ensures result_bound { bytes_of result ≤ at + 84 }
 {
-    match interpreter_runs::answer_alone(layout, Read::Ok(0), block) {
-        Answer::Count(count) => {
+    match interpreter_runs::answer_alone(layout, Ok(()), block) {
+        Ok(count) => {
             let n = count.low();
             let len = run_length(block);
             let part = fill(n, len);
             Printed::Line(put_line(out, at, run, 0, n, part))
         }
-        Answer::Refused(r) => {
-            if r.number <= 6 {
-                return Printed::Last(put_stopped(out, at, r.number));
+        Err(r) => {
+            let number = r.reason.number();
+            if number <= LAST_OF_INPUT {
+                return Printed::Last(put_stopped(out, at, number));
             }
-            Printed::Line(put_line(out, at, run, r.number, r.value.low(), 0))
+            Printed::Line(put_line(out, at, run, number, r.value.low(), 0))
         }
     }
 }

@@ -8,19 +8,22 @@ use borrow.Author.Tests.{le-leb, lt-leb}
 use lib.ListN.{length, take, drop, length-append, get_or-append}
 use lib.Seq.{take-append-le, drop-append-le}
 use Rattle.errors.specs.Refusal.{done, refused, ◌>>=◌, ask, plain}
+use Rattle.errors.specs.declared.Reason.{Reason}
+use Rattle.errors.specs.declared.Reason.TheVariants.{InputTooLong, Malformed}
+use Rattle.errors.specs.Meaning.{number_of}
 use Rattle.blocks.specs.Bytes.{le, le4}
 use Rattle.lengths_definition.specs.Lengths.{next_block}
 use Rattle.lengths_program.specs.declared.Next.TheVariants as next
 use Rattle.lengths_program.specs.Parts.{Finds}
 
 -- no more follows: what is refused alone is refused
-alone : (s : List ℕ) {last : Bool} {q : ℕ} → last ≡ true → next_block s ≡ refused (plain q) → Finds s last (next.Refused q)
+alone : (s : List ℕ) {last : Bool} {q : Reason} → last ≡ true → next_block s ≡ refused (plain (number_of q)) → Finds s last (next.Refused q)
 alone s {q = q} e h = Finds.stops {q = q} (λ rest ends. rw (ends e, append-nil s) h)
 
 -- there are too few bytes for a length field, and no more follow
-pub next_short : (s : List ℕ) {last : Bool} → last ≡ true → length s < 4 → Finds s last (next.Refused 2)
+pub next_short : (s : List ℕ) {last : Bool} → last ≡ true → length s < 4 → Finds s last (next.Refused Malformed)
 unfolding next_block ask ◌>>=◌
-next_short s e h = alone s e (rw (lt-leb _ _ h))
+next_short s e h = alone s {q = Malformed} e (rw (lt-leb _ _ h))
 
 -- more may follow
 pub next_part : (s : List ℕ) {last : Bool} → last ≡ false → length s < 65536 → Finds s last next.Part
@@ -59,13 +62,13 @@ module _ (s : List ℕ) (g : 4 ≤ length s) {n : ℕ} (en : n ≡ le4 s 0) wher
 
   module _ {last : Bool} where
     -- a block that is too long is refused at once
-    pub next_long : 65536 < 4 + n → Finds s last (next.Refused 1)
-    next_long h = Finds.stops (λ rest ends. long_is rest h)
+    pub next_long : 65536 < 4 + n → Finds s last (next.Refused InputTooLong)
+    next_long h = Finds.stops {q = InputTooLong} (λ rest ends. long_is rest h)
 
     -- a block that is there whole
     pub next_whole : 4 + n ≤ 65536 → 4 + n ≤ length s → Finds s last (next.Block (4 + n))
     next_whole f h = Finds.block {n = 4 + n} (omega arith) h (λ rest. whole_is rest f h)
 
     -- a block whose end does not follow
-    pub next_cut : last ≡ true → 4 + n ≤ 65536 → length s < 4 + n → Finds s last (next.Refused 2)
-    next_cut e f h = alone s e (cut_is f h)
+    pub next_cut : last ≡ true → 4 + n ≤ 65536 → length s < 4 + n → Finds s last (next.Refused Malformed)
+    next_cut e f h = alone s {q = Malformed} e (cut_is f h)

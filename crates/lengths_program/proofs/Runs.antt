@@ -10,6 +10,8 @@ use lib.Dec.{leb}
 use lib.ListN.{length, take, drop, length-append, length-drop, drop_of_length-le}
 use lib.Seq.{take_all, take_at, drop-drop, sets-eq, length-take-le}
 use Rattle.errors.specs.Refusal.{Outcome, done, refused, plain}
+use Rattle.errors.specs.declared.Reason.{Reason}
+use Rattle.errors.specs.Meaning.{number_of}
 use Rattle.errors.proofs.Laws.{done_one, asked}
 use Rattle.blocks.specs.Bytes.{le4}
 use Rattle.interpreter.specs.Validate.{validate_run}
@@ -123,7 +125,7 @@ found_block (Finds.stops f) e = let z : ◌≡◌ {A = ℕ} 0 1 = cc in absurd (
 found_block (Finds.part a b) e = let z : ◌≡◌ {A = ℕ} 0 1 = cc in absurd (omega arith)
 
 -- it is refused
-pub found_none : {s : List ℕ} {last : Bool} {r : Next} {q : ℕ} → Finds s last r → r ≡ next.Refused q → (rest : List ℕ) → Ends last rest → next_block (s ++ rest) ≡ refused (plain q)
+pub found_none : {s : List ℕ} {last : Bool} {r : Next} {q : Reason} → Finds s last r → r ≡ next.Refused q → (rest : List ℕ) → Ends last rest → next_block (s ++ rest) ≡ refused (plain (number_of q))
 found_none (Finds.block a b f) e = let z : ◌≡◌ {A = ℕ} 0 1 = cc in absurd (omega arith)
 found_none {q} (Finds.stops {q = m} f) e = let z : m ≡ q = cc in rw z at f
 found_none (Finds.part a b) e = let z : ◌≡◌ {A = ℕ} 0 1 = cc in absurd (omega arith)
@@ -207,7 +209,7 @@ module _ {first : ℕ} {layout s : List ℕ} {last : Bool} {out xs : List ℕ} {
     running_part e = let k = found_part here e in more_lines (Stops.input k.0 (omega (arith, k.1, length-drop i s)))
 
     -- it is refused
-    pub running_stop : {q p : ℕ} {ys : List ℕ} → h ≡ next.Refused q → Wrote xs at (stopped (plain q)) ys p → p ≤ at + 84 → 84 ≤ length xs - at →
+    pub running_stop : {q : Reason} {p : ℕ} {ys : List ℕ} → h ≡ next.Refused q → Wrote xs at (stopped (plain (number_of q))) ys p → p ≤ at + 84 → 84 ≤ length xs - at →
         Ran first layout s last ys (passed.Ended p)
     unfolding block_lines
     running_stop e w k m =

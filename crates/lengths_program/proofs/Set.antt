@@ -10,10 +10,10 @@ use lib.ListN.{length, take, drop, length-append}
 use lib.Seq.{take_at}
 use Rattle.errors.specs.Refusal.{Outcome, done, refused, answered, plain, enough}
 use Rattle.errors.specs.Answer.{built}
+use Rattle.std.specs.Prelude.{Result, Ok, Err}
+use Rattle.errors.specs.declared.Reason.{Reason}
 use Rattle.errors.specs.declared.Refusal as code
-use Rattle.errors.specs.declared.Length.{Length}
-use Rattle.errors.specs.declared.Length.TheVariants as answer
-use Rattle.errors.specs.Meaning.{refusal_of, length_of}
+use Rattle.errors.specs.Meaning.{number_of, refusal_of, length_of}
 use Rattle.errors.proofs.Laws.{done_one, not_done, asked, bound}
 use Rattle.blocks.specs.Read.{small, read_set, read_layout}
 use Rattle.blocks.specs.Write.{write}
@@ -63,7 +63,7 @@ layout_read n out set {bs} e =
     }
 
 -- it stands at the start of its buffer
-pub layout_stands : {m : ℕ} (xs : List ℕ) {ys : List ℕ} (o : Outcome (List ℕ)) → length_of (answer.Bytes m) ≡ built o → ys ≡ output_after xs o → (o ≡ done (take m ys)) × (m ≤ length ys)
+pub layout_stands : {m : ℕ} (xs : List ℕ) {ys : List ℕ} (o : Outcome (List ℕ)) → length_of (Ok m) ≡ built o → ys ≡ output_after xs o → (o ≡ done (take m ys)) × (m ≤ length ys)
 unfolding built output_after
 layout_stands {m} xs {ys} (done bs) e f =
     let l : length bs ≡ m = sym (done_one e) in
@@ -72,7 +72,7 @@ layout_stands {m} xs {ys} (done bs) e f =
 layout_stands xs (refused r) e f = absurd (not_done (sym e))
 
 -- there is none
-no_layout : (q : code.Refusal) (o : Outcome (List ℕ)) → length_of (answer.Refused q) ≡ built o → o ≡ refused (refusal_of q)
+no_layout : (q : code.Refusal) (o : Outcome (List ℕ)) → length_of (Err q) ≡ built o → o ≡ refused (refusal_of q)
 unfolding built
 no_layout q (done bs) d = absurd (not_done d)
 no_layout q (refused r) d =
@@ -99,7 +99,7 @@ module _ {s : List ℕ} {last : Bool} {h : Next} (found : Finds s last h) where
       }
 
   -- the block is refused
-  pub begins_none : {q w : ℕ} {xs ys layout : List ℕ} → h ≡ next.Refused q → Wrote xs 0 (stopped (plain q)) ys w → w ≤ 84 → 84 ≤ length xs →
+  pub begins_none : {q : Reason} {w : ℕ} {xs ys layout : List ℕ} → h ≡ next.Refused q → Wrote xs 0 (stopped (plain (number_of q))) ys w → w ≤ 84 → 84 ≤ length xs →
       Begins s last layout ys (begun.Ended w)
   unfolding lengths input_lines
   begins_none e g k m = stops_with g (omega arith) (λ rest ends. rw (found_none found e rest ends))
@@ -110,17 +110,17 @@ module _ {s : List ℕ} {last : Bool} {h : Next} (found : Finds s last h) where
     unfolding lengths input_lines
     lines_set rest = rw ((found_block found e).2 rest)
 
-    module _ {a : Length} (xs : List ℕ) {ys : List ℕ} (b : length_of a ≡ built (build_set 8192 (length xs) (take n s))) (long : length xs ≡ 65536) where
+    module _ {a : Result ℕ code.Refusal} (xs : List ℕ) {ys : List ℕ} (b : length_of a ≡ built (build_set 8192 (length xs) (take n s))) (long : length xs ≡ 65536) where
       -- the set is refused
-      pub begins_refused : {q : code.Refusal} {out out' : List ℕ} {w : ℕ} → a ≡ answer.Refused q → Wrote out 0 (stopped (plain q.number)) out' w → w ≤ 84 → 84 ≤ length out →
+      pub begins_refused : {q : code.Refusal} {out out' : List ℕ} {w : ℕ} → a ≡ Err q → Wrote out 0 (stopped (plain (number_of q.reason))) out' w → w ≤ 84 → 84 ≤ length out →
           Begins s last ys out' (begun.Ended w)
       unfolding set_lines stopped refusal_of
       begins_refused {q} f g k m =
-          let d : length_of (answer.Refused q) ≡ built (build_set words output (take n s)) = ap length_of (sym f) ∙ b ∙ ap (λ (k : ℕ). built (build_set words k (take n s))) long in
+          let d : length_of (Err q) ≡ built (build_set words output (take n s)) = ap length_of (sym f) ∙ b ∙ ap (λ (k : ℕ). built (build_set words k (take n s))) long in
           stops_with g (omega arith) (λ rest ends. lines_set rest ∙ rw (no_layout q (build_set words output (take n s)) d))
 
       -- it is built: the runs come next
-      pub begins_built : {m : ℕ} {out : List ℕ} → a ≡ answer.Bytes m → ys ≡ output_after xs (build_set 8192 (length xs) (take n s)) → Begins s last ys out (begun.Built n m)
+      pub begins_built : {m : ℕ} {out : List ℕ} → a ≡ Ok m → ys ≡ output_after xs (build_set 8192 (length xs) (take n s)) → Begins s last ys out (begun.Built n m)
       unfolding set_lines
       begins_built {m} f g =
           let z = layout_stands xs (build_set 8192 (length xs) (take n s)) (ap length_of (sym f) ∙ b) g in

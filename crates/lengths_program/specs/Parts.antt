@@ -1,6 +1,8 @@
 -- What the parts of a call answer: the next block, the set, the runs.
 use Rattle.std.specs.Prelude.{ℕ, ◌+◌, ◌^◌, ◌≤◌, ◌<◌, ◌≡◌, Bool, true, false, List, [], ◌++◌, length, take, drop}
 use Rattle.errors.specs.Refusal.{done, refused, plain}
+use Rattle.errors.specs.declared.Reason.{Reason}
+use Rattle.errors.specs.Meaning.{number_of}
 use Rattle.lengths_definition.specs.Lengths.{next_block, lengths}
 use Rattle.lengths_lines.specs.Lines.{IsLayout}
 use Rattle.lengths_program.specs.declared.Next.{Next}
@@ -16,7 +18,7 @@ use Rattle.lengths_program.specs.Lines.{runs, left, Ends, Prints}
 -- what s begins with, whatever follows it
 pub data Finds (s : List ℕ) (last : Bool) : Next → Type 0 where
   block : {n : ℕ} → 4 ≤ n → n ≤ length s → ((rest : List ℕ) → next_block (s ++ rest) ≡ done (take n s, drop n s ++ rest)) → Finds s last (next.Block n)
-  stops : {q : ℕ} → ((rest : List ℕ) → Ends last rest → next_block (s ++ rest) ≡ refused (plain q)) → Finds s last (next.Refused q)
+  stops : {q : Reason} → ((rest : List ℕ) → Ends last rest → next_block (s ++ rest) ≡ refused (plain (number_of q))) → Finds s last (next.Refused q)
   part : last ≡ false → length s < 65536 → Finds s last next.Part
 
 -- an output that has room for a line

@@ -8,7 +8,7 @@ ghost use Rattle.lengths_program.specs.Lines.{runs, left, is_ended};
 ghost use Rattle.lengths_program.specs.Parts.{Finds, Room, Within, Ran, Begins};
 ghost use Rattle.lengths_program.specs.Calls.{Given, IsStart, HasRead, IsEnded, Told};
 
-use errors::Length;
+use errors::Reason;
 use lengths_lines::Printed;
 
 // What stands at the start of the input that is there.
@@ -16,8 +16,8 @@ use lengths_lines::Printed;
 enum Next {
     // a block of this length
     Block(usize),
-    // a block that is refused with this number
-    Refused(u64),
+    // a block that is refused for this reason
+    Refused(Reason),
     // part of a block, of which more has to be read
     Part,
 }
@@ -80,19 +80,19 @@ fn next_block(s: &[u8], last: bool) -> Next
 {
     if s.len() < 4 {
         if last {
-            return Next::Refused(2);
+            return Next::Refused(Reason::Malformed);
         }
         return Next::Part;
     }
     let n = 4 + wire::read4(s, 0);
     if 65536 < n {
-        return Next::Refused(1);
+        return Next::Refused(Reason::InputTooLong);
     }
     if n <= s.len() {
         return Next::Block(n);
     }
     if last {
-        return Next::Refused(2);
+        return Next::Refused(Reason::Malformed);
     }
     Next::Part
 }
@@ -114,7 +114,9 @@ fn run_lines(first: u64, layout: &[u8], s: &[u8], last: bool, out: &mut [u8]) ->
         }
         match next_block(&s[i..], last) {
             Next::Part => return Passed::More(true, run, i, at),
-            Next::Refused(q) => return Passed::Ended(lengths_lines::put_stopped(out, at, q)),
+            Next::Refused(q) => {
+                return Passed::Ended(lengths_lines::put_stopped(out, at, q.number()));
+            }
             Next::Block(n) => {
                 let end = i + n;
                 match lengths_lines::answer_at(run, layout, &s[i..end], out, at) {
@@ -141,10 +143,10 @@ fn begin(s: &[u8], last: bool, layout: &mut [u8], out: &mut [u8]) -> Begun
 {
     match next_block(s, last) {
         Next::Part => Begun::Part,
-        Next::Refused(q) => Begun::Ended(lengths_lines::put_stopped(out, 0, q)),
+        Next::Refused(q) => Begun::Ended(lengths_lines::put_stopped(out, 0, q.number())),
         Next::Block(n) => match builder_set::layout_of(&s[..n], layout) {
-            Length::Refused(r) => Begun::Ended(lengths_lines::put_stopped(out, 0, r.number)),
-            Length::Bytes(m) => Begun::Built(n, m),
+            Err(r) => Begun::Ended(lengths_lines::put_stopped(out, 0, r.reason.number())),
+            Ok(m) => Begun::Built(n, m),
         },
     }
 }
@@ -153,9 +155,8 @@ fn begin(s: &[u8], last: bool, layout: &mut [u8], out: &mut [u8]) -> Begun
 pub fn start() -> State
     ensures { IsStart result }
 {
-    let stage = Stage::Set;
     State {
-        stage,
+        stage: Stage::Set,
         held: 0,
         last: false,
         wants: true,
@@ -168,9 +169,8 @@ pub fn after_read(state: State, got: usize) -> State
     requires { state.held + got < 2 ^ 63 }
     ensures { HasRead state got result }
 {
-    let stage = state.stage;
     State {
-        stage,
+        stage: state.stage,
         held: state.held + got,
         last: got == 0,
         wants: false,
@@ -181,12 +181,7 @@ pub fn after_read(state: State, got: usize) -> State
 pub fn has_ended(state: State) -> bool
     ensures { result ≡ is_ended state.stage }
 {
-    let stage = state.stage;
-    match stage {
-        Stage::Ended => true,
-        Stage::Set => false,
-        Stage::Runs(_, _) => false,
-    }
+    matches!(state.stage, Stage::Ended)
 }
 
 // Moves the bytes from `from` to `to` to the start: how many they are.
@@ -194,17 +189,8 @@ fn keep(input: &mut [u8], from: usize, to: usize) -> usize
     requires { Within from to input.old }
     ensures { (result ≡ to - from) × (take result input.new ≡ take result (drop from input.old)) }
 {
-    let n = to - from;
-    if from == 0 {
-        return n;
-    }
-    let mut i = 0;
-    while i < n {
-        let j = from + i;
-        input[i] = input[j];
-        i += 1;
-    }
-    n
+    input.copy_within(from..to, 0);
+    to - from
 }
 
 // Nothing is left to be printed.
@@ -257,7 +243,7 @@ pub fn lines(state: State, input: &mut [u8], layout: &mut [u8], out: &mut [u8]) 
         }
         Stage::Set => match begin(&input[..to], last, layout, out) {
             Begun::Part => State {
-                stage: Stage::Set,
+                stage,
                 held: to,
                 last,
                 wants: true,

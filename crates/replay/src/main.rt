@@ -3,22 +3,13 @@
 // against its stored lines.
 #![tactic(auto)]
 
-ghost use Rattle.std.specs.Prelude.{◌≡◌, ◌^◌, ◌≤◌, ◌<◌, length, take, IfOk, OnErr};
+ghost use Rattle.std.specs.Prelude.{◌≡◌, ◌+◌, ◌^◌, ◌≤◌, ◌<◌, length, take, IfOk, IfSome, OnErr};
 ghost use Rattle.lengths_program.specs.Parts.{Room};
 
-use errors::{Answer, Length, Refusal};
+use errors::{Answer, Length, Reason, Words};
 use lengths_program::State;
 use std::io;
 use std::io::{Read, Write};
-
-// What one record came to.
-#[derive(Clone, Copy)]
-enum Held {
-    Same,
-    Differs,
-    // it is not a record
-    Cut,
-}
 
 // What one turn of the main loop came to.
 #[derive(Clone, Copy)]
@@ -46,15 +37,9 @@ const DIFFER: usize = 60;
 
 const RECORDS: usize = 61;
 
-// No type's place.
-const NOWHERE: u64 = 65535;
-
 fn bump(tally: &mut [u64; 62], i: usize) {
-    if i < 62 {
-        let n = tally[i];
-        if n < u64::MAX {
-            tally[i] = n + 1;
-        }
+    if let Some(n) = tally.get_mut(i) {
+        *n = n.saturating_add(1);
     }
 }
 
@@ -66,146 +51,92 @@ fn word_count(s: &[u8], words: &[u64]) -> usize
     if s.len() < 4 {
         return 0;
     }
-    let n = wire::read4(s, 0);
-    if n < words.len() {
-        return n;
-    }
-    words.len()
+    wire::read4(s, 0).min(words.len())
 }
 
 // Puts something into every word, so that a call has to clear them all.
 fn fill_words(words: &mut [u64]) {
-    for word in words.iter_mut() {
-        *word = u64::MAX;
-    }
+    words.fill(u64::MAX);
 }
 
 fn is_clean(words: &[u64]) -> bool {
-    for word in words {
-        if *word != 0 {
-            return false;
-        }
-    }
-    true
+    words.iter().all(|word| *word == 0)
 }
 
-// Where the part ends whose length stands at `at`, or 0 if it does not lie in s.
-fn part_end(s: &[u8], at: usize) -> usize
-    ensures { result ≤ length s.now }
+// Where the part ends whose length stands at `at`, if it lies in s.
+fn part_end(s: &[u8], at: usize) -> Option<usize>
+    ensures { IfSome result (λ end. (at + 4 ≤ end) × (end ≤ length s.now)) }
 {
     if s.len() < 4 {
-        return 0;
+        return None;
     }
     if s.len() - 4 < at {
-        return 0;
+        return None;
     }
     let n = wire::read4(s, at);
     let start = at + 4;
     if s.len() - start < n {
-        return 0;
+        return None;
     }
-    start + n
+    Some(start + n)
 }
 
 // The numbers of reading.
-fn of_reading(number: usize) -> bool {
-    match number {
-        1..=6 | 19 => true,
-        _ => false,
-    }
+fn of_reading(number: u64) -> bool {
+    matches!(number, 1..=6 | 19)
 }
 
-// Whether the answer that stands at `at` has these parts.
-fn is_stored(s: &[u8], at: usize, number: u64, place: u64, offset: usize, value: u64) -> bool {
+// The four words of the answer that stands at `at`, which has fifteen bytes.
+fn stored(s: &[u8], at: usize) -> Option<[u64; 4]> {
     if s.len() < 15 {
-        return false;
+        return None;
     }
     if s.len() - 15 < at {
-        return false;
+        return None;
     }
-    let n = wire::read2(s, at) % 256;
-    let p = wire::read2(s, at + 1);
-    let o = wire::read4(s, at + 3);
-    let v = wire::read8(s, at + 7);
-    n as u64 == number && p as u64 == place && o == offset && v as u64 == value
-}
-
-// The number of the answer that stands at `at`.
-fn stored_number(s: &[u8], at: usize) -> usize {
-    if s.len() < 2 {
-        return 0;
-    }
-    if s.len() - 2 < at {
-        return 0;
-    }
-    wire::read2(s, at) % 256
-}
-
-// Whether the refusal is the stored answer.
-fn is_refusal(r: Refusal, s: &[u8], at: usize) -> bool {
-    is_stored(s, at, r.number, r.place as u64, r.offset, r.value.low())
+    let number = wire::read2(s, at) % 256;
+    let place = wire::read2(s, at + 1);
+    let offset = wire::read4(s, at + 3);
+    let value = wire::read8(s, at + 7);
+    Some([number as u64, place as u64, offset as u64, value as u64])
 }
 
 // Whether the answer of reading is the stored one, which stands at `at`.
 fn is_read(got: Answer, s: &[u8], at: usize) -> bool {
-    match got {
-        Answer::Count(_) => !of_reading(stored_number(s, at)),
-        Answer::Refused(r) => is_refusal(r, s, at),
+    match (got, stored(s, at)) {
+        (Ok(_), Some(words)) => !of_reading(words[0]),
+        (Ok(_), None) => true,
+        (Err(r), Some(words)) => words == r.words(),
+        (Err(_), None) => false,
     }
 }
 
 // Whether the count or the refusal is the stored answer.
 fn is_answer(got: Answer, s: &[u8], at: usize) -> bool {
-    match got {
-        Answer::Count(n) => is_stored(s, at, 0, NOWHERE, 0, n.low()),
-        Answer::Refused(r) => is_refusal(r, s, at),
-    }
+    stored(s, at) == Some(got.words())
 }
 
 fn count_refused(tally: &mut [u64; 62], got: &Answer) {
-    match got {
-        Answer::Count(_) => {}
-        Answer::Refused(r) => {
-            if r.number < 28 {
-                bump(tally, READINGS + r.number as usize);
-            }
-        }
+    if let Err(r) = got {
+        bump(tally, READINGS + r.reason.number() as usize);
     }
 }
 
 fn count_answer(tally: &mut [u64; 62], got: &Answer) {
     match got {
-        Answer::Count(_) => bump(tally, ANSWERS),
-        Answer::Refused(r) => {
-            if r.number < 28 {
-                bump(tally, ANSWERS + r.number as usize);
-            }
-        }
+        Ok(_) => bump(tally, ANSWERS),
+        Err(r) => bump(tally, ANSWERS + r.reason.number() as usize),
     }
-}
-
-fn verdict(same: bool) -> Held {
-    if same {
-        return Held::Same;
-    }
-    Held::Differs
 }
 
 // Puts something into every byte, so that it is seen which of them a call writes.
 fn fill_bytes(out: &mut [u8]) {
-    for byte in out.iter_mut() {
-        *byte = 0xA5;
-    }
+    out.fill(0xA5);
 }
 
 // Whether every byte is this one.
 fn is_all(out: &[u8], b: u8) -> bool {
-    for byte in out {
-        if *byte != b {
-            return false;
-        }
-    }
-    true
+    out.iter().all(|byte| *byte == b)
 }
 
 // How much of the output a record's call gets: as many bytes as it says, or all.
@@ -216,80 +147,61 @@ fn output_length(s: &[u8], out: &[u8]) -> usize
     if s.len() < 8 {
         return 0;
     }
-    let n = wire::read4(s, 4);
-    if n < out.len() {
-        return n;
-    }
-    out.len()
+    wire::read4(s, 4).min(out.len())
 }
 
 // What a build left against the stored answer, which stands at `at`, and the stored layout: its bytes and those behind it, or
-// zeros.
+// zeros. A stored build has no length beside its layout.
 fn is_built(got: Length, out: &[u8], s: &[u8], at: usize, layout: &[u8]) -> bool {
     match got {
-        Length::Bytes(n) => {
+        Ok(n) => {
             if out.len() < n {
                 return false;
             }
-            is_stored(s, at, 0, NOWHERE, 0, 0)
-                && wire::same_name(&out[..n], layout)
+            stored(s, at) == Some([0, 65535, 0, 0])
+                && &out[..n] == layout
                 && is_all(&out[n..], 0xA5)
         }
-        Length::Refused(r) => is_refusal(r, s, at) && is_all(out, 0),
+        Err(r) => stored(s, at) == Some(r.words()) && is_all(out, 0),
     }
 }
 
-// The set of a build, built into this output.
-fn same_build(words: &mut [u64], out: &mut [u8], s: &[u8], end: usize) -> bool {
-    if end < 12 {
-        return false;
+// A build: working words, output length, set, answer, layout. Whether it is as stored; none where it is not a record, here and below.
+fn hold_set(words: &mut [u64], tally: &mut [u64; 62], s: &[u8]) -> Option<bool> {
+    let end = part_end(s, 8)?;
+    let layout = end + 15;
+    if part_end(s, layout)? != s.len() {
+        return None;
     }
-    if s.len() < end {
-        return false;
+    let set = &s[12..end];
+    fill_words(words);
+    let read = reader_calls::read_set(words, set);
+    count_refused(tally, &read);
+    if !(is_clean(words) && is_read(read, s, end)) {
+        return Some(false);
     }
-    if s.len() - end < 19 {
-        return false;
-    }
-    let start = end + 19;
+    let mut all = [0u8; 131072];
+    let n = output_length(s, &all);
+    let out = &mut all[..n];
     fill_words(words);
     fill_bytes(out);
-    let got = builder_set::build_set(&s[12..end], out, words);
-    is_clean(words) && is_built(got, out, s, end, &s[start..])
-}
-
-// A build: working words, output length, set, answer, layout.
-fn hold_set(words: &mut [u64], tally: &mut [u64; 62], s: &[u8]) -> Held {
-    let end = part_end(s, 8);
-    if end < 12 {
-        return Held::Cut;
-    }
-    if part_end(s, end + 15) != s.len() {
-        return Held::Cut;
-    }
-    fill_words(words);
-    let got = reader_calls::read_set(words, &s[12..end]);
-    count_refused(tally, &got);
-    if !(is_clean(words) && is_read(got, s, end)) {
-        return Held::Differs;
-    }
-    let mut out = [0u8; 131072];
-    let n = output_length(s, &out);
-    verdict(same_build(words, &mut out[..n], s, end))
+    let got = builder_set::build_set(set, out, words);
+    let start = layout + 4;
+    Some(is_clean(words) && is_built(got, out, s, end, &s[start..]))
 }
 
 // Of a layout and values or a run: 19 comes first, then 1 for the layout, 1 for the other, then the rest in this order.
 fn first(a: Answer, b: Answer) -> Answer {
-    match a {
-        Answer::Count(_) => b,
-        Answer::Refused(q) => {
-            if q.number == 19 || q.number == 1 {
-                return Answer::Refused(q);
+    match (a, b) {
+        (Ok(_), _) => b,
+        (Err(q), Err(r)) => {
+            let before = q.reason == Reason::TooFewWords || q.reason == Reason::InputTooLong;
+            if r.reason == Reason::InputTooLong && !before {
+                return b;
             }
-            match b {
-                Answer::Count(_) => Answer::Refused(q),
-                Answer::Refused(r) => Answer::Refused(if r.number == 1 { r } else { q }),
-            }
+            a
         }
+        (Err(_), Ok(_)) => a,
     }
 }
 
@@ -329,74 +241,39 @@ fn same_answer(words: &[u64], tally: &mut [u64; 62], got: Answer, s: &[u8], at: 
     is_clean(words) && is_answer(got, s, at)
 }
 
-// The readers and `validate` against the answer at `at`.
-fn validated(
-    words: &mut [u64],
-    tally: &mut [u64; 62],
-    layout: &[u8],
-    name: &[u8],
-    values: &[u8],
-    s: &[u8],
-    at: usize,
-) -> Held {
-    if s.len() < 12 {
-        return Held::Cut;
-    }
-    let len = wire::read8(s, 4) as u64;
-    let read = same_reading(words, tally, layout, values, 2, s, at);
-    fill_words(words);
-    let got = interpreter_validate::validate(words, layout, name, values, len);
-    verdict(same_answer(words, tally, got, s, at) && read)
-}
-
 // A validation: working words, buffer length, layout, asked name, values, answer.
-fn hold_validation(words: &mut [u64], tally: &mut [u64; 62], s: &[u8]) -> Held {
-    let layout = part_end(s, 12);
-    if layout < 16 {
-        return Held::Cut;
+fn hold_validation(words: &mut [u64], tally: &mut [u64; 62], s: &[u8]) -> Option<bool> {
+    let layout_end = part_end(s, 12)?;
+    let name_end = part_end(s, layout_end)?;
+    let end = part_end(s, name_end)?;
+    if end + 15 != s.len() {
+        return None;
     }
-    let name = part_end(s, layout);
-    let name_start = layout + 4;
-    if name < name_start {
-        return Held::Cut;
-    }
-    let values = part_end(s, name);
-    let start = name + 4;
-    if values < start {
-        return Held::Cut;
-    }
-    if values + 15 != s.len() {
-        return Held::Cut;
-    }
-    validated(
-        words,
-        tally,
-        &s[16..layout],
-        &s[name_start..name],
-        &s[start..values],
-        s,
-        values,
-    )
+    let name_start = layout_end + 4;
+    let start = name_end + 4;
+    let layout = &s[16..layout_end];
+    let values = &s[start..end];
+    let len = wire::read8(s, 4) as u64;
+    let read = same_reading(words, tally, layout, values, 2, s, end);
+    fill_words(words);
+    let got = interpreter_validate::validate(words, layout, &s[name_start..name_end], values, len);
+    Some(same_answer(words, tally, got, s, end) && read)
 }
 
 // A run: working words, layout, run, answer.
-fn hold_run(words: &mut [u64], tally: &mut [u64; 62], s: &[u8]) -> Held {
-    let layout = part_end(s, 4);
-    if layout < 8 {
-        return Held::Cut;
+fn hold_run(words: &mut [u64], tally: &mut [u64; 62], s: &[u8]) -> Option<bool> {
+    let layout_end = part_end(s, 4)?;
+    let end = part_end(s, layout_end)?;
+    if end + 15 != s.len() {
+        return None;
     }
-    let run = part_end(s, layout);
-    let start = layout + 4;
-    if run < start {
-        return Held::Cut;
-    }
-    if run + 15 != s.len() {
-        return Held::Cut;
-    }
-    let read = same_reading(words, tally, &s[8..layout], &s[start..run], 4, s, run);
+    let start = layout_end + 4;
+    let layout = &s[8..layout_end];
+    let run = &s[start..end];
+    let read = same_reading(words, tally, layout, run, 4, s, end);
     fill_words(words);
-    let got = interpreter_validate::validate_run(words, &s[8..layout], &s[start..run]);
-    verdict(same_answer(words, tally, got, s, run) && read)
+    let got = interpreter_validate::validate_run(words, layout, run);
+    Some(same_answer(words, tally, got, s, end) && read)
 }
 
 // What `lengths` leaves of an input of n bytes that is read at once.
@@ -411,40 +288,33 @@ fn printed(input: &mut [u8], n: usize, out: &mut [u8]) -> State
 }
 
 // Lengths: standard input, standard output.
-fn hold_lengths(s: &[u8]) -> Held {
-    let end = part_end(s, 0);
-    if end < 4 {
-        return Held::Cut;
-    }
-    if part_end(s, end) != s.len() {
-        return Held::Cut;
-    }
-    let start = end + 4;
-    if s.len() < start {
-        return Held::Cut;
+fn hold_lengths(s: &[u8]) -> Option<bool> {
+    let end = part_end(s, 0)?;
+    if part_end(s, end)? != s.len() {
+        return None;
     }
     if 262144 < s.len() {
-        return Held::Cut;
+        return None;
     }
+    let start = end + 4;
     let mut input = [0u8; 262144];
     let mut out = [0u8; 65536];
     wire::put_from(&mut input, 0, &s[4..end], 0);
     let state = printed(&mut input, end - 4, &mut out);
     let n = state.wrote;
-    verdict(lengths_program::has_ended(state) && wire::same_name(&out[..n], &s[start..]))
+    Some(lengths_program::has_ended(state) && &out[..n] == &s[start..])
 }
 
 // One record of the kind, counted.
-fn hold_record(words: &mut [u64], tally: &mut [u64; 62], kind: u8, s: &[u8]) -> Held {
+fn hold_record(words: &mut [u64], tally: &mut [u64; 62], kind: u8, s: &[u8]) -> Option<bool> {
+    let n = word_count(s, words);
     match kind {
         1 => {
             bump(tally, SETS);
-            let n = word_count(s, words);
             hold_set(&mut words[..n], tally, s)
         }
         2 => {
             bump(tally, VALIDATIONS);
-            let n = word_count(s, words);
             hold_validation(&mut words[..n], tally, s)
         }
         3 => {
@@ -453,10 +323,9 @@ fn hold_record(words: &mut [u64], tally: &mut [u64; 62], kind: u8, s: &[u8]) -> 
         }
         4 => {
             bump(tally, RUNS);
-            let n = word_count(s, words);
             hold_run(&mut words[..n], tally, s)
         }
-        _ => Held::Cut,
+        _ => None,
     }
 }
 
@@ -488,9 +357,9 @@ fn hold_body<R: Read>(
         return Ok(Turn::Bad);
     }
     match hold_record(words, tally, kind, s) {
-        Held::Same => {}
-        Held::Differs => bump(tally, DIFFER),
-        Held::Cut => return Ok(Turn::Bad),
+        Some(true) => {}
+        Some(false) => bump(tally, DIFFER),
+        None => return Ok(Turn::Bad),
     }
     bump(tally, RECORDS);
     Ok(Turn::More)
@@ -532,10 +401,6 @@ fn hold_all<R: Read>(reader: &mut R, tally: &mut [u64; 62]) -> io::Result<bool> 
     Ok(false)
 }
 
-fn say<W: Write>(writer: &mut W, number: u64, text: &str) -> io::Result<()> {
-    write!(writer, "{number}{text}")
-}
-
 // How often a number was met, if it was.
 fn say_number<W: Write>(writer: &mut W, number: usize, count: u64) -> io::Result<()> {
     if count != 0 {
@@ -553,16 +418,17 @@ fn say_numbers<W: Write>(writer: &mut W, tally: &[u64; 62], from: usize) -> io::
 }
 
 fn report<W: Write>(writer: &mut W, tally: &[u64; 62]) -> io::Result<()> {
-    say(writer, tally[RECORDS], " records: ")?;
-    say(writer, tally[SETS], " sets, ")?;
-    say(writer, tally[VALIDATIONS], " validations, ")?;
-    say(writer, tally[RUNS], " runs, ")?;
-    say(writer, tally[LENGTHS], " of lengths\nrefused by reading:")?;
+    write!(writer, "{} records: {} sets, ", tally[RECORDS], tally[SETS])?;
+    write!(
+        writer,
+        "{} validations, {} runs, ",
+        tally[VALIDATIONS], tally[RUNS]
+    )?;
+    write!(writer, "{} of lengths\nrefused by reading:", tally[LENGTHS])?;
     say_numbers(writer, tally, READINGS)?;
     write!(writer, "\nvalidated (0: accepted):")?;
     say_numbers(writer, tally, ANSWERS)?;
-    write!(writer, "\n")?;
-    say(writer, tally[DIFFER], " differ\n")
+    write!(writer, "\n{} differ\n", tally[DIFFER])
 }
 
 fn main(rt: HostRuntime) -> io::Result<()> {
@@ -573,7 +439,6 @@ fn main(rt: HostRuntime) -> io::Result<()> {
         report(&mut stdout, &tally)
     } else {
         bump(&mut tally, RECORDS);
-        write!(stdout, "bad list at record ")?;
-        say(&mut stdout, tally[RECORDS], "\n")
+        write!(stdout, "bad list at record {}\n", tally[RECORDS])
     }
 }
