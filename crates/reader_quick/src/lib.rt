@@ -42,7 +42,8 @@ fn ask(yes: bool) -> Option<()>
     yes.then_some(())
 }
 
-// A name or a text.
+// A name or a text. Inlined, as `pieces` is: a layout is read in less time so.
+#[inline(always)]
 #[tactic(auto, unfolding(reader_leaf::proofs::Compute::compute))]
 fn text(s: &[u8], at: usize, end: usize) -> Option<usize>
     requires { (at ≤ end) × (end ≤ length s.now) }
@@ -270,6 +271,7 @@ fn leading(s: &[u8], room: usize, digit: u64, at: usize, end: usize) -> Option<u
 
 // The parts of a row, up to the end of their node.
 #[cycle(body_case_cases_leading_node_piece_pieces)]
+#[inline(always)]
 fn pieces(s: &[u8], room: usize, row: u64, at: usize, stop: usize) -> Option<usize>
     requires { (at ≤ stop) × (stop ≤ length s.now) }
     ensures { IfSome result (λ next. (next ≡ stop) × Body room s.now row at stop) }
@@ -346,14 +348,14 @@ fn tree(s: &[u8], room: usize, at: usize, end: usize) -> Option<usize>
     Some(stop)
 }
 
-// n type trees behind their count at `at`. Whether their names are distinct is not asked.
-fn each_tree(s: &[u8], room: usize, at: usize, n: usize, end: usize) -> Option<usize>
-    requires { Counted s.now 256 at end n × (end ≤ length s.now) }
-    ensures read { Fresh s.now (at + 2) n → (start : ℕ) → Reads result (read_list (λ f a. read_block room s.now f 161 161 a end) (Earlier.distinct []) 256 s.now start end at) }
+// So many type trees behind their count at `at`. Whether their names are distinct is not asked.
+fn each_tree(s: &[u8], room: usize, at: usize, count: usize, end: usize) -> Option<usize>
+    requires { Counted s.now 256 at end count × (end ≤ length s.now) }
+    ensures read { Fresh s.now (at + 2) count → (start : ℕ) → Reads result (read_list (λ f a. read_block room s.now f 161 161 a end) (Earlier.distinct []) 256 s.now start end at) }
     ensures inside { IfSome result (λ next. next ≤ end) }
 {
     let mut i = at + 2;
-    for _ in 0..n {
+    for _ in 0..count {
         i = tree(s, room, i, end)?;
     }
     Some(i)

@@ -1,5 +1,4 @@
 use Rattle.std.proofs.Common.{refl, arith}
-use Rattle.std.proofs.lemmas.Option.{IfSome_then}
 use borrow.Author.Tests.{eqb-true, leb-true, ltb-true}
 use Rattle.blocks.specs.Read.{Earlier}
 use Rattle.reader_quick.proofs.Laws.{rest_all, rest_next, rest_none, case_yes, node_yes, row_none, row_go, row_child, const_row, call_row, field_row, number_part, text_part, optional_part, node_part, cases_part, arguments_part, default_off, default_on}

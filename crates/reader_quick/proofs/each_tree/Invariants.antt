@@ -5,4 +5,4 @@ use Rattle.reader_quick.proofs.Listed.{Going}
 use Rattle.reader_quick.proofs.each_tree.Given as goal
 
 abbrev pub invariant-loop : goal.invariant-loop
-invariant-loop l = (l.i ≤ l.end) × (Fresh l.s (l.at + 2) l.n → Going l.room l.s l.end l.at l.n l.counter l.i)
+invariant-loop l = (l.i ≤ l.end) × (Fresh l.s (l.at + 2) l.count → Going l.room l.s l.end l.at l.count l.counter l.i)
