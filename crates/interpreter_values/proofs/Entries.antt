@@ -95,6 +95,10 @@ module _ {s : List ℕ} {block : ℕ} where
     pub standing_next : {next : ℕ} → next ≡ at + 2 + le2 s at + 8 → Standing s block to (i + 1) next
     standing_next e = record { most = w.most; within = omega arith; here = entry_next s (block + 6 + 2) i w.here e }
 
+  -- at its end it has passed all of the span
+  pub standing_end : {to i at : ℕ} → Standing s block to i at → to ≤ i → i ≡ to
+  standing_end w h = omega (arith, w.within)
+
   -- the mark of its name
   pub standing_mark : {to i at mark : ℕ} {m : Name} → Standing s block to i at → m ≡ name_at s at → mark ≡ sum_mark_of m → entry_mark s (block + 6 + 2) i ≡ mark
   unfolding entry_mark
@@ -163,5 +167,5 @@ left_at (Leaves.at h) = h
 
 -- entries that are left
 pub left_among : {s : List ℕ} {block o n : ℕ} {m : Name} → Leaves s block m (Among o n) →
-    first_value s m (le2 s (block + 6)) (block + 6 + 2) ≡ first_value s m n o
-left_among (Leaves.among l h) = h
+    Entries s Item.values n o × (first_value s m (le2 s (block + 6)) (block + 6 + 2) ≡ first_value s m n o)
+left_among (Leaves.among l h) = (l, h)

@@ -9,4 +9,4 @@ returns-in-At-clause-value_found c = λ a. first_found c.args.block c.args.name.
 
 pub returns-in-Among-clause-value_found : goal.returns-in-Among-clause-value_found
 returns-in-Among-clause-value_found c =
-    λ a. first_found c.args.block c.args.name.now a (c.value_from.ensures ∙ sym (left_among c.in-Among.ensures.leaves))
+    λ a. first_found c.args.block c.args.name.now a (c.value_from.ensures ∙ sym (left_among c.in-Among.ensures.leaves).1)
