@@ -61,9 +61,10 @@ module _ (n : Name) (xs : List IrArgument) (ps : List IrParameter) where
 root_is : (n : Name) (γ : ParamMap) (len : ℕ) → find n (with_buffer_size len γ) ≡ first_of (find n γ) (cond (same n (ascii "__buffer_size")) (some len) none)
 root_is n γ len = find_behind n γ (record { name = ascii "__buffer_size"; value = len })
 
--- a value that was found lies in the bytes
-pub block_at : {values : List ℕ} {n : Name} {γ : ParamMap} {o : ℕ} → ValueFound values n γ (Some o) → o + 8 ≤ length values
-block_at (ValueFound.at h g) = h
+-- a value that was found is the context's
+pub block_at : {values : List ℕ} {n : Name} {γ : ParamMap} {o : ℕ} → ValueFound values n γ (Some o) →
+    (o + 8 ≤ length values) × (find n γ ≡ some (le8 values o))
+block_at (ValueFound.at h g) = (h, g)
 
 module _ {values : List ℕ} {n : Name} {γ : ParamMap} (len : ℕ) where
   -- a value has the name

@@ -99,7 +99,7 @@ module _ {s : List ℕ} {n : Name} {m p i at : ℕ} {f : Option (Bor Name)} wher
   })
 
   -- none is left: what was found is the last of the name
-  no_more : m ≤ i → Passed s n m p i at f → (l : Listed s 164 164 m p) → named f ≡ last_argument n (entries argument_of l.got.0) none
+  pub no_more : m ≤ i → Passed s n m p i at f → (l : Listed s 164 164 m p) → named f ≡ last_argument n (entries argument_of l.got.0) none
   unfolding last_argument entries
   no_more h c l =
       let x = c.on l in

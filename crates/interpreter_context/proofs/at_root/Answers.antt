@@ -4,7 +4,7 @@ use Rattle.interpreter_context.proofs.Calls.{block_at, held_value, held_length}
 use Rattle.interpreter_context.proofs.at_root.Goals as goal
 
 pub value_at-requires : goal.value_at-requires
-value_at-requires c = block_at (c.in-Some.ensures.value_found c.requires.0)
+value_at-requires c = (block_at (c.in-Some.ensures.value_found c.requires.0)).0
 
 pub returns-in-Some-clause-result_value : goal.returns-in-Some-clause-result_value
 returns-in-Some-clause-result_value c =
