@@ -6,7 +6,8 @@ use Rattle.std.specs.Prelude.{Option, Some, None, Result, Ok, Err}
 use Prim.Native.Nat.{ℕ, ◌+◌, ◌-◌, ◌≤◌, ◌<◌}
 use native.Mathlib.Omega.{arith}
 use lib.ListN.{length}
-use Rattle.errors.specs.Refusal.{refused, ◌>>=◌, MissingIrParameter}
+use Rattle.errors.specs.Refusal.{done, refused, ◌>>=◌, MissingIrParameter}
+use Rattle.errors.specs.Refusal as definition
 use Rattle.errors.specs.declared.Refusal.{Refusal}
 use Rattle.errors.specs.Meaning.{refusal_of}
 use Rattle.blocks.specs.Bytes.{le2, le4}
@@ -47,6 +48,33 @@ one_missing : (pl : ℕ) (γ : ParamMap) (x : IrArgument) (xs : List IrArgument)
     collect_arguments pl γ (x ∷ xs) δ ≡ refused (refusal_at pl x.at MissingIrParameter 0)
 unfolding collect_arguments value_or ◌>>=◌
 one_missing pl γ x xs δ e = ap (λ (o : Maybe ℕ). value_or (refusal_at pl x.at MissingIrParameter 0) o >>= (λ v. collect_arguments pl γ xs (record { name = x.name; value = v } ∷ δ))) e
+
+-- The type's place is told in a refusal alone: arguments that are found are found at any place,
+pub any_place : (p q : ℕ) (γ : ParamMap) (xs : List IrArgument) (δ : ParamMap) {ε : ParamMap} → collect_arguments p γ xs δ ≡ done ε → collect_arguments q γ xs δ ≡ done ε
+unfolding collect_arguments value_or ◌>>=◌
+any_place p q γ [] δ e = e
+any_place p q γ (x ∷ xs) δ {ε} e = go (λ v. any_place p q γ xs (record { name = x.name; value = v } ∷ δ)) (find x.value γ) e
+  where
+    go : ((v : ℕ) → collect_arguments p γ xs (record { name = x.name; value = v } ∷ δ) ≡ done ε → collect_arguments q γ xs (record { name = x.name; value = v } ∷ δ) ≡ done ε)
+        → (o : Maybe ℕ) → (value_or (refusal_at p x.at MissingIrParameter 0) o >>= (λ v. collect_arguments p γ xs (record { name = x.name; value = v } ∷ δ))) ≡ done ε →
+        (value_or (refusal_at q x.at MissingIrParameter 0) o >>= (λ v. collect_arguments q γ xs (record { name = x.name; value = v } ∷ δ))) ≡ done ε
+    go k none e = cc
+    go k (some v) e = k v e
+
+-- and the first that lacks its value is the first at any.
+pub lacks_at_any : (p q : ℕ) (γ : ParamMap) (xs : List IrArgument) (δ : ParamMap) {r : definition.Refusal} → collect_arguments p γ xs δ ≡ refused r →
+    collect_arguments q γ xs δ ≡ refused (refusal_at q r.offset MissingIrParameter 0)
+unfolding collect_arguments value_or ◌>>=◌
+lacks_at_any p q γ [] δ e = cc
+lacks_at_any p q γ (x ∷ xs) δ {r} e = go (λ v. lacks_at_any p q γ xs (record { name = x.name; value = v } ∷ δ)) (find x.value γ) e
+  where
+    go : ((v : ℕ) → collect_arguments p γ xs (record { name = x.name; value = v } ∷ δ) ≡ refused r →
+        collect_arguments q γ xs (record { name = x.name; value = v } ∷ δ) ≡ refused (refusal_at q r.offset MissingIrParameter 0))
+        → (o : Maybe ℕ) → (value_or (refusal_at p x.at MissingIrParameter 0) o >>= (λ v. collect_arguments p γ xs (record { name = x.name; value = v } ∷ δ))) ≡ refused r →
+        (value_or (refusal_at q x.at MissingIrParameter 0) o >>= (λ v. collect_arguments q γ xs (record { name = x.name; value = v } ∷ δ)))
+        ≡ refused (refusal_at q r.offset MissingIrParameter 0)
+    go k none e = let f : refusal_at p x.at MissingIrParameter 0 ≡ r = cc in ap (λ (d : definition.Refusal). refused (refusal_at q d.offset MissingIrParameter 0)) f
+    go k (some v) e = k v e
 
 -- where an argument's value name stands
 pub value_at : {s : List ℕ} {p u : ℕ} → u ≡ le2 s (p + 6) → (a : Accepted s 164 164 p) → IsArgument a (p + 8 + u)

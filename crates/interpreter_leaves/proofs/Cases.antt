@@ -3,6 +3,7 @@ use mathlib.Core.Path.{◌≡◌, refl, sym, ◌∙◌, ap, subst}
 use mathlib.Core.Bool.{Bool, cond}
 use mathlib.Core.List.{List, [], ◌∷◌}
 use mathlib.Core.Option.{some, none}
+use Rattle.std.specs.Prelude.{Option}
 use Prim.Native.Nat.{ℕ, ◌+◌, ◌-◌, ◌≤◌, ◌<◌}
 use native.Mathlib.Omega.{arith}
 use lib.Dec.{eqb}
@@ -19,7 +20,7 @@ use Rattle.accepted.proofs.Laws.{opened, sole_kind, number_part, block_part, opt
 use Rattle.interpreter_context.specs.Located.{Located}
 use Rattle.interpreter_context.proofs.Laws.{Standing}
 use Rattle.interpreter_context.proofs.Shape.{body_of, part_rests, located, node_in_lem}
-use Rattle.interpreter_leaves.specs.Steps.{pick, cases_of, default_of, PickedAt}
+use Rattle.interpreter_leaves.specs.Steps.{pick, cases_of, default_of, Picked, PickedAt}
 
 -- ---- a case
 
@@ -101,6 +102,10 @@ switch_parts {a} l =
 pub switch_at : {s : List ℕ} {at q : ℕ} → Standing s at 3 q → (a : Accepted s 128 144 at) → le2 s (at + 4) ≡ 132 → SwitchAt a q
 unfolding parts_of node_table
 switch_at st a k = switch_parts (located 3 st a k refl)
+
+-- what is picked for a number is picked for one that is equal
+pub same_tag : {s : List ℕ} {at v w : ℕ} (a : Accepted s 128 144 at) (r : Option ℕ) → v ≡ w → Picked a v r → Picked a w r
+same_tag a r e p = subst (λ (v : ℕ). Picked a v r) e p
 
 -- a node that is picked
 picked_at : {s : List ℕ} {at v q : ℕ} {a : Accepted s 128 144 at} (c : Accepted s 128 144 q) → le4 s q < le4 s at →

@@ -2,7 +2,7 @@
 use mathlib.Core.Path.{◌≡◌, refl, sym, ◌∙◌, ap, subst}
 use mathlib.Core.Bool.{true}
 use mathlib.Core.List.{List}
-use Rattle.std.specs.Prelude.{Option, Some, None}
+use Rattle.std.specs.Prelude.{Option, Some, None, Result}
 use Rattle.std.specs.Option.{ok_or}
 use mathlib.Core.Option.{Option as Maybe}
 use Prim.Native.Nat.{ℕ, ◌+◌, ◌-◌, ◌≤◌, ◌<◌}
@@ -13,6 +13,7 @@ use borrow.Author.Tests.{leb-true}
 use Rattle.ir_nodes.proofs.Table.{entry}
 use Rattle.errors.specs.Refusal.{done, refused, MissingIrParameter}
 use Rattle.errors.specs.Refusal as definition
+use Rattle.errors.specs.declared.Reason.{Reason}
 use Rattle.errors.specs.declared.Refusal.{Refusal}
 use Rattle.errors.specs.Meaning.{refusal_of, outcome_of}
 use Rattle.blocks.specs.Bytes.{le2, le8}
@@ -22,15 +23,22 @@ use Rattle.blocks.specs.Tree.{Tree, text, number, body, part}
 use Rattle.value.specs.declared.Value.{Value}
 use Rattle.ir.specs.Layout.{form_of, make_thing, node_of, layout_of}
 use Rattle.accepted.specs.Accepted.{Accepted, tree, name_at}
-use Rattle.interpreter.specs.Eval.{Handlers, ParamMap, find, refusal_at as refusal, value_or, chosen, eval_node}
+use Rattle.interpreter.specs.Eval.{Handlers, ParamMap, find, refusal_at as refusal, value_or, lift, chosen, eval_node}
 use Rattle.interpreter_context.proofs.Laws.{Standing}
 use Rattle.interpreter_context.proofs.Shape.{body_of, text_at, number_at, MaybeText, maybe_text, node_is, located}
+use Rattle.interpreter_arithmetic.specs.Num.{result_of}
 use Rattle.wire.specs.declared.Position.{Position}
 use Rattle.lookup.specs.Named.{Placed}
 use Rattle.lookup.specs.Found.{TreeFound}
 use Rattle.interpreter_context.specs.Names.{found_in}
 use Rattle.interpreter_context.specs.Context.{Context, Here, tree_at}
 use Rattle.interpreter_leaves.specs.Steps.{FieldName}
+
+-- ---- arithmetic
+
+-- what the code was given is what it tells apart
+pub lifted_as : (p a : ℕ) {n m : Result Value Reason} → n ≡ m → lift p a (result_of m) ≡ lift p a (result_of n)
+lifted_as p a e = ap (λ (n : Result Value Reason). lift p a (result_of n)) (sym e)
 
 -- ---- Const
 
