@@ -40,14 +40,17 @@ fn checked_left_shift(left: u64, right: u64) -> Result<Value, Reason>
     }
 }
 
-// A shift by 64 to 127 leaves no bit.
+// The amounts that the operator does not take come first: 128 and above, then 64 to 127, which leave no bit.
 fn checked_right_shift(left: u64, right: u64) -> Result<Value, Reason>
     ensures { result_of result ≡ checked_right_shift left right }
 {
     if 128 <= right {
-        return Err(Reason::ArithmeticOverflow);
+        Err(Reason::ArithmeticOverflow)
+    } else if 64 <= right {
+        Ok(Value::of(0))
+    } else {
+        Ok(Value::of(left >> right))
     }
-    Ok(Value::of(left.checked_shr(right as u32).unwrap_or(0)))
 }
 
 pub fn align_up(v: Value, alignment: u64) -> Result<Value, Reason>
