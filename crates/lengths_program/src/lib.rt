@@ -184,12 +184,15 @@ pub fn has_ended(state: State) -> bool
     matches!(state.stage, Stage::Ended)
 }
 
-// Moves the bytes from `from` to `to` to the start: how many they are.
+// Moves the bytes from `from` to `to` to the start: how many they are. Bytes that stand there already are not copied onto themselves: a block that
+// comes in many parts is asked for again after each.
 fn keep(input: &mut [u8], from: usize, to: usize) -> usize
     requires { Within from to input.old }
     ensures { (result ≡ to - from) × (take result input.new ≡ take result (drop from input.old)) }
 {
-    input.copy_within(from..to, 0);
+    if from != 0 {
+        input.copy_within(from..to, 0);
+    }
     to - from
 }
 
