@@ -1,5 +1,6 @@
 -- The mark of an entry's name. Assumes nothing.
-use Prim.Native.Nat.{ℕ}
+use Prim.Native.Nat.{ℕ, ◌<◌}
+use native.Mathlib.Omega.{arith}
 use Rattle.std.specs.Prelude.{Option, Some, None}
 use mathlib.Core.Path.{◌≡◌, sym, ap, ap₂, ◌∙◌}
 use mathlib.Core.List.{List}
@@ -10,8 +11,14 @@ use Rattle.builder.specs.Names.{canonical_name}
 use Rattle.builder_registry.specs.Word.{owner_at, path_at, made_of}
 use Rattle.builder_registry.specs.Words.{held, entry_name}
 use Rattle.builder_registry.specs.Texts.{made_end}
+use Rattle.builder_registry.specs.NameMarks.{OwnerMarked}
 use Rattle.builder_registry.specs.declared.Made.{Made}
+use Rattle.builder_registry.specs.declared.NameMark.{NameMark}
 use Rattle.builder_registry.proofs.Names.{name_path, name_made}
+
+-- the mark of an owner that is known
+pub known_mark : {s : List ℕ} {k : NameMark} {at : ℕ} → OwnerMarked s k → at < 65536 → at ≡ k.owner → k.start ≡ mark_of 0 (held s at)
+known_mark o l e = rw e (o.is (omega arith))
 
 -- the mark of an entry's name: m is what the word says of its made parameter, h the mark of its owner, whose name stands at the offset
 module _ (s : List ℕ) (w : ℕ) {m : Option Made} {at h : ℕ} (em : m ≡ made_of w) (ea : at ≡ owner_at w) (eh : h ≡ mark_of 0 (held s at)) where

@@ -14,8 +14,8 @@ use Rattle.builder_names.specs.Views.{alone}
 use Rattle.builder_names.proofs.Strip.{normal_same, normal_rest, normal_whole, dot_length}
 use Rattle.builder_names.proofs.Canonical.{canonical_alone, canonical_rest}
 use Rattle.builder_registry.specs.Word.{owner_at, path_at, made_of}
-use Rattle.builder_registry.specs.Words.{held, made_parameter, made_entry, entry_of, entry_name}
-use Rattle.builder_registry.specs.Texts.{made_path, made_end, describing}
+use Rattle.builder_registry.specs.Words.{held, flagged, made_derived, made_parameter, made_entry, entry_of, entry_name}
+use Rattle.builder_registry.specs.Texts.{made_path, made_end, made_text, describing}
 use Rattle.builder_registry.specs.declared.Made.{Made}
 use Rattle.builder_registry.specs.declared.Made.TheVariants.{ComputedTag, Variant, PayloadSize}
 use Rattle.builder_registry.proofs.Keys.{held_bound, entry_path, entry_made}
@@ -54,6 +54,17 @@ pub end_short : (m : Made) → length (made_end m) ≤ 13
 end_short ComputedTag = omega arith
 end_short Variant = omega arith
 end_short PayloadSize = omega arith
+
+-- its description
+pub text_short : (m : Made) → length (made_text m) ≤ 80
+text_short ComputedTag = omega arith
+text_short Variant = omega arith
+text_short PayloadSize = omega arith
+
+-- only a computed tag is derived from the start
+pub made_flagged : (m : Made) (o : Name) → flagged (made_derived m) (made_entry m o) ≡ made_entry m o
+unfolding made_entry made_parameter
+made_flagged m o = refl
 
 -- ---- the name of an entry
 

@@ -1,6 +1,7 @@
 -- The place of a path in the registry, and what is found there. Assumes nothing.
 use Prim.Native.Nat.{ℕ, suc, ◌+◌, ◌≤◌, ◌<◌}
 use native.Mathlib.Omega.{arith}
+use native.Mathlib.Nat.{add-zero}
 use native.Mathlib.Numerals.{add-one}
 use mathlib.Core.Path.{◌≡◌, refl, sym, ap, ◌∙◌}
 use mathlib.Core.Bool.{Bool, true, false, cond}
@@ -42,6 +43,26 @@ module _ (s ws : List ℕ) (n : ℕ) (fit : n ≤ length ws) where
   -- from n on there is none
   pub entries_end : (i : ℕ) → n ≤ i → drop i (entries_of s ws n) ≡ []
   entries_end i h = drop_of_length-le (entries_of s ws n) {i = i} (omega (arith, entries_length))
+
+  -- ---- none of the entries before i has the key
+  module _ (o x : Name) (i : ℕ) (e : place_of o x (entries_of s ws n) ≡ i + place_of o x (drop i (entries_of s ws n))) where
+    -- nor has any other: the place is n
+    pub place_end : n ≤ i → i ≤ n → n ≡ place_of o x (entries_of s ws n)
+    unfolding place_of
+    place_end h k = let q : i ≡ n = omega arith in sym (e ∙ rw (entries_end i h, add-zero, q))
+
+    module _ (l : i < n) (b : Bool) (f : b ≡ keyed_by o x (entry_of s (get_or ws i 0))) where
+      -- the entry at i has it: the place is i
+      pub place_here : b ≡ true → i ≡ place_of o x (entries_of s ws n)
+      unfolding place_of
+      place_here h = sym (e ∙ rw (entries_from i l, ← f, h, add-zero))
+
+      -- it has another: the place is behind it
+      pub place_more : b ≡ false → place_of o x (entries_of s ws n) ≡ i + 1 + place_of o x (drop (i + 1) (entries_of s ws n))
+      unfolding place_of
+      place_more h = e ∙ rw (entries_from i l, ← f, h) (omega arith)
+
+pub ruleset places = (place_end, place_here, place_more)
 
 -- ---- what stands at the place
 

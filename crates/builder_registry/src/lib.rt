@@ -617,7 +617,7 @@ pub fn put_parameter(s: &[u8], w: u64, out: &mut [u8], at: usize) -> usize
 }
 
 // The mark of an entry's name. With it go the offset of its owner's name, and that name's mark, from which it starts: mostly the
-// next entry has the same owner.
+// next entry has the same owner. At an offset of 65,536 or more nothing is known.
 #[derive(Clone, Copy)]
 pub struct NameMark {
     pub mark: u64,
@@ -626,6 +626,7 @@ pub struct NameMark {
 }
 
 // The mark of the owner's name at an offset, which may be known.
+#[tactic(auto, using(crate::proofs::NameMarks::known_mark))]
 fn mark_owner(s: &[u8], at: usize, known: Option<NameMark>) -> u64
     requires { (at < 65536) × IfSome known (OwnerMarked s.now) }
     ensures { result ≡ mark_of 0 (held s.now at) }
@@ -643,6 +644,7 @@ fn mark_owner(s: &[u8], at: usize, known: Option<NameMark>) -> u64
 pub fn mark_name(s: &[u8], w: u64, known: Option<NameMark>) -> NameMark
     requires { IfSome known (OwnerMarked s.now) }
     ensures mark_value { result.mark ≡ mark_of 0 (entry_name s.now w) }
+    ensures start_value { result.start ≡ mark_of 0 (held s.now result.owner) }
     ensures owner_marked { OwnerMarked s.now result }
 {
     let owner = owner_at(w);
