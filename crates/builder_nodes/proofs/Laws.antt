@@ -2,11 +2,12 @@
 use Rattle.std.specs.Prelude.{Result, Ok, Err}
 use mathlib.Core.Path.{◌≡◌, refl, sym, ap, ◌∙◌, subst}
 use mathlib.Core.List.{List, [], ◌++◌, append_assoc, append-nil}
-use Prim.Native.Nat.{ℕ, ◌+◌, ◌-◌, ◌≤◌}
+use Prim.Native.Nat.{ℕ, ◌+◌, ◌-◌, ◌≤◌, ◌<◌}
 use native.Mathlib.Omega.{arith}
 use Rattle.errors.specs.Refusal.{Outcome, done, refused, plain}
 use Rattle.errors.specs.Refusal.{◌>>=◌ as ◌and_then◌}
 use Rattle.errors.specs.declared.Reason.{Reason}
+use Rattle.errors.specs.declared.Reason.TheVariants.{InputTooLong}
 use Rattle.errors.specs.Meaning.{number_of}
 use Rattle.answers.specs.Answers.{Answers}
 use Rattle.answers.proofs.Laws.{answered, unanswered, passes, goes}
@@ -58,6 +59,11 @@ start_at {xs} {ys} {at} {p} k e w = subst (λ (z : ℕ). Wrote xs at (node_start
 
 -- ---- what a builder's answer says
 
+-- a reason's number is above 0, which no reason has
+pub number_above : (e : Reason) → 0 < number_of e
+number_above InputTooLong = omega arith
+number_above _ = omega arith
+
 module _ {s xs us ys : List ℕ} {at : ℕ} {o : Outcome (IrNode × Registry)} where
   -- a value: the definition gives a node and the registry that the words hold, and the node was written
   pub builds_done : {r : Built} → Builds s xs at us ys (Ok r) o →
@@ -71,8 +77,8 @@ module _ {s xs us ys : List ℕ} {at : ℕ} {o : Outcome (IrNode × Registry)} w
   builds_index b = (answered b).2.index
 
   -- a reason: the definition refuses with its number
-  pub builds_refused : {e : Reason} → Builds s xs at us ys (Err e) o → o ≡ refused (plain (number_of e))
-  builds_refused b = unanswered b
+  pub builds_refused : {e : Reason} → Builds s xs at us ys (Err e) o → (o ≡ refused (plain (number_of e))) × (0 < number_of e)
+  builds_refused {e} b = (unanswered b, number_above e)
 
 -- ---- how an action on the registry goes on, once its first step was answered
 
@@ -93,6 +99,12 @@ module _ {A B R Q : Type 0} {Made : R → A × Registry → Type 0} {Next : Q �
       ((x : A × Registry) (v : R) → r ≡ Ok v → Made v x → Answers Next q (k x.0 x.1)) → Answers Next q ((m >>= k) g)
   step_then {r = Ok v} a p f = step_goes a (λ x i. f x v refl i)
   step_then {r = Err e} a p f = rw (p e refl) (step_passes a)
+
+-- the same where one answer is that of both: its reason is the whole's anyway
+pub step_shared : {A B R : Type 0} {Made : R → A × Registry → Type 0} {Next : R → B × Registry → Type 0} (m : Build A) (k : A → Build B) (g : Registry)
+    {r : Result R Reason} →
+    Answers Made r (m g) → ((x : A × Registry) (v : R) → r ≡ Ok v → Made v x → Answers Next r (k x.0 x.1)) → Answers Next r ((m >>= k) g)
+step_shared m k g a f = step_then m k g a (λ e h. h) f
 
 module _ {A B : Type 0} (m : Build A) (g : Registry) where
   -- steps are the same however they are grouped

@@ -98,8 +98,9 @@ pub fn open_node(out: &mut [u8], at: usize, kind: usize, alignment: u64) -> usiz
     ensures wrote { Wrote out.old at (node_start kind alignment) out.new result }
     ensures value { result ≡ at + 15 }
 {
+    let meta = NodeMetadata::aligned(alignment);
     let p = wire::open_block(out, at, kind as u64);
-    let q = put_number_part(out, p, kind, 0, alignment);
+    let q = put_number_part(out, p, kind, 0, meta.alignment);
     put_text_flag(out, q, kind, 1, false)
 }
 
