@@ -147,12 +147,16 @@ behind_index {c = c} b = (answered (b.collects (replicate c.made (argument [])) 
 -- ---- the cursor, and how many arguments there are
 
 -- nothing is collected
-fills_none : {s ws : List ℕ} {c : Collected} → Room s ws c → Fills c c
+pub fills_none : {s ws : List ℕ} {c : Collected} → Room s ws c → Fills c c
 fills_none m = record { low = omega arith; high = omega arith; more = omega arith; most = m.most; count = m.standing.count }
 
 -- one step behind another
-fills_both : {c a r : Collected} → Fills c a → Fills a r → Fills c r
+pub fills_both : {c a r : Collected} → Fills c a → Fills a r → Fills c r
 fills_both f g = record { low = omega arith; high = omega arith; more = omega arith; most = g.most; count = g.count }
+
+-- behind what was collected there is room for the others
+pub room_more : {s ws us : List ℕ} {c r : Collected} → Room s ws c → length us ≡ length ws → Fills c r → Indexed s us r.count → Room s us r
+room_more m e f i = record { standing = standing m.standing e f.count i; most = f.most; cursor = omega (arith, m.cursor, f.high) }
 
 -- ---- a list, entry by entry
 
@@ -190,8 +194,7 @@ pub record Gathered (all : Tree → List IrArgument → Build (List IrArgument))
 pub room_left : {all : Tree → List IrArgument → Build (List IrArgument)} {s xs ws us ys : List ℕ} {c r : Collected} {i : Item}
     {n at left q : ℕ} →
     Gathered all s xs c ws i n at left q us ys r → Room s ws c → length us ≡ length ws → Room s us r
-room_left g m e =
-    record { standing = standing m.standing e g.fills.count g.index; most = g.fills.most; cursor = omega (arith, m.cursor, g.fills.high) }
+room_left g m e = room_more m e g.fills g.index
 
 module _ {one all : Tree → List IrArgument → Build (List IrArgument)} (w : Walk one all) {s xs ws : List ℕ} {c : Collected} {i : Item}
     {n at : ℕ} where

@@ -134,7 +134,7 @@ module _ {s xs ws us : List ℕ} {c : Collected} {owner path : ℕ} {o p : List 
 -- ---- the paths of an owner
 
 -- the next path, and the list behind it
-abbrev next_path : {s : List ℕ} {left path : ℕ} → 0 < left → (l : Entries s Item.names left path) →
+abbrev pub next_path : {s : List ℕ} {left path : ℕ} → 0 < left → (l : Entries s Item.names left path) →
     After l (name (name_at s path)) (path + 2 + le2 s path)
 next_path z l = (name_entry l z).2
 
@@ -177,7 +177,7 @@ module _ {s : List ℕ} {left owner : ℕ} (z : 0 < left) (l : Listed s 37 37 le
   owner_here = (block_entry l z).child
 
   -- the list behind it
-  abbrev next_owner : After l (tree owner_here) (owner + 4 + le4 s owner)
+  abbrev pub next_owner : After l (tree owner_here) (owner + 4 + le4 s owner)
   next_owner = (block_entry l z).after
 
   -- it lies inside the set

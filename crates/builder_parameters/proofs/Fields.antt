@@ -174,3 +174,7 @@ no_jagged e f h = record {
   struct = λ z. sym e ∙ f;
   no_element = λ z a m. none_before (fields_of (kind_of (type_of (tree a)))) (h a) (before_element (split (replace_colons m)));
 }
+
+-- a struct in which a field is one
+pub one_jagged : {s : List ℕ} {at k : ℕ} → k ≡ le2 s (at + 4) → k ≡ 2 → Jagged s at true
+one_jagged e f = record { struct = λ z. sym e ∙ f; no_element = λ z. false_true (sym z) }

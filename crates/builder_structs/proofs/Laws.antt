@@ -50,7 +50,23 @@ use Rattle.builder_structs.proofs.Fold.{sum_node, plus, more, summed_one, summed
 use Rattle.builder_structs.proofs.Next.{struct_is}
 use Rattle.builder_structs.proofs.Field.{Opened, FieldLeft, aligned_closes}
 
+-- ---- how many nodes a field makes
+
+-- a field without padding makes one
+pub one_node : {v : ℕ} (end : ℕ) (o : Option ℕ) → v ≡ pad_size end o → v ≡ 0 → 1 ≡ nodes_of end o 0
+one_node end o e z = let h : pad_size end o ≤ 0 = omega arith in rw (le-ltb 0 (pad_size end o) h)
+
+-- a field with padding makes two
+pub two_nodes : {v : ℕ} (end : ℕ) (o : Option ℕ) → v ≡ pad_size end o → (v ≡ 0 → ⊥) → 2 ≡ nodes_of end o 0
+two_nodes end o e z = let h : 0 < pad_size end o = omega arith in rw (lt-ltb 0 (pad_size end o) h)
+
 -- ---- the end of the prefix
+
+-- a field without an offset does not move it
+pub end_unplaced : {s : List ℕ} {kind : ℕ} {offset : std.Option ℕ} (end : ℕ) → offset ≡ None → (a : Accepted s 1 7 kind) →
+    Some end ≡ end_of (prefix_end end (offset_of offset) (head (type_of (tree a))).size)
+unfolding prefix_end
+end_unplaced end e a = rw e
 
 module _ {s : List ℕ} {kind : ℕ} {h : TypeHead} (end : ℕ) (hd : (a : Accepted s 1 7 kind) → HeadAt a h) where
   -- the end of the prefix behind a field, as the code has it
