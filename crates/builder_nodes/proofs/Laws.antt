@@ -59,7 +59,7 @@ start_at {xs} {ys} {at} {p} k e w = subst (λ (z : ℕ). Wrote xs at (node_start
 
 -- ---- what a builder's answer says
 
--- a reason's number is above 0, which no reason has
+-- no reason has the number 0, which is that of an accepted call
 pub number_above : (e : Reason) → 0 < number_of e
 number_above InputTooLong = omega arith
 number_above _ = omega arith
