@@ -373,12 +373,13 @@ fn trees(s: &[u8], room: usize, at: usize, end: usize) -> Option<usize>
     Some(next)
 }
 
-// A layout.
+// A layout that ends where its input does: that is asked before a tree is read, since one with bytes behind it is refused.
 fn layout(s: &[u8], room: usize, at: usize, end: usize) -> Option<usize>
     requires { (at ≤ end) × (end ≤ length s.now) }
     ensures { (e : Earlier) → Reads result (read_block room s.now e 160 160 at end) }
 {
     let stop = of_kind(s, 160, at, end)?;
+    ask(stop == end)?;
     ask(0 < room)?;
     ask(trees(s, room - 1, at + 6, stop)? == stop)?;
     Some(stop)
