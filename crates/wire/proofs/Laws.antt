@@ -181,6 +181,10 @@ or_none a b h =
     let r : bit_and a b ≤ b = and_le_r a b in
     (omega arith, omega arith)
 
+-- of no numbers nothing is said
+pub bits_none : (f : ℕ → ℕ) → Bits f 0 0
+bits_none f e k h = absurd (not-suc-le-zero h)
+
 -- one more number is taken in
 pub bits_more : (f : ℕ → ℕ) (bits i : ℕ) → Bits f bits i → Bits f (bit_or bits (f i)) (i + 1)
 bits_more f bits i b e = let o = or_none bits (f i) e in below_more (λ (k : ℕ). f k ≡ 0) i (b o.0) o.1

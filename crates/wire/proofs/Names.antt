@@ -2,18 +2,19 @@
 -- Assumes nothing.
 use mathlib.Core.Path.{◌≡◌, refl, sym, ◌∙◌, ap, ap₂}
 use mathlib.Core.Bool.{Bool, true, false, ◌&&◌}
-use mathlib.Core.List.{List, [], ◌∷◌}
+use mathlib.Core.List.{List, [], ◌∷◌, ◌++◌}
 use Rattle.std.specs.Cmp.Lexicographic.{pointwise}
 use Rattle.std.proofs.lemmas.Bool.Decides.{nat_tests}
 use Prim.Native.Nat.{ℕ, zero, suc, ◌+◌, ◌-◌, ◌<◌, ◌≤◌}
 use native.Mathlib.Omega.{arith}
 use Rattle.std.proofs.Common.{Fits, w8}
 use lib.Dec.{ltb, eqb}
-use lib.ListN.{length, take, drop, get_or, get_or-eq_default}
-use lib.Seq.{ext_get_or}
+use lib.ListN.{length, take, drop, get_or, get_or-eq_default, drop_of_length-le}
+use lib.Seq.{drop-drop, ext_get_or}
 use borrow.Author.Tests.{ltb-true, ltb-false, eqb-true, eqb-false}
-use Rattle.blocks.specs.Bytes.{le, le2, name_at}
+use Rattle.blocks.specs.Bytes.{le, le2, name_at, bytes}
 use Rattle.blocks.specs.Name.{same}
+use Rattle.blocks.proofs.Bytes.{le_one, spelt}
 use Rattle.blocks.proofs.Name.{same_eq, same_refl}
 
 -- ---- name_at
@@ -125,3 +126,65 @@ module _ (a b : List ℕ) (bytes_a : (i : ℕ) → Fits w8 (get_or a i 0)) (byte
         go : (t : Bool) → eqb x y ≡ t → t ≡ same a b
         go true d = alike_whole (alike_back f k k h u v (eqb-true x y d)) k (omega arith) ea eb e
         go false d = differ a b (λ z. eqb-false x y d (u ∙ ap (λ (s : List ℕ). le k s k) z ∙ sym v))
+
+-- ---- the same over what is left behind an offset, as a list
+
+-- behind the last byte nothing is left to compare
+pub same_none : (a b : List ℕ) (n : ℕ) → length a ≤ n → length b ≤ n → drop n a ≡ drop n b
+same_none a b n h k = rw (drop_of_length-le a {i = n} h, drop_of_length-le b {i = n} k)
+
+-- names of one length, whose elements are bytes
+module _ (a b : List ℕ) (bytes_a : (i : ℕ) → get_or a i 0 < 256) (bytes_b : (i : ℕ) → get_or b i 0 < 256) (l : length a ≡ length b) where
+  -- k bytes at j that make one number are the same: so are all from j on, if those from i on are
+  pub same_step : (k i j : ℕ) → drop i a ≡ drop i b → i ≤ j + k → j + k ≤ length a → {p q : ℕ} → p ≡ le k a j → q ≡ le k b j → p ≡ q → drop j a ≡ drop j b
+  same_step k i j d h g ea eb e =
+      let z : i + (j + k - i) ≡ j + k = omega arith in
+      let r : drop (j + k) a ≡ drop (j + k) b = rw z at (sym (drop-drop (j + k - i) i a) ∙ ap (drop (j + k - i)) d ∙ drop-drop (j + k - i) i b) in
+      let n : le k a j ≡ le k b j = sym ea ∙ e ∙ eb in
+      spelt a bytes_a k j g ∙ ap₂ (λ (v : ℕ) (t : List ℕ). bytes k v ++ t) n r ∙ sym (spelt b bytes_b k j (omega arith))
+
+  -- the first k bytes decide, if those from i on are the same
+  pub same_first : (k i : ℕ) → drop i a ≡ drop i b → i ≤ k → k ≤ length a → {p q : ℕ} → p ≡ le k a 0 → q ≡ le k b 0 → eqb p q ≡ same a b
+  same_first k i d h g {p} {q} ea eb = go (eqb p q) refl
+    where
+      go : (t : Bool) → eqb p q ≡ t → t ≡ same a b
+      go true e =
+          let z : a ≡ b = same_step k i 0 d (omega arith) (omega arith) ea eb (eqb-true p q e) in
+          rw z (sym (same_refl b))
+      go false e = differ a b (λ z. eqb-false p q e (ea ∙ ap (λ (s : List ℕ). le k s 0) z ∙ sym eb))
+
+  -- the k bytes at j decide, if those before them and those from i on are the same
+  pub same_inner : (k i j : ℕ) → drop i a ≡ drop i b → i ≤ j + k → j + k ≤ length a → {x y p q : ℕ} → x ≡ le j a 0 → y ≡ le j b 0 → x ≡ y
+      → p ≡ le k a j → q ≡ le k b j → eqb p q ≡ same a b
+  same_inner k i j d h g {x} {y} {p} {q} fa fb f ea eb = go (eqb p q) refl
+    where
+      go : (t : Bool) → eqb p q ≡ t → t ≡ same a b
+      go true e =
+          let m : drop j a ≡ drop j b = same_step k i j d h g ea eb (eqb-true p q e) in
+          let z : a ≡ b = same_step j j 0 m (omega arith) (omega arith) fa fb f in
+          rw z (sym (same_refl b))
+      go false e = differ a b (λ z. eqb-false p q e (ea ∙ ap (λ (s : List ℕ). le k s j) z ∙ sym eb))
+
+  -- names whose first k bytes are the same, and all from i on, are the same
+  pub same_all : (k i : ℕ) → drop i a ≡ drop i b → i ≤ k → k ≤ length a → {p q : ℕ} → p ≡ le k a 0 → q ≡ le k b 0 → p ≡ q → true ≡ same a b
+  same_all k i d h g ea eb e =
+      let z : a ≡ b = same_step k i 0 d (omega arith) (omega arith) ea eb e in
+      rw z (sym (same_refl b))
+
+  -- where the last k bytes are the same, and no byte stands between them and the first k, the first k decide
+  pub same_ends : (k : ℕ) → k ≤ length a → length a ≤ k + k → {p q x y : ℕ} → p ≡ le k a (length a - k) → q ≡ le k b (length a - k) → p ≡ q
+      → x ≡ le k a 0 → y ≡ le k b 0 → eqb x y ≡ same a b
+  same_ends k h g ea eb e fa fb =
+      let n : drop (length a) a ≡ drop (length a) b = same_none a b (length a) (omega arith) (omega arith) in
+      let d : drop (length a - k) a ≡ drop (length a - k) b = same_step k (length a) (length a - k) n (omega arith) (omega arith) ea eb e in
+      same_first k (length a - k) d (omega arith) h fa fb
+
+  -- names of one byte
+  pub same_one : length a ≡ 1 → eqb (get_or a 0 0) (get_or b 0 0) ≡ same a b
+  same_one h = same_first 1 1 (same_none a b 1 (omega arith) (omega arith)) (omega arith) (omega arith) (sym (le_one a 0)) (sym (le_one b 0))
+
+-- names without a byte are the same
+pub same_empty : (a b : List ℕ) → length a ≡ length b → length a ≤ 0 → true ≡ same a b
+same_empty a b l h =
+    let z : a ≡ b = same_none a b 0 h (omega arith) in
+    rw z (sym (same_refl b))

@@ -2,9 +2,9 @@
 use mathlib.Core.Path.{◌≡◌, refl, sym, ◌∙◌, ap}
 use mathlib.Core.Bool.{Bool, true, false, ◌&&◌, ◌||◌, cond, or-false}
 use mathlib.Core.List.{List, [], ◌∷◌}
-use Prim.Native.Nat.{min, ℕ, zero, suc, ◌+◌, ◌-◌, ◌*◌, ◌^◌, ◌<◌, ◌≤◌}
+use Prim.Native.Nat.{min, ℕ, zero, suc, ◌+◌, ◌-◌, ◌*◌, ◌/◌, ◌%◌, ◌^◌, ◌<◌, ◌≤◌}
 use native.Mathlib.Numerals.{add-one}
-use native.Mathlib.Nat.{add-zero, zero-add, suc-add, suc-mul, add-mul, mul_assoc, mul-le-mul_right, pow-succ'}
+use native.Mathlib.Nat.{add-zero, zero-add, suc-add, suc-mul, add-mul, mul_assoc, mul-le-mul_right, pow-succ', one-le-pow, mod-eq_of_lt, div-eq_of_lt, add-mul-mod_self_left, add-mul-div_left}
 use native.Mathlib.Omega.{arith}
 use Rattle.std.proofs.Common.{Fits, w8, Some}
 use Rattle.std.specs.Ordering.{nat_cmp, partial_ordering_then, is_lt, is_some_and}
@@ -14,8 +14,10 @@ use lib.Pow.{pow-add}
 use lib.ListN.{length, drop, get_or, drop_of_length-le}
 use lib.Seq.{drop-cons}
 use borrow.Author.Tests.{lt-ltb, le-ltb, eq-eqb, ne_eqb, ltb-true, ltb-false, eqb-true, eqb-false, leb-true, leb-false, le-leb, lt-leb}
+use Rattle.blocks.specs.Bytes.{le}
 use Rattle.blocks.specs.Name.{less, same}
-use Rattle.wire.specs.Order.{be, ends, first_bytes}
+use Rattle.blocks.proofs.Bytes.{le_one, le_join, below}
+use Rattle.wire.specs.Order.{be, Turned, ends, first_bytes}
 use Rattle.wire.proofs.Names.{differ, Alike, alike_none, alike_more, alike_same}
 
 -- ---- numbers in two parts
@@ -76,6 +78,22 @@ unfolding be
 be_below s small zero at = omega arith
 be_below s small (suc k) at =
     rw pow-succ' (omega (arith, lower (256 ^ k) (get_or s at 0) (be k s (at + 1)) 256 0 (small at).fits (be_below s small k (at + 1))))
+
+-- a byte is its own number in both orders
+pub turn_one : {x : ℕ} → Turned 1 x x
+turn_one = record { is = λ s small at e. e ∙ le_one s at ∙ sym (be_one s at) }
+
+-- a number is turned by halves: so four bytes are turned as two and two, eight as four and four
+pub turn_halves : (k : ℕ) {x u v : ℕ} → Turned k (x % 256 ^ k) u → Turned k (x / 256 ^ k) v → Turned (k + k) x (u * 256 ^ k + v)
+turn_halves k {x} {u} {v} f g = record { is = λ s small at e. go s small at (e ∙ le_join s k k at) }
+  where
+    go : (s : List ℕ) → ((i : ℕ) → get_or s i 0 < 256) → (at : ℕ) → x ≡ le k s at + 256 ^ k * le k s (at + k) → u * 256 ^ k + v ≡ be (k + k) s at
+    go s small at e =
+        let p : 0 < 256 ^ k = one-le-pow k 256 (omega arith) in
+        let l : le k s at < 256 ^ k = below s small k at in
+        let m : x % 256 ^ k ≡ le k s at = rw (e, add-mul-mod_self_left) (mod-eq_of_lt l) in
+        let d : x / 256 ^ k ≡ le k s (at + k) = rw (e, add-mul-div_left (le k s at) (le k s (at + k)) p, div-eq_of_lt l) (zero-add (le k s (at + k))) in
+        rw (f.is s small at m, g.is s small (at + k) d) (sym (be_join s k k at))
 
 -- ---- two names, whose elements are bytes
 
@@ -216,6 +234,11 @@ module _ (a b : List ℕ) (bytes_a : (i : ℕ) → Fits w8 (get_or a i 0)) (byte
       go : (t : Bool) → eqb x y ≡ t → t ≡ same a b
       go true e = alike_same (first_alike n l ea eb (eqb-true x y e)) (omega arith) g
       go false e = differ a b (λ z. eqb-false x y e (ea ∙ ap (λ (s : List ℕ). first_bytes s n) z ∙ sym eb))
+
+-- `alike_big` of numbers below 256: k bytes at j that make one number are alike, so are all before j + k, if those before i are
+pub alike_step : (a b : List ℕ) → ((i : ℕ) → get_or a i 0 < 256) → ((i : ℕ) → get_or b i 0 < 256)
+    → (k i j : ℕ) → Alike a b i → j ≤ i → {x y : ℕ} → x ≡ be k a j → y ≡ be k b j → x ≡ y → Alike a b (j + k)
+alike_step a b bytes_a bytes_b k i j f h ea eb e = alike_big a b (λ m. record { fits = bytes_a m }) (λ m. record { fits = bytes_b m }) f k j h ea eb e
 
 -- ---- that number as the code has it, by how many bytes there are
 
