@@ -1,12 +1,13 @@
 -- A table with a slot more. Assumes nothing.
-use Prim.Native.Nat.{ℕ, ◌+◌, ◌-◌, ◌≤◌, ◌<◌}
+use Prim.Native.Nat.{ℕ, ◌+◌, ◌-◌, ◌*◌, ◌/◌, ◌%◌, ◌≤◌, ◌<◌}
 use native.Mathlib.Omega.{arith}
-use mathlib.Core.Path.{◌≡◌, refl, ap}
+use mathlib.Core.Path.{◌≡◌, refl, sym, ◌∙◌, ap}
 use mathlib.Core.Bool.{Bool, true, false}
 use mathlib.Core.List.{List, ◌++◌}
 use lib.Dec.{eqb}
 use Rattle.std.proofs.lemmas.Grind.{common_steps}
-use lib.ListN.{length, get_or, length-append, length-replicate, replicate}
+use lib.ListN.{length, get_or, set, length-set, length-append, length-replicate, replicate}
+use lib.Seq.{get_or-set_same, get_or-set_other}
 use borrow.Author.Tests.{eqb-true, eqb-false}
 use Rattle.marks.specs.Table.{Placed, Last, Slot, Linked}
 
@@ -51,6 +52,70 @@ linked_over {ws} {f} {n} w o r = record {
     go : (k : ℕ) → k < n + 1 → f k < 18446744073709551616 → (b : Bool) → eqb k n ≡ b → Slot f k (get_or ws (127 + k) 0)
     go k h l true g = absurd (let q : f k ≡ f n = ap f (eqb-true k n g) in let z : ⊥ = omega arith in z)
     go k h l false g = w.slots k (omega (arith, eqb-false k n g)) l
+
+-- ---- a slot more with its mark
+
+module _ {ws : List ℕ} {f : ℕ → ℕ} {n : ℕ} (w : Linked ws f n) (mark : ℕ) (e : f n ≡ mark) (low : mark < 18446744073709551616)
+    (few : n < 65536) (r : 127 + n < length ws) where
+  -- the last slot of the mark's place, plus 1
+  abbrev head : ℕ
+  head = get_or ws (mark % 127) 0
+
+  -- the word of the slot
+  abbrev word : ℕ
+  word = mark % 281474976710656 * 65536 + head % 65536
+
+  -- the words with the slot
+  abbrev words : List ℕ
+  words = set (set ws (127 + n) word) (mark % 127) (n + 1)
+
+  -- what its place had before
+  before : Last f (mark % 127) n head
+  before = w.heads (mark % 127) (omega arith)
+
+  -- its place leads to it
+  head_here : Last f (mark % 127) (n + 1) (n + 1)
+  head_here = record {
+    within = omega arith;
+    place = λ z. let q : n + 1 - 1 ≡ n = omega arith in rw (q, e) (low, refl);
+    last = λ k l g. l;
+  }
+
+  -- every place leads to its last slot
+  head_more : (p : ℕ) → p < 127 → Last f p (n + 1) (get_or words p 0)
+  head_more p h = go (eqb p (mark % 127)) refl
+    where
+      go : (b : Bool) → eqb p (mark % 127) ≡ b → Last f p (n + 1) (get_or words p 0)
+      go true g =
+          rw (eqb-true p (mark % 127) g, get_or-set_same (set ws (127 + n) word) (mark % 127) (n + 1) 0 (rw length-set (omega arith))) head_here
+      go false g =
+          rw (
+            get_or-set_other (set ws (127 + n) word) (mark % 127) p (n + 1) 0 (eqb-false p (mark % 127) g),
+            get_or-set_other ws (127 + n) p word 0 (λ q. let z : ⊥ = omega arith in z),
+          )
+          (last_other (λ q. eqb-false p (mark % 127) g (sym q.1 ∙ ap (λ (m : ℕ). m % 127) e)) (w.heads p h))
+
+  -- the word has the mark and the link
+  slot_here : Slot f n word
+  slot_here =
+      let u : word / 65536 ≡ mark % 281474976710656 = omega arith in
+      let v : word % 65536 ≡ head = omega (arith, before.within) in
+      record { bits = rw (e, u); link = rw (e, v) before }
+
+  -- and so have those before it
+  slot_more : (k : ℕ) → k < n + 1 → f k < 18446744073709551616 → Slot f k (get_or words (127 + k) 0)
+  slot_more k h l =
+      rw (get_or-set_other (set ws (127 + n) word) (mark % 127) (127 + k) (n + 1) 0 (λ q. let z : ⊥ = omega arith in z)) (go (eqb k n) refl)
+    where
+      go : (b : Bool) → eqb k n ≡ b → Slot f k (get_or (set ws (127 + n) word) (127 + k) 0)
+      go true g = rw (eqb-true k n g, get_or-set_same ws (127 + n) word 0 r) slot_here
+      go false g =
+          rw (get_or-set_other ws (127 + n) (127 + k) word 0 (λ q. let z : ⊥ = omega (arith, eqb-false k n g) in z))
+          (w.slots k (omega (arith, eqb-false k n g)) l)
+
+  -- the slot is in the table
+  pub linked_more : Linked words f (n + 1)
+  linked_more = record { room = rw (length-set, length-set) (omega arith); heads = head_more; slots = slot_more }
 
 -- ---- the same marks by another function
 
