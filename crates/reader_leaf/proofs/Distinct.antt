@@ -93,6 +93,11 @@ pub told : (t b : Bool) → b ≡ not t → b ≡ true → t ≡ false
 told true b e h = sym h ∙ e
 told false b e h = refl
 
+-- a test whose negation is false holds
+pub not_not : (b : Bool) → not b ≡ false → b ≡ true
+not_not true e = refl
+not_not false e = sym e
+
 -- ---- the table of marks
 
 -- a table of zeros has no slot

@@ -2,17 +2,17 @@
 use mathlib.Core.Path.{◌≡◌, refl, sym, ◌∙◌, ap}
 use mathlib.Core.Bool.{Bool, true, false, not, not-not, ◌||◌}
 use mathlib.Core.List.{List, [], ◌∷◌}
-use Prim.Native.Nat.{ℕ, zero, suc, ◌+◌, ◌-◌, ◌<◌, ◌≤◌}
+use Prim.Native.Nat.{ℕ, zero, suc, ◌+◌, ◌-◌, ◌^◌, ◌<◌, ◌≤◌}
 use native.Mathlib.Omega.{arith}
 use lib.Dec.{leb, ltb, eqb}
-use lib.ListN.{get_or, take, drop}
+use lib.ListN.{get_or, take, drop, get_or-eq_default}
 use borrow.Author.Tests.{le-leb, eq-eqb, ne_eqb, ltb-true, ltb-false}
 use Rattle.errors.specs.Refusal.{Refusal, Outcome, done, refused, ◌>>=◌, ask, unread}
 use Rattle.errors.proofs.Laws.{asked}
 use Rattle.blocks.specs.Bytes.{le2, bytes_at}
 use Rattle.blocks.specs.Name.{Name, is_text, same, less, among}
 use Rattle.blocks.specs.Tree.{Tree, name, num, cons}
-use Rattle.blocks.specs.Read.{Step, Earlier, paths_before, in_order, name_of, read_text, read_key, read_flag, read_if, read_optional}
+use Rattle.blocks.specs.Read.{Step, Earlier, paths_before, in_order, name_of, signed_in, in_type, read_text, read_key, read_flag, read_if, read_optional}
 pub use Rattle.wire.proofs.Names.{name_part}
 use Rattle.std.specs.Prelude.{Option, is_some}
 use Rattle.wire.specs.declared.Position.{Position}
@@ -172,6 +172,17 @@ pub ruleset optionals = (optional_stop, optional_on, optional_off)
 
 -- all that a name needs that was read as a text
 pub ruleset keys = (key_stop, key_passed, key_refused)
+
+-- ---- a literal's type
+
+-- not one of four numbers
+pub past : (k x : ℕ) → k ≤ x → (x ≡ k → ⊥) → (x ≡ k + 1 → ⊥) → (x ≡ k + 2 → ⊥) → (x ≡ k + 3 → ⊥) → k + 4 ≤ x
+past k x h a b c d = omega arith
+
+-- a code above 7 has no type: no number lies in it
+pub no_type_lem : (code v : ℕ) → 8 ≤ code → in_type code v ≡ false
+unfolding in_type
+no_type_lem code v h = get_or-eq_default (true ∷ ltb v (2 ^ 32) ∷ ltb v (2 ^ 16) ∷ ltb v (2 ^ 8) ∷ signed_in 64 v ∷ signed_in 32 v ∷ signed_in 16 v ∷ signed_in 8 v ∷ []) false h
 
 -- ---- names in order
 
