@@ -236,8 +236,7 @@ module _ (a b : List ℕ) (bytes_a : (i : ℕ) → Fits w8 (get_or a i 0)) (byte
       go false e = differ a b (λ z. eqb-false x y e (ea ∙ ap (λ (s : List ℕ). first_bytes s n) z ∙ sym eb))
 
 -- `alike_big` of numbers below 256: k bytes at j that make one number are alike, so are all before j + k, if those before i are
-pub alike_step : (a b : List ℕ) → ((i : ℕ) → get_or a i 0 < 256) → ((i : ℕ) → get_or b i 0 < 256)
-    → (k i j : ℕ) → Alike a b i → j ≤ i → {x y : ℕ} → x ≡ be k a j → y ≡ be k b j → x ≡ y → Alike a b (j + k)
+pub alike_step : (a b : List ℕ) → ((i : ℕ) → get_or a i 0 < 256) → ((i : ℕ) → get_or b i 0 < 256) → (k i j : ℕ) → Alike a b i → j ≤ i → {x y : ℕ} → x ≡ be k a j → y ≡ be k b j → x ≡ y → Alike a b (j + k)
 alike_step a b bytes_a bytes_b k i j f h ea eb e = alike_big a b (λ m. record { fits = bytes_a m }) (λ m. record { fits = bytes_b m }) f k j h ea eb e
 
 -- ---- that number as the code has it, by how many bytes there are
