@@ -2,10 +2,10 @@
 // before the type lookup.
 #![tactic(auto)]
 
-ghost use Rattle.std.specs.Prelude.{◌≡◌, ◌+◌, ◌≤◌};
+ghost use Rattle.std.specs.Prelude.{◌≡◌, ◌+◌, ◌≤◌, IfSome};
 ghost use Rattle.blocks.specs.Bytes.{le2};
 ghost use Rattle.interpreter_values.specs.Remembered.{Kept};
-ghost use Rattle.interpreter_eval.specs.Evaluates.{Ready, Evaluates};
+ghost use Rattle.interpreter_eval.specs.Evaluates.{Ready, Evaluates, Selects, Reached};
 
 use errors::{Answer, Reason, Refusal};
 use interpreter_leaves::{Frame, Inputs};
@@ -57,7 +57,21 @@ fn eval_align(inputs: &Inputs, at: usize, words: &mut [u64], f: Frame) -> Answer
     f.lifted(at, interpreter_arithmetic::align_up(x, alignment))
 }
 
-// A node of two operands, left before right. A constant is met so often on the left that it is asked for at once.
+// An operand of a node: a constant is met so often that it is asked for at once.
+#[cycle(eval)]
+fn eval_operand(inputs: &Inputs, at: usize, words: &mut [u64], f: Frame) -> Answer
+    requires { Ready inputs.now words.old f at }
+    ensures kept { Kept inputs.now.values.now inputs.now.root.block f.depth words.old words.new }
+    ensures evaluates { Evaluates inputs.now words.old f at result }
+{
+    let inner = interpreter_leaves::unwrapped(inputs.layout, at);
+    if wire::read2(inputs.layout, inner + 4) == 129 {
+        return Ok(interpreter_leaves::constant(inputs.layout, inner));
+    }
+    eval_node(inputs, inner, words, f)
+}
+
+// A node of two operands, left before right.
 #[cycle(eval)]
 fn eval_binary(inputs: &Inputs, at: usize, words: &mut [u64], f: Frame) -> Answer
     requires { Ready inputs.now words.old f at × ((134 ≤ le2 inputs.now.layout.now (at + 4)) × (le2 inputs.now.layout.now (at + 4) ≤ 143)) }
@@ -65,29 +79,55 @@ fn eval_binary(inputs: &Inputs, at: usize, words: &mut [u64], f: Frame) -> Answe
     ensures evaluates { Evaluates inputs.now words.old f at result }
 {
     let kind = wire::read2(inputs.layout, at + 4);
-    let first = interpreter_context::first_part(inputs.layout, at);
-    let p = interpreter_leaves::unwrapped(inputs.layout, first);
+    let p = interpreter_context::first_part(inputs.layout, at);
     let q = interpreter_context::second_part(inputs.layout, at);
-    let x = if wire::read2(inputs.layout, p + 4) == 129 {
-        interpreter_leaves::constant(inputs.layout, p)
-    } else {
-        eval_node(inputs, p, words, f)?
-    };
-    let y = eval_node(inputs, q, words, f)?;
+    let x = eval_operand(inputs, p, words, f)?;
+    let y = eval_operand(inputs, q, words, f)?;
     f.lifted(at, interpreter_arithmetic::operate(kind, x, y))
 }
 
-// A Switch node.
+// The node that a Switch node selects, if its tag is there and it has one.
+fn selected_by(inputs: &Inputs, at: usize, words: &mut [u64], f: Frame) -> Option<usize>
+    requires { Ready inputs.now words.old f at × (le2 inputs.now.layout.now (at + 4) ≡ 132) }
+    ensures kept { Kept inputs.now.values.now inputs.now.root.block f.depth words.old words.new }
+    ensures selects { IfSome result (Selects inputs.now words.old words.new f at) }
+{
+    let v = interpreter_leaves::tag(inputs, at, words, f)?;
+    interpreter_leaves::selected(inputs.layout, at, v)
+}
+
+// The node to which the switches lead that a node is and selects, as far as each selects one: what it comes to, the node does.
+#[inline(never)]
+fn behind_switches(inputs: &Inputs, at: usize, words: &mut [u64], f: Frame) -> usize
+    requires { Ready inputs.now words.old f at }
+    ensures { Reached inputs.now words.old words.new f at result }
+{
+    let mut node = interpreter_leaves::unwrapped(inputs.layout, at);
+    'switches: while wire::read2(inputs.layout, node + 4) == 132 {
+        match selected_by(inputs, node, words, f) {
+            Some(q) => node = interpreter_leaves::unwrapped(inputs.layout, q),
+            None => return node,
+        }
+    }
+    node
+}
+
+// A Switch node. Switches that it selects are gone through before the next node is evaluated: a call for each would take stack for each, since
+// a result of this size is handed on by no tail call.
 #[cycle(eval)]
 fn eval_switch(inputs: &Inputs, at: usize, words: &mut [u64], f: Frame) -> Answer
     requires { Ready inputs.now words.old f at × (le2 inputs.now.layout.now (at + 4) ≡ 132) }
     ensures kept { Kept inputs.now.values.now inputs.now.root.block f.depth words.old words.new }
     ensures evaluates { Evaluates inputs.now words.old f at result }
 {
-    let v = interpreter_leaves::tag(inputs, at, words, f).ok_or(f.missing(at))?;
-    let unmatched = f.refused(Reason::InvalidTagValue, at, v);
-    let q = interpreter_leaves::selected(inputs.layout, at, v).ok_or(unmatched)?;
-    eval_node(inputs, q, words, f)
+    let Some(v) = interpreter_leaves::tag(inputs, at, words, f) else {
+        return Err(f.missing(at));
+    };
+    let Some(q) = interpreter_leaves::selected(inputs.layout, at, v) else {
+        return Err(f.refused(Reason::InvalidTagValue, at, v));
+    };
+    let end = behind_switches(inputs, q, words, f);
+    eval_node(inputs, end, words, f)
 }
 
 // A CallNested node: arguments, type lookup, then whether the call may open; its word holds where the call and the type stand.
@@ -98,8 +138,9 @@ fn eval_call(inputs: &Inputs, at: usize, words: &mut [u64], f: Frame) -> Answer
     ensures evaluates { Evaluates inputs.now words.old f at result }
 {
     interpreter_leaves::collect_arguments(inputs, at, words, f)?;
-    let unknown = Refusal::plain(Reason::UnknownType);
-    let callee = interpreter_leaves::called(inputs.layout, at, words, f).ok_or(unknown)?;
+    let Some(callee) = interpreter_leaves::called(inputs.layout, at, words, f) else {
+        return Err(Refusal::plain(Reason::UnknownType));
+    };
     if f.depth == 16 {
         return Err(f.refused(Reason::TooManyCalls, at, Value::of(0)));
     }

@@ -1,7 +1,7 @@
 use mathlib.Core.Path.{refl, sym, ◌∙◌, ap}
 use Prim.Native.Nat.{ℕ}
 use native.Mathlib.Omega.{arith}
-use Rattle.errors.specs.Refusal.{done}
+use Rattle.errors.specs.Refusal.{done, refused}
 use Rattle.ir.specs.Layout.{layout_of}
 use Rattle.interpreter_context.proofs.Lists.{ends}
 use Rattle.interpreter_context.proofs.Calls.{context_kept}
@@ -11,9 +11,10 @@ use Rattle.interpreter_leaves.proofs.Nodes.{three_parts, zero_is}
 use Rattle.interpreter_leaves.proofs.Align.{align_number, align_child}
 use Rattle.std.specs.Prelude.{Ok}
 use Rattle.interpreter_values.specs.Remembered.{Kept}
+use Rattle.interpreter_values.proofs.Laws.{kept_both}
 use Rattle.interpreter_eval.specs.Evaluates.{Evaluates}
 use Rattle.interpreter_eval.proofs.Laws.{sum_is, unwrapped_is, align_stops, align_goes, left_child, right_child, left_stops, right_stops, both_go, switch_misses, switch_ends, switch_goes, found_at_lem, call_lacks, call_unknown, call_stops, Opening, call_opens, call_ready, call_answers, unchanged, still_ready, context_now, bound_now, kept_now, child_ready, leaf_answers}
-use Rattle.interpreter_eval.proofs.+eval.Goals.{eval_binary-Joined-read2-eq129, eval_binary-then-read2-eq129, eval_binary-else-read2-eq129+in_ok-x, eval_call-After-root-top}
+use Rattle.interpreter_eval.proofs.+eval.Goals.{eval_call-After-root-top}
 use Rattle.interpreter_eval.proofs.+eval.Goals as goal
 
 -- ---- eval_node
@@ -100,6 +101,33 @@ eval_align-returns-clause-evaluates t c =
     c.align_up.ensures
     c.lifted.ensures
 
+-- ---- eval_operand
+
+pub eval_operand-overflow_add-inner : goal.eval_operand-overflow_add-inner
+eval_operand-overflow_add-inner t c = omega (arith, within (c.unwrapped-inner.ensures c.requires.node).node)
+
+pub eval_operand-read2-requires : goal.eval_operand-read2-requires
+eval_operand-read2-requires t c = omega (arith, within (c.unwrapped-inner.ensures c.requires.node).node)
+
+pub eval_operand-constant-requires : goal.eval_operand-constant-requires
+eval_operand-constant-requires t c = ((c.unwrapped-inner.ensures c.requires.node).node, sym c.read2.ensures.0 ∙ c.if-read2-eq129.true)
+
+pub eval_operand-returns-then-read2-eq129-clause-kept : goal.eval_operand-returns-then-read2-eq129-clause-kept
+eval_operand-returns-then-read2-eq129-clause-kept t c = unchanged c.requires
+
+pub eval_operand-returns-then-read2-eq129-clause-evaluates : goal.eval_operand-returns-then-read2-eq129-clause-evaluates
+eval_operand-returns-then-read2-eq129-clause-evaluates t c =
+    λ γ x t rd a. unwrapped_is c.unwrapped-inner.ensures _ (layout_of t) _ γ (λ b. leaf_answers _ (layout_of t) _ γ b (λ k. c.constant.ensures k _ γ b)) a
+
+pub eval_operand-eval_node-requires : goal.eval_operand-eval_node-requires
+eval_operand-eval_node-requires t c =
+    let u = c.unwrapped-inner.ensures c.requires.node in
+    (omega (arith, c.decreases, u.short), child_ready c.requires u.node)
+
+pub eval_operand-returns-clause-evaluates : goal.eval_operand-returns-clause-evaluates
+eval_operand-returns-clause-evaluates t c =
+    λ γ x t rd a. unwrapped_is c.unwrapped-inner.ensures _ (layout_of t) _ γ (c.eval_node.ensures.evaluates γ x t rd) a
+
 -- ---- eval_binary
 
 pub eval_binary-overflow_add-at : goal.eval_binary-overflow_add-at
@@ -108,35 +136,16 @@ eval_binary-overflow_add-at t c = omega (arith, within c.requires.0.node)
 pub eval_binary-read2-kind-requires : goal.eval_binary-read2-kind-requires
 eval_binary-read2-kind-requires t c = omega (arith, within c.requires.0.node)
 
-pub eval_binary-unwrapped-p-requires : goal.eval_binary-unwrapped-p-requires
-eval_binary-unwrapped-p-requires t c = (left_child c.requires.0.node c.requires.1.0 c.requires.1.1 c.first_part-first.ensures).0
-
 pub eval_binary-second_part-q-requires : goal.eval_binary-second_part-q-requires
 eval_binary-second_part-q-requires t c = (
   c.requires.0.node,
   three_parts _ (omega (arith, c.requires.1.0)) (omega (arith, c.requires.1.1)),
 )
 
-pub eval_binary-overflow_add-p : goal.eval_binary-overflow_add-p
-eval_binary-overflow_add-p t c =
-    let k = left_child c.requires.0.node c.requires.1.0 c.requires.1.1 c.first_part-first.ensures in
-    omega (arith, within (c.unwrapped-p.ensures k.0).node)
-
-pub eval_binary-read2-requires : goal.eval_binary-read2-requires
-eval_binary-read2-requires t c =
-    let k = left_child c.requires.0.node c.requires.1.0 c.requires.1.1 c.first_part-first.ensures in
-    omega (arith, within (c.unwrapped-p.ensures k.0).node)
-
-pub eval_binary-constant-x-requires : goal.eval_binary-constant-x-requires
-eval_binary-constant-x-requires t c =
-    let k = left_child c.requires.0.node c.requires.1.0 c.requires.1.1 c.first_part-first.ensures in
-    ((c.unwrapped-p.ensures k.0).node, sym c.read2.ensures.0 ∙ c.if-read2-eq129.true)
-
-pub eval_binary-eval_node-requires : goal.eval_binary-eval_node-requires
-eval_binary-eval_node-requires t c =
-    let k = left_child c.requires.0.node c.requires.1.0 c.requires.1.1 c.first_part-first.ensures in
-    let u = c.unwrapped-p.ensures k.0 in
-    (omega (arith, c.decreases, k.2, u.short), child_ready c.requires.0 u.node)
+pub eval_binary-eval_operand-requires : goal.eval_binary-eval_operand-requires
+eval_binary-eval_operand-requires t c =
+    let k = left_child c.requires.0.node c.requires.1.0 c.requires.1.1 c.first_part-p.ensures in
+    (omega (arith, c.decreases, k.2), child_ready c.requires.0 k.0)
 
 pub eval_binary-returns-in_err-x-clause-evaluates : goal.eval_binary-returns-in_err-x-clause-evaluates
 eval_binary-returns-in_err-x-clause-evaluates t c =
@@ -144,89 +153,86 @@ eval_binary-returns-in_err-x-clause-evaluates t c =
     ∙ left_stops a
     c.requires.1.0
     c.requires.1.1
-    c.first_part-first.ensures
+    c.first_part-p.ensures
     c.second_part-q.ensures _
     (layout_of t) _ γ
-    (unwrapped_is c.unwrapped-p.ensures _ (layout_of t) _ γ (c.in_err-x.ensures.evaluates γ x t rd))
+    (c.in_err-x.ensures.evaluates γ x t rd)
 
--- behind the left operand: what it came to, over words of which those of the open calls are kept
-left : (t : ℕ) (c : eval_binary-Joined-read2-eq129 t) → Kept c.args.inputs.now.values.now c.args.inputs.now.root.block c.args.f.depth c.args.words.now c.if-read2-eq129.words
-    × Evaluates c.args.inputs.now c.args.words.now c.args.f c.first_part-first.result (Ok c.if-read2-eq129.x)
-left t c =
-    elim c.if-read2-eq129.branch [
-      | eval_binary-then-read2-eq129 w ↦ (
-        rw w.words-is (unchanged c.requires.0),
-        λ γ x t rd. rw w.x-is (unwrapped_is c.unwrapped-p.ensures _ (layout_of t) _ γ (λ b. leaf_answers _ (layout_of t) _ γ b (λ k. w.constant-x.ensures k _ γ b))),
-      )
-      | eval_binary-else-read2-eq129+in_ok-x w ↦ (
-        rw w.words-is w.in_ok-x.ensures.kept,
-        λ γ x t rd. rw w.x-is (unwrapped_is c.unwrapped-p.ensures _ (layout_of t) _ γ (w.in_ok-x.ensures.evaluates γ x t rd)),
-      )
-    ]
-
-pub eval_binary-eval_node-requires-2 : goal.eval_binary-eval_node-requires-2
-eval_binary-eval_node-requires-2 t c =
+pub eval_binary-eval_operand-requires-2 : goal.eval_binary-eval_operand-requires-2
+eval_binary-eval_operand-requires-2 t c =
     let k = right_child c.requires.0.node c.requires.1.0 c.requires.1.1 c.second_part-q.ensures in
-    let l = left t (goal.at.eval_binary-eval_node-requires-2 t c).Joined-read2-eq129 in
-    (omega (arith, c.decreases, k.2), still_ready c.requires.0 k.0 (omega arith) l.0)
+    (omega (arith, c.decreases, k.2), still_ready c.requires.0 k.0 (omega arith) c.in_ok-x.ensures.kept)
+
+pub eval_binary-returns-in_err-y-clause-kept : goal.eval_binary-returns-in_err-y-clause-kept
+eval_binary-returns-in_err-y-clause-kept t c = kept_both c.in_ok-x.ensures.kept c.in_err-y.ensures.kept
 
 pub eval_binary-returns-in_err-y-clause-evaluates : goal.eval_binary-returns-in_err-y-clause-evaluates
 eval_binary-returns-in_err-y-clause-evaluates t c =
-    let l = left t (goal.at.eval_binary-returns-in_err-y-clause-evaluates t c).Joined-read2-eq129 in
     λ γ x t rd a. stopped c.from_residual-in_err-y.result _ c.from_residual-in_err-y.ensures.1
     ∙ right_stops a
     c.requires.1.0
     c.requires.1.1
-    c.first_part-first.ensures
+    c.first_part-p.ensures
     c.second_part-q.ensures _
     (layout_of t) _ γ
-    (l.1 γ x t rd)
-    (c.in_err-y.ensures.evaluates γ (context_kept _ (omega arith) (omega arith) l.0 x) t rd)
+    (c.in_ok-x.ensures.evaluates γ x t rd)
+    (c.in_err-y.ensures.evaluates γ (context_kept _ (omega arith) (omega arith) c.in_ok-x.ensures.kept x) t rd)
+
+pub eval_binary-returns-clause-kept : goal.eval_binary-returns-clause-kept
+eval_binary-returns-clause-kept t c = kept_both c.in_ok-x.ensures.kept c.in_ok-y.ensures.kept
 
 pub eval_binary-returns-clause-evaluates : goal.eval_binary-returns-clause-evaluates
 eval_binary-returns-clause-evaluates t c =
-    let l = left t (goal.at.eval_binary-returns-clause-evaluates t c).Joined-read2-eq129 in
     λ γ x t rd a. both_go a
     c.requires.1.0
     c.requires.1.1
-    c.first_part-first.ensures
+    c.first_part-p.ensures
     c.second_part-q.ensures _
     (layout_of t) _ γ
-    (l.1 γ x t rd)
-    (c.in_ok-y.ensures.evaluates γ (context_kept _ (omega arith) (omega arith) l.0 x) t rd)
+    (c.in_ok-x.ensures.evaluates γ x t rd)
+    (c.in_ok-y.ensures.evaluates γ (context_kept _ (omega arith) (omega arith) c.in_ok-x.ensures.kept x) t rd)
     c.read2-kind.ensures.0
     c.operate.ensures
     c.lifted.ensures
 
 -- ---- eval_switch
 
-pub eval_switch-returns-in_err-v-clause-evaluates : goal.eval_switch-returns-in_err-v-clause-evaluates
-eval_switch-returns-in_err-v-clause-evaluates t c =
-    λ γ x t rd a. lacking c.from_residual.result _ _ c.from_residual.ensures.1 c.in_err-v.ensures.value c.in_err-v.ensures.ok_part c.missing.ensures
-    ∙ switch_misses c.requires.1 _ (layout_of t) _ γ a (c.tag.ensures.result_value γ x a) c.in_err-v.ensures.ok_part
+pub eval_switch-returns-in_default-clause-evaluates : goal.eval_switch-returns-in_default-clause-evaluates
+eval_switch-returns-in_default-clause-evaluates t c =
+    λ γ x t rd a. ap refused c.missing.ensures ∙ switch_misses c.requires.1 _ (layout_of t) _ γ a (c.tag.ensures.result_value γ x a) c.in_default.is
 
-pub eval_switch-returns-in_err-q-clause-evaluates : goal.eval_switch-returns-in_err-q-clause-evaluates
-eval_switch-returns-in_err-q-clause-evaluates t c =
-    λ γ x t rd a. let picked = rw c.in_err-q.ensures.ok_part at (c.selected.ensures a) in
-    lacking c.from_residual-in_err-q.result _ _ c.from_residual-in_err-q.ensures.1 c.in_err-q.ensures.value c.in_err-q.ensures.ok_part c.refused-unmatched.ensures
-    ∙ switch_ends c.requires.1 _ (layout_of t) _ γ a (c.tag.ensures.result_value γ x a) c.in_ok-v.ensures.ok_part picked
+pub eval_switch-returns-in_default-selected-clause-evaluates : goal.eval_switch-returns-in_default-selected-clause-evaluates
+eval_switch-returns-in_default-selected-clause-evaluates t c =
+    λ γ x t rd a. let picked = rw c.in_default-selected.is at (c.selected.ensures a) in
+    ap refused c.refused.ensures
+    ∙ switch_ends c.requires.1 _ (layout_of t) _ γ a (c.tag.ensures.result_value γ x a) c.in-Some.is picked
+
+pub eval_switch-behind_switches-end-requires : goal.eval_switch-behind_switches-end-requires
+eval_switch-behind_switches-end-requires t c =
+    let ready = still_ready c.requires.0 c.requires.0.node (omega arith) (kept_now c.requires.0 (omega arith) c.tag.ensures.kept) in
+    let picked = rw c.in-Some-selected.is at (c.selected.ensures ready.node) in
+    child_ready ready picked.node
 
 pub eval_switch-eval_node-requires : goal.eval_switch-eval_node-requires
 eval_switch-eval_node-requires t c =
-    let ready = still_ready c.requires.0 c.requires.0.node (omega arith) (kept_now c.requires.0 (omega arith) c.tag.ensures.kept) in
-    let picked = rw c.in_ok-q.ensures.ok_part at (c.selected.ensures ready.node) in
-    (omega (arith, c.decreases, picked.short), child_ready ready picked.node)
+    let picked = rw c.in-Some-selected.is at (c.selected.ensures c.requires.0.node) in
+    let end = c.behind_switches-end.ensures in
+    (omega (arith, c.decreases, picked.short, end.short), end.ready)
+
+pub eval_switch-returns-clause-kept : goal.eval_switch-returns-clause-kept
+eval_switch-returns-clause-kept t c =
+    kept_both (kept_now c.requires.0 (omega arith) c.tag.ensures.kept) (kept_both c.behind_switches-end.ensures.kept c.eval_node.ensures.kept)
 
 pub eval_switch-returns-clause-evaluates : goal.eval_switch-returns-clause-evaluates
 eval_switch-returns-clause-evaluates t c =
-    λ γ x t rd a. let picked = rw c.in_ok-q.ensures.ok_part at (c.selected.ensures a) in
+    λ γ x t rd a. let picked = rw c.in-Some-selected.is at (c.selected.ensures a) in
     switch_goes
     c.requires.1 _
     (layout_of t) _ γ a
     (c.tag.ensures.result_value γ x a)
-    c.in_ok-v.ensures.ok_part
+    c.in-Some.is
     picked
-    (c.eval_node.ensures.evaluates γ (context_now c.requires.0 (omega arith) c.tag.ensures.kept x) t rd)
+    (c.behind_switches-end.ensures.same _ c.eval_node.ensures.evaluates γ (context_now c.requires.0 (omega arith) c.tag.ensures.kept x) t rd)
 
 -- ---- eval_call
 
@@ -235,19 +241,14 @@ eval_call-returns-in_err-collect_arguments-clause-evaluates t c =
     λ γ x t rd a. stopped c.from_residual.result _ c.from_residual.ensures.1
     ∙ call_lacks c.requires.1 _ (layout_of t) _ γ a (c.in_err-collect_arguments.ensures.by_index γ x a)
 
-pub eval_call-returns-in_err-callee-clause-evaluates : goal.eval_call-returns-in_err-callee-clause-evaluates
-eval_call-returns-in_err-callee-clause-evaluates t c =
-    λ γ x t rd a. lacking
-    c.from_residual-in_err-callee.result _ _
-    c.from_residual-in_err-callee.ensures.1
-    c.in_err-callee.ensures.value
-    c.in_err-callee.ensures.ok_part
-    c.plain-unknown.ensures
+pub eval_call-returns-in_default-clause-evaluates : goal.eval_call-returns-in_default-clause-evaluates
+eval_call-returns-in_default-clause-evaluates t c =
+    λ γ x t rd a. ap refused c.plain.ensures
     ∙ call_unknown
     c.requires.1 _
     (layout_of t) _ γ a
     (c.in_ok-collect_arguments.ensures.by_index γ x a).1
-    c.in_err-callee.ensures.ok_part
+    c.in_default.is
     (c.called.ensures t rd a)
 
 pub eval_call-returns-then-f-eq16-clause-evaluates : goal.eval_call-returns-then-f-eq16-clause-evaluates
@@ -257,20 +258,20 @@ eval_call-returns-then-f-eq16-clause-evaluates t c =
     c.requires.1 _
     (layout_of t) _ γ a
     (c.in_ok-collect_arguments.ensures.by_index γ x a).1
-    (found_at_lem c.in_ok-callee.ensures.ok_part (c.called.ensures t rd a)).1
+    (found_at_lem c.in-Some.is (c.called.ensures t rd a)).1
     (omega (arith, c.if-f-eq16.true))
 
 pub eval_call-root-top-requires : goal.eval_call-root-top-requires
 eval_call-root-top-requires t c =
     let l = c.requires.0.layout in
-    (found_at_lem c.in_ok-callee.ensures.ok_part (c.called.ensures l.0 l.1 c.requires.0.node)).0
+    (found_at_lem c.in-Some.is (c.called.ensures l.0 l.1 c.requires.0.node)).0
 
 -- the call may open
-opening : (t : ℕ) (c : eval_call-After-root-top t) → Opening c.args.inputs.now.layout.now c.collect_arguments.new.words c.args.f c.args.at c.in_ok-callee.callee.at
+opening : (t : ℕ) (c : eval_call-After-root-top t) → Opening c.args.inputs.now.layout.now c.collect_arguments.new.words c.args.f c.args.at c.in-Some.callee.at
 opening t c =
     let kept = kept_now c.requires.0 (omega arith) c.collect_arguments.ensures.kept in
     let ready = still_ready c.requires.0 c.requires.0.node (omega arith) kept in
-    call_opens ready c.in_ok-callee.ensures.ok_part c.called.ensures c.if-f-eq16.false
+    call_opens ready c.in-Some.is c.called.ensures c.if-f-eq16.false
 
 pub eval_call-overflow_mul-words : goal.eval_call-overflow_mul-words
 eval_call-overflow_mul-words t c = let o = opening t c in omega arith
@@ -282,13 +283,13 @@ pub eval_call-eval_node-requires : goal.eval_call-eval_node-requires
 eval_call-eval_node-requires t c =
     let o = opening t (goal.at.eval_call-eval_node-requires t c).After-root-top in
     let ready = still_ready c.requires.0 c.requires.0.node (omega arith) (kept_now c.requires.0 (omega arith) c.collect_arguments.ensures.kept) in
-    let type = (found_at_lem c.in_ok-callee.ensures.ok_part (c.called.ensures ready.layout.0 ready.layout.1 ready.node)).0 in (
+    let type = (found_at_lem c.in-Some.is (c.called.ensures ready.layout.0 ready.layout.1 ready.node)).0 in (
       omega (arith, c.decreases, ready.small, (ends (c.root-top.ensures type).root).1),
       call_ready c.args.inputs.now _
           o.word
           (omega arith) refl
           c.requires.1
-          c.in_ok-callee.ensures.ok_part
+          c.in-Some.is
           (bound_now c.requires.0 (omega arith) c.collect_arguments.ensures.kept c.in_ok-collect_arguments.ensures.by_index)
           c.called.ensures
           c.root-top.ensures
@@ -302,7 +303,7 @@ eval_call-returns-clause-evaluates t c =
     o.word
     (omega arith) refl
     c.requires.1
-    c.in_ok-callee.ensures.ok_part
+    c.in-Some.is
     (bound_now c.requires.0 (omega arith) c.collect_arguments.ensures.kept c.in_ok-collect_arguments.ensures.by_index)
     c.called.ensures
     c.root-top.ensures

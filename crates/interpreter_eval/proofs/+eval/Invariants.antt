@@ -1,5 +1,5 @@
 -- The measure: the calls that may still open, then the length of the node's block, then the member's rank, since a node is handed on unchanged
--- only from eval_node to eval_kind and to the member of its kind.
+-- only from eval_operand to eval_node, to eval_kind and to the member of its kind.
 use Rattle.std.proofs.Common.{◌+◌, ◌-◌, ◌*◌}
 use Rattle.blocks.specs.Bytes.{le4}
 use Rattle.interpreter_eval.proofs.+eval.Given as goal
@@ -21,3 +21,6 @@ decreases-eval_node l = (16 - l.f.depth) * 1048576 + 4 * le4 l.inputs.now.layout
 
 abbrev pub decreases-eval_switch : goal.decreases-eval_switch
 decreases-eval_switch l = (16 - l.f.depth) * 1048576 + 4 * le4 l.inputs.now.layout.now l.at
+
+abbrev pub decreases-eval_operand : goal.decreases-eval_operand
+decreases-eval_operand l = (16 - l.f.depth) * 1048576 + 4 * le4 l.inputs.now.layout.now l.at + 3
