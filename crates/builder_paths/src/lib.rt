@@ -131,7 +131,9 @@ fn put_prefix(out: &mut [u8], depth: usize) -> usize
     p
 }
 
-// The path, inside so many arrays, written at the start of the output. Of an empty path the last dot before it is left out.
+// The path, inside so many arrays, written at the start of the output. Of an empty path the last dot before it is left out. (Inlined where the
+// output is a buffer of the caller's own, the loop that writes a name would become a memcpy, and of the C library the archive needs memset alone.)
+#[inline(never)]
 pub fn put_joined(s: &[u8], at: usize, depth: usize, out: &mut [u8]) -> usize
     requires { Accepted s.now 64 91 at × (le2 s.now (at + 4) ≡ 65) × (length s.now ≤ 65536) × (depth ≤ 65536) }
     ensures { (a : Accepted s.now 64 91 at) (path : List Name) → expr_of (tree a) ≡ ExprKind.FieldRef path → Wrote out.old 0 (path_of depth path) out.new result }
