@@ -62,6 +62,8 @@ fn build_literal(
 }
 
 // A FieldRef node of a path that the registry knows. A path is measured once it is found.
+// Not inlined where the path is a buffer of the caller's own, as `builder_paths::put_joined`.
+#[inline(never)]
 fn build_path(
     s: &[u8],
     words: &[u64],
