@@ -59,7 +59,7 @@ fn fill_words(words: &mut [u64]) {
     words.fill(u64::MAX);
 }
 
-// Whether every word is zero. (By `iter().all` this and `is_all` take a quarter of the time of a whole run more.)
+// Whether every word is zero.
 fn is_clean(words: &[u64]) -> bool {
     for word in words {
         if *word != 0 {
