@@ -3,7 +3,7 @@ use mathlib.Core.Path.{◌≡◌, refl, sym, ◌∙◌, ap, subst, fun_ext}
 use mathlib.Core.Bool.{Bool, true, false, cond}
 use mathlib.Core.List.{List, [], ◌∷◌, ◌++◌}
 use mathlib.Core.Option.{Option as Maybe, some, none}
-use Rattle.std.specs.Prelude.{Option, Some, None, Result, IfSome}
+use Rattle.std.specs.Prelude.{Option, Some, None, Result}
 use Prim.Native.Nat.{ℕ, zero, suc, ◌+◌, ◌-◌, ◌*◌, ◌≤◌, ◌<◌}
 use native.Mathlib.Numerals.{add-one, sub-one}
 use native.Mathlib.Omega.{arith}
@@ -39,14 +39,14 @@ use Rattle.interpreter_context.specs.Names.{found_in}
 use Rattle.interpreter_context.specs.Context.{Context, Pair, Open, call_at, tree_at, arguments_of, parameters_of}
 use Rattle.interpreter_context.proofs.Calls.{context_kept, bottom}
 use Rattle.interpreter_values.specs.Remembered.{Remembered, Kept}
-use Rattle.interpreter_values.proofs.Laws.{kept_none, kept_fewer, kept_both, kept_back, kept_set}
+use Rattle.interpreter_values.proofs.Laws.{kept_none, kept_fewer, kept_back, kept_set}
 use Rattle.interpreter_context.proofs.Lists.{ends}
 use Rattle.interpreter_leaves.specs.declared.Frame.{Frame}
 use Rattle.interpreter_leaves.specs.declared.Inputs.{Inputs}
-use Rattle.interpreter_leaves.specs.Steps.{ContextOver, Rooted, pick, cases_of, default_of, PickedAt, Picked, Unwrapped}
+use Rattle.interpreter_leaves.specs.Steps.{ContextOver, Rooted, pick, cases_of, default_of, PickedAt, Unwrapped}
 use Rattle.interpreter_leaves.proofs.Align.{align_child, align_node, unwrap_same}
 use Rattle.interpreter_leaves.proofs.Nodes.{found_as}
-use Rattle.interpreter_eval.specs.Evaluates.{Ready, Evaluates, Selects, Reached}
+use Rattle.interpreter_eval.specs.Evaluates.{Ready, Evaluates}
 
 -- ---- the allowance of open calls
 
@@ -346,10 +346,6 @@ module _ {i : Inputs} {ws us : List ℕ} {f : Frame} {at : ℕ} (x : Ready i ws 
   pub context_now : {γ : ParamMap} → ContextOver i ws f.depth γ → ContextOver i us f.depth γ
   context_now c = context_kept 16 x.calls l k c
 
-  -- what the node comes to over the words of now is what it comes to
-  pub evaluates_now : (r : Result Value Refusal) → Evaluates i us f at r → Evaluates i ws f at r
-  evaluates_now r e γ c = e γ (context_now c)
-
   -- the arguments that were found are those over the words of now
   pub bound_now : ((γ : ParamMap) → ContextOver i ws f.depth γ → (a : Accepted i.layout.now 128 144 at) → Collected f.place γ a) →
       (γ : ParamMap) → ContextOver i us f.depth γ → (a : Accepted i.layout.now 128 144 at) → Collected f.place γ a
@@ -362,56 +358,6 @@ module _ {i : Inputs} {ws us : List ℕ} {f : Frame} {at : ℕ} (x : Ready i ws 
 -- what is ready for a node is ready for another of the same tree
 pub child_ready : {i : Inputs} {ws : List ℕ} {f : Frame} {at q : ℕ} → Ready i ws f at → Accepted i.layout.now 128 144 q → Ready i ws f q
 child_ready r c = record { node = c; layout = r.layout; context = r.context; here = r.here; calls = r.calls; room = r.room; small = r.small }
-
--- ---- the loop of switches
-
--- a node without what changes nothing comes to what it does with it
-unwrapped_same : (i : Inputs) {ws : List ℕ} (f : Frame) {at q : ℕ} → ((a : Accepted i.layout.now 128 144 at) → Unwrapped a q) → (o : Result Value Refusal) → Evaluates i ws f q o → Evaluates i ws f at o
-unwrapped_same i f u o e γ x t rd a = unwrapped_is u _ (layout_of t) _ γ (e γ x t rd) a
-
--- it begins with the node itself
-pub reached_first : {i : Inputs} {ws : List ℕ} {f : Frame} {at q : ℕ} → Ready i ws f at → ((a : Accepted i.layout.now 128 144 at) → Unwrapped a q) → Reached i ws ws f at q
-reached_first {i} {f = f} x u = record {
-  ready = child_ready x (u x.node).node;
-  long = refl;
-  short = (u x.node).short;
-  kept = unchanged x;
-  same = unwrapped_same i f u;
-}
-
--- and goes on with the node that a switch selects
-pub reached_next : {i : Inputs} {ws us vs : List ℕ} {f : Frame} {at r q p : ℕ} → Reached i ws us f at r → length vs ≡ length us → Kept i.values.now i.root.block f.depth us vs →
-    Selects i us vs f r q → ((a : Accepted i.layout.now 128 144 q) → Unwrapped a p) → Reached i ws vs f at p
-reached_next {i} {f = f} z l k s u = record {
-  ready = still_ready z.ready (u s.node).node l k;
-  long = l ∙ z.long;
-  short = omega (arith, z.short, s.short, (u s.node).short);
-  kept = kept_both z.kept k;
-  same = λ o e. z.same o (s.same o (unwrapped_same i f u o e));
-}
-
--- a search kept the words as far as it matters: the node that was come to stays
-pub reached_kept : {i : Inputs} {ws us vs : List ℕ} {f : Frame} {at r : ℕ} → Reached i ws us f at r → length vs ≡ length us → Kept i.values.now i.root.block f.depth us vs →
-    Reached i ws vs f at r
-reached_kept {i} {f = f} z l k = record {
-  ready = still_ready z.ready z.ready.node l k;
-  long = l ∙ z.long;
-  short = z.short;
-  kept = kept_both z.kept k;
-  same = λ o e. z.same o (λ γ c t rd a. e γ (context_kept f.depth (omega (arith, z.ready.room)) l k c) t rd a);
-}
-
--- A Switch node whose tag was looked for: the node that it selects, if there is one
-pub switch_selects : {i : Inputs} {ws us : List ℕ} {f : Frame} {at : ℕ} {r : Option Value} {v : Value} (x : Ready i ws f at) (n : le2 i.layout.now (at + 4) ≡ 132)
-    (l : length us ≡ length ws) (k : Kept i.values.now i.root.block f.depth ws us)
-    (er : (γ : ParamMap) → ContextOver i ws f.depth γ → (a : Accepted i.layout.now 128 144 at) → found_in r ≡ find (text (part 2 (body_of a))) γ) →
-    r ≡ Some v → (o : Option ℕ) → ((a : Accepted i.layout.now 128 144 at) → Picked a (number_of v) o) → IfSome o (Selects i ws us f at)
-switch_selects x n l k er ev None m = tt
-switch_selects {i} {f = f} x n l k er ev (Some q) m = record {
-  node = (m x.node).node;
-  short = (m x.node).short;
-  same = λ o h γ c t rd a. switch_goes n _ (layout_of t) _ γ a (er γ c a) ev (m a) (h γ (context_kept f.depth (omega (arith, x.room)) l k c) t rd);
-}
 
 -- the word of a call
 pub packed : (call callee : ℕ) → call < 4294967296 → (call_at (call + callee * 4294967296) ≡ call) × (tree_at (call + callee * 4294967296) ≡ callee)

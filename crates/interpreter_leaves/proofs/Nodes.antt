@@ -90,16 +90,13 @@ ref_is : {s : List ℕ} {at q : ℕ} → FieldName s at q → le2 s (at + 4) ≡
 unfolding form_of make_thing eval_node
 ref_is {at} n k handle pl γ a = ap (eval_node handle pl γ) (node_is a k refl) ∙ ap (λ (m : Name). value_or (refusal pl at MissingIrParameter 0) (find m γ)) (n.is a)
 
--- what was found is the answer, and else the refusal
-pub found_or : (o : Maybe ℕ) (r : Option Value) (e : Refusal) {d : definition.Refusal} → found_in r ≡ o → refusal_of e ≡ d → outcome_of (ok_or r e) ≡ value_or d o
-unfolding value_or
-found_or o None e {d} f g = ap refused g ∙ ap (value_or d) f
-found_or o (Some v) e {d} f g = ap (value_or d) f
-
--- so it is with a FieldRef node
-pub ref_answers : {s : List ℕ} {at q : ℕ} (pl : ℕ) (r : Option Value) (e : Refusal) (γ : ParamMap) → FieldName s at q → le2 s (at + 4) ≡ 130 → found_in r ≡ find (name_at s q) γ →
-    refusal_of e ≡ refusal pl at MissingIrParameter 0 → (handle : Handlers) (a : Accepted s 128 144 at) → outcome_of (ok_or r e) ≡ eval_node handle pl γ (node_of (tree a))
-ref_answers {s} {q} pl r e γ n k f g handle a = found_or (find (name_at s q) γ) r e f g ∙ sym (ref_is n k handle pl γ a)
+-- so what was found of its name is what the node comes to, and else the refusal
+pub ref_answers : {s : List ℕ} {at q : ℕ} (pl : ℕ) {r : Option Value} (γ : ParamMap) → FieldName s at q → le2 s (at + 4) ≡ 130 → found_in r ≡ find (name_at s q) γ →
+    {x : Option Value} → r ≡ x → (handle : Handlers) (a : Accepted s 128 144 at) → value_or (refusal pl at MissingIrParameter 0) (found_in x) ≡ eval_node handle pl γ (node_of (tree a))
+ref_answers {s} {at} {q} pl γ n k f e handle a =
+    ap (λ (r : Option Value). value_or (refusal pl at MissingIrParameter 0) (found_in r)) (sym e)
+    ∙ ap (value_or (refusal pl at MissingIrParameter 0)) f
+    ∙ sym (ref_is n k handle pl γ a)
 
 -- ---- ZeroSize
 

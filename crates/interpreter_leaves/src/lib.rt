@@ -104,7 +104,10 @@ pub fn field(inputs: &Inputs, at: usize, words: &mut [u64], f: Frame) -> Answer
     ensures kept { Kept inputs.now.values.now inputs.now.root.block 16 words.old words.new }
 {
     let name = field_name(inputs.layout, at);
-    found(inputs, name, words, f).ok_or(f.missing(at))
+    let Some(value) = found(inputs, name, words, f) else {
+        return Err(f.missing(at));
+    };
+    Ok(value)
 }
 
 // The tag of a Switch node.
@@ -150,7 +153,9 @@ pub fn collect_arguments(
     let mut p = list + 2;
     for _ in 0..wire::read2(inputs.layout, list) {
         let value = p + 8 + wire::read2(inputs.layout, p + 6);
-        found(inputs, value, words, f).ok_or(f.missing(p))?;
+        let Some(_) = found(inputs, value, words, f) else {
+            return Err(f.missing(p));
+        };
         p = p + 4 + wire::read4(inputs.layout, p);
     }
     Ok(())

@@ -97,8 +97,9 @@ fn evaluated_tree(layout: &[u8], values: &[u8], t: Target, words: &mut [u64]) ->
     };
     let top = interpreter_leaves::root(layout, t.at);
     interpreter_values::forget(words);
-    let n = interpreter_eval::eval_node(&inputs, top, words, frame)?;
-    fitting(n, t.place, t.len)
+    let mut answer = Ok(Value::of(0));
+    interpreter_eval::eval_node(&inputs, top, words, frame, &mut answer);
+    fitting(answer?, t.place, t.len)
 }
 
 // How many words evaluating may use: one for each call that may be open, and where that is likely to pay, those in which it remembers

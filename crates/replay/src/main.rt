@@ -59,14 +59,13 @@ fn fill_words(words: &mut [u64]) {
     words.fill(u64::MAX);
 }
 
-// Whether every word is zero.
+// Whether every word is zero. (It goes to the end in any case: then several are looked at in a step, wherever this is compiled into.)
 fn is_clean(words: &[u64]) -> bool {
+    let mut bits = 0;
     for word in words {
-        if *word != 0 {
-            return false;
-        }
+        bits |= *word;
     }
-    true
+    bits == 0
 }
 
 // Where the part ends whose length stands at `at`, if it lies in s.
@@ -142,12 +141,11 @@ fn fill_bytes(out: &mut [u8]) {
 
 // Whether every byte is this one.
 fn is_all(out: &[u8], b: u8) -> bool {
+    let mut others = 0;
     for byte in out {
-        if *byte != b {
-            return false;
-        }
+        others |= *byte ^ b;
     }
-    true
+    others == 0
 }
 
 // How much of the output a record's call gets: as many bytes as it says, or all.

@@ -227,14 +227,6 @@ module _ (a b : List ℕ) (bytes_a : (i : ℕ) → Fits w8 (get_or a i 0)) (byte
       go false f true e r = ends_decide 2 n (leb-true 2 n e) (omega (arith, leb-false 4 n f)) h g r
       go false f false e r = alike_decide alike_none n 0 (omega arith) (omega arith) (omega arith) refl refl r
 
-  -- in names of one length it decides whether they are the same
-  pub first_same : (n : ℕ) → n < 8 → n ≡ length a → length a ≡ length b → {x y : ℕ} → x ≡ first_bytes a n → y ≡ first_bytes b n → eqb x y ≡ same a b
-  first_same n l h g {x} {y} ea eb = go (eqb x y) refl
-    where
-      go : (t : Bool) → eqb x y ≡ t → t ≡ same a b
-      go true e = alike_same (first_alike n l ea eb (eqb-true x y e)) (omega arith) g
-      go false e = differ a b (λ z. eqb-false x y e (ea ∙ ap (λ (s : List ℕ). first_bytes s n) z ∙ sym eb))
-
 -- `alike_big` of numbers below 256: k bytes at j that make one number are alike, so are all before j + k, if those before i are
 pub alike_step : (a b : List ℕ) → ((i : ℕ) → get_or a i 0 < 256) → ((i : ℕ) → get_or b i 0 < 256) → (k i j : ℕ) → Alike a b i → j ≤ i → {x y : ℕ} → x ≡ be k a j → y ≡ be k b j → x ≡ y → Alike a b (j + k)
 alike_step a b bytes_a bytes_b k i j f h ea eb e = alike_big a b (λ m. record { fits = bytes_a m }) (λ m. record { fits = bytes_b m }) f k j h ea eb e

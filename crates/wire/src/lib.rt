@@ -93,7 +93,6 @@ fn same_long(a: &[u8], b: &[u8]) -> bool
 }
 
 // Names are compared by their bytes.
-#[tactic(auto, using(crate::proofs::Names::same_long, crate::proofs::Order::first_same))]
 pub fn same_name(a: &[u8], b: &[u8]) -> bool
     ensures { result ≡ same a.now b.now }
 {
@@ -104,7 +103,22 @@ pub fn same_name(a: &[u8], b: &[u8]) -> bool
     if 8 <= n {
         return same_long(a, b);
     }
-    first_bytes(a, n) == first_bytes(b, n)
+    if 4 <= n {
+        if read4(a, n - 4) != read4(b, n - 4) {
+            return false;
+        }
+        return read4(a, 0) == read4(b, 0);
+    }
+    if 2 <= n {
+        if read2(a, n - 2) != read2(b, n - 2) {
+            return false;
+        }
+        return read2(a, 0) == read2(b, 0);
+    }
+    if n == 1 {
+        return a[0] == b[0];
+    }
+    true
 }
 
 // The same, the high byte first: by such numbers names are in byte order.

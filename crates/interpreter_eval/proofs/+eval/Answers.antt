@@ -6,10 +6,9 @@ use Rattle.ir.specs.Layout.{layout_of}
 use Rattle.interpreter_context.proofs.Lists.{ends}
 use Rattle.interpreter_context.proofs.Calls.{context_kept}
 use Rattle.interpreter_context.proofs.Laws.{kinds, within}
-use Rattle.interpreter_leaves.proofs.Exits.{stopped, lacking, no_value}
+use Rattle.interpreter_leaves.proofs.Exits.{no_value}
 use Rattle.interpreter_leaves.proofs.Nodes.{three_parts, zero_is}
 use Rattle.interpreter_leaves.proofs.Align.{align_number, align_child}
-use Rattle.std.specs.Prelude.{Ok}
 use Rattle.interpreter_values.specs.Remembered.{Kept}
 use Rattle.interpreter_values.proofs.Laws.{kept_both}
 use Rattle.interpreter_eval.specs.Evaluates.{Evaluates}
@@ -81,10 +80,10 @@ eval_align-eval_node-requires t c =
     let k = align_child c.second_part-q.ensures c.requires.0.node c.requires.1 in
     (omega (arith, c.decreases, k.2), child_ready c.requires.0 k.0)
 
-pub eval_align-returns-in_err-x-clause-evaluates : goal.eval_align-returns-in_err-x-clause-evaluates
-eval_align-returns-in_err-x-clause-evaluates t c =
-    λ γ x t rd a. stopped c.from_residual.result _ c.from_residual.ensures.1
-    ∙ align_stops c.first_part-p.ensures c.second_part-q.ensures c.requires.1 _ (layout_of t) _ γ a (c.in_err-x.ensures.evaluates γ x t rd)
+pub eval_align-returns-in_default-clause-evaluates : goal.eval_align-returns-in_default-clause-evaluates
+eval_align-returns-in_default-clause-evaluates t c =
+    λ γ x t rd a. rw c.in_default.is
+    (align_stops c.first_part-p.ensures c.second_part-q.ensures c.requires.1 _ (layout_of t) _ γ a (rw c.in_default.is at (c.eval_node.ensures.evaluates γ x t rd)))
 
 pub eval_align-read8-alignment-requires : goal.eval_align-read8-alignment-requires
 eval_align-read8-alignment-requires t c = (align_number c.first_part-p.ensures c.requires.0.node c.requires.1).0
@@ -96,7 +95,7 @@ eval_align-returns-clause-evaluates t c =
     c.second_part-q.ensures
     c.requires.1 _
     (layout_of t) _ γ a
-    (c.in_ok-x.ensures.evaluates γ x t rd)
+    (rw c.in-Ok.is at (c.eval_node.ensures.evaluates γ x t rd))
     c.read8-alignment.ensures
     c.align_up.ensures
     c.lifted.ensures
@@ -147,39 +146,39 @@ eval_binary-eval_operand-requires t c =
     let k = left_child c.requires.0.node c.requires.1.0 c.requires.1.1 c.first_part-p.ensures in
     (omega (arith, c.decreases, k.2), child_ready c.requires.0 k.0)
 
-pub eval_binary-returns-in_err-x-clause-evaluates : goal.eval_binary-returns-in_err-x-clause-evaluates
-eval_binary-returns-in_err-x-clause-evaluates t c =
-    λ γ x t rd a. stopped c.from_residual.result _ c.from_residual.ensures.1
-    ∙ left_stops a
+pub eval_binary-returns-in_default-clause-evaluates : goal.eval_binary-returns-in_default-clause-evaluates
+eval_binary-returns-in_default-clause-evaluates t c =
+    λ γ x t rd a. rw c.in_default.is
+    (left_stops a
     c.requires.1.0
     c.requires.1.1
     c.first_part-p.ensures
     c.second_part-q.ensures _
     (layout_of t) _ γ
-    (c.in_err-x.ensures.evaluates γ x t rd)
+    (rw c.in_default.is at (c.eval_operand.ensures.evaluates γ x t rd)))
 
 pub eval_binary-eval_operand-requires-2 : goal.eval_binary-eval_operand-requires-2
 eval_binary-eval_operand-requires-2 t c =
     let k = right_child c.requires.0.node c.requires.1.0 c.requires.1.1 c.second_part-q.ensures in
-    (omega (arith, c.decreases, k.2), still_ready c.requires.0 k.0 (omega arith) c.in_ok-x.ensures.kept)
+    (omega (arith, c.decreases, k.2), still_ready c.requires.0 k.0 (omega arith) c.eval_operand.ensures.kept)
 
-pub eval_binary-returns-in_err-y-clause-kept : goal.eval_binary-returns-in_err-y-clause-kept
-eval_binary-returns-in_err-y-clause-kept t c = kept_both c.in_ok-x.ensures.kept c.in_err-y.ensures.kept
+pub eval_binary-returns-in_default-answer-clause-kept : goal.eval_binary-returns-in_default-answer-clause-kept
+eval_binary-returns-in_default-answer-clause-kept t c = kept_both c.eval_operand.ensures.kept c.eval_operand-2.ensures.kept
 
-pub eval_binary-returns-in_err-y-clause-evaluates : goal.eval_binary-returns-in_err-y-clause-evaluates
-eval_binary-returns-in_err-y-clause-evaluates t c =
-    λ γ x t rd a. stopped c.from_residual-in_err-y.result _ c.from_residual-in_err-y.ensures.1
-    ∙ right_stops a
+pub eval_binary-returns-in_default-answer-clause-evaluates : goal.eval_binary-returns-in_default-answer-clause-evaluates
+eval_binary-returns-in_default-answer-clause-evaluates t c =
+    λ γ x t rd a. rw c.in_default-answer.is
+    (right_stops a
     c.requires.1.0
     c.requires.1.1
     c.first_part-p.ensures
     c.second_part-q.ensures _
     (layout_of t) _ γ
-    (c.in_ok-x.ensures.evaluates γ x t rd)
-    (c.in_err-y.ensures.evaluates γ (context_kept _ (omega arith) (omega arith) c.in_ok-x.ensures.kept x) t rd)
+    (rw c.in-Ok.is at (c.eval_operand.ensures.evaluates γ x t rd))
+    (rw c.in_default-answer.is at (c.eval_operand-2.ensures.evaluates γ (context_kept _ (omega arith) (omega arith) c.eval_operand.ensures.kept x) t rd)))
 
 pub eval_binary-returns-clause-kept : goal.eval_binary-returns-clause-kept
-eval_binary-returns-clause-kept t c = kept_both c.in_ok-x.ensures.kept c.in_ok-y.ensures.kept
+eval_binary-returns-clause-kept t c = kept_both c.eval_operand.ensures.kept c.eval_operand-2.ensures.kept
 
 pub eval_binary-returns-clause-evaluates : goal.eval_binary-returns-clause-evaluates
 eval_binary-returns-clause-evaluates t c =
@@ -189,8 +188,8 @@ eval_binary-returns-clause-evaluates t c =
     c.first_part-p.ensures
     c.second_part-q.ensures _
     (layout_of t) _ γ
-    (c.in_ok-x.ensures.evaluates γ x t rd)
-    (c.in_ok-y.ensures.evaluates γ (context_kept _ (omega arith) (omega arith) c.in_ok-x.ensures.kept x) t rd)
+    (rw c.in-Ok.is at (c.eval_operand.ensures.evaluates γ x t rd))
+    (rw c.in-Ok-answer.is at (c.eval_operand-2.ensures.evaluates γ (context_kept _ (omega arith) (omega arith) c.eval_operand.ensures.kept x) t rd))
     c.read2-kind.ensures.0
     c.operate.ensures
     c.lifted.ensures
@@ -199,7 +198,8 @@ eval_binary-returns-clause-evaluates t c =
 
 pub eval_switch-returns-in_default-clause-evaluates : goal.eval_switch-returns-in_default-clause-evaluates
 eval_switch-returns-in_default-clause-evaluates t c =
-    λ γ x t rd a. ap refused c.missing.ensures ∙ switch_misses c.requires.1 _ (layout_of t) _ γ a (c.tag.ensures.result_value γ x a) c.in_default.is
+    λ γ x t rd a. ap refused c.missing.ensures
+    ∙ switch_misses c.requires.1 _ (layout_of t) _ γ a (c.tag.ensures.result_value γ x a) c.in_default.is
 
 pub eval_switch-returns-in_default-selected-clause-evaluates : goal.eval_switch-returns-in_default-selected-clause-evaluates
 eval_switch-returns-in_default-selected-clause-evaluates t c =
@@ -207,21 +207,11 @@ eval_switch-returns-in_default-selected-clause-evaluates t c =
     ap refused c.refused.ensures
     ∙ switch_ends c.requires.1 _ (layout_of t) _ γ a (c.tag.ensures.result_value γ x a) c.in-Some.is picked
 
-pub eval_switch-behind_switches-end-requires : goal.eval_switch-behind_switches-end-requires
-eval_switch-behind_switches-end-requires t c =
-    let ready = still_ready c.requires.0 c.requires.0.node (omega arith) (kept_now c.requires.0 (omega arith) c.tag.ensures.kept) in
-    let picked = rw c.in-Some-selected.is at (c.selected.ensures ready.node) in
-    child_ready ready picked.node
-
 pub eval_switch-eval_node-requires : goal.eval_switch-eval_node-requires
 eval_switch-eval_node-requires t c =
-    let picked = rw c.in-Some-selected.is at (c.selected.ensures c.requires.0.node) in
-    let end = c.behind_switches-end.ensures in
-    (omega (arith, c.decreases, picked.short, end.short), end.ready)
-
-pub eval_switch-returns-clause-kept : goal.eval_switch-returns-clause-kept
-eval_switch-returns-clause-kept t c =
-    kept_both (kept_now c.requires.0 (omega arith) c.tag.ensures.kept) (kept_both c.behind_switches-end.ensures.kept c.eval_node.ensures.kept)
+    let ready = still_ready c.requires.0 c.requires.0.node (omega arith) (kept_now c.requires.0 (omega arith) c.tag.ensures.kept) in
+    let picked = rw c.in-Some-selected.is at (c.selected.ensures ready.node) in
+    (omega (arith, c.decreases, picked.short), child_ready ready picked.node)
 
 pub eval_switch-returns-clause-evaluates : goal.eval_switch-returns-clause-evaluates
 eval_switch-returns-clause-evaluates t c =
@@ -232,23 +222,22 @@ eval_switch-returns-clause-evaluates t c =
     (c.tag.ensures.result_value γ x a)
     c.in-Some.is
     picked
-    (c.behind_switches-end.ensures.same _ c.eval_node.ensures.evaluates γ (context_now c.requires.0 (omega arith) c.tag.ensures.kept x) t rd)
+    (c.eval_node.ensures.evaluates γ (context_now c.requires.0 (omega arith) c.tag.ensures.kept x) t rd)
 
 -- ---- eval_call
 
-pub eval_call-returns-in_err-collect_arguments-clause-evaluates : goal.eval_call-returns-in_err-collect_arguments-clause-evaluates
-eval_call-returns-in_err-collect_arguments-clause-evaluates t c =
-    λ γ x t rd a. stopped c.from_residual.result _ c.from_residual.ensures.1
-    ∙ call_lacks c.requires.1 _ (layout_of t) _ γ a (c.in_err-collect_arguments.ensures.by_index γ x a)
+pub eval_call-returns-in-Err-clause-evaluates : goal.eval_call-returns-in-Err-clause-evaluates
+eval_call-returns-in-Err-clause-evaluates t c =
+    λ γ x t rd a. call_lacks c.requires.1 _ (layout_of t) _ γ a (rw c.in-Err.is at (c.collect_arguments.ensures.by_index γ x a))
 
-pub eval_call-returns-in_default-clause-evaluates : goal.eval_call-returns-in_default-clause-evaluates
-eval_call-returns-in_default-clause-evaluates t c =
+pub eval_call-returns-in_default-called-clause-evaluates : goal.eval_call-returns-in_default-called-clause-evaluates
+eval_call-returns-in_default-called-clause-evaluates t c =
     λ γ x t rd a. ap refused c.plain.ensures
     ∙ call_unknown
     c.requires.1 _
     (layout_of t) _ γ a
-    (c.in_ok-collect_arguments.ensures.by_index γ x a).1
-    c.in_default.is
+    (rw c.in_default.is at (c.collect_arguments.ensures.by_index γ x a)).1
+    c.in_default-called.is
     (c.called.ensures t rd a)
 
 pub eval_call-returns-then-f-eq16-clause-evaluates : goal.eval_call-returns-then-f-eq16-clause-evaluates
@@ -257,7 +246,7 @@ eval_call-returns-then-f-eq16-clause-evaluates t c =
     ∙ call_stops
     c.requires.1 _
     (layout_of t) _ γ a
-    (c.in_ok-collect_arguments.ensures.by_index γ x a).1
+    (rw c.in_default.is at (c.collect_arguments.ensures.by_index γ x a)).1
     (found_at_lem c.in-Some.is (c.called.ensures t rd a)).1
     (omega (arith, c.if-f-eq16.true))
 
@@ -290,7 +279,7 @@ eval_call-eval_node-requires t c =
           (omega arith) refl
           c.requires.1
           c.in-Some.is
-          (bound_now c.requires.0 (omega arith) c.collect_arguments.ensures.kept c.in_ok-collect_arguments.ensures.by_index)
+          (bound_now c.requires.0 (omega arith) c.collect_arguments.ensures.kept (λ γ x a. rw c.in_default.is at (c.collect_arguments.ensures.by_index γ x a)))
           c.called.ensures
           c.root-top.ensures
           o.more ready,
@@ -304,7 +293,7 @@ eval_call-returns-clause-evaluates t c =
     (omega arith) refl
     c.requires.1
     c.in-Some.is
-    (bound_now c.requires.0 (omega arith) c.collect_arguments.ensures.kept c.in_ok-collect_arguments.ensures.by_index)
+    (bound_now c.requires.0 (omega arith) c.collect_arguments.ensures.kept (λ γ x a. rw c.in_default.is at (c.collect_arguments.ensures.by_index γ x a)))
     c.called.ensures
     c.root-top.ensures
     o.more _

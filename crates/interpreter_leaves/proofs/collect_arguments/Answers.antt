@@ -1,15 +1,13 @@
-use mathlib.Core.Path.{◌≡◌, refl, ◌∙◌, ap}
+use mathlib.Core.Path.{◌≡◌, refl}
 use native.Mathlib.Omega.{arith}
 use native.Mathlib.Numerals.{unary_clauses}
 use Prim.Native.Nat.{◌+◌, ◌-◌}
 use Rattle.std.specs.Prelude.{Ok, Err}
-use Rattle.errors.specs.Meaning.{refusal_of}
 use Rattle.blocks.specs.Bytes.{le2}
 use Rattle.accepted.specs.Accepted.{Accepted}
 use Rattle.interpreter_values.proofs.Laws.{kept_none, kept_both}
 use Rattle.interpreter_context.proofs.Calls.{bottom}
 use Rattle.interpreter_context.proofs.Lists.{arguments_at, ends}
-use Rattle.interpreter_leaves.proofs.Exits.{handed, given}
 use Rattle.interpreter_leaves.proofs.Nodes.{three_parts}
 use Rattle.interpreter_leaves.proofs.Binding.{still, begin, value_at, next_one, found_one, lacking_one, no_more, of_call}
 use Rattle.interpreter_leaves.proofs.collect_arguments.Goals.{In-loop}
@@ -53,20 +51,18 @@ found-requires c = (
   (c.requires.2.0, still c.loop.invariant c.requires.3 c.requires.2.1),
 )
 
-pub returns-in_err-ok_or-clause-by_index : goal.returns-in_err-ok_or-clause-by_index
-returns-in_err-ok_or-clause-by_index c =
+pub returns-in_default-clause-by_index : goal.returns-in_default-clause-by_index
+returns-in_default-clause-by_index c =
     let inv = c.loop.invariant in
-    let lacking = c.in_err-ok_or.ensures.ok_part in
-    λ γ x a. rw (handed c.from_residual.result _ c.from_residual.ensures.1)
-    (of_call _ γ (Err _) a (arguments_at c.second_part-list.ensures a c.requires.1)
+    λ γ x a. of_call _ γ (Err _) a (arguments_at c.second_part-list.ensures a c.requires.1)
     (lacking_one
     (omega (arith, c.read2-end.ensures.0))
     inv.collecting
     c.read2.ensures.0
     (λ γ x. c.found.ensures.result_value γ (still inv c.requires.3 x))
-    lacking _ _
-    (ap refusal_of (given c.in_err-ok_or.ensures.value lacking) ∙ c.missing.ensures) γ x
-    (arguments_at c.second_part-list.ensures a c.requires.1).list))
+    c.in_default.is _ _
+    c.missing.ensures γ x
+    (arguments_at c.second_part-list.ensures a c.requires.1).list)
 
 pub overflow_add-p-in-loop-2 : goal.overflow_add-p-in-loop-2
 overflow_add-p-in-loop-2 c = omega (arith, (ends (next (goal.at.overflow_add-p-in-loop-2 c).In-loop)).0)
@@ -88,7 +84,7 @@ loop-preserved c =
           inv.collecting
           c.read2.ensures.0
           (λ γ x. c.found.ensures.result_value γ (still inv c.requires.3 x))
-          c.in_ok-ok_or.ensures.ok_part
+          c.in-Some.is
           c.read4.ensures.0);
       kept = kept_both inv.kept c.found.ensures.kept;
       long = omega (arith, inv.long);

@@ -15,15 +15,15 @@ unfolding ◌>>=◌
 returns c = record {
   words_len_unchanged = omega arith;
   tree_answers =
-      tree_goes c.args.layout c.args.values c.root-top.ensures c.eval_node.result c.fitting.result (c.forget.ensures _ _) c.eval_node.ensures.evaluates
-      (rw c.in_ok-n.was c.fitting.ensures);
+      tree_goes c.args.layout c.args.values c.root-top.ensures c.eval_node.new.answer c.fitting.result (c.forget.ensures _ _) c.eval_node.ensures.evaluates
+      (rw c.in_ok-answer.was c.fitting.ensures);
 }
 
-pub returns-in_err-n : goal.returns-in_err-n
+pub returns-in_err-answer : goal.returns-in_err-answer
 unfolding ◌>>=◌
-returns-in_err-n c = record {
+returns-in_err-answer c = record {
   words_len_unchanged = omega arith;
   tree_answers =
-      tree_goes c.args.layout c.args.values c.root-top.ensures c.eval_node.result c.from_residual.result (c.forget.ensures _ _) c.eval_node.ensures.evaluates
-      (rw c.in_err-n.was (refusal_goes _ c.from_residual.result c.from_residual.ensures.1));
+      tree_goes c.args.layout c.args.values c.root-top.ensures c.eval_node.new.answer c.from_residual.result (c.forget.ensures _ _) c.eval_node.ensures.evaluates
+      (rw c.in_err-answer.was (refusal_goes _ c.from_residual.result c.from_residual.ensures.1));
 }
