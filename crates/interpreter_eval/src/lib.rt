@@ -58,7 +58,7 @@ fn eval_align(inputs: &Inputs, at: usize, words: &mut [u64], f: Frame, answer: &
         return;
     };
     let alignment = wire::read8(inputs.layout, p) as u64;
-    *answer = f.lifted(at, interpreter_arithmetic::align_up(x, alignment));
+    f.lifted(at, interpreter_arithmetic::align_up(x, alignment), answer)
 }
 
 // An operand of a node: a constant is met so often that it is asked for at once.
@@ -94,7 +94,7 @@ fn eval_binary(inputs: &Inputs, at: usize, words: &mut [u64], f: Frame, answer: 
     let Ok(y) = *answer else {
         return;
     };
-    *answer = f.lifted(at, interpreter_arithmetic::operate(kind, x, y));
+    f.lifted(at, interpreter_arithmetic::operate(kind, x, y), answer)
 }
 
 // A Switch node.

@@ -2,7 +2,6 @@
 use mathlib.Core.Path.{◌≡◌, ◌∙◌, ap}
 use Prim.Native.Nat.{ℕ}
 use Rattle.errors.specs.Refusal.{Outcome, refused}
-use Rattle.errors.specs.Refusal as definition
 use Rattle.errors.specs.declared.Refusal.{Refusal}
 use Rattle.errors.specs.Meaning.{refusal_of}
 use Rattle.value.specs.declared.Value.{Value}

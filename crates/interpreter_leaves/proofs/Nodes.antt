@@ -2,8 +2,7 @@
 use mathlib.Core.Path.{◌≡◌, refl, sym, ◌∙◌, ap, subst}
 use mathlib.Core.Bool.{true}
 use mathlib.Core.List.{List}
-use Rattle.std.specs.Prelude.{Option, Some, None, Result}
-use Rattle.std.specs.Option.{ok_or}
+use Rattle.std.specs.Prelude.{Option, Result}
 use mathlib.Core.Option.{Option as Maybe}
 use Prim.Native.Nat.{ℕ, ◌+◌, ◌-◌, ◌≤◌, ◌<◌}
 use native.Mathlib.Omega.{arith}
@@ -11,11 +10,8 @@ use lib.Dec.{leb}
 use lib.ListN.{length, get_or, get_or-replicate}
 use borrow.Author.Tests.{leb-true}
 use Rattle.ir_nodes.proofs.Table.{entry}
-use Rattle.errors.specs.Refusal.{done, refused, MissingIrParameter}
-use Rattle.errors.specs.Refusal as definition
+use Rattle.errors.specs.Refusal.{done, MissingIrParameter}
 use Rattle.errors.specs.declared.Reason.{Reason}
-use Rattle.errors.specs.declared.Refusal.{Refusal}
-use Rattle.errors.specs.Meaning.{refusal_of, outcome_of}
 use Rattle.blocks.specs.Bytes.{le2, le8}
 use Rattle.blocks.specs.Name.{Name}
 use Rattle.blocks.specs.Grammar.{parts_of, node_table}

@@ -2,7 +2,7 @@
 // the node that it selects, a call's arguments and the tree of its type.
 #![tactic(auto)]
 
-ghost use Rattle.std.specs.Prelude.{◌≡◌, ℕ, ◌+◌, ◌≤◌, length};
+ghost use Rattle.std.specs.Prelude.{◌≡◌, ℕ, ◌+◌, ◌≤◌, length, Ok};
 ghost use Rattle.errors.specs.Refusal.{done, MissingIrParameter};
 ghost use Rattle.errors.specs.Meaning.{number_of as reason_number, refusal_of, outcome_of};
 ghost use Rattle.blocks.specs.Bytes.{le2};
@@ -60,11 +60,24 @@ impl Frame {
         self.refused(Reason::MissingIrParameter, offset, Value::of(0))
     }
 
-    // A result of arithmetic, at a node.
-    pub fn lifted(self, at: usize, n: Result<Value, Reason>) -> Answer
-        ensures { outcome_of result ≡ lift self.place at (result_of n) }
+    // A result of arithmetic, at a node, left in an answer. Where that was a count, the count alone is written.
+    pub fn lifted(self, at: usize, n: Result<Value, Reason>, answer: &mut Answer)
+        ensures { outcome_of answer.new ≡ lift self.place at (result_of n) }
     {
-        n.map_err(|reason| self.refused(reason, at, Value::of(0)))
+        match n {
+            Ok(value) => counted(value, answer),
+            Err(reason) => *answer = Err(self.refused(reason, at, Value::of(0))),
+        }
+    }
+}
+
+// A count, left in an answer.
+fn counted(value: Value, answer: &mut Answer)
+    ensures { answer.new ≡ Ok value }
+{
+    match answer {
+        Ok(count) => *count = value,
+        Err(_) => *answer = Ok(value),
     }
 }
 
@@ -104,10 +117,10 @@ pub fn field(inputs: &Inputs, at: usize, words: &mut [u64], f: Frame) -> Answer
     ensures kept { Kept inputs.now.values.now inputs.now.root.block 16 words.old words.new }
 {
     let name = field_name(inputs.layout, at);
-    let Some(value) = found(inputs, name, words, f) else {
+    let Some(held) = found(inputs, name, words, f) else {
         return Err(f.missing(at));
     };
-    Ok(value)
+    Ok(held)
 }
 
 // The tag of a Switch node.

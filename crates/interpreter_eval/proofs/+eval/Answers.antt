@@ -9,9 +9,7 @@ use Rattle.interpreter_context.proofs.Laws.{kinds, within}
 use Rattle.interpreter_leaves.proofs.Exits.{no_value}
 use Rattle.interpreter_leaves.proofs.Nodes.{three_parts, zero_is}
 use Rattle.interpreter_leaves.proofs.Align.{align_number, align_child}
-use Rattle.interpreter_values.specs.Remembered.{Kept}
 use Rattle.interpreter_values.proofs.Laws.{kept_both}
-use Rattle.interpreter_eval.specs.Evaluates.{Evaluates}
 use Rattle.interpreter_eval.proofs.Laws.{sum_is, unwrapped_is, align_stops, align_goes, left_child, right_child, left_stops, right_stops, both_go, switch_misses, switch_ends, switch_goes, found_at_lem, call_lacks, call_unknown, call_stops, Opening, call_opens, call_ready, call_answers, unchanged, still_ready, context_now, bound_now, kept_now, child_ready, leaf_answers}
 use Rattle.interpreter_eval.proofs.+eval.Goals.{eval_call-After-root-top}
 use Rattle.interpreter_eval.proofs.+eval.Goals as goal

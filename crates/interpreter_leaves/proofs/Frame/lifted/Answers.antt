@@ -1,8 +1,7 @@
 use borrow.Author.Rules.{rules}
-use mathlib.Core.Path.{◌≡◌, ◌∙◌, ap}
+use mathlib.Core.Path.{◌≡◌, refl, ◌∙◌, ap}
 use Prim.Native.Nat.{ℕ}
 use Rattle.std.specs.Prelude.{Result, Ok, Err, MatchResult}
-use Rattle.std.proofs.lemmas.Result.{err_from_is_err_and, MatchResult-weaker}
 use Rattle.errors.specs.Refusal.{refused}
 use Rattle.errors.specs.declared.Refusal.{Refusal}
 use Rattle.errors.specs.declared.Reason.{Reason}
@@ -19,9 +18,8 @@ unfolding lift
 lifted_is p a (Ok v) r h = ap outcome_of h
 lifted_is p a (Err q) r h = ap outcome_of h.1 ∙ ap refused h.2
 
-pub returns : goal.returns
-returns c =
-    lifted_is _ _ _ _
-    (MatchResult-weaker c.args.n c.map_err.ensures.cases (λ v e. e) (λ q h.
-    let e = err_from_is_err_and c.map_err.result h in
-    (e.0, e.1, search rules)))
+pub returns-in-Ok : goal.returns-in-Ok
+returns-in-Ok c = lifted_is _ _ c.args.n _ (rw c.in-Ok.is c.counted.ensures)
+
+pub returns-in-Err : goal.returns-in-Err
+returns-in-Err c = lifted_is _ _ c.args.n (Err c.refused.result) (rw c.in-Err.is (c.refused.result, refl, search rules))
