@@ -346,6 +346,10 @@ module _ {i : Inputs} {ws us : List ℕ} {f : Frame} {at : ℕ} (x : Ready i ws 
   pub context_now : {γ : ParamMap} → ContextOver i ws f.depth γ → ContextOver i us f.depth γ
   context_now c = context_kept 16 x.calls l k c
 
+  -- what the node comes to over the words of now is what it comes to
+  pub evaluates_now : (r : Result Value Refusal) → Evaluates i us f at r → Evaluates i ws f at r
+  evaluates_now r e γ c = e γ (context_now c)
+
   -- the arguments that were found are those over the words of now
   pub bound_now : ((γ : ParamMap) → ContextOver i ws f.depth γ → (a : Accepted i.layout.now 128 144 at) → Collected f.place γ a) →
       (γ : ParamMap) → ContextOver i us f.depth γ → (a : Accepted i.layout.now 128 144 at) → Collected f.place γ a
