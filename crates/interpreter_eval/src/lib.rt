@@ -33,8 +33,8 @@ fn eval_kind(inputs: &Inputs, at: usize, words: &mut [u64], f: Frame, answer: &m
 {
     let kind = wire::read2(inputs.layout, at + 4);
     match kind {
-        128 => *answer = Ok(Value::of(0)),
-        129 => *answer = Ok(interpreter_leaves::constant(inputs.layout, at)),
+        128 => interpreter_leaves::counted(Value::of(0), answer),
+        129 => interpreter_leaves::counted(interpreter_leaves::constant(inputs.layout, at), answer),
         130 => *answer = interpreter_leaves::field(inputs, at, words, f),
         131 => eval_align(inputs, at, words, f, answer),
         132 => eval_switch(inputs, at, words, f, answer),
@@ -61,7 +61,7 @@ fn eval_align(inputs: &Inputs, at: usize, words: &mut [u64], f: Frame, answer: &
     f.lifted(at, interpreter_arithmetic::align_up(x, alignment), answer)
 }
 
-// An operand of a node: a constant is met so often that it is asked for at once.
+// A node that is the first operand of another: a constant is met so often that it is asked for at once.
 #[cycle(eval)]
 fn eval_operand(inputs: &Inputs, at: usize, words: &mut [u64], f: Frame, answer: &mut Answer)
     requires { Ready inputs.now words.old f at }
@@ -70,7 +70,7 @@ fn eval_operand(inputs: &Inputs, at: usize, words: &mut [u64], f: Frame, answer:
 {
     let inner = interpreter_leaves::unwrapped(inputs.layout, at);
     if wire::read2(inputs.layout, inner + 4) == 129 {
-        *answer = Ok(interpreter_leaves::constant(inputs.layout, inner));
+        interpreter_leaves::counted(interpreter_leaves::constant(inputs.layout, inner), answer);
         return;
     }
     eval_node(inputs, inner, words, f, answer)
@@ -90,7 +90,7 @@ fn eval_binary(inputs: &Inputs, at: usize, words: &mut [u64], f: Frame, answer: 
     let Ok(x) = *answer else {
         return;
     };
-    eval_operand(inputs, q, words, f, answer);
+    eval_node(inputs, q, words, f, answer);
     let Ok(y) = *answer else {
         return;
     };

@@ -60,7 +60,7 @@ impl Frame {
         self.refused(Reason::MissingIrParameter, offset, Value::of(0))
     }
 
-    // A result of arithmetic, at a node, left in an answer. Where that was a count, the count alone is written.
+    // A result of arithmetic, at a node, left in an answer.
     pub fn lifted(self, at: usize, n: Result<Value, Reason>, answer: &mut Answer)
         ensures { outcome_of answer.new ≡ lift self.place at (result_of n) }
     {
@@ -71,8 +71,8 @@ impl Frame {
     }
 }
 
-// A count, left in an answer.
-fn counted(value: Value, answer: &mut Answer)
+// A count, left in an answer. Where that was a count, the count alone is written.
+pub fn counted(value: Value, answer: &mut Answer)
     ensures { answer.new ≡ Ok value }
 {
     match answer {

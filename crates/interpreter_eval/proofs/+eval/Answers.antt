@@ -2,6 +2,7 @@ use mathlib.Core.Path.{refl, sym, ◌∙◌, ap}
 use Prim.Native.Nat.{ℕ}
 use native.Mathlib.Omega.{arith}
 use Rattle.errors.specs.Refusal.{done, refused}
+use Rattle.errors.specs.Meaning.{outcome_of}
 use Rattle.ir.specs.Layout.{layout_of}
 use Rattle.interpreter_context.proofs.Lists.{ends}
 use Rattle.interpreter_context.proofs.Calls.{context_kept}
@@ -45,14 +46,14 @@ eval_kind-returns-in-128-clause-kept t c = unchanged c.requires
 
 pub eval_kind-returns-in-128-clause-evaluates : goal.eval_kind-returns-in-128-clause-evaluates
 eval_kind-returns-in-128-clause-evaluates t c =
-    λ γ x t rd a. leaf_answers _ (layout_of t) _ γ a (λ k. ap done c.of.ensures ∙ zero_is c.read2-kind.ensures.0 c.in-128.is k _ γ a)
+    λ γ x t rd a. leaf_answers _ (layout_of t) _ γ a (λ k. ap outcome_of c.counted.ensures ∙ ap done c.of.ensures ∙ zero_is c.read2-kind.ensures.0 c.in-128.is k _ γ a)
 
 pub eval_kind-returns-in-129-clause-kept : goal.eval_kind-returns-in-129-clause-kept
 eval_kind-returns-in-129-clause-kept t c = unchanged c.requires
 
 pub eval_kind-returns-in-129-clause-evaluates : goal.eval_kind-returns-in-129-clause-evaluates
 eval_kind-returns-in-129-clause-evaluates t c =
-    λ γ x t rd a. leaf_answers _ (layout_of t) _ γ a (λ k. c.constant.ensures k _ γ a)
+    λ γ x t rd a. leaf_answers _ (layout_of t) _ γ a (λ k. ap outcome_of c.counted-in-129.ensures ∙ c.constant.ensures k _ γ a)
 
 pub eval_kind-returns-in-130-clause-evaluates : goal.eval_kind-returns-in-130-clause-evaluates
 eval_kind-returns-in-130-clause-evaluates t c =
@@ -114,7 +115,7 @@ eval_operand-returns-then-read2-eq129-clause-kept t c = unchanged c.requires
 
 pub eval_operand-returns-then-read2-eq129-clause-evaluates : goal.eval_operand-returns-then-read2-eq129-clause-evaluates
 eval_operand-returns-then-read2-eq129-clause-evaluates t c =
-    λ γ x t rd a. unwrapped_is c.unwrapped-inner.ensures _ (layout_of t) _ γ (λ b. leaf_answers _ (layout_of t) _ γ b (λ k. c.constant.ensures k _ γ b)) a
+    λ γ x t rd a. unwrapped_is c.unwrapped-inner.ensures _ (layout_of t) _ γ (λ b. leaf_answers _ (layout_of t) _ γ b (λ k. ap outcome_of c.counted.ensures ∙ c.constant.ensures k _ γ b)) a
 
 pub eval_operand-eval_node-requires : goal.eval_operand-eval_node-requires
 eval_operand-eval_node-requires t c =
@@ -155,13 +156,13 @@ eval_binary-returns-in_default-clause-evaluates t c =
     (layout_of t) _ γ
     (rw c.in_default.is at (c.eval_operand.ensures.evaluates γ x t rd)))
 
-pub eval_binary-eval_operand-requires-2 : goal.eval_binary-eval_operand-requires-2
-eval_binary-eval_operand-requires-2 t c =
+pub eval_binary-eval_node-requires : goal.eval_binary-eval_node-requires
+eval_binary-eval_node-requires t c =
     let k = right_child c.requires.0.node c.requires.1.0 c.requires.1.1 c.second_part-q.ensures in
     (omega (arith, c.decreases, k.2), still_ready c.requires.0 k.0 (omega arith) c.eval_operand.ensures.kept)
 
 pub eval_binary-returns-in_default-answer-clause-kept : goal.eval_binary-returns-in_default-answer-clause-kept
-eval_binary-returns-in_default-answer-clause-kept t c = kept_both c.eval_operand.ensures.kept c.eval_operand-2.ensures.kept
+eval_binary-returns-in_default-answer-clause-kept t c = kept_both c.eval_operand.ensures.kept c.eval_node.ensures.kept
 
 pub eval_binary-returns-in_default-answer-clause-evaluates : goal.eval_binary-returns-in_default-answer-clause-evaluates
 eval_binary-returns-in_default-answer-clause-evaluates t c =
@@ -173,10 +174,10 @@ eval_binary-returns-in_default-answer-clause-evaluates t c =
     c.second_part-q.ensures _
     (layout_of t) _ γ
     (rw c.in-Ok.is at (c.eval_operand.ensures.evaluates γ x t rd))
-    (rw c.in_default-answer.is at (c.eval_operand-2.ensures.evaluates γ (context_kept _ (omega arith) (omega arith) c.eval_operand.ensures.kept x) t rd)))
+    (rw c.in_default-answer.is at (c.eval_node.ensures.evaluates γ (context_kept _ (omega arith) (omega arith) c.eval_operand.ensures.kept x) t rd)))
 
 pub eval_binary-returns-clause-kept : goal.eval_binary-returns-clause-kept
-eval_binary-returns-clause-kept t c = kept_both c.eval_operand.ensures.kept c.eval_operand-2.ensures.kept
+eval_binary-returns-clause-kept t c = kept_both c.eval_operand.ensures.kept c.eval_node.ensures.kept
 
 pub eval_binary-returns-clause-evaluates : goal.eval_binary-returns-clause-evaluates
 eval_binary-returns-clause-evaluates t c =
@@ -187,7 +188,7 @@ eval_binary-returns-clause-evaluates t c =
     c.second_part-q.ensures _
     (layout_of t) _ γ
     (rw c.in-Ok.is at (c.eval_operand.ensures.evaluates γ x t rd))
-    (rw c.in-Ok-answer.is at (c.eval_operand-2.ensures.evaluates γ (context_kept _ (omega arith) (omega arith) c.eval_operand.ensures.kept x) t rd))
+    (rw c.in-Ok-answer.is at (c.eval_node.ensures.evaluates γ (context_kept _ (omega arith) (omega arith) c.eval_operand.ensures.kept x) t rd))
     c.read2-kind.ensures.0
     c.operate.ensures
     c.lifted.ensures
