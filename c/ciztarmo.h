@@ -23,8 +23,8 @@
  *   evaluating also over calls of types, of which at most 16 are open. So the stack is bounded, but not small. Measured by
  *   `c/test --stack` on hostile inputs: reading 13,839 bytes for a set and 106,919 for a layout of 256 open blocks; building 77,967
  *   with ciztarmo_layout_of and 64,719 with ciztarmo_build_set, where the first of 64 fields with padding is an array whose size is
- *   a sum of sums; validating 907,919, where a type of 254 nested nodes calls itself. On the type Trip of document 01
- *   ciztarmo_layout_of takes 21,647, ciztarmo_length_of 10,503 and ciztarmo_length_of_run 10,423 (of which 9,344 are words in which
+ *   a sum of sums; validating 698,087, where a type of 254 nested nodes calls itself. On the type Trip of document 01
+ *   ciztarmo_layout_of takes 21,647, ciztarmo_length_of 10,367 and ciztarmo_length_of_run 10,287 (of which 9,344 are words in which
  *   they may remember where values stand), ciztarmo_build_set 8,399, and no other call more than 3,023. A thread that validates with
  *   sets or layouts from somebody whom it does not trust should have CIZTARMO_STACK_BYTES left. The proofs say nothing of the stack.
  *
