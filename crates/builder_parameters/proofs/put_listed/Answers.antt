@@ -1,3 +1,4 @@
+-- `put_listed`: of each entry, listed or not, the mark that goes on is the one that `mark_name` answered with.
 use Rattle.builder_parameters.proofs.Pass.{going_pass, going_put, going_end, going_high}
 use Rattle.builder_parameters.proofs.put_listed.Goals as goal
 use Rattle.builder_parameters.proofs.put_listed.Goals.{then-is_listed, else-is_listed}
